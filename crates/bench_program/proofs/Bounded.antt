@@ -8,9 +8,6 @@ use Rattle.std.proofs.lemmas.List.Elements.{All-cons, All-head, All-nil, All-tai
 use Rattle.std.proofs.lemmas.List.Splits.{length-slice_split, slice_split_none, slice_split_at}
 use Rattle.std.proofs.Math.Seq.{take-append-add}
 use Rattle.std.specs.List.{slice_split}
-use Rattle.std.specs.Option.{option_map}
-use Rattle.std.specs.Io.Take.{take_inner, take_limit, take_remaining}
-use Rattle.std.specs.declared.io.traits.Take.{Take}
 use Rattle.board_model.specs.Shapes.{Size}
 use Rattle.script_lang.specs.Words.{words_of}
 use Rattle.script_lang.specs.Scripts.{◌>>>◌, is_sound, whole_lines, lines_of, rest_of, board_of, from_board, lines_from, script_of}
@@ -153,15 +150,7 @@ bounded (suc k) n m xs e bound =
 
 -- ---- the input
 
-read_up_to : (n : ℕ) (known : Option (List ℕ)) (old read : List ℕ) → old ≡ [] → IfSome (option_map (take n) known) (λ more. read ≡ old ++ more) → IfSome known (λ bytes. read ≡ take n bytes)
-read_up_to n None old read o e = e
-read_up_to n (Some bytes) old read o e = e ∙ ap (λ front. front ++ take n bytes) o
-
--- what was read of bytes that are known is their beginning
-pub read_first : {R : Type 0} (remaining : R → Option (List ℕ)) (taken : Take R) (input : R) (n : ℕ) (old read : List ℕ) → take_inner taken ≡ input → take_limit taken ≡ n → old ≡ [] → IfSome (take_remaining remaining taken) (λ more. read ≡ old ++ more) → IfSome (remaining input) (λ bytes. read ≡ take n bytes)
-read_first remaining taken input n old read i l o e = rw (← i, ← l) (read_up_to (take_limit taken) (remaining (take_inner taken)) old read o e)
-
--- and where they are more than any script has, it says what they say
+-- what was read of bytes that are more than any script has says what they say
 pub read_says : (known : Option (List ℕ)) (read : List ℕ) → IfSome known (λ bytes. read ≡ take 268500993 bytes) → IfSome known (λ bytes. script_of read ≡ script_of bytes)
 read_says None read e = e
 read_says (Some bytes) read e = ap script_of e ∙ (bounded 65536 1 268500993 bytes (omega arith) (omega arith)).whole

@@ -1,3 +1,4 @@
 pub mod Bounded
 pub mod Ends
 pub mod Simple
+pub mod Told

@@ -1,11 +1,11 @@
--- The text and the status of each fault with which the program ends. Source: README.md, docs/SCRIPT.md.
+-- The text and the status of each fault with which the program ends. Source: docs/SCRIPT.md.
 use Rattle.std.specs.Prelude.{ℕ, List, [], ◌++◌, Result, Ok, Err}
 use Rattle.std.specs.Fmt.{decimal}
 use Rattle.board_model.specs.Views.{number_of_refusal}
 use Rattle.board_model.specs.declared.refusal.Refusal.{Refusal}
 use Rattle.board_model.specs.declared.refusal.Refusal.TheVariants.{BadScript, Memory}
 use Rattle.bench_program.specs.declared.fault.BenchFault.{BenchFault}
-use Rattle.bench_program.specs.declared.fault.BenchFault.TheVariants.{Usage, Input, Refused, Closed, Wrong}
+use Rattle.bench_program.specs.declared.fault.BenchFault.TheVariants.{Usage, Input, File, Refused, Closed, Wrong}
 use Rattle.command_line.specs.declared.NoWork.{NoWork}
 use Rattle.command_line.specs.declared.NoWork.TheVariants as why
 use lib.Chars.{codes}
@@ -17,6 +17,7 @@ refusal_text e = decimal (number_of_refusal e)
 
 abbrev pub fault_text : BenchFault → List ℕ
 fault_text Input = codes "sbibench: input\n"
+fault_text File = codes "sbibench: file\n"
 fault_text (Refused e) = codes "sbibench: refusal " ++ refusal_text e ++ codes "\n"
 fault_text Usage = []
 fault_text Closed = []
@@ -27,6 +28,7 @@ abbrev pub status_after : {A : Type 0} → Result A BenchFault → ℕ
 status_after (Ok done) = 0
 status_after (Err Usage) = 2
 status_after (Err Input) = 1
+status_after (Err File) = 1
 status_after (Err (Refused e)) = 1
 status_after (Err Closed) = 1
 status_after (Err Wrong) = 3

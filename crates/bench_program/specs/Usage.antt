@@ -1,11 +1,14 @@
--- The command as its parser reads it, and what its words ask for. Source: README.md, "The program".
-use Rattle.std.specs.Prelude.{◌≡◌, ℕ, Bool, true, false, List, [], ◌∷◌, Option, Some, None, ◌==◌, if◌then◌else◌, bytes_eq}
+-- The command as its parser reads it, and what its words ask for. Source: docs/SCRIPT.md, "The program".
+use Rattle.std.specs.Prelude.{◌≡◌, ℕ, Bool, true, false, List, [], ◌∷◌, Option, Some, None, ◌==◌, if◌then◌else◌, bytes_eq, map, string_bytes}
+use Rattle.std.specs.Option.{option_map}
 use Rattle.clap.specs.Words.{App, Rule, Text, first_value, matches_of, new_app, new_rule, one_text, rows_of, takes, with_rule}
 use Rattle.clap.specs.declared.builder.action.ArgAction.TheVariants.{Set}
 use Rattle.clap.specs.declared.parser.matches.Found.{Found}
 use Rattle.clap.specs.declared.builder.value_parser.ValueParser.{ValueParser}
 use Rattle.command_line.specs.Flags.{flag_rule}
+use Rattle.command_line.specs.Options.{payload_paths, with_payloads}
 use Rattle.bench_program.specs.declared.usage.Bench.TheVariants.{Sweep, Faults}
+use Rattle.bench_program.specs.declared.usage.Options.{Options}
 use Rattle.bench_program.specs.declared.usage.Work.{Work}
 use Rattle.bench_program.specs.declared.usage.Work.TheVariants.{Report, Judge}
 use Rattle.bench_program.specs.declared.usage.Savers.{Savers}
@@ -29,7 +32,12 @@ named_app = record (new_app (codes "sbibench")) { top = record (new_app (codes "
 
 abbrev pub sbibench : ValueParser → App
 sbibench crews =
-    with_rule (with_rule (with_rule named_app (crew_rule crews)) (flag_rule (codes "sweep"))) (flag_rule (codes "faults"))
+    with_payloads
+    (with_rule (with_rule (with_rule named_app (crew_rule crews)) (flag_rule (codes "sweep"))) (flag_rule (codes "faults")))
+
+-- the payload files, by their paths
+abbrev pub payload_files : Options → List (Option (List ℕ))
+payload_files options = map (option_map string_bytes) options.payloads
 
 -- the crew of a word
 abbrev pub savers_named : Option (List ℕ) → Savers
@@ -50,12 +58,20 @@ work_named false true savers = Some (Judge Faults)
 work_named false false savers = Some (Report savers)
 
 -- what the words of a command line name, as the command's parser reads them, and not both benches
-abbrev pub IsNamedBy : List (List ℕ) → Work → Type 0
-IsNamedBy words work = (crews : ValueParser) × (f : Found) × (sweep faults : Bool)
+abbrev pub IsNamedBy : List (List ℕ) → Options → Type 0
+IsNamedBy words options = (crews : ValueParser) × (f : Found) × (sweep faults : Bool)
     × (rows_of f ≡ matches_of (sbibench crews) words)
     × IsFlag f (codes "sweep") sweep × IsFlag f (codes "faults") faults
-    × (work_named sweep faults (savers_named (first_value f (codes "crew"))) ≡ Some work)
+    × (work_named sweep faults (savers_named (first_value f (codes "crew"))) ≡ Some options.work)
+    × (payload_files options ≡ payload_paths f)
 
 -- the words name no work: the command's parser does not take them, as it does not where they ask for the help
 abbrev pub NamesNoWork : List (List ℕ) → Type 0
 NamesNoWork words = (crews : ValueParser) × (takes (sbibench crews) words ≡ false)
+
+-- or they name both benches
+abbrev pub NamesBoth : List (List ℕ) → Type 0
+NamesBoth words = (crews : ValueParser) × (f : Found) × (sweep faults : Bool)
+    × (rows_of f ≡ matches_of (sbibench crews) words)
+    × IsFlag f (codes "sweep") sweep × IsFlag f (codes "faults") faults
+    × (work_named sweep faults (savers_named (first_value f (codes "crew"))) ≡ None)

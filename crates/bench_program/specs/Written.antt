@@ -1,34 +1,81 @@
--- What the program writes, by the work that its words ask for. Source: README.md, "The program".
-use Rattle.std.specs.Prelude.{◌≡◌, ℕ, List, Option, Ok, IfSome}
+-- What the program writes, by the work that its words ask for. Source: docs/SCRIPT.md, "The program".
+use Rattle.std.specs.Prelude.{◌≡◌, ◌⊎◌, ⊤, ℕ, List, Option, None, Ok, Err, IfSome, IsSome, get_or}
+use Rattle.board_model.specs.declared.refusal.Refusal.{Refusal}
+use Rattle.board_model.specs.declared.refusal.Refusal.TheVariants.{Memory, Output, NotPlain}
 use Rattle.std.specs.Io.KnownBytes.{Appends}
 use Rattle.script_lang.specs.Scripts.{script_of, Script as Said}
 use Rattle.bench_report.specs.Bench.{Bench as ModelBench}
 use Rattle.bench_report.specs.Prefix.{KeepsPrefixLaw}
-use Rattle.bench_report.specs.Reports.{AreByFirmware, IsReport, report_text}
+use Rattle.bench_report.specs.Reports.{AreByFirmware, IsReportWith, report_text}
 use Rattle.bench_report.specs.declared.printed.Answer.{Answer}
-use Rattle.bench_sweep.specs.Swept.{WroteAll}
+use Rattle.bench_sweep.specs.Made.{four_of}
+use Rattle.bench_sweep.specs.Swept.{IsBenchOf}
 use Rattle.bench_judge.specs.declared.judges.Sweep.{Sweep as Counts}
 use Rattle.bench_program.specs.Benches.{judged}
-use Rattle.bench_program.specs.Usage.{IsNamedBy}
+use Rattle.payload_files.specs.Named.{AreFilesOf}
+use Rattle.bench_program.specs.Usage.{payload_files, IsNamedBy, NamesNoWork, NamesBoth}
+use Rattle.bench_program.specs.declared.fault.BenchFault.{BenchFault}
+use Rattle.bench_program.specs.declared.fault.BenchFault.TheVariants.{Usage, Input, File, Refused, Closed, Wrong}
+use Rattle.bench_program.specs.declared.usage.Options.{Options}
 use Rattle.bench_program.specs.declared.usage.Work.{Work}
 use Rattle.bench_program.specs.declared.usage.Work.TheVariants.{Report, Judge}
 
--- what was written is a report of the script, and nothing else; where no line is a poke, it keeps the prefix law
-abbrev pub IsReported : List ℕ → Option (List ℕ) → Option (List ℕ) → Type 0
-IsReported script old now = (said : Said) × (answers : List Answer) × (end : ModelBench)
-    × (script_of script ≡ Ok said) × IsReport said answers end × Appends old now (report_text answers)
+-- what was written is a report of the script that begins with these payloads, and nothing else; where no line is a poke,
+-- it keeps the prefix law
+abbrev pub IsReported : List (List ℕ) → List ℕ → Option (List ℕ) → Option (List ℕ) → Type 0
+IsReported payloads script old now = (said : Said) × (answers : List Answer) × (end : ModelBench)
+    × (script_of script ≡ Ok said) × IsReportWith payloads said answers end × Appends old now (report_text answers)
     × (AreByFirmware said.lines → KeepsPrefixLaw said.lines answers)
 
 -- what was written is what the work makes of the script: its report, or the lines of a bench, of which none is wrong
-abbrev pub IsWritten : Work → List ℕ → Option (List ℕ) → Option (List ℕ) → Type 0
-IsWritten (Report savers) script old now = IsReported script old now
-IsWritten (Judge bench) script old now = (counts : Counts) × WroteAll (judged bench) old now counts
+abbrev pub IsWritten : Work → List (List ℕ) → List ℕ → Option (List ℕ) → Option (List ℕ) → Type 0
+IsWritten (Report savers) payloads script old now = IsReported payloads script old now
+IsWritten (Judge bench) payloads script old now = (counts : Counts) × IsBenchOf (judged bench) (four_of payloads) script old now counts
 
 -- the work was done over an input of which these bytes are known
-abbrev pub IsWorked : Work → Option (List ℕ) → Option (List ℕ) → Option (List ℕ) → Type 0
-IsWorked work input old now = (script : List ℕ) × IfSome input (λ bytes. script_of script ≡ script_of bytes)
-    × IsWritten work script old now
+abbrev pub IsWorked : Work → List (List ℕ) → Option (List ℕ) → Option (List ℕ) → Option (List ℕ) → Type 0
+IsWorked work payloads input old now = (script : List ℕ) × IfSome input (λ bytes. script_of script ≡ script_of bytes)
+    × IsWritten work payloads script old now
 
--- the work that the words name was done over it
-abbrev pub IsDone : List (List ℕ) → Option (List ℕ) → Option (List ℕ) → Option (List ℕ) → Type 0
-IsDone words input old now = (work : Work) × IsNamedBy words work × IsWorked work input old now
+-- The options were done over it and over files of which these bytes are known: each slot begins with the file that is
+-- named for it.
+abbrev pub AreDone : Options → (List ℕ → Option (List ℕ)) → Option (List ℕ) → Option (List ℕ) → Option (List ℕ) → Type 0
+AreDone options bytes_at input old now = (payloads : List (List ℕ)) × AreFilesOf bytes_at (payload_files options) payloads
+    × IsWorked options.work payloads input old now
+
+-- the work that the words name was done over both
+abbrev pub IsDone : List (List ℕ) → (List ℕ → Option (List ℕ)) → Option (List ℕ) → Option (List ℕ) → Option (List ℕ) → Type 0
+IsDone words bytes_at input old now =
+    (options : Options) × IsNamedBy words options × AreDone options bytes_at input old now
+
+-- ---- faults
+-- a bench does not take the script, nor does any other work say so
+abbrev pub IsNotTaken : Work → Refusal → Type 0
+IsNotTaken (Report savers) e = ⊥
+IsNotTaken (Judge bench) e = e ≡ NotPlain
+
+-- a fault of a work over that script: memory was refused, the output failed or nobody reads it, the script has it, or no
+-- bench takes the script; no bench finds a run wrong, and the command line has none
+abbrev pub IsFaultIn : Work → List ℕ → BenchFault → Type 0
+IsFaultIn work script (Refused e) = (e ≡ Memory) ⊎ (e ≡ Output) ⊎ (script_of script ≡ Err e) ⊎ IsNotTaken work e
+IsFaultIn work script Closed = ⊤
+IsFaultIn work script Input = ⊥
+IsFaultIn work script File = ⊥
+IsFaultIn work script Usage = ⊥
+IsFaultIn work script Wrong = ⊥
+
+-- the same over an input of which these bytes are known, which may fail
+abbrev pub IsFaultOf : Work → Option (List ℕ) → BenchFault → Type 0
+IsFaultOf work input fault = (fault ≡ Input)
+    ⊎ ((script : List ℕ) × IfSome input (λ bytes. script_of script ≡ script_of bytes) × IsFaultIn work script fault)
+
+-- a payload file could not be read, of those that are named
+abbrev pub IsUnread : Options → BenchFault → Type 0
+IsUnread options fault = (fault ≡ File) × ((slot : ℕ) × IsSome (get_or options.payloads slot None))
+
+-- a fault of the work that the words name, or of their files; or they name none, or both benches; or memory was refused
+-- to the command line or a file
+abbrev pub IsFault : List (List ℕ) → Option (List ℕ) → BenchFault → Type 0
+IsFault words input fault =
+    ((options : Options) × IsNamedBy words options × (IsUnread options fault ⊎ IsFaultOf options.work input fault))
+    ⊎ ((fault ≡ Usage) × (NamesNoWork words ⊎ NamesBoth words)) ⊎ (fault ≡ Refused Memory)

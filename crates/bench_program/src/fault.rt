@@ -13,6 +13,8 @@ pub enum BenchFault {
     Usage,
     /// The standard input failed.
     Input,
+    /// A payload file could not be read.
+    File,
     /// The script was refused, or its report could not be written.
     Refused(Refusal),
     /// Nobody reads the standard output any more, and nothing is said of it.
@@ -43,6 +45,7 @@ impl fmt::Display for BenchFault {
     fn fmt<W: fmt::Write>(&self, f: &mut fmt::Formatter<W>) -> fmt::Result {
         match *self {
             BenchFault::Input => f.write_str("sbibench: input\n"),
+            BenchFault::File => f.write_str("sbibench: file\n"),
             BenchFault::Refused(refusal) => {
                 let text = RefusalText(refusal);
                 writeln!(f, "sbibench: refusal {text}")
@@ -52,7 +55,7 @@ impl fmt::Display for BenchFault {
     }
 }
 
-/// The program's status (README.md, "The program"): 0 where it did what it was asked, 2 for a fault of the
+/// The program's status (docs/SCRIPT.md, "The program"): 0 where it did what it was asked, 2 for a fault of the
 /// command line, 3 where a bench found something wrong, and 1 for any other.
 pub fn status_of(done: &Result<(), BenchFault>) -> u8
     ensures { result ≡ status_after done.now }

@@ -3,7 +3,6 @@
 #![tactic(auto)]
 
 mod fault;
-mod pipe;
 mod streams;
 mod usage;
 
@@ -16,20 +15,22 @@ ghost use Rattle.bench_program.specs.Faults.{status_after};
 ghost use Rattle.bench_program.specs.declared.fault.BenchFault.{BenchFault};
 ghost use Rattle.bench_program.specs.declared.fault.BenchFault.TheVariants.{Input, Refused};
 ghost use Rattle.script_lang.specs.Scripts.{script_of};
-ghost use Rattle.bench_sweep.specs.Swept.{WroteAll};
+ghost use Rattle.bench_sweep.specs.Made.{four_of};
+ghost use Rattle.bench_sweep.specs.Swept.{IsBenchOf};
 ghost use Rattle.bench_program.specs.Benches.{judged};
 ghost use Rattle.bench_program.specs.Written.{IsReported};
 
 pub use crate::fault::BenchFault;
-pub use crate::pipe::Pipe;
 pub use crate::streams::run_on;
 use crate::streams::{end, without_work};
 use crate::usage::USAGE;
-pub use crate::usage::{Bench, Savers, Work, work_of};
-use bench_report::run;
-use bench_sweep::{Sweep, faults, sweep};
+pub use crate::usage::{Bench, Options, Savers, Work, options_of};
+use bench_report::run_with;
+use bench_sweep::{Sweep, faults_with, sweep_with};
+use board::Payloads;
 use board_model::{MAX_LINE_BYTES, MAX_SCRIPT_LINES, Refusal};
-use command_line::words;
+pub use command_line::Pipe;
+use command_line::{read_at_most, words};
 use crew::Crew;
 use std::alloc::Global;
 use std::convert::AsStr;
@@ -54,26 +55,26 @@ pub fn read_script<R: Read + Drop>(alloc: Global, input: R) -> Result<Vec<u8>, B
     ensures bytes { IfOk result (λ script. IfSome (R.remaining input) (λ bytes. script.items ≡ take 268500993 bytes)) }
     ensures failed { IfErr result (λ e. (e ≡ Input) ⊎ (e ≡ Refused Memory)) }
 {
-    let mut script = Vec::new(alloc);
-    match input.take(READ_AT_MOST).read_to_end(&mut script) {
-        Ok(_) => Ok(script),
+    match read_at_most(alloc, input, READ_AT_MOST) {
+        Ok(script) => Ok(script),
         Err(e) if e.kind() == ErrorKind::OutOfMemory => Err(BenchFault::Refused(Refusal::Memory)),
         Err(_) => Err(BenchFault::Input),
     }
 }
 
-/// Runs the script, and writes its report to the end.
+/// Runs the script that begins with these payloads, and writes its report to the end.
 ///
-/// Refused as `bench_report::run` is, and `Output` also where what the writer held back could not be written.
+/// Refused as `bench_report::run_with` is, and `Output` also where what the writer held back could not be written.
 pub fn write_report<C: Crew, W: Write + Drop>(
     alloc: Global,
     script: &[u8],
     crew: &C,
+    payloads: Payloads,
     out: &mut BufWriter<W>,
 ) -> Result<(), Refusal>
     // What was written is a report of the script, and nothing else; where no line is a poke, it keeps the prefix
     // law.
-    ensures report { OnOk result (IsReported script.now (writer_contents W.contents out.old)
+    ensures report { OnOk result (IsReported payloads script.now (writer_contents W.contents out.old)
         (writer_contents W.contents out.new)) }
     // Nothing of it is held back.
     ensures flushed { OnOk result (writer_buffer out.new ≡ []) }
@@ -84,19 +85,20 @@ pub fn write_report<C: Crew, W: Write + Drop>(
         → (writer_contents W.contents out.new ≡ writer_contents W.contents out.old)
         × ((result ≡ Err e) ⊎ (result ≡ Err Refusal.Memory)) }
 {
-    run(alloc, script, crew, out)?;
+    run_with(alloc, script, crew, payloads, out)?;
     out.flush().map_err(|_| Refusal::Output)
 }
 
-/// Runs a bench over the script. Refused as `bench_sweep::sweep` is.
+/// Runs a bench over the script that begins with these payloads. Refused as `bench_sweep::sweep_with` is.
 fn run_bench<R: Threads + Sync, W: Write + Drop>(
     alloc: Global,
     script: &[u8],
     bench: Bench,
+    payloads: Payloads,
     out: &mut BufWriter<W>,
 ) -> Result<Sweep, Refusal>
-    ensures wrote { IfOk result (λ sweep. WroteAll (judged bench) (writer_contents W.contents out.old)
-        (writer_contents W.contents out.new) sweep) }
+    ensures wrote { IfOk result (λ sweep. IsBenchOf (judged bench) (four_of payloads) script.now
+        (writer_contents W.contents out.old) (writer_contents W.contents out.new) sweep) }
     ensures refused { IfErr result (λ e. (e ≡ Refusal.Memory) ⊎ (e ≡ Refusal.Output) ⊎ (script_of script.now ≡ Err e)
         ⊎ (e ≡ Refusal.NotPlain)) }
     ensures nothing { (e : Refusal) → script_of script.now ≡ Err e
@@ -104,23 +106,24 @@ fn run_bench<R: Threads + Sync, W: Write + Drop>(
         × ((result ≡ Err e) ⊎ (result ≡ Err Refusal.Memory)) }
 {
     match bench {
-        Bench::Sweep => sweep::<R, BufWriter<W>>(alloc, script, out),
-        Bench::Faults => faults::<R, BufWriter<W>>(alloc, script, out),
+        Bench::Sweep => sweep_with::<R, BufWriter<W>>(alloc, script, payloads, out),
+        Bench::Faults => faults_with::<R, BufWriter<W>>(alloc, script, payloads, out),
     }
 }
 
-/// Runs a bench over the script, and writes its lines to the end.
+/// Runs a bench over the script that begins with these payloads, and writes its lines to the end.
 ///
-/// Refused as `bench_sweep::sweep` is, and `Output` also where what the writer held back could not be written.
+/// Refused as `bench_sweep::sweep_with` is, and `Output` also where what the writer held back could not be written.
 pub fn write_bench<R: Threads + Sync, W: Write + Drop>(
     alloc: Global,
     script: &[u8],
     bench: Bench,
+    payloads: Payloads,
     out: &mut BufWriter<W>,
 ) -> Result<Sweep, Refusal>
     // What was written is a line for each run of that bench, and the line of the counts; none was wrong.
-    ensures wrote { IfOk result (λ sweep. WroteAll (judged bench) (writer_contents W.contents out.old)
-        (writer_contents W.contents out.new) sweep) }
+    ensures wrote { IfOk result (λ sweep. IsBenchOf (judged bench) (four_of payloads) script.now
+        (writer_contents W.contents out.old) (writer_contents W.contents out.new) sweep) }
     // Nothing of it is held back.
     ensures flushed { OnOk result (writer_buffer out.new ≡ []) }
     // A refusal is the script's fault, or out of memory, or the writer's, or the script is not plain.
@@ -131,7 +134,7 @@ pub fn write_bench<R: Threads + Sync, W: Write + Drop>(
         → (writer_contents W.contents out.new ≡ writer_contents W.contents out.old)
         × ((result ≡ Err e) ⊎ (result ≡ Err Refusal.Memory)) }
 {
-    let done = run_bench::<R, W>(alloc, script, bench, out)?;
+    let done = run_bench::<R, W>(alloc, script, bench, payloads, out)?;
     out.flush().map_err(|_| Refusal::Output)?;
     Ok(done)
 }
@@ -155,6 +158,7 @@ fn run_words<R: Threads + Sync, S: AsStr>(rt: &HostRuntime, threads: &R, words: 
             run_on(
                 rt.alloc(),
                 threads,
+                rt,
                 words,
                 rt.reader(),
                 &mut out,
@@ -166,7 +170,7 @@ fn run_words<R: Threads + Sync, S: AsStr>(rt: &HostRuntime, threads: &R, words: 
 }
 
 /// The whole program: reads a script from standard input and writes its report to standard output
-/// (docs/SCRIPT.md), or says why not on standard error. Answers the status that README.md, "The program",
+/// (docs/SCRIPT.md), or says why not on standard error. Answers the status that docs/SCRIPT.md, "The program",
 /// has. The second handle makes the threads of lanes, where the command line asks for these.
 pub fn bench<R: Threads + Sync>(rt: &HostRuntime, threads: &R) -> ExitCode
     // The status is the one of what was done.

@@ -1,25 +1,30 @@
 //! The program over any streams: what its command line asks for, from a reader to a writer.
 
-ghost use Rattle.std.specs.Prelude.{◌≡◌, ◌⊎◌, map, Result, OnOk, IfOk, IfSome};
+ghost use Rattle.std.specs.Prelude.{◌≡◌, ◌⊎◌, map, Result, OnOk, IfOk, IfErr, IfSome};
+ghost use Rattle.board_model.specs.declared.refusal.Refusal.TheVariants.{Memory};
 ghost use Rattle.std.specs.Io.Buffered.{writer_contents};
 ghost use Rattle.bench_program.specs.Faults.{status_after, without_work};
-ghost use Rattle.bench_program.specs.Pipes.{pipe_contents};
-ghost use Rattle.bench_program.specs.Usage.{NamesNoWork};
-ghost use Rattle.bench_program.specs.Written.{IsDone, IsReported, IsWorked, IsWritten};
+ghost use Rattle.command_line.specs.Pipes.{pipe_contents};
+ghost use Rattle.payload_files.specs.Named.{AreFilesOf};
+ghost use Rattle.bench_program.specs.Usage.{payload_files, NamesNoWork};
+ghost use Rattle.bench_program.specs.Written.{AreDone, IsDone, IsFault, IsFaultIn, IsFaultOf, IsReported, IsUnread, IsWorked, IsWritten};
 ghost use Rattle.bench_program.specs.declared.fault.BenchFault.{BenchFault};
-ghost use Rattle.bench_program.specs.declared.usage.Work.TheVariants.{Judge};
+ghost use Rattle.bench_program.specs.declared.fault.BenchFault.TheVariants.{Closed, File, Input, Refused};
+ghost use Rattle.bench_program.specs.declared.usage.Savers.{Savers};
+ghost use Rattle.bench_program.specs.declared.usage.Work.TheVariants.{Judge, Report};
 ghost use Rattle.script_lang.specs.Scripts.{script_of};
 
 use crate::fault::{BenchFault, status_of};
-use crate::pipe::Pipe;
-use crate::usage::{Bench, Savers, Work, work_of};
+use crate::usage::{Bench, Options, Savers, Work, options_of};
 use crate::{read_script, write_bench, write_report};
+use board::Payloads;
 use board_model::Refusal;
-use command_line::{NoWork, show_on};
+use command_line::{NoWork, Pipe, show_on};
 use crew::{Crew, Sequential};
+use payload_files::{PayloadFault, PayloadFiles, payloads_of};
 use std::alloc::Global;
 use std::convert::AsStr;
-use std::io::{BufReader, BufWriter, Read, Write};
+use std::io::{BufReader, BufWriter, ErrorKind, Read, Write};
 use std::thread::Threads;
 
 /// How many bytes of a script are read at once.
@@ -29,7 +34,8 @@ const READ_AT_ONCE: usize = 262_144;
 /// allocator then keeps freed memory of that size for the next board, and does not give it back to the system
 /// at each power-off.
 fn input_script<I: Read + Drop>(alloc: Global, input: I) -> Result<Vec<u8>, BenchFault>
-    ensures { IfOk result (λ script. IfSome (I.remaining input) (λ bytes. script_of script.items ≡ script_of bytes)) }
+    ensures said { IfOk result (λ script. IfSome (I.remaining input) (λ bytes. script_of script.items ≡ script_of bytes)) }
+    ensures failed { IfErr result (λ fault. (fault ≡ Input) ⊎ (fault ≡ Refused Memory)) }
 {
     match BufReader::with_capacity(alloc, READ_AT_ONCE, input) {
         Ok(input) => read_script(alloc, input),
@@ -38,7 +44,9 @@ fn input_script<I: Read + Drop>(alloc: Global, input: I) -> Result<Vec<u8>, Benc
 }
 
 /// The fault of a refused work: none is told where the reader of its output is gone.
-fn fault_of<O: Write + Drop>(refusal: Refusal, out: &BufWriter<Pipe<O>>) -> BenchFault {
+fn fault_of<O: Write + Drop>(refusal: Refusal, out: &BufWriter<Pipe<O>>) -> BenchFault
+    ensures { (result ≡ Closed) ⊎ (result ≡ Refused refusal) }
+{
     if out.get_ref().is_closed() {
         BenchFault::Closed
     } else {
@@ -51,12 +59,14 @@ fn report_with<C: Crew, O: Write + Drop>(
     alloc: Global,
     script: &[u8],
     crew: &C,
+    payloads: Payloads,
     out: &mut BufWriter<Pipe<O>>,
 ) -> Result<(), BenchFault>
-    ensures { OnOk result (IsReported script.now
+    ensures reported { OnOk result (IsReported payloads script.now
         (writer_contents (pipe_contents O.contents) out.old) (writer_contents (pipe_contents O.contents) out.new)) }
+    ensures faults { IfErr result (λ fault. (savers : Savers) → IsFaultIn (Report savers) script.now fault) }
 {
-    match write_report(alloc, script, crew, out) {
+    match write_report(alloc, script, crew, payloads, out) {
         Ok(()) => Ok(()),
         Err(e) => Err(fault_of(e, out)),
     }
@@ -68,16 +78,18 @@ fn report<R: Threads + Sync, O: Write + Drop>(
     threads: &R,
     savers: Savers,
     script: &[u8],
+    payloads: Payloads,
     out: &mut BufWriter<Pipe<O>>,
 ) -> Result<(), BenchFault>
-    ensures { OnOk result (IsReported script.now
+    ensures reported { OnOk result (IsReported payloads script.now
         (writer_contents (pipe_contents O.contents) out.old) (writer_contents (pipe_contents O.contents) out.new)) }
+    ensures faults { IfErr result (λ fault. IsFaultIn (Report savers) script.now fault) }
 {
     match savers {
-        Savers::Threads => report_with(alloc, script, &crew::Threads::new(threads), out),
+        Savers::Threads => report_with(alloc, script, &crew::Threads::new(threads), payloads, out),
         Savers::Turns => {
             let crew = Sequential::<R>::new([0, 1, 2, 3]).map_err(BenchFault::Refused)?;
-            report_with(alloc, script, &crew, out)
+            report_with(alloc, script, &crew, payloads, out)
         }
     }
 }
@@ -87,12 +99,14 @@ fn judge<R: Threads + Sync, O: Write + Drop>(
     alloc: Global,
     bench: Bench,
     script: &[u8],
+    payloads: Payloads,
     out: &mut BufWriter<Pipe<O>>,
 ) -> Result<(), BenchFault>
-    ensures { OnOk result (IsWritten (Judge bench) script.now
+    ensures written { OnOk result (IsWritten (Judge bench) payloads script.now
         (writer_contents (pipe_contents O.contents) out.old) (writer_contents (pipe_contents O.contents) out.new)) }
+    ensures faults { IfErr result (λ fault. IsFaultIn (Judge bench) script.now fault) }
 {
-    match write_bench::<R, Pipe<O>>(alloc, script, bench, out) {
+    match write_bench::<R, Pipe<O>>(alloc, script, bench, payloads, out) {
         Ok(sweep) if sweep.wrong == 0 => Ok(()),
         Ok(_) => Err(BenchFault::Wrong),
         Err(e) => Err(fault_of(e, out)),
@@ -110,39 +124,97 @@ pub fn without_work(why: NoWork) -> Result<(), BenchFault>
     }
 }
 
-/// Does the work over the script of an input.
+/// The fault of a payload file: a refusal where it was memory that was refused.
+fn unread(fault: &PayloadFault) -> BenchFault
+    ensures { (result ≡ File) ⊎ (result ≡ Refused Memory) }
+{
+    if fault.error.kind() == ErrorKind::OutOfMemory {
+        BenchFault::Refused(Refusal::Memory)
+    } else {
+        BenchFault::File
+    }
+}
+
+/// What the slots begin with, from the files that are named.
+fn named_payloads<P: PayloadFiles>(
+    alloc: Global,
+    files: &P,
+    options: &Options,
+) -> Result<Payloads, BenchFault>
+    ensures read { IfOk result (AreFilesOf (P.bytes_at files.now) (payload_files options.now)) }
+    ensures failed { IfErr result (λ fault. IsUnread options.now fault ⊎ (fault ≡ Refused Memory)) }
+{
+    match payloads_of(alloc, files, &options.payloads) {
+        Ok(payloads) => Ok(payloads),
+        Err(fault) => Err(unread(&fault)),
+    }
+}
+
+/// Does the work over the script of an input, which begins with these payloads.
 fn run_work<R: Threads + Sync, I: Read + Drop, O: Write + Drop>(
     alloc: Global,
     threads: &R,
     work: Work,
+    payloads: Payloads,
     input: I,
     out: &mut BufWriter<Pipe<O>>,
 ) -> Result<(), BenchFault>
-    ensures { OnOk result (IsWorked work (I.remaining input) (writer_contents (pipe_contents O.contents) out.old)
-        (writer_contents (pipe_contents O.contents) out.new)) }
+    ensures worked { OnOk result (IsWorked work payloads (I.remaining input)
+        (writer_contents (pipe_contents O.contents) out.old) (writer_contents (pipe_contents O.contents) out.new)) }
+    ensures faults { IfErr result (λ fault. IsFaultOf work (I.remaining input) fault) }
 {
-    let script = input_script(alloc, input)?;
+    let script = match input_script(alloc, input) {
+        Ok(script) => script,
+        Err(fault) => return Err(fault),
+    };
     match work {
-        Work::Report(savers) => report(alloc, threads, savers, &script, out),
-        Work::Judge(bench) => judge::<R, O>(alloc, bench, &script, out),
+        Work::Report(savers) => report(alloc, threads, savers, &script, payloads, out),
+        Work::Judge(bench) => judge::<R, O>(alloc, bench, &script, payloads, out),
     }
 }
 
-/// Does the work that the words ask for, or shows what they ask to be shown, or their fault.
-fn run_words<R: Threads + Sync, S: AsStr, I: Read + Drop, O: Write + Drop, F: Write>(
+/// Does what the options ask for. The payload files are read before the input.
+fn run_options<R: Threads + Sync, P: PayloadFiles, I: Read + Drop, O: Write + Drop>(
     alloc: Global,
     threads: &R,
+    files: &P,
+    options: &Options,
+    input: I,
+    out: &mut BufWriter<Pipe<O>>,
+) -> Result<(), BenchFault>
+    ensures done { OnOk result (AreDone options.now (P.bytes_at files.now) (I.remaining input)
+        (writer_contents (pipe_contents O.contents) out.old) (writer_contents (pipe_contents O.contents) out.new)) }
+    ensures faults { IfErr result (λ fault. IsUnread options.now fault ⊎ (fault ≡ Refused Memory)
+        ⊎ IsFaultOf options.now.work (I.remaining input) fault) }
+{
+    let payloads = named_payloads(alloc, files, options)?;
+    run_work(alloc, threads, options.work, payloads, input, out)
+}
+
+/// Does the work that the words ask for, or shows what they ask to be shown, or their fault.
+fn run_words<
+    R: Threads + Sync,
+    P: PayloadFiles,
+    S: AsStr,
+    I: Read + Drop,
+    O: Write + Drop,
+    F: Write,
+>(
+    alloc: Global,
+    threads: &R,
+    files: &P,
     words: &[S],
     input: I,
     out: &mut BufWriter<Pipe<O>>,
     faults: &mut F,
 ) -> Result<(), BenchFault>
-    ensures { OnOk result (IsDone (map S.text words.now) (I.remaining input)
+    ensures done { OnOk result (IsDone (map S.text words.now) (P.bytes_at files.now) (I.remaining input)
         (writer_contents (pipe_contents O.contents) out.old) (writer_contents (pipe_contents O.contents) out.new)
         ⊎ NamesNoWork (map S.text words.now)) }
+    ensures faults { IfErr result (λ fault. IsFault (map S.text words.now) (I.remaining input) fault) }
 {
-    match work_of(alloc, words) {
-        Ok(work) => run_work(alloc, threads, work, input, out),
+    match options_of(alloc, words) {
+        Ok(options) => run_options(alloc, threads, files, &options, input, out),
         Err(text) => without_work(show_on(out, faults, &text)),
     }
 }
@@ -157,26 +229,35 @@ pub fn end<F: Write>(done: &Result<(), BenchFault>, faults: &mut F) -> u8
     status_of(done)
 }
 
-/// The program over streams: does what the words of a command line ask for, the program's name first, with the
-/// script of the input. The report, the lines of a bench, or what the words ask to be shown goes to `out`, and
-/// a fault to `faults`. Answers the status that README.md, "The program", has. The handle makes the threads of
-/// lanes, where the words ask for these.
-pub fn run_on<R: Threads + Sync, S: AsStr, I: Read + Drop, O: Write + Drop, F: Write>(
+/// The program over files and streams: does what the words of a command line ask for, the program's name first, with
+/// the payload files that they name and the script of the input, read in that order. The report, the lines of a bench,
+/// or what the words ask to be shown goes to `out`, and a fault to `faults`. Answers the status that docs/SCRIPT.md,
+/// "The program", has. The handle makes the threads of lanes, where the words ask for these.
+pub fn run_on<
+    R: Threads + Sync,
+    P: PayloadFiles,
+    S: AsStr,
+    I: Read + Drop,
+    O: Write + Drop,
+    F: Write,
+>(
     alloc: Global,
     threads: &R,
+    files: &P,
     words: &[S],
     input: I,
     out: &mut BufWriter<Pipe<O>>,
     faults: &mut F,
 ) -> u8
     // The status is the one of what was done; and what was done is the work that the words name, whole, where they
-    // name any.
+    // name any. A fault is one that this work may have over that input, or that the command line has.
     ensures status { (done : Result (Unit {0}) BenchFault) × (result ≡ status_after done)
-        × OnOk done (IsDone (map S.text words.now) (I.remaining input)
+        × OnOk done (IsDone (map S.text words.now) (P.bytes_at files.now) (I.remaining input)
         (writer_contents (pipe_contents O.contents) out.old)
         (writer_contents (pipe_contents O.contents) out.new)
-        ⊎ NamesNoWork (map S.text words.now)) }
+        ⊎ NamesNoWork (map S.text words.now))
+        × IfErr done (λ fault. IsFault (map S.text words.now) (I.remaining input) fault) }
 {
-    let done = run_words(alloc, threads, words, input, out, faults);
+    let done = run_words(alloc, threads, files, words, input, out, faults);
     end(&done, faults)
 }

@@ -1,14 +1,14 @@
 //! The command line, and what `--help` says.
 
-ghost use Rattle.std.specs.Prelude.{◌≡◌, ◌⊎◌, false, Bool, map, codes, IfOk, IfErr};
+ghost use Rattle.std.specs.Prelude.{◌≡◌, ◌⊎◌, false, Bool, Some, None, map, codes, IfOk, IfErr};
 ghost use Rattle.clap.specs.Words.{app_of, first_value, found_of, kind_of, matches_of, rows_of, rule_of};
 ghost use Rattle.clap.specs.declared.builder.value_parser.ValueParser.{ValueParser};
-ghost use Rattle.bench_program.specs.Usage.{crew_rule, sbibench, savers_named, work_named, IsFlag, IsNamedBy, NamesNoWork};
+ghost use Rattle.bench_program.specs.Usage.{crew_rule, sbibench, savers_named, work_named, IsFlag, IsNamedBy, NamesBoth, NamesNoWork};
 
 use board_model::refusal_lines;
 use clap::error::ErrorKind;
 use clap::{Arg, ArgAction, ArgMatches, Command, Error};
-use command_line::flag;
+use command_line::{flag, payload_paths, with_payloads};
 use std::alloc::{AllocError, Global};
 use std::convert::AsStr;
 
@@ -24,7 +24,10 @@ Runs a script of programs, commands and power cuts on a modelled RISC-V board.
 The script comes on standard input, and its report goes to standard output.
 With --sweep or --faults a bench runs in place of the report: the script again
 and again, with a power cut or a failure at each call of the disk, and after
-each run a power-on that must find what the disk was told to keep.";
+each run a power-on that must find what the disk was told to keep.
+
+A payload too long for a line of the script comes from a file, by --p0 to --p3:
+its slot boots it until a line 'payload' says otherwise.";
 
 /// The statuses, the refusals with their common words, and a first script.
 macro_rules! numbers {
@@ -36,8 +39,8 @@ Status:
      report
   1  the script did not run, or its report was not written: standard error has
      'sbibench: refusal N', for a malformed script 'sbibench: refusal 14 line K',
-     for failed input 'sbibench: input', and nothing where no one reads the
-     report
+     for failed input 'sbibench: input', for a payload file that could not be
+     read 'sbibench: file', and nothing where no one reads the report
   2  a fault of the command line
   3  a bench found something wrong: its last line counts how often
 
@@ -88,6 +91,14 @@ pub enum Work {
     Judge(Bench),
 }
 
+/// What is to be done, and what the slots begin with.
+#[derive(Drop)]
+pub struct Options {
+    pub work: Work,
+    /// The file of each boot slot's payload, where one is named. The others are empty.
+    pub payloads: [Option<String>; 4],
+}
+
 /// A bench.
 #[derive(Clone, Copy, Drop)]
 pub enum Bench {
@@ -125,14 +136,15 @@ fn command<'a>(alloc: Global) -> Result<Command<'a>, AllocError>
 {
     let sweep = "Cuts power at each call of the disk, and judges what is found";
     let faults = "Fails each call of the disk in turn, and judges what is found";
-    Command::new(alloc, "sbibench")
+    let command = Command::new(alloc, "sbibench")
         .version(VERSION)
         .override_usage(USAGE)
         .about(ABOUT)
         .after_help(NUMBERS)
         .arg(crew(alloc))?
         .arg(flag(alloc, SWEEP, sweep))?
-        .arg(flag(alloc, FAULTS, faults))
+        .arg(flag(alloc, FAULTS, faults))?;
+    with_payloads(alloc, command)
 }
 
 /// The crew that was chosen.
@@ -174,23 +186,22 @@ fn parsed<'a, S: AsStr>(alloc: Global, words: &'a [S]) -> Result<ArgMatches<'a>,
     ensures matches { IfOk result (λ m. (crews : ValueParser)
         × (rows_of (found_of m) ≡ matches_of (sbibench crews) (map S.text words.entry.now))) }
     // It fails for memory, or since the words name no work.
-    ensures refused { IfErr result (λ e. (kind_of e ≡ ErrorKind.OutOfMemory)
-        ⊎ (kind_of e ≡ ErrorKind.ArgumentConflict) ⊎ NamesNoWork (map S.text words.entry.now)) }
+    ensures refused { IfErr result (λ e. (kind_of e ≡ ErrorKind.OutOfMemory) ⊎ NamesNoWork (map S.text words.entry.now)) }
 {
     command(alloc)?.try_get_matches_from(words)
 }
 
-/// What the words of a command line ask for, the program's name first. Both benches are a fault. The error is
-/// the command line's own text, which is the help or the version too, or says that memory was refused.
-pub fn work_of<'a, S: AsStr>(alloc: Global, words: &'a [S]) -> Result<Work, Error>
-    // It is what the words name, as the command line's parser reads them, and not both benches.
-    ensures named { IfOk result (λ work. IsNamedBy (map S.text words.now) work) }
-    // Else memory was refused, or the words name both benches, or no work.
-    ensures refused { IfErr result (λ e. (kind_of e ≡ ErrorKind.OutOfMemory)
-        ⊎ (kind_of e ≡ ErrorKind.ArgumentConflict) ⊎ NamesNoWork (map S.text words.now)) }
+/// What is to be done; both benches are a fault.
+fn one_work<'a>(alloc: Global, matches: &ArgMatches<'a>) -> Result<Work, Error>
+    ensures named { IfOk result (λ work. (sweep faults : Bool) × IsFlag (found_of matches.now) (codes "sweep") sweep
+        × IsFlag (found_of matches.now) (codes "faults") faults
+        × (work_named sweep faults (savers_named (first_value (found_of matches.now) (codes "crew"))) ≡ Some work)) }
+    ensures both { IfErr result (λ e. (kind_of e ≡ ErrorKind.OutOfMemory) ⊎ ((kind_of e ≡ ErrorKind.ArgumentConflict)
+        × (sweep faults : Bool) × IsFlag (found_of matches.now) (codes "sweep") sweep
+        × IsFlag (found_of matches.now) (codes "faults") faults
+        × (work_named sweep faults (savers_named (first_value (found_of matches.now) (codes "crew"))) ≡ None))) }
 {
-    let matches = parsed(alloc, words)?;
-    match work_in(&matches) {
+    match work_in(matches) {
         Some(work) => Ok(work),
         None => {
             let text = "--sweep cannot be used with --faults";
@@ -198,4 +209,22 @@ pub fn work_of<'a, S: AsStr>(alloc: Global, words: &'a [S]) -> Result<Work, Erro
             Err(again.error(ErrorKind::ArgumentConflict, text)?)
         }
     }
+}
+
+/// What the words of a command line ask for, the program's name first. Both benches are a fault. The error is
+/// the command line's own text, which is the help or the version too, or says that memory was refused.
+pub fn options_of<'a, S: AsStr>(alloc: Global, words: &'a [S]) -> Result<Options, Error>
+    // It is what the words name, as the command line's parser reads them, and not both benches.
+    ensures named { IfOk result (λ options. IsNamedBy (map S.text words.now) options) }
+    // Else memory was refused, or the words name both benches, or no work.
+    ensures refused { IfErr result (λ e. (kind_of e ≡ ErrorKind.OutOfMemory)
+        ⊎ ((kind_of e ≡ ErrorKind.ArgumentConflict) × NamesBoth (map S.text words.now)) ⊎ NamesNoWork (map S.text words.now)) }
+{
+    let matches = parsed(alloc, words)?;
+    let work = match one_work(alloc, &matches) {
+        Ok(work) => work,
+        Err(error) => return Err(error),
+    };
+    let payloads = payload_paths(alloc, &matches)?;
+    Ok(Options { work, payloads })
 }

@@ -187,8 +187,9 @@ begins_fair modes.Resume z s b line new h = resumes_fair z s b line new h
 
 boots_fair : (r : Option ℕ) (mode : BootMode) (z : Size) (s : DurableState) (b : Bench) (line : Printed) (new : Bench) → Boots r mode z s b line new → Fair b new
 boots_fair (Some n) mode z s b line new x = unmoved b new x.1
-boots_fair None mode z s b line new (inl x) = begins_fair mode z s b line new x
-boots_fair None mode z s b line new (inr x) = starved b new x.1
+boots_fair None mode z s b line new (inl x) = begins_fair mode z s b line new x.1
+boots_fair None mode z s b line new (inr (inl x)) = unmoved b new x.2
+boots_fair None mode z s b line new (inr (inr x)) = starved b new x.2
 
 settled_fair : (changes : List Change) (m : DiskState) (b mid : Bench) → b.disk_state ≡ m → CalmDisk m None → mid ≡ settled changes b → Fair b mid
 settled_fair changes m b mid at calm e =
@@ -286,9 +287,13 @@ begins modes.Resume z s b line said new last allowed x y = resumes z s b line sa
 
 boots : (r : Option ℕ) (mode : BootMode) (z : Size) (s : DurableState) (b : Bench) (line said : Printed) (new last : Bench) → boot_refusal s mode ≡ r → Boots r mode z s b line new → Boots r mode z s b said last → Agree line said new last
 boots (Some n) mode z s b line said new last at x y = same line said (printed.OnRefused n) new last b x.0 y.0 x.1 y.1
-boots None mode z s b line said new last at (inr x) y = inl (starves b new x.1)
-boots None mode z s b line said new last at (inl x) (inr y) = inr (inl (starves b last y.1))
-boots None mode z s b line said new last at (inl x) (inl y) = begins mode z s b line said new last at x y
+boots None mode z s b line said new last at (inr (inr x)) y = inl (starves b new x.2)
+boots None mode z s b line said new last at (inl x) (inr (inr y)) = inr (inl (starves b last y.2))
+boots None mode z s b line said new last at (inl x) (inr (inl y)) = absurd (y.0 x.0)
+boots None mode z s b line said new last at (inl x) (inl y) = begins mode z s b line said new last at x.1 y.1
+boots None mode z s b line said new last at (inr (inl x)) (inl y) = absurd (x.0 y.0)
+boots None mode z s b line said new last at (inr (inl x)) (inr (inl y)) = same line said (printed.OnRefused 3) new last b x.1 y.1 x.2 y.2
+boots None mode z s b line said new last at (inr (inl x)) (inr (inr y)) = inr (inl (starves b last y.2))
 
 pub kept_as : (k : Kept) (changes : List Change) → k.doubt ≡ None → MayKeep k changes → k.changes ≡ changes
 kept_as k changes calm (inl e) = sym e

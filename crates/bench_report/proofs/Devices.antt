@@ -1,16 +1,20 @@
 -- The device below a bench, after a call that failed and after one that did not.
 use Rattle.std.proofs.Common.{◌≡◌, ◌≢◌, ◌⊎◌, ◌≤◌, ℕ, inl, inr, refl, sym, ◌∙◌, subst, arith}
+use Rattle.board_model.specs.Durable.{DurableState}
+use Rattle.board_model.specs.Kept.{MayFind}
 use Rattle.board_model.specs.Shapes.{Size}
 use Rattle.board_model.specs.Views.{number_of_refusal}
 use Rattle.board_model.specs.declared.refusal.Refusal.{Refusal}
 use Rattle.board_model.specs.declared.refusal.Refusal.TheVariants.{Device, Memory}
 use Rattle.disk.specs.Facts.{Facts, counted, Failed}
 use Rattle.disk.specs.FaultState.{FaultState, Cause}
-use Rattle.store.specs.Leaves.{SameLength}
-use Rattle.bench_report.specs.Bench.{Bench}
-use Rattle.bench_report.specs.Happens.{failed, FailsByFault}
+use Rattle.simdisk.specs.declared.SimDisk.{SimDisk}
+use Rattle.store.specs.Leaves.{SameLength, Leaves}
+use Rattle.bench_report.specs.Bench.{DiskState, Formatted, Bench}
+use Rattle.bench_report.specs.Happens.{failed, FailsByFault, off}
 use Rattle.bench_report.specs.Sides.{SidesAre}
-use Rattle.bench_report.specs.Agree.{DeviceIs}
+use Rattle.bench_report.specs.Agree.{DiskIs, DeviceIs, OffIs}
+use Rattle.bench_report.specs.Views.{facts}
 use Rattle.bench_report.proofs.Sides.{LeavesFewer, sides_stay, failed_sides}
 
 pub is_device : (e : Refusal) → (e ≡ Device) ⊎ (e ≢ Device)
@@ -52,3 +56,9 @@ stays_as size c x m n old new is fault failures e more same sides = (fault ∙ i
 -- and no other content may be left than before
 pub stays : (size : Size) (c : Bench) (m n : FaultState) (old new : Facts) → DeviceIs size c m old → n ≡ m → old.failures ≤ new.failures → SameLength old new → LeavesFewer old new → DeviceIs size c n new
 stays size c m n old new is e more same fewer = stays_as size c c m n old new is refl refl e more same (sides_stay size c old new fewer is.3)
+
+-- what a crash may leave of a formatted disk is what an open may find of the commands that it keeps
+pub may_find : (size : Size) (b : Bench) (disk : SimDisk) → OffIs size (off b) disk → (t : DurableState) → Leaves (facts disk) size t → b.disk_state ≡ Formatted → MayFind b.kept t
+may_find size b disk is t leaves formatted =
+    let P : DiskState → Type 0 = λ m. DiskIs size m b.kept (facts disk) in
+    (subst P formatted is.1).1 t leaves

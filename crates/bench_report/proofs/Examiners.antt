@@ -1,17 +1,17 @@
 -- What a question of the disk is answered at any point of a run in which nothing failed.
-use Rattle.std.proofs.Common.{◌≡◌, inl, inr, List, [], ◌∷◌, Option, None, Some, refl, sym, ◌∙◌, ap, subst}
+use Rattle.std.proofs.Common.{◌≡◌, ℕ, inl, inr, List, [], ◌∷◌, Option, None, Some, refl, sym, ◌∙◌, ap, subst}
 use Rattle.board_model.specs.Kept.{Kept}
 use Rattle.board_model.specs.Shapes.{Size}
 use Rattle.script_lang.specs.Scripts.{Script}
 use Rattle.bench_report.specs.declared.printed.Answer.{Answer}
 use Rattle.bench_report.specs.declared.printed.Printed.TheVariants as printed
-use Rattle.bench_report.specs.Bench.{DiskState, BenchLife, Bench, IsFailureFree, IsClean, blank_bench}
+use Rattle.bench_report.specs.Bench.{DiskState, BenchLife, Bench, IsFailureFree, IsClean, bench_with}
 use Rattle.bench_report.specs.Deeds as deeds
 use Rattle.bench_report.specs.Deeds.{OfDisk}
 use Rattle.bench_report.specs.Happens.{says}
 use Rattle.bench_report.specs.Examined.{InspectsOn, InspectStep}
 use Rattle.bench_report.specs.Steps.{DeedMoves}
-use Rattle.bench_report.specs.Reports.{AreByFirmware, IsReport}
+use Rattle.bench_report.specs.Reports.{AreByFirmware, IsReportWith}
 use Rattle.bench_report.proofs.Determined.{HasFailed, IsCalm, starves, hinders}
 use Rattle.bench_report.proofs.Inspected.{ContentLaws, said_of, clean_or, clean_tells}
 use Rattle.bench_report.proofs.Single.{moves_fair, struck_fails, run_fair, clean}
@@ -47,12 +47,12 @@ module _ (laws : ContentLaws) (size : Size) (b : Bench) (a : Answer) (new : Benc
   pub said : Said (said_by b.power b.disk_state b.kept)
   said = by_move moved
 
-pub said_so : ContentLaws → (script : Script) (answers : List Answer) (b : Bench) → AreByFirmware script.lines → IsReport script answers b → b.power ≡ None → (a : Answer) (new : Bench) → DeedMoves script.size (deeds.Ask OfDisk) b a new → IsFailureFree new
+pub said_so : ContentLaws → (payloads : List (List ℕ)) (script : Script) (answers : List Answer) (b : Bench) → AreByFirmware script.lines → IsReportWith payloads script answers b → b.power ≡ None → (a : Answer) (new : Bench) → DeedMoves script.size (deeds.Ask OfDisk) b a new → IsFailureFree new
     → (a ≡ says (said_of b.disk_state b.kept)) × (new ≡ b)
-said_so laws script [] b by h off a new moved free = absurd h
-said_so laws script (board ∷ answers) b by h off a new moved free =
+said_so laws payloads script [] b by h off a new moved free = absurd h
+said_so laws payloads script (board ∷ answers) b by h off a new moved free =
     let P : Option BenchLife → Type 0 = λ p. (a ≡ said_by p b.disk_state b.kept) × (new ≡ b) in
-    elim ((run_fair script.size script.lines blank_bench answers b by h.1).1 (tt, refl, refl)) [
+    elim ((run_fair script.size script.lines (bench_with payloads) answers b by h.1).1 (tt, refl, refl)) [
       | inl spoilt ↦ clean new free ((moves_fair script.size (deeds.Ask OfDisk) b a new tt moved).0 (inr spoilt))
       | inr calm ↦ subst P off (said laws script.size b a new (λ failed. clean new free failed) calm moved)
     ]

@@ -32,7 +32,7 @@ use Rattle.board_model.specs.ConsoleCommands.{console_change}
 use Rattle.bench_report.specs.declared.printed.Printed.{Printed}
 use Rattle.bench_report.specs.declared.printed.Printed.TheVariants as printed
 use Rattle.bench_report.specs.declared.printed.Answer.{Answer}
-use Rattle.bench_report.specs.Bench.{DiskState, Blank, Unknown, Formatted, BenchLife, Bench, IsFailureFree, blank_bench}
+use Rattle.bench_report.specs.Bench.{DiskState, Blank, Unknown, Formatted, BenchLife, Bench, IsFailureFree, bench_with}
 use Rattle.bench_report.specs.Deeds as deeds
 use Rattle.bench_report.specs.Deeds.{Deed, deed_of}
 use Rattle.bench_report.specs.Happens.{says, off, on_with, formatted_anew, settled, has_machine, acknowledged}
@@ -42,7 +42,7 @@ use Rattle.susp.specs.declared.sleeps.Sleep.TheVariants.{ToRam, ToDisk}
 use Rattle.bench_report.specs.Turns.{AnswersError, HartCommand, Resets, SuspendIssued, dozes, BenchFallsAsleep, BenchSleepsBy, BenchMakesCall, ComesTo, GuestTurn, GuestTurns}
 use Rattle.bench_report.specs.PowerOns.{life_begun, FormatsOn, IsBooted, BootsFrom, Resumes, Begins, Boots, Opens, PowersOn}
 use Rattle.bench_report.specs.Steps.{console_reported, FormatStep, OnStep, ConsoleStep, TurnStep, CallReported, GuestCall, CallStep, DeedStep, Moves, Run}
-use Rattle.bench_report.specs.Reports.{IsReport}
+use Rattle.bench_report.specs.Reports.{IsReportWith}
 use Rattle.bench_report.proofs.Unsaid.{none_made}
 use Rattle.bench_report.specs.Plain.{ShowsNoFailure, ShowNoFailure}
 use Rattle.bench_report.specs.Asides.{Effect, Stays, SetsPayloads, Arms, CutsPower, WakesBoard, WritesPast, aside, affected}
@@ -126,8 +126,9 @@ begins_failure_free modes.Discard z s b line new h failure_free = slot_failure_f
 begins_failure_free modes.Resume z s b line new h failure_free = resumes_failure_free z s b line new h failure_free
 
 boots_failure_free : (r : Option ℕ) (mode : BootMode) (z : Size) (s : DurableState) (b : Bench) (line : Printed) (new : Bench) → Boots r mode z s b line new → ShowsNoFailure line → AsMany b new
-boots_failure_free None mode z s b line new (inl h) failure_free = begins_failure_free mode z s b line new h failure_free
-boots_failure_free None mode z s b line new (inr h) failure_free = absurd ((of_line line (printed.OnRefused 11) h.0 failure_free).2 refl)
+boots_failure_free None mode z s b line new (inl h) failure_free = begins_failure_free mode z s b line new h.1 failure_free
+boots_failure_free None mode z s b line new (inr (inl h)) failure_free = as_many b b new refl refl h.2
+boots_failure_free None mode z s b line new (inr (inr h)) failure_free = absurd ((of_line line (printed.OnRefused 11) h.1 failure_free).2 refl)
 boots_failure_free (Some n) mode z s b line new h failure_free = as_many b b new refl refl h.1
 
 opens_many : (size : Size) (m : DiskState) (b : Bench) (s : DurableState) (z : Size) (mid : Bench) → Opens size m b s z mid → AsMany b mid
@@ -276,6 +277,6 @@ run_failure_free size (l ∷ ls) b [] end h failure_free = absurd h
 run_failure_free size (l ∷ ls) b (a ∷ answers) end h failure_free =
     many_then b h.0 end (moves_failure_free size l b a h.0 h.1 failure_free.0) (run_failure_free size ls h.0 answers end h.2 failure_free.1)
 
-pub failure_free_bench : (script : Script) (answers : List Answer) (end : Bench) → IsReport script answers end → ShowNoFailure answers → IsFailureFree end
-failure_free_bench script [] end h failure_free = absurd h
-failure_free_bench script (board ∷ answers) end h failure_free = run_failure_free script.size script.lines blank_bench answers end h.1 failure_free.1
+pub failure_free_bench : (payloads : List (List ℕ)) (script : Script) (answers : List Answer) (end : Bench) → IsReportWith payloads script answers end → ShowNoFailure answers → IsFailureFree end
+failure_free_bench payloads script [] end h failure_free = absurd h
+failure_free_bench payloads script (board ∷ answers) end h failure_free = run_failure_free script.size script.lines (bench_with payloads) answers end h.1 failure_free.1

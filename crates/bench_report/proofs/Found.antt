@@ -37,7 +37,7 @@ use Rattle.board_model.specs.ConsoleCommands.{console_change}
 use Rattle.bench_report.specs.declared.printed.Printed.{Printed}
 use Rattle.bench_report.specs.declared.printed.Printed.TheVariants as printed
 use Rattle.bench_report.specs.declared.printed.Answer.{Answer}
-use Rattle.bench_report.specs.Bench.{DiskState, Blank, Unknown, Formatted, BenchLife, Bench, blank_bench}
+use Rattle.bench_report.specs.Bench.{DiskState, Blank, Unknown, Formatted, BenchLife, Bench, bench_with}
 use Rattle.bench_report.specs.Deeds as deeds
 use Rattle.bench_report.specs.Deeds.{Deed, deed_of}
 use Rattle.bench_report.specs.Happens.{says, shows, out_of_memory, failed, on_with, settled, has_machine, acknowledged, in_doubt}
@@ -47,7 +47,7 @@ use Rattle.susp.specs.declared.sleeps.Sleep.TheVariants.{ToRam, ToDisk}
 use Rattle.bench_report.specs.Turns.{refused, AnswersError, HartCommand, Resets, dozes, BenchFallsAsleep, BenchSleepsBy, BenchMakesCall, ComesTo, GuestTurns}
 use Rattle.bench_report.specs.PowerOns.{life_begun, IsBooted, BootsFrom, Begins, Boots, Opens, IsOpenRefusal}
 use Rattle.bench_report.specs.Steps.{console_reported, CallReported, GuestCall, OnStep, ConsoleStep, TurnStep, CallStep, DeedStep, Run}
-use Rattle.bench_report.specs.Reports.{AreByFirmware, IsReport}
+use Rattle.bench_report.specs.Reports.{AreByFirmware, IsReportWith}
 use Rattle.bench_report.specs.Prefix.{AskedLine, Boot, Command, Guest, Nothing, Keeps, Hides, TellsLine, may_hide, asked_of, asked_by, LineImplies, ShowsIts, is_format_ok}
 use Rattle.bench_report.specs.AllFound.{LineMakes, ShownMakes, AreAllFound, FindAll, FindsAll}
 use Rattle.bench_report.proofs.Issues.{is_up, takes_more, GoesOn, IsSound}
@@ -159,8 +159,9 @@ begins_still modes.Resume z s b x new well allowed (inr h) refused = still b new
 
 boots_still : (r : Option ℕ) (mode : BootMode) (z : Size) (s : DurableState) (b : Bench) (x : Printed) (new : Bench) → boot_refusal s mode ≡ r → (DiskHasFailed new → ⊥) → Boots r mode z s b x new → IsRefusedLine x → IsStill b new
 boots_still (Some n) mode z s b x new at well h refused = still b new b h.1 refl
-boots_still None mode z s b x new at well (inl h) refused = begins_still mode z s b x new well at h refused
-boots_still None mode z s b x new at well (inr h) refused = still b new (out_of_memory b) h.1 refl
+boots_still None mode z s b x new at well (inl h) refused = begins_still mode z s b x new well at h.1 refused
+boots_still None mode z s b x new at well (inr (inl h)) refused = still b new b h.2 refl
+boots_still None mode z s b x new at well (inr (inr h)) refused = still b new (out_of_memory b) h.2 refl
 
 opens_still : (size : Size) (m : DiskState) (b : Bench) (s : DurableState) (z : Size) (mid : Bench) → CalmDisk m b.kept.doubt → Opens size m b s z mid → IsStill b mid
 opens_still size Blank b s z mid calm h = absurd h
@@ -211,8 +212,9 @@ module _ (now : Bool) where
 
   boots_quiet : (r : Option ℕ) (mode : BootMode) (z : Size) (s : DurableState) (b : Bench) (x : Printed) (new : Bench) → Boots r mode z s b x new → IsQuiet (Boot mode) x now
   boots_quiet (Some n) mode z s b x new h = quiet_line (Boot mode) x (printed.OnRefused n) now h.0 tt
-  boots_quiet None mode z s b x new (inl h) = begins_quiet mode z s b x new h
-  boots_quiet None mode z s b x new (inr h) = quiet_line (Boot mode) x (printed.OnRefused 11) now h.0 tt
+  boots_quiet None mode z s b x new (inl h) = begins_quiet mode z s b x new h.1
+  boots_quiet None mode z s b x new (inr (inl h)) = quiet_line (Boot mode) x (printed.OnRefused 3) now h.1 tt
+  boots_quiet None mode z s b x new (inr (inr h)) = quiet_line (Boot mode) x (printed.OnRefused 11) now h.1 tt
 
   on_quiet : (size : Size) (p : Option BenchLife) (mode : BootMode) (b : Bench) (a : Answer) (new : Bench) → IsSound b → OnStep size p mode b a new → IsQuiet (Boot mode) a.line now
   on_quiet size (Some life) mode b a new sound h = quiet (Boot mode) a printed.Busy now h.0 tt
@@ -370,6 +372,6 @@ from_format size (l ∷ ls) b (a ∷ answers) end by calm well run = by_calm ((m
         either (is_format_ok a.line) (AreAllFound formatted ls answers) (FindAll ls answers)
         (λ ok. anew_found size ls run.0 answers end by.1 (moves_format size l b a run.0 run.1 ok) c well run.2) (more c)
 
-pub all_found : (script : Script) (answers : List Answer) (end : Bench) → AreByFirmware script.lines → IsReport script answers end → end.failures ≡ 0 → FindsAll script.lines answers
-all_found script [] end by h none = absurd h
-all_found script (board ∷ answers) end by h none = from_format script.size script.lines blank_bench answers end by (tt, refl, refl) (λ failed. omega (arith, none, failed)) h.1
+pub all_found : (payloads : List (List ℕ)) (script : Script) (answers : List Answer) (end : Bench) → AreByFirmware script.lines → IsReportWith payloads script answers end → end.failures ≡ 0 → FindsAll script.lines answers
+all_found payloads script [] end by h none = absurd h
+all_found payloads script (board ∷ answers) end by h none = from_format script.size script.lines (bench_with payloads) answers end by (tt, refl, refl) (λ failed. omega (arith, none, failed)) h.1

@@ -31,6 +31,7 @@ pub mod PowerOns
 pub mod Prefixed
 pub mod Issues
 pub mod Allowed
+pub mod Fitting
 pub mod PlainRun
 pub mod Started
 pub mod Came

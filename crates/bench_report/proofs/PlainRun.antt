@@ -16,15 +16,17 @@ use Rattle.script_lang.specs.declared.line.Line.{Line}
 use Rattle.board_model.specs.declared.console_command.ConsoleCommand.{ConsoleCommand}
 use Rattle.board_model.specs.ConsoleCommands.{console_change}
 use Rattle.bench_report.specs.declared.printed.Answer.{Answer}
-use Rattle.bench_report.specs.Bench.{DiskState, Blank, Unknown, Formatted, BenchLife, Bench, IsFailureFree, blank_bench}
+use Rattle.bench_report.specs.Bench.{DiskState, Blank, Unknown, Formatted, BenchLife, Bench, IsFailureFree, bench_with}
 use Rattle.bench_report.specs.Deeds as deeds
 use Rattle.bench_report.specs.Deeds.{OfBoard, OfDisk, Aside, WritePast, Deed, deed_of, Beside, IsByFirmwareAlone}
 use Rattle.bench_report.specs.Happens.{says, on_with, settled, acknowledged, life_with, all_acknowledged}
 use Rattle.bench_report.specs.Commands.{Writes, Issued, IssuedBy, IssuesAll}
 use Rattle.bench_report.specs.PowerOns.{life_begun, ShowsFound, FormatsOn, BootsFrom, Boots, Begins, Opens, IsOpenRefusal, PowersOn}
 use Rattle.bench_report.specs.Steps.{FormatStep, OnStep, ConsoleStep, DeedStep, DeedMoves, Run}
-use Rattle.bench_report.specs.Reports.{AreByFirmware, board_answer, IsReport}
-use Rattle.bench_report.specs.Plain.{plain_written, plain_issued, plain_console, plain_format, plain_slot, plain_boot, plain_on, plain_inspect, plain_at, plain, plain_answers, plain_report, IsPlainDeed, ArePlain}
+use Rattle.bench_report.specs.Reports.{AreByFirmware, board_answer, IsReportWith}
+use Rattle.bench_report.specs.Plain.{plain_written, plain_issued, plain_console, plain_format, found_then, plain_slot, payloads_fit, plain_boot, plain_on, plain_inspect, plain_at, plain, plain_answers, plain_report_with, IsPlainDeed, ArePlain}
+use Rattle.bench_report.specs.declared.printed.Printed.TheVariants as printed
+use Rattle.bench_report.proofs.Fitting.{all_fit, none_fits}
 use Rattle.bench_report.proofs.Adapted.{grows}
 use Rattle.bench_report.proofs.Determined.{CalmDisk, IsCalm, HasFailed, Agree}
 use Rattle.bench_report.proofs.FailureFree.{AsMany}
@@ -138,11 +140,19 @@ begins modes.Resume z s b none allowed is good = never_on s.image none allowed
 
 boots : (r : Option ℕ) (mode : BootMode) (z : Size) (s : DurableState) (b : Bench) → s.image ≡ None → boot_refusal s mode ≡ r → found_of b.kept.changes ≡ s → IsGood b → Well b (λ a new. Boots r mode z s b a.line new) (plain_boot r mode z s b)
 boots (Some n) mode z s b none at is good = ((refl, refl), good, (refl, refl))
-boots None mode z s b none at is good = let did = begins mode z s b none at is good in (inl did.0, did.1, did.2)
+boots None mode z s b none at is good = by (payloads_fit z b.payloads) refl
+  where
+    by : (t : Bool) → payloads_fit z b.payloads ≡ t → Well b (λ a new. Boots None mode z s b a.line new) (if t then plain_slot mode z s b else (found_then s (printed.OnRefused 3), b))
+    by true fits = let did = begins mode z s b none at is good in (inl (all_fit z b.payloads fits, did.0), did.1, did.2)
+    by false long = (inr (inl (none_fits z b.payloads long, refl, refl)), good, (refl, refl))
 
 found_line : (r : Option ℕ) (mode : BootMode) (z : Size) (s : DurableState) (b : Bench) → ShowsFound (plain_boot r mode z s b).0.found s
 found_line (Some n) mode z s b = refl
-found_line None mode z s b = refl
+found_line None mode z s b = by (payloads_fit z b.payloads)
+  where
+    by : (t : Bool) → ShowsFound (if t then plain_slot mode z s b else (found_then s (printed.OnRefused 3), b)).0.found s
+    by true = refl
+    by false = refl
 
 powers : (size : Size) (m : DiskState) (mode : BootMode) (b : Bench) → b.disk_state ≡ m → CalmDisk m b.kept.doubt → IsGood b → Well b (PowersOn size mode b) (plain_on size m mode b)
 powers size Blank mode b at calm good =
@@ -261,8 +271,8 @@ plain_run laws turns call csr size (l ∷ ls) b (a ∷ answers) end are good cal
     let more = plain_run laws turns call csr size ls mid answers end are.1 it.2 calm_mid free rest in
     ap (λ q. q ∷ answers) it.0 ∙ ap (λ qs. (plain size l b).0 ∷ qs) (more ∙ ap (λ (x : Bench). plain_answers size ls x) it.1)
 
-pub plain_alone : ContentLaws → IsOneTurn → IsOneCall → IsOneCsr → (script : Script) (answers : List Answer) (end : Bench) → IsReport script answers end → IsFailureFree end → ArePlain script.lines → answers ≡ plain_report script
-plain_alone laws turns call csr script [] end h free are = absurd h
-plain_alone laws turns call csr script (board ∷ answers) end h free are =
-    let rest = plain_run laws turns call csr script.size script.lines blank_bench answers end are (tt, tt, refl, refl) (tt, refl, refl) free h.1 in
+pub plain_alone : ContentLaws → IsOneTurn → IsOneCall → IsOneCsr → (payloads : List (List ℕ)) (script : Script) (answers : List Answer) (end : Bench) → IsReportWith payloads script answers end → IsFailureFree end → ArePlain script.lines → answers ≡ plain_report_with payloads script
+plain_alone laws turns call csr payloads script [] end h free are = absurd h
+plain_alone laws turns call csr payloads script (board ∷ answers) end h free are =
+    let rest = plain_run laws turns call csr script.size script.lines (bench_with payloads) answers end are (tt, tt, refl, refl) (tt, refl, refl) free h.1 in
     ap (λ q. q ∷ answers) h.0 ∙ ap (λ qs. board_answer script.size ∷ qs) rest

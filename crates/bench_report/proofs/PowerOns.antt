@@ -14,13 +14,13 @@ use Rattle.script_lang.specs.declared.line.Line.TheVariants as lines
 use Rattle.bench_report.specs.declared.printed.Answer.{Answer}
 use Rattle.bench_report.specs.declared.printed.Printed.{Printed}
 use Rattle.bench_report.specs.declared.printed.Printed.TheVariants as printed
-use Rattle.bench_report.specs.Bench.{DiskState, Blank, Unknown, Formatted, BenchLife, Bench, IsFailureFree, blank_bench}
+use Rattle.bench_report.specs.Bench.{DiskState, Blank, Unknown, Formatted, BenchLife, Bench, IsFailureFree, bench_with}
 use Rattle.bench_report.specs.Deeds as deeds
 use Rattle.bench_report.specs.Happens.{says, on_with, settled, has_machine, acknowledged}
 use Rattle.bench_report.specs.Commands.{Writes, Issued, IssuesAll}
 use Rattle.bench_report.specs.PowerOns.{life_begun, ShowsFound, IsBooted, BootsFrom, Resumes, Boots, Opens, IsOpenRefusal, PowersOn}
 use Rattle.bench_report.specs.Steps.{OnStep, Moves}
-use Rattle.bench_report.specs.Reports.{AreByFirmware, IsReport}
+use Rattle.bench_report.specs.Reports.{AreByFirmware, IsReportWith}
 use Rattle.bench_report.specs.Resumes.{IsMadeIn, IsResumedFrom}
 use Rattle.bench_report.proofs.Determined.{HasFailed, CalmDisk, starves, hinders, some_inj}
 use Rattle.bench_report.proofs.Single.{run_fair, clean, moves_fair}
@@ -115,8 +115,9 @@ module _ (size : Size) (b : Bench) (a : Answer) (new : Bench) (changes : List Ch
   resumes line (inr x) = other a.line (printed.OnRefused 13) x.1 (λ f. (let no : ⊥ = cc in no)) line
 
   boots : (r : Option ℕ) → a.line ≡ printed.On modes.Resume → Boots r modes.Resume size (found_of changes) (settled changes b) a.line new → IsResumedFrom size b a new
-  boots None line (inl x) = resumes line x
-  boots None line (inr x) = other a.line (printed.OnRefused 11) x.0 (λ f. (let no : ⊥ = cc in no)) line
+  boots None line (inl x) = resumes line x.1
+  boots None line (inr (inl x)) = other a.line (printed.OnRefused 3) x.1 (λ f. (let no : ⊥ = cc in no)) line
+  boots None line (inr (inr x)) = other a.line (printed.OnRefused 11) x.1 (λ f. (let no : ⊥ = cc in no)) line
   boots (Some n) line x = other a.line (printed.OnRefused n) x.0 (λ f. (let no : ⊥ = cc in no)) line
 
 opens : (size : Size) (m : DiskState) (b : Bench) (a : Answer) (new mid : Bench) (s : DurableState) (z : Size) → b.disk_state ≡ m → b.disk_state ≡ Formatted → Opens size m b s z mid → ShowsFound a.found s → a.line ≡ printed.On modes.Resume
@@ -146,11 +147,11 @@ resumed_from size b a new disk_state (inr (would, mid, h, struck, e, is)) line =
 -- ---- without failures
 -- nothing is in doubt on the formatted disk of a run in which memory was never refused and no failure was
 -- answered
-pub sure : (script : Script) (answers : List Answer) (b : Bench) → AreByFirmware script.lines → IsReport script answers b → IsFailureFree b → b.disk_state ≡ Formatted → b.kept.doubt ≡ None
-sure script [] b by h failure_free_bench disk_state = absurd h
-sure script (board ∷ answers) b by h failure_free_bench disk_state =
+pub sure : (payloads : List (List ℕ)) (script : Script) (answers : List Answer) (b : Bench) → AreByFirmware script.lines → IsReportWith payloads script answers b → IsFailureFree b → b.disk_state ≡ Formatted → b.kept.doubt ≡ None
+sure payloads script [] b by h failure_free_bench disk_state = absurd h
+sure payloads script (board ∷ answers) b by h failure_free_bench disk_state =
     let P : DiskState → Type 0 = λ m. CalmDisk m b.kept.doubt in
-    elim ((run_fair script.size script.lines blank_bench answers b by h.1).1 (tt, refl, refl)) [ inl spoilt ↦ clean b failure_free_bench (inr spoilt) | inr calm ↦ subst P disk_state calm.0 ]
+    elim ((run_fair script.size script.lines (bench_with payloads) answers b by h.1).1 (tt, refl, refl)) [ inl spoilt ↦ clean b failure_free_bench (inr spoilt) | inr calm ↦ subst P disk_state calm.0 ]
 
 kept_as : (k : Kept) (changes : List Change) → k.doubt ≡ None → MayKeep k changes → changes ≡ k.changes
 kept_as k changes calm (inl e) = e
@@ -175,15 +176,15 @@ spoilt_before b = by_counts b.growths b.failures refl refl
     by_counts (suc n) f e h = inr (inl (omega (arith, e)))
     by_counts zero (suc n) e h = inr (inr (omega (arith, h)))
 
-pub finds_all : (script : Script) (answers : List Answer) (b : Bench) (mode : BootMode) (a : Answer) (new : Bench) → AreByFirmware script.lines → IsReport script answers b → b.disk_state ≡ Formatted → b.power ≡ None → Moves script.size (lines.On mode) b a new
+pub finds_all : (payloads : List (List ℕ)) (script : Script) (answers : List Answer) (b : Bench) (mode : BootMode) (a : Answer) (new : Bench) → AreByFirmware script.lines → IsReportWith payloads script answers b → b.disk_state ≡ Formatted → b.power ≡ None → Moves script.size (lines.On mode) b a new
     → a.line ≢ printed.PowerLost → IsFailureFree new → a.found ≡ Some (durable_of (found_of b.kept.changes))
-finds_all script answers b mode a new by h disk_state none (inl move) lost failure_free_bench =
+finds_all payloads script answers b mode a new by h disk_state none (inl move) lost failure_free_bench =
     let P : Option BenchLife → Type 0 = λ p. OnStep script.size p mode b a new in
     elim (spoilt_before b) [
-      | inl was ↦ powers_sure script.size mode b a new disk_state (sure script answers b by h was disk_state) failure_free_bench (subst P none move.0)
+      | inl was ↦ powers_sure script.size mode b a new disk_state (sure payloads script answers b by h was disk_state) failure_free_bench (subst P none move.0)
       | inr spoilt ↦ clean new failure_free_bench ((moves_fair script.size (deeds.PowerOn mode) b a new tt (inl move)).0 spoilt)
     ]
-finds_all script answers b mode a new by h disk_state none (inr (would, mid, step, struck, e, is)) lost failure_free_bench = absurd (lost (ap (λ (x : Answer). x.line) e))
+finds_all payloads script answers b mode a new by h disk_state none (inr (would, mid, step, struck, e, is)) lost failure_free_bench = absurd (lost (ap (λ (x : Answer). x.line) e))
 
 -- ---- what any open finds
 untold : {A : Type 0} (a : Answer) (line : Printed) (d : Durable) → a ≡ says line → a.found ≡ Some d → A

@@ -2,6 +2,7 @@
 -- so that the fate of a command in doubt is reported by the open that settles it.
 use Rattle.board_model.specs.declared.call_words.CallWords.{CallWords}
 use Rattle.std.proofs.Common.{◌≡◌, ◌⊎◌, ℕ, ◌-◌, ◌^◌, ◌==◌, inl, inr, List, [], ◌∷◌, Option, None, Some, Result, Ok, Err, refl, sym, ◌∙◌, ap, subst, Bool, true, false, MatchBool}
+use Rattle.std.specs.Bool.{⊤}
 use Rattle.board_model.specs.Durable.{DurableState, Change, formatted}
 use Rattle.board_model.specs.Kept.{Kept, nothing_kept, found_of, MayKeep, MayFind}
 use Rattle.board_model.specs.Shapes.{Size}
@@ -28,14 +29,14 @@ use Rattle.board_model.specs.ConsoleCommands.{console_change}
 use Rattle.bench_report.specs.declared.printed.Printed.{Printed}
 use Rattle.bench_report.specs.declared.printed.Printed.TheVariants as printed
 use Rattle.bench_report.specs.declared.printed.Answer.{Answer}
-use Rattle.bench_report.specs.Bench.{DiskState, Blank, Unknown, Formatted, BenchLife, Bench, blank_bench}
+use Rattle.bench_report.specs.Bench.{DiskState, Blank, Unknown, Formatted, BenchLife, Bench, bench_with}
 use Rattle.bench_report.specs.Deeds as deeds
 use Rattle.bench_report.specs.Deeds.{Deed, deed_of, IsByFirmwareAlone}
 use Rattle.bench_report.specs.Happens.{says, shows, out_of_memory, failed, on_with, unpowered, armed_with, formatted_anew, settled, has_machine}
 use Rattle.bench_report.specs.PowerOns.{life_begun, commands_of, IsBooted, BootsFrom, Resumes, Begins, Boots, Opens, ShowsFound, IsOpenRefusal, PowersOn, FormatsOn}
 use Rattle.bench_report.specs.Steps.{console_reported, FormatStep, OnStep, ConsoleStep, CallReported, GuestCall, TurnStep, CallStep, DeedStep, Moves, Run}
-use Rattle.bench_report.specs.Reports.{IsByFirmware, AreByFirmware, IsReport}
-use Rattle.bench_report.specs.Prefix.{AskedLine, Boot, Command, Guest, Nothing, Keeps, Hides, TellsTurns, TellsLine, asked_of, asked_by, RefusedChange, Lost, LineImplies, ShowsIts, IsPrefixed, resumes, RisesFrom, AreLoaded, is_format_ok, IsFoundByPrefix, KeepsPrefixLaw}
+use Rattle.bench_report.specs.Reports.{IsByFirmware, AreByFirmware, IsReportWith}
+use Rattle.bench_report.specs.Prefix.{AskedLine, Boot, Command, Guest, Nothing, Keeps, Hides, TellsTurns, TellsLine, asked_of, asked_by, RefusedChange, Lost, LineImplies, ShowsIts, IsPrefixedTo, resumes, RisesFrom, AreLoaded, is_format_ok, IsFoundByPrefix, KeepsPrefixLawTo, KeepsPrefixLaw, MayEndIn}
 use Rattle.bench_report.proofs.Refused.{WasRefused, one_life}
 use Rattle.bench_report.proofs.Unsaid.{Hidden, TellsDid, TellsOne, GoesBy, TurnsGoBy, comes_back, turns_back}
 use Rattle.bench_report.proofs.Lost.{lost}
@@ -165,8 +166,9 @@ module _ (b : Bench) (changes : List Change) (may : MayKeep b.kept changes) (dis
 
   boots : (r : Option ℕ) (mode : BootMode) (z : Size) (a : Answer) (new : Bench) → boot_refusal (found_of changes) mode ≡ r → a.found ≡ Some (durable_of (found_of changes)) → Boots r mode z (found_of changes) (settled changes b) a.line new → Tell (Boot mode) b a new
   boots (Some n) mode z a new at found h = refused_boot n mode a (settled changes b) new found h.0 h.1 refl refl refl
-  boots None mode z a new allowed found (inl h) = begins mode z a new allowed found h
-  boots None mode z a new allowed found (inr h) = refused_boot 11 mode a (out_of_memory (settled changes b)) new found h.0 h.1 refl refl refl
+  boots None mode z a new allowed found (inl h) = begins mode z a new allowed found h.1
+  boots None mode z a new allowed found (inr (inl h)) = refused_boot 3 mode a (settled changes b) new found h.1 h.2 refl refl refl
+  boots None mode z a new allowed found (inr (inr h)) = refused_boot 11 mode a (out_of_memory (settled changes b)) new found h.1 h.2 refl refl refl
 
 opens : (size : Size) (m : DiskState) (mode : BootMode) (b : Bench) (a : Answer) (new mid : Bench) (s : DurableState) (z : Size) → b.disk_state ≡ m → b.disk_state ≡ Formatted → b.power ≡ None → Opens size m b s z mid → ShowsFound a.found s
     → Boots (boot_refusal s mode) mode z s mid a.line new → Tell (Boot mode) b a new
@@ -306,15 +308,19 @@ moves size line b a new by sound (inr (would, mid, step, struck, e, is)) =
     by_eqs (asked_by line) b a _ new (unpowered mid) e is
     ((reported.0.0, tt), λ t f. (let s = reported.1 t f in (s.0, s.1, (tt, lost_tells (asked_by line) s.0 t (is_up b.power) (lost (asked_by line) would.line s.0 t (is_up b.power) (is_up mid.power) s.2.1)))))
 
-prefixed : (size : Size) (ls : List Line) (b : Bench) (answers : List Answer) (end : Bench) → AreByFirmware ls → IsSound b → Run size b ls answers end → (s : DurableState) × MayFind b.kept s × IsPrefixed s (is_up b.power) ls answers
-prefixed size [] b [] end by sound run = (found_of b.kept.changes, (b.kept.changes, inl refl, refl), tt)
-prefixed size (l ∷ ls) b (a ∷ answers) end by sound run =
+-- each state that an open of the bench may find ends some history of the lines before it
+prefixed : (Ends : DurableState → Type 0) (size : Size) (ls : List Line) (b : Bench) (answers : List Answer) (end : Bench) (last : DurableState) → (end.disk_state ≡ Formatted → MayFind end.kept last) → Ends last
+    → AreByFirmware ls → IsSound b → Run size b ls answers end → (s : DurableState) × MayFind b.kept s × IsPrefixedTo Ends s (is_up b.power) ls answers
+prefixed Ends size [] b [] end last may ends by sound run =
+    let P : Bench → Type 0 = λ e. e.disk_state ≡ Formatted → MayFind e.kept last in
+    (last, subst P run may sound.0, ends)
+prefixed Ends size (l ∷ ls) b (a ∷ answers) end last may ends by sound run =
     let reported : Tell (asked_by l) b a run.0 = moves size l b a run.0 by.0 sound run.1 in
-    let rest = prefixed size ls run.0 answers end by.1 reported.0 run.2 in
+    let rest = prefixed Ends size ls run.0 answers end last may ends by.1 reported.0 run.2 in
     let s = reported.1 rest.0 rest.1 in
     (s.0, s.1, (s.2.0, rest.0, is_up run.0.power, s.2.1, rest.2))
-prefixed size [] b (a ∷ answers) end by sound run = absurd run
-prefixed size (l ∷ ls) b [] end by sound run = absurd run
+prefixed Ends size [] b (a ∷ answers) end last may ends by sound run = absurd run
+prefixed Ends size (l ∷ ls) b [] end last may ends by sound run = absurd run
 
 -- ---- from the first format that answered Ok on
 other : {T : Type 0} (a : Answer) (x : Printed) → a ≡ says x → is_format_ok x ≡ false → is_format_ok a.line ≡ true → T
@@ -358,8 +364,9 @@ begins_no modes.Discard z s b x new h ok = is_on_no h.0 modes.Discard z s h.1 x 
 begins_no modes.Resume z s b x new h ok = resumes_no z s b x new h ok
 
 boots_no : {T : Type 0} (r : Option ℕ) (mode : BootMode) (z : Size) (s : DurableState) (b : Bench) (x : Printed) (new : Bench) → Boots r mode z s b x new → is_format_ok x ≡ true → T
-boots_no None mode z s b x new (inl h) ok = begins_no mode z s b x new h ok
-boots_no None mode z s b x new (inr h) ok = by_line x _ h.0 refl ok
+boots_no None mode z s b x new (inl h) ok = begins_no mode z s b x new h.1 ok
+boots_no None mode z s b x new (inr (inl h)) ok = by_line x _ h.1 refl ok
+boots_no None mode z s b x new (inr (inr h)) ok = by_line x _ h.1 refl ok
 boots_no (Some n) mode z s b x new h ok = by_line x _ h.0 refl ok
 
 powers_no : {T : Type 0} (size : Size) (p : Option BenchLife) (mode : BootMode) (b : Bench) (a : Answer) (new : Bench) → OnStep size p mode b a new → is_format_ok a.line ≡ true → T
@@ -418,15 +425,16 @@ moves_format size line b a new (inl h) ok = step_formats size (deed_of line) b a
 moves_format size line b a new (inr h) ok = other a _ h.4 refl ok
 
 -- what is found on a disk that was just formatted
-anew : (size : Size) (ls : List Line) (b : Bench) (answers : List Answer) (end : Bench) → AreByFirmware ls → IsFresh b → Run size b ls answers end → IsPrefixed formatted false ls answers × RisesFrom 0 (resumes answers) × AreLoaded ls answers
-anew size ls b answers end by (disk_state, kept, on) run =
+anew : (Ends : DurableState → Type 0) (size : Size) (ls : List Line) (b : Bench) (answers : List Answer) (end : Bench) (last : DurableState) → (end.disk_state ≡ Formatted → MayFind end.kept last) → Ends last
+    → AreByFirmware ls → IsFresh b → Run size b ls answers end → IsPrefixedTo Ends formatted false ls answers × RisesFrom 0 (resumes answers) × AreLoaded ls answers
+anew Ends size ls b answers end last may ends by (disk_state, kept, on) run =
     let F : Option BenchLife → Type 0 = λ p. GoesOn b.kept p in
-    let reported = prefixed size ls b answers end by (disk_state, subst F (sym on) tt) run in
-    let P : DurableState → Type 0 = λ s. IsPrefixed s (is_up b.power) ls answers in
-    let Q : Bool → Type 0 = λ up. IsPrefixed formatted up ls answers in
+    let reported = prefixed Ends size ls b answers end last may ends by (disk_state, subst F (sym on) tt) run in
+    let P : DurableState → Type 0 = λ s. IsPrefixedTo Ends s (is_up b.power) ls answers in
+    let Q : Bool → Type 0 = λ up. IsPrefixedTo Ends formatted up ls answers in
     let R : Kept → Type 0 = λ k. MayFind k reported.0 in
     let law = subst Q (ap is_up on) (subst P (first reported.0 (subst R kept reported.1)) reported.2) in
-    (law, serials_rise ls answers law, all_loaded size ls b answers end by (whole_anew b.kept b.power kept on) run)
+    (law, serials_rise Ends ls answers law, all_loaded size ls b answers end by (whole_anew b.kept b.power kept on) run)
   where
     whole_anew : (k : Kept) (p : Option BenchLife) → k ≡ nothing_kept → p ≡ None → IsKeptWhole size (record b { kept = k; power = p })
     whole_anew k p e f =
@@ -442,13 +450,23 @@ pub either : (t : Bool) (P Q : Type 0) → (t ≡ true → P) → Q → MatchBoo
 either true P Q p q = p refl
 either false P Q p q = q
 
-by_prefix : (size : Size) (ls : List Line) (b : Bench) (answers : List Answer) (end : Bench) → AreByFirmware ls → Run size b ls answers end → IsFoundByPrefix ls answers
-by_prefix size [] b answers end by run = tt
-by_prefix size (l ∷ ls) b [] end by run = absurd run
-by_prefix size (l ∷ ls) b (a ∷ answers) end by run =
-    either (is_format_ok a.line) (IsPrefixed formatted false ls answers × RisesFrom 0 (resumes answers) × AreLoaded ls answers) (IsFoundByPrefix ls answers)
-    (λ ok. anew size ls run.0 answers end by.1 (moves_format size l b a run.0 run.1 ok) run.2) (by_prefix size ls run.0 answers end by.1 run.2)
+by_prefix : (Ends : DurableState → Type 0) (size : Size) (ls : List Line) (b : Bench) (answers : List Answer) (end : Bench) (last : DurableState) → (end.disk_state ≡ Formatted → MayFind end.kept last) → Ends last
+    → AreByFirmware ls → Run size b ls answers end → IsFoundByPrefix Ends ls answers
+by_prefix Ends size [] b answers end last may ends by run = tt
+by_prefix Ends size (l ∷ ls) b [] end last may ends by run = absurd run
+by_prefix Ends size (l ∷ ls) b (a ∷ answers) end last may ends by run =
+    either (is_format_ok a.line) (IsPrefixedTo Ends formatted false ls answers × RisesFrom 0 (resumes answers) × AreLoaded ls answers) (IsFoundByPrefix Ends ls answers)
+    (λ ok. anew Ends size ls run.0 answers end last may ends by.1 (moves_format size l b a run.0 run.1 ok) run.2) (by_prefix Ends size ls run.0 answers end last may ends by.1 run.2)
 
-pub prefix_law : (script : Script) (answers : List Answer) (end : Bench) → AreByFirmware script.lines → IsReport script answers end → KeepsPrefixLaw script.lines answers
-prefix_law script [] end by h = absurd h
-prefix_law script (board ∷ answers) end by h = by_prefix script.size script.lines blank_bench answers end by h.1
+pub ends_law : (payloads : List (List ℕ)) (Ends : DurableState → Type 0) (script : Script) (answers : List Answer) (end : Bench) (last : DurableState) → (end.disk_state ≡ Formatted → MayFind end.kept last) → Ends last
+    → AreByFirmware script.lines → IsReportWith payloads script answers end → KeepsPrefixLawTo Ends script.lines answers
+ends_law payloads Ends script [] end last may ends by h = absurd h
+ends_law payloads Ends script (board ∷ answers) end last may ends by h = by_prefix Ends script.size script.lines (bench_with payloads) answers end last may ends by h.1
+
+pub prefix_law : (payloads : List (List ℕ)) (script : Script) (answers : List Answer) (end : Bench) → AreByFirmware script.lines → IsReportWith payloads script answers end → KeepsPrefixLaw script.lines answers
+prefix_law payloads script answers end by h =
+    ends_law payloads (λ s. ⊤) script answers end (found_of end.kept.changes) (λ is. (end.kept.changes, inl refl, refl)) tt by h
+
+pub end_law : (payloads : List (List ℕ)) (script : Script) (answers : List Answer) (end : Bench) → AreByFirmware script.lines → IsReportWith payloads script answers end
+    → (t : DurableState) → (end.disk_state ≡ Formatted → MayFind end.kept t) → MayEndIn t script.lines answers
+end_law payloads script answers end by h t may = ends_law payloads (λ s. s ≡ t) script answers end t may refl by h

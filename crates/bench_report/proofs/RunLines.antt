@@ -4,9 +4,9 @@ use Rattle.std.proofs.lemmas.List.{take_more}
 use Rattle.board_model.specs.Shapes.{Size}
 use Rattle.script_lang.specs.declared.line.Line.{Line}
 use Rattle.bench_report.specs.declared.printed.Answer.{Answer}
-use Rattle.bench_report.specs.Bench.{Bench, blank_bench}
+use Rattle.bench_report.specs.Bench.{Bench, bench_with}
 use Rattle.bench_report.specs.Steps.{Moves, Run}
-use Rattle.bench_report.specs.Reports.{IsReport}
+use Rattle.bench_report.specs.Reports.{IsReportWith}
 use Rattle.bench_report.specs.Agree.{fill_after, fills_after}
 use Rattle.script_lang.specs.Scripts.{Script}
 use Rattle.simdisk.specs.declared.fill.Fill.{Fill}
@@ -50,9 +50,9 @@ split_run size (suc k) (l ∷ ls) b (a ∷ answers) end few run =
     let rest = split_run size k ls run.0 answers end (omega (arith, few)) run.2 in
     (rest.0, (run.0, run.1, rest.1), rest.2)
 
-pub split_report : (script : Script) (answers : List Answer) (end : Bench) (k : ℕ) → k ≤ length script.lines → IsReport script answers end
-    → (b : Bench) × IsReport (record script { lines = take k script.lines }) (take (suc k) answers) b × Run script.size b (drop k script.lines) (drop (suc k) answers) end
-split_report script [] end k few is = absurd is
-split_report script (board ∷ answers) end k few is =
-    let rest = split_run script.size k script.lines blank_bench answers end few is.1 in
+pub split_report : (payloads : List (List ℕ)) (script : Script) (answers : List Answer) (end : Bench) (k : ℕ) → k ≤ length script.lines → IsReportWith payloads script answers end
+    → (b : Bench) × IsReportWith payloads (record script { lines = take k script.lines }) (take (suc k) answers) b × Run script.size b (drop k script.lines) (drop (suc k) answers) end
+split_report payloads script [] end k few is = absurd is
+split_report payloads script (board ∷ answers) end k few is =
+    let rest = split_run script.size k script.lines (bench_with payloads) answers end few is.1 in
     (rest.0, (is.0, rest.1), rest.2)

@@ -13,7 +13,7 @@ use Rattle.bench_report.specs.declared.printed.Printed.{Printed}
 use Rattle.bench_report.specs.declared.printed.Printed.TheVariants as printed
 use Rattle.bench_report.specs.PowerOns.{commands_of}
 use Rattle.bench_report.specs.Taken.{TakesAll, TakesSome}
-use Rattle.bench_report.specs.Prefix.{AskedLine, Boot, Command, Guest, Nothing, asked_by, Lost, LineImplies, ShowsIts, IsPrefixed, serial_then, resumed, resumes, RisesFrom}
+use Rattle.bench_report.specs.Prefix.{AskedLine, Boot, Command, Guest, Nothing, asked_by, Lost, LineImplies, ShowsIts, IsPrefixedTo, serial_then, resumed, resumes, RisesFrom}
 use Rattle.bench_report.proofs.Lost.{lost}
 use Rattle.bench_report.proofs.Allowed.{all_issued}
 
@@ -69,12 +69,12 @@ line_rises (Some d) (printed.On modes.Keep) asked up now n s t rest shows h a mo
 line_rises (Some d) (printed.On modes.Discard) asked up now n s t rest shows h a more = goes_on asked (printed.On modes.Discard) up now n s t rest h a more
 line_rises (Some d) said asked up now n s t rest shows h a more = goes_on asked said up now n s t rest h a more
 
-rises : (ls : List Line) (answers : List Answer) (n : ℕ) (s : DurableState) (up : Bool) → IsPrefixed s up ls answers → Above n s → RisesFrom n (resumes answers)
-rises [] [] n s up h a = tt
-rises (l ∷ ls) (x ∷ answers) n s up h a =
-    line_rises x.found x.line (asked_by l) up h.2 n s h.1 (resumes answers) h.0 h.3 a (λ k above. rises ls answers k h.1 h.2 h.4 above)
-rises [] (x ∷ answers) n s up h a = absurd h
-rises (l ∷ ls) [] n s up h a = absurd h
+rises : (Ends : DurableState → Type 0) (ls : List Line) (answers : List Answer) (n : ℕ) (s : DurableState) (up : Bool) → IsPrefixedTo Ends s up ls answers → Above n s → RisesFrom n (resumes answers)
+rises Ends [] [] n s up h a = tt
+rises Ends (l ∷ ls) (x ∷ answers) n s up h a =
+    line_rises x.found x.line (asked_by l) up h.2 n s h.1 (resumes answers) h.0 h.3 a (λ k above. rises Ends ls answers k h.1 h.2 h.4 above)
+rises Ends [] (x ∷ answers) n s up h a = absurd h
+rises Ends (l ∷ ls) [] n s up h a = absurd h
 
-pub serials_rise : (ls : List Line) (answers : List Answer) → IsPrefixed formatted false ls answers → RisesFrom 0 (resumes answers)
-serials_rise ls answers h = rises ls answers 0 formatted false h (omega arith, tt)
+pub serials_rise : (Ends : DurableState → Type 0) (ls : List Line) (answers : List Answer) → IsPrefixedTo Ends formatted false ls answers → RisesFrom 0 (resumes answers)
+serials_rise Ends ls answers h = rises Ends ls answers 0 formatted false h (omega arith, tt)

@@ -17,7 +17,7 @@ use Rattle.store.specs.Inspects.{HasRecord}
 use Rattle.store.specs.Leaves.{IsMarked, IsKept, IsRenewed, LeftAsBefore, WroteACommand}
 use Rattle.store.specs.Standing.{selected, live_sector, other_sector, version_at, StandsFor}
 use Rattle.board.specs.Moments.{IsWrittenOver, AreWritten}
-use Rattle.bench_report.specs.Bench.{DiskState, Blank, Unknown, Formatted, BenchLife, Bench, blank_bench}
+use Rattle.bench_report.specs.Bench.{DiskState, Blank, Unknown, Formatted, BenchLife, Bench, bench_with}
 use Rattle.bench_report.specs.Sides.{SidesOf, SidesAre}
 use Rattle.bench_report.specs.Agree.{LifeIs}
 
@@ -136,8 +136,8 @@ no_version : (v : Version) → version_number v ≡ 0 → ⊥
 no_version One e = omega (arith, e)
 no_version Two e = omega (arith, e)
 
-pub zero_sides : (size : Size) (n : ℕ) (disk : Facts) → IsFresh (replicate n (replicate 512 0)) disk → SidesAre size blank_bench disk
-zero_sides size n disk fresh clean c left (r, is) =
+pub zero_sides : (payloads : List (List ℕ)) (size : Size) (n : ℕ) (disk : Facts) → IsFresh (replicate n (replicate 512 0)) disk → SidesAre size (bench_with payloads) disk
+zero_sides payloads size n disk fresh clean c left (r, is) =
     let P : Content → Type 0 = λ x. get_or (sector x 3) 0 0 ≡ 0 in
     let zero : get_or (sector c 3) 0 0 ≡ 0 = subst P (sym (fresh.durable c left)) (first_of_third n) in
     let first : get_or (sector c 3) 0 0 ≡ version_number r.version = ap (λ (bytes : List ℕ). get_or bytes 0 0) is.1 ∙ first_of r.version r in

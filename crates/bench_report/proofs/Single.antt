@@ -17,12 +17,12 @@ use Rattle.script_lang.specs.declared.line.Line.{Line}
 use Rattle.board_model.specs.declared.console_command.ConsoleCommand.{ConsoleCommand}
 use Rattle.board_model.specs.ConsoleCommands.{console_change}
 use Rattle.bench_report.specs.declared.printed.Answer.{Answer}
-use Rattle.bench_report.specs.Bench.{BenchLife, Bench, IsFailureFree, blank_bench}
+use Rattle.bench_report.specs.Bench.{BenchLife, Bench, IsFailureFree, bench_with}
 use Rattle.bench_report.specs.Deeds as deeds
 use Rattle.bench_report.specs.Deeds.{Question, OfBoard, OfDisk, Deed, deed_of, IsByFirmwareAlone}
 use Rattle.bench_report.specs.Happens.{shows, unpowered, on_with, has_machine}
 use Rattle.bench_report.specs.Steps.{console_reported, FormatStep, OnStep, ConsoleStep, CallReported, GuestCall, TurnStep, CallStep, ReadStep, QuestionStep, DeedStep, DeedMoves, Run}
-use Rattle.bench_report.specs.Reports.{AreByFirmware, IsReport}
+use Rattle.bench_report.specs.Reports.{AreByFirmware, IsReportWith}
 use Rattle.bench_report.proofs.Inspected.{ContentLaws, inspect_at}
 use Rattle.bench_report.proofs.Guests.{IsOneTurn, Row, row, comes_fair, comes_one, turns_fair, turns_one}
 use Rattle.bench_report.proofs.Determined.{some_inj, HasFailed, DiskHasFailed, IsCalm, Fair, fair_to, fair_then, unmoved, spoils, fails, starved, issued_fair, Agree, same, issued, formats_fair, formats, powers_fair, powers}
@@ -245,9 +245,9 @@ runs laws turns call csr size [] b [] (z ∷ others) end last by calm u v x y = 
 runs laws turns call csr size (l ∷ ls) b [] others end last by calm u v x y = absurd x
 runs laws turns call csr size (l ∷ ls) b (a ∷ answers) [] end last by calm u v x y = absurd y
 
-pub one_report : ContentLaws → IsOneTurn → IsOneCall → IsOneCsr → (script : Script) (answers others : List Answer) (end last : Bench) → AreByFirmware script.lines → IsReport script answers end → IsReport script others last → IsFailureFree end → IsFailureFree last → (answers ≡ others) × (end ≡ last)
-one_report laws turns call csr script [] others end last by x y u v = absurd x
-one_report laws turns call csr script (b ∷ answers) [] end last by x y u v = absurd y
-one_report laws turns call csr script (b ∷ answers) (d ∷ others) end last by x y u v =
-    let rest = runs laws turns call csr script.size script.lines blank_bench answers others end last by (tt, refl, refl) u v x.1 y.1 in
+pub one_report : ContentLaws → IsOneTurn → IsOneCall → IsOneCsr → (payloads : List (List ℕ)) (script : Script) (answers others : List Answer) (end last : Bench) → AreByFirmware script.lines → IsReportWith payloads script answers end → IsReportWith payloads script others last → IsFailureFree end → IsFailureFree last → (answers ≡ others) × (end ≡ last)
+one_report laws turns call csr payloads script [] others end last by x y u v = absurd x
+one_report laws turns call csr payloads script (b ∷ answers) [] end last by x y u v = absurd y
+one_report laws turns call csr payloads script (b ∷ answers) (d ∷ others) end last by x y u v =
+    let rest = runs laws turns call csr script.size script.lines (bench_with payloads) answers others end last by (tt, refl, refl) u v x.1 y.1 in
     (ap (λ q. q ∷ answers) (x.0 ∙ sym y.0) ∙ ap (λ qs. d ∷ qs) rest.0, rest.1)

@@ -30,7 +30,7 @@ use Rattle.bench_report.specs.Happens.{says, out_of_memory, failed, off, on_with
 use Rattle.bench_report.specs.Commands.{Writes, IssuesAll}
 use Rattle.bench_report.specs.PowerOns.{life_begun, ShowsFound, Opens, BootsFrom, Begins, Boots, PowersOn, TellsNow}
 use Rattle.bench_report.specs.Sides.{SidesOf, SidesAre}
-use Rattle.bench_report.specs.Agree.{AreShort, BoardIs, DiskIs, DeviceIs, LifeIs, OffIs, OnIs}
+use Rattle.bench_report.specs.Agree.{BoardIs, DiskIs, DeviceIs, LifeIs, OffIs, OnIs}
 use Rattle.bench_report.proofs.Adapted.{calm}
 use Rattle.bench_report.proofs.Commanded.{follows_with}
 use Rattle.bench_report.proofs.Determined.{begun_size, kept_as}
@@ -41,9 +41,6 @@ use Rattle.bench_report.proofs.Ended.{left_only, left_either}
 use Rattle.bench_report.proofs.KeptDisks.{KeptLaw, BlankLaw}
 use Rattle.bench_report.proofs.Opening.{opens, open_err}
 use Rattle.bench_report.proofs.Table.{mode_not_device, mode_not_down}
-
-pub roomy : (size : Size) (payloads : List (List ℕ)) → IsSize size → AreShort payloads → PayloadsFit size payloads
-roomy size payloads is short = λ k d lt. omega (arith, is.2, short k d lt)
 
 no_doubt : (cs : List Change) (e : Refusal) → e ≢ Down → doubt_by e cs ≡ None
 no_doubt cs Down up = absurd (up refl)
@@ -156,7 +153,8 @@ power_ok kept blank size mode b payloads old board a off same on keeps shows h =
     let Q : List (List ℕ) → Type 0 = λ ps. IsBegun mode z ps s (machine_in board) in
     let did = on_begun size c s board a.line m.2 device (facts old) sides mode (starts size c s board a.line m.2 device (facts old) sides mode on.written (subst Q same on.begun) on.life on.allowed h) in
     let P : Option ℕ → Type 0 = λ o. Boots o mode z s c a.line did.0 in
-    (did.0, inl (s, z, c, m.1, shows, subst P (sym on.allowed) (inl did.1)), did.2, did.3)
+    let F : List (List ℕ) → Type 0 = PayloadsFit z in
+    (did.0, inl (s, z, c, m.1, shows, subst P (sym on.allowed) (inl (subst F same on.fits, did.1))), did.2, did.3)
 
 -- a life goes on from what the disk keeps
 held : (size : Size) (m : DiskState) (kept : Kept) (life : BenchLife) (z : Size) → m ≡ Formatted → LifeIs size m kept life z → life.now ≡ found_of kept.changes
@@ -164,7 +162,7 @@ held size m kept life z formatted follows = let L : DiskState → Type 0 = λ x.
 
 -- ---- the board is off, after an open that left this bench
 module _ (size : Size) (b : Bench) (old new : SimDisk) (z : Size) (s : DurableState) (payloads : List (List ℕ)) (line : Printed) (none : b.power ≡ None) (device : DeviceIs size b (fault_state old) (facts old))
-    (follows : LifeIs size b.disk_state b.kept (life_begun s z) z) (fits : PayloadsFit z payloads) (no_fewer : (facts old).failures ≤ (facts new).failures) (long : SameLength (facts old) (facts new)) where
+    (follows : LifeIs size b.disk_state b.kept (life_begun s z) z) (same : payloads ≡ b.payloads) (no_fewer : (facts old).failures ≤ (facts new).failures) (long : SameLength (facts old) (facts new)) where
   -- what a crash leaves after a boot that was refused so
   abbrev Moments : BootMode → Refusal → Type 0
   Moments mode e = (c : Content) → (facts new).may_leave c → MayLeave (facts old) z s (gone_before e (commands_by mode s)) c
@@ -236,34 +234,49 @@ module _ (size : Size) (b : Bench) (old new : SimDisk) (z : Size) (s : DurableSt
         let mid = failed (fault_state new) d in
         (off mid, refuses_it 6 mid (inr (inr (refl, did.0))) h, (refl, kept_either size z b.disk_state first.kept life c (facts new) goes (taken_at done c later s taken) left, did.1), refl, λ is. held size b.disk_state first.kept life z is goes)
 
-  started_off : (mode : BootMode) (done : List Change) → ((x : Bench) × BootsFrom mode z s b line x × OffIs size x new × (x.payloads ≡ b.payloads) × Held done x) → Left done None mode
-  started_off modes.Fresh done did = (did.0, inl did.1, did.2, did.3, did.4)
-  started_off modes.Keep done did = (did.0, inl did.1, did.2, did.3, did.4)
-  started_off modes.Discard done did = (did.0, inl did.1, did.2, did.3, did.4)
-  started_off modes.Resume done did = (did.0, inl (inl did.1), did.2, did.3, did.4)
+  -- the bench boots what the call was given
+  fit_here : PayloadsFit z payloads → PayloadsFit z b.payloads
+  fit_here fits = let P : List (List ℕ) → Type 0 = PayloadsFit z in subst P same fits
 
-  late_device : (mode : BootMode) (done later : List Change) → commands_by mode s ≡ done ++ later → (later ≡ [] → ⊥) → boot_refusal s mode ≡ None → line ≡ printed.OnRefused 5 → LeavesLife (doubt_by Device later) (facts new) z (fold s done)
+  fit_there : PayloadsFit z b.payloads → PayloadsFit z payloads
+  fit_there fits = let P : List (List ℕ) → Type 0 = PayloadsFit z in subst P (sym same) fits
+
+  started_off : (mode : BootMode) (done : List Change) → PayloadsFit z payloads → ((x : Bench) × BootsFrom mode z s b line x × OffIs size x new × (x.payloads ≡ b.payloads) × Held done x) → Left done None mode
+  started_off modes.Fresh done fits did = (did.0, inl (fit_here fits, did.1), did.2, did.3, did.4)
+  started_off modes.Keep done fits did = (did.0, inl (fit_here fits, did.1), did.2, did.3, did.4)
+  started_off modes.Discard done fits did = (did.0, inl (fit_here fits, did.1), did.2, did.3, did.4)
+  started_off modes.Resume done fits did = (did.0, inl (fit_here fits, inl did.1), did.2, did.3, did.4)
+
+  late_device : (mode : BootMode) (done later : List Change) → PayloadsFit z payloads → commands_by mode s ≡ done ++ later → (later ≡ [] → ⊥) → boot_refusal s mode ≡ None → line ≡ printed.OnRefused 5 → LeavesLife (doubt_by Device later) (facts new) z (fold s done)
       → CausedRefusal (fault_state old) Device (fault_state new) → CountsRefusal (facts old).failures Device (facts new).failures → Left done None mode
-  late_device mode done [] parts some allowed h left cause counts = absurd (some refl)
-  late_device mode done (c ∷ later) parts some allowed h left cause counts = started_off mode done (failed_at mode done c later parts allowed h left cause counts)
+  late_device mode done [] fits parts some allowed h left cause counts = absurd (some refl)
+  late_device mode done (c ∷ later) fits parts some allowed h left cause counts = started_off mode done fits (failed_at mode done c later parts allowed h left cause counts)
 
-  late_down : (mode : BootMode) (done later : List Change) → commands_by mode s ≡ done ++ later → (later ≡ [] → ⊥) → boot_refusal s mode ≡ None → line ≡ printed.OnRefused 6 → LeavesLife (doubt_by Down later) (facts new) z (fold s done)
+  late_down : (mode : BootMode) (done later : List Change) → PayloadsFit z payloads → commands_by mode s ≡ done ++ later → (later ≡ [] → ⊥) → boot_refusal s mode ≡ None → line ≡ printed.OnRefused 6 → LeavesLife (doubt_by Down later) (facts new) z (fold s done)
       → CausedRefusal (fault_state old) Down (fault_state new) → CountsRefusal (facts old).failures Down (facts new).failures → Left done None mode
-  late_down mode done [] parts some allowed h left cause counts = absurd (some refl)
-  late_down mode done (c ∷ later) parts some allowed h left cause counts = started_off mode done (doubted_at mode done c later parts allowed h left cause counts)
+  late_down mode done [] fits parts some allowed h left cause counts = absurd (some refl)
+  late_down mode done (c ∷ later) fits parts some allowed h left cause counts = started_off mode done fits (doubted_at mode done c later parts allowed h left cause counts)
 
   late : (mode : BootMode) (e : Refusal) → boot_refusal s mode ≡ None → line ≡ printed.OnRefused (number_of_refusal e) → IsLateRefusal mode z payloads s e → Moments mode e → (stop : Stopped mode e) → CausedRefusal (fault_state old) e (fault_state new)
       → CountsRefusal (facts old).failures e (facts new).failures → Left stop.1.done None mode
-  late mode BadShape allowed h why moments stop cause counts = absurd (why fits)
+  late mode BadShape allowed h why moments stop cause counts =
+      let other : BadShape ≢ Down = λ f. (let no : ⊥ = cc in no) in
+      let another : BadShape ≢ Device = λ f. (let no : ⊥ = cc in no) in (
+        b,
+        inr (inl (λ fits. why (fit_there fits), h, refl)),
+        quiet mode BadShape other another moments cause stop,
+        refl,
+        none_held stop.1.done (stop.1.by_disk another other),
+      )
   late mode Memory allowed h why moments stop cause counts =
       let x : Bench = out_of_memory b in
       let did = quiet mode Memory (λ f. (let no : ⊥ = cc in no)) (λ f. (let no : ⊥ = cc in no)) moments cause stop in
-      (x, inr (h, refl), (did.0, did.1, (did.2.0, did.2.1, did.2.2, starved_sides size x b.growths (facts new) refl)), refl, none_held stop.1.done (stop.1.by_disk (λ f. (let no : ⊥ = cc in no)) (λ f. (let no : ⊥ = cc in no))))
-  late mode Device allowed h why moments stop cause counts = late_device mode stop.1.done stop.1.later stop.1.parts (λ none. why.1 (stop.1.refused none)) allowed h (left_as mode Device stop) cause counts
-  late mode Down allowed h why moments stop cause counts = late_down mode stop.1.done stop.1.later stop.1.parts (λ none. why.1 (stop.1.refused none)) allowed h (left_as mode Down stop) cause counts
+      (x, inr (inr (fit_here why, h, refl)), (did.0, did.1, (did.2.0, did.2.1, did.2.2, starved_sides size x b.growths (facts new) refl)), refl, none_held stop.1.done (stop.1.by_disk (λ f. (let no : ⊥ = cc in no)) (λ f. (let no : ⊥ = cc in no))))
+  late mode Device allowed h why moments stop cause counts = late_device mode stop.1.done stop.1.later why.0 stop.1.parts (λ none. why.1 (stop.1.refused none)) allowed h (left_as mode Device stop) cause counts
+  late mode Down allowed h why moments stop cause counts = late_down mode stop.1.done stop.1.later why.0 stop.1.parts (λ none. why.1 (stop.1.refused none)) allowed h (left_as mode Down stop) cause counts
   late mode BadImage allowed h why moments stop cause counts =
       let P : BootMode → Type 0 = λ y. Boots None y z s b line b in
-      (b, subst P (sym why.1) (inl (inr (why.2, h, refl))), quiet mode BadImage (λ f. (let no : ⊥ = cc in no)) (λ f. (let no : ⊥ = cc in no)) moments cause stop, refl, none_held stop.1.done (stop.1.by_disk (λ f. (let no : ⊥ = cc in no)) (λ f. (let no : ⊥ = cc in no))))
+      (b, subst P (sym why.1) (inl (fit_here why.0, inr (why.2, h, refl))), quiet mode BadImage (λ f. (let no : ⊥ = cc in no)) (λ f. (let no : ⊥ = cc in no)) moments cause stop, refl, none_held stop.1.done (stop.1.by_disk (λ f. (let no : ⊥ = cc in no)) (λ f. (let no : ⊥ = cc in no))))
   late mode e allowed h why moments stop cause counts = absurd why
 
   refused : (mode : BootMode) (o : Option ℕ) (e : Refusal) → boot_refusal s mode ≡ o → line ≡ printed.OnRefused (number_of_refusal e) → IsBootRefusal o mode z payloads s e → Moments mode e → (stop : Stopped mode e)
@@ -282,23 +295,23 @@ abbrev pub Unpowered : Size → BootMode → Bench → Answer → Option Durable
 Unpowered size mode b a now new = (x : Bench) × (PowersOn size mode b a x × TellsNow a.found now x) × OffIs size x new × (x.payloads ≡ b.payloads)
 
 -- the board stays off, whether the open found a state or not
-pub unpowered : KeptLaw → BlankLaw → (size : Size) (mode : BootMode) (b : Bench) (old new : SimDisk) (payloads : List (List ℕ)) (e : Refusal) (n : ℕ) (o p : Option Durable) → OffIs size b old → AreShort payloads → n ≡ number_of_refusal e
+pub unpowered : KeptLaw → BlankLaw → (size : Size) (mode : BootMode) (b : Bench) (old new : SimDisk) (payloads : List (List ℕ)) (e : Refusal) (n : ℕ) (o p : Option Durable) → OffIs size b old → payloads ≡ b.payloads → n ≡ number_of_refusal e
     → IsUnpowered mode payloads o p (facts old) e (facts new) → GivesDisk (facts old) (fault_state old) e (facts new) (fault_state new) → Unpowered size mode b (record { found = o; line = printed.OnRefused n }) p new
-unpowered kept blank size mode b old new payloads e n None None off short code is gives =
+unpowered kept blank size mode b old new payloads e n None None off same code is gives =
     let did = open_err kept blank size mode b old new (says (printed.OnRefused n)) e off.0 off.2 is.why gives.cause gives.no_fewer gives.length is.any_moment.now (ap (λ k. says (printed.OnRefused k)) code) off.1 in
     (did.0, (did.1, tt), did.2, did.3)
-unpowered kept blank size mode b old new payloads e n (Some d) (Some now) off short code is gives =
+unpowered kept blank size mode b old new payloads e n (Some d) (Some now) off same code is gives =
     let z : Size = is.size in
     let s : DurableState = is.state in
     let m = opened kept blank size b old z s off is.earlier in
     let c : Bench = record b { kept = m.0 } in
     let sides : SidesAre size c (facts old) = λ clean x left. settled_sides size b.disk_state b m.0 s z m.1 x (off.2.3 clean x left) in
-    let did = refused size c old new z s payloads (printed.OnRefused n) off.0 (off.2.0, off.2.1, off.2.2, sides) m.2 (roomy z payloads (kept.sized old z s is.earlier) short) gives.no_fewer gives.length mode (boot_refusal s mode) e refl
+    let did = refused size c old new z s payloads (printed.OnRefused n) off.0 (off.2.0, off.2.1, off.2.2, sides) m.2 same gives.no_fewer gives.length mode (boot_refusal s mode) e refl
     (ap (λ k. printed.OnRefused k) code) is.why is.any_moment.now (is.life, is.stopped, is.left) gives.cause gives.counts in
     let now_is : now ≡ durable_of (fold s is.stopped.done) = is.tells ∙ ap (λ (l : StoreLife). durable_of (now_of l)) is.stopped.is in
     (did.0, (inl (s, z, c, m.1, is.shows, did.1), λ formatted. now_is ∙ ap durable_of (did.4 formatted)), did.2, did.3)
-unpowered kept blank size mode b old new payloads e n None (Some now) off short code is gives = absurd is
-unpowered kept blank size mode b old new payloads e n (Some d) None off short code is gives = absurd is
+unpowered kept blank size mode b old new payloads e n None (Some now) off same code is gives = absurd is
+unpowered kept blank size mode b old new payloads e n (Some d) None off same code is gives = absurd is
 
 -- the state now of a board that is on
 pub on_now : (size : Size) (x : Bench) (board : SimBoard) → OnIs size x board → x.disk_state ≡ Formatted → store_now (store_in board) ≡ found_of x.kept.changes

@@ -209,8 +209,9 @@ module _ (size : Size) where
 
   boots : (r : Option ℕ) (mode : BootMode) (z : Size) (s : DurableState) (b : Bench) (line : Printed) (new : Bench) → z ≡ size → IsKeptWhole size b → Boots r mode z s b line new → IsKeptWhole size new
   boots (Some n) mode z s b line new same k x = same_as b new x.1 k
-  boots None mode z s b line new same k (inl x) = begins mode z s b line new same k x
-  boots None mode z s b line new same k (inr x) = same_as (out_of_memory b) new x.1 k
+  boots None mode z s b line new same k (inl x) = begins mode z s b line new same k x.1
+  boots None mode z s b line new same k (inr (inl x)) = same_as b new x.2 k
+  boots None mode z s b line new same k (inr (inr x)) = same_as (out_of_memory b) new x.2 k
 
   -- an open finds a state whose image is whole, for a board of the script's size
   opens : (m : DiskState) (b : Bench) (s : DurableState) (z : Size) (mid : Bench) → b.disk_state ≡ m → b.power ≡ None → IsKeptWhole size b → Opens size m b s z mid → IsWhole size s × (z ≡ size) × IsKeptWhole size mid
@@ -323,8 +324,9 @@ module _ (size : Size) where
 
   boots_not : (r : Option ℕ) (mode : BootMode) (z : Size) (s : DurableState) (b : Bench) (line : Printed) (new : Bench) → boot_refusal s mode ≡ r → IsWhole z s → Boots r mode z s b line new → NotThirteen line
   boots_not (Some n) mode z s b line new table whole x = number line n x.0 (mode_not_thirteen s mode n table)
-  boots_not None mode z s b line new table whole (inl x) = begins_not mode z s b line new whole x
-  boots_not None mode z s b line new table whole (inr x) = number line 11 x.0 (λ e. omega (arith, e))
+  boots_not None mode z s b line new table whole (inl x) = begins_not mode z s b line new whole x.1
+  boots_not None mode z s b line new table whole (inr (inl x)) = number line 3 x.1 (λ e. omega (arith, e))
+  boots_not None mode z s b line new table whole (inr (inr x)) = number line 11 x.1 (λ e. omega (arith, e))
 
   powers_not : (mode : BootMode) (b : Bench) (a : Answer) (new : Bench) → b.power ≡ None → IsKeptWhole size b → PowersOn size mode b a new → NotThirteen a.line
   powers_not mode b a new none k (inl (s, z, mid, found, shows, x)) =

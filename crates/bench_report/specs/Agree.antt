@@ -168,10 +168,6 @@ abbrev pub IsResting : Power → Type 0
 IsResting (Off disk) = IsIdle (facts disk)
 IsResting (On board) = ⊤
 
--- each payload is one that the language has
-abbrev pub AreShort : List (List ℕ) → Type 0
-AreShort payloads = All (λ bytes. length bytes ≤ 1024) payloads
-
 -- what a function that neither keeps a payload nor speaks of one says of a line: there is a bench after it by
 -- this step
 abbrev pub StepsTo : Size → Bench → Power → (Bench → Type 0) → Type 0

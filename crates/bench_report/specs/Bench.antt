@@ -45,15 +45,19 @@ IsClean b = IsFailureFree b × (b.poked ≡ false)
 abbrev pub no_payloads : List (List ℕ)
 no_payloads = [] ∷ [] ∷ [] ∷ [] ∷ []
 
--- the bench after the board line
-abbrev pub blank_bench : Bench
-blank_bench = record {
+-- the bench after the board line of a script that begins with these payloads: the slots boot them until a line says otherwise
+abbrev pub bench_with : List (List ℕ) → Bench
+bench_with payloads = record {
   disk_state = Blank;
   kept = nothing_kept;
   power = None;
-  payloads = no_payloads;
+  payloads = payloads;
   growths = 0;
   failures = 0;
   fault_state = no_fault;
   poked = false;
 }
+
+-- of one that begins with none
+abbrev pub blank_bench : Bench
+blank_bench = bench_with no_payloads

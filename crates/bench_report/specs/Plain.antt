@@ -1,9 +1,9 @@
 -- The report of a script where memory was never refused and the disk never failed, computed: for scripts
 -- whose lines neither move harts nor show memory or harts, so that no image is ever made and no board dozes.
-use Rattle.std.specs.Prelude.{◌≡◌, ◌≢◌, ℕ, ◌+◌, ◌==◌, Bool, true, false, List, [], ◌∷◌, Option, Some, None, Result, Ok, Err, length, slice_set, if◌then◌else◌, ⊤}
+use Rattle.std.specs.Prelude.{◌≡◌, ◌≢◌, ℕ, ◌+◌, ◌==◌, Bool, true, false, List, [], ◌∷◌, Option, Some, None, Result, Ok, Err, length, slice_set, nat_le, if◌then◌else◌, ⊤}
 use Rattle.board_model.specs.Durable.{DurableState, Change, refusal_of, fold}
 use Rattle.board_model.specs.Kept.{found_of}
-use Rattle.board_model.specs.Shapes.{Size}
+use Rattle.board_model.specs.Shapes.{Size, ram_bytes_of}
 use Rattle.board_model.specs.Views.{durable_of}
 use Rattle.board_model.specs.declared.refusal.Refusal.{Refusal}
 use Rattle.script_lang.specs.Scripts.{Script, script_of, ◌>>>◌}
@@ -20,7 +20,7 @@ use Rattle.board_model.specs.declared.console_command.ConsoleCommand.{ConsoleCom
 use Rattle.board_model.specs.ConsoleCommands.{console_change}
 use Rattle.bench_report.specs.declared.printed.Printed.{Printed}
 use Rattle.bench_report.specs.declared.printed.Printed.TheVariants as printed
-use Rattle.bench_report.specs.Bench.{DiskState, Blank, Unknown, Formatted, BenchLife, Bench, blank_bench}
+use Rattle.bench_report.specs.Bench.{DiskState, Blank, Unknown, Formatted, BenchLife, Bench, bench_with, no_payloads}
 use Rattle.bench_report.specs.Deeds as deeds
 use Rattle.bench_report.specs.Deeds.{OfBoard, OfDisk, WritePast, Deed, deed_of}
 use Rattle.bench_report.specs.Happens.{says, shows, on_with, unpowered, armed_with, formatted_anew, settled, has_machine, acknowledged, all_acknowledged}
@@ -61,9 +61,15 @@ plain_slot mode z s b =
       all_acknowledged cs (has_machine (booted b.payloads (fold s cs) z) (life_begun s z)) b,
     )
 
--- by the number with which the state refuses the mode
+-- whether each of the payloads fits into RAM
+abbrev pub payloads_fit : Size → List (List ℕ) → Bool
+payloads_fit z [] = true
+payloads_fit z (payload ∷ more) = if nat_le (length payload) (ram_bytes_of z) then payloads_fit z more else false
+
+-- by the number with which the state refuses the mode; by 3 where a payload is longer than RAM
 abbrev pub plain_boot : Option ℕ → BootMode → Size → DurableState → Bench → Answer × Bench
-plain_boot None mode z s b = plain_slot mode z s b
+plain_boot None mode z s b =
+    if payloads_fit z b.payloads then plain_slot mode z s b else (found_then s (printed.OnRefused 3), b)
 plain_boot (Some n) mode z s b = (found_then s (printed.OnRefused n), b)
 
 -- a power-on finds the fold of the acknowledged commands
@@ -100,8 +106,13 @@ abbrev pub plain_answers : Size → List Line → Bench → List Answer
 plain_answers size [] b = []
 plain_answers size (line ∷ more) b = (plain size line b).0 ∷ plain_answers size more (plain size line b).1
 
+-- of a script that begins with these payloads, and of one that begins with none
+abbrev pub plain_report_with : List (List ℕ) → Script → List Answer
+plain_report_with payloads script =
+    board_answer script.size ∷ plain_answers script.size script.lines (bench_with payloads)
+
 abbrev pub plain_report : Script → List Answer
-plain_report script = board_answer script.size ∷ plain_answers script.size script.lines blank_bench
+plain_report script = plain_report_with no_payloads script
 
 -- it neither moves a hart, nor shows memory or harts, nor writes the disk past the firmware
 abbrev pub IsPlainDeed : Deed → Type 0

@@ -7,7 +7,7 @@ use Rattle.board_model.specs.Views.{durable_of}
 use Rattle.board_model.specs.declared.durable.Durable.{Durable}
 use Rattle.board_model.specs.declared.boot_mode.BootMode.{BootMode}
 use Rattle.board_model.specs.declared.boot_mode.BootMode.TheVariants as modes
-use Rattle.board.specs.Boots.{boot_refusal}
+use Rattle.board.specs.Boots.{boot_refusal, PayloadsFit}
 use Rattle.board.specs.Begins.{IsBegun}
 use Rattle.board.specs.Moments.{commands_by}
 use Rattle.machine.specs.Machine.{Machine, resting}
@@ -68,11 +68,14 @@ Begins modes.Keep z s b line new = BootsFrom modes.Keep z s b line new
 Begins modes.Discard z s b line new = BootsFrom modes.Discard z s b line new
 Begins modes.Resume z s b line new = Resumes z s b line new
 
--- the boot after an open that found a state, by the number with which that refuses the mode; there may be no
--- memory
+-- The boot after an open that found a state, by the number with which that refuses the mode. It is refused 3 just where a
+-- payload, of whatever slot, is longer than RAM; there may be no memory.
 abbrev pub Boots : Option ℕ → BootMode → Size → DurableState → Bench → Printed → Bench → Type 0
 Boots (Some n) mode z s b line new = (line ≡ printed.OnRefused n) × (new ≡ b)
-Boots None mode z s b line new = Begins mode z s b line new ⊎ ((line ≡ printed.OnRefused 11) × (new ≡ out_of_memory b))
+Boots None mode z s b line new =
+    (PayloadsFit z b.payloads × Begins mode z s b line new)
+    ⊎ ((PayloadsFit z b.payloads → ⊥) × (line ≡ printed.OnRefused 3) × (new ≡ b))
+    ⊎ (PayloadsFit z b.payloads × (line ≡ printed.OnRefused 11) × (new ≡ out_of_memory b))
 
 -- an open that succeeds finds this state, and its board is of that size: a command in doubt is settled
 abbrev pub Opens : Size → DiskState → Bench → DurableState → Size → Bench → Type 0

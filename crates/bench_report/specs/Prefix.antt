@@ -138,14 +138,15 @@ abbrev pub ShowsIts : Option Durable → DurableState → Type 0
 ShowsIts None s = ⊤
 ShowsIts (Some d) s = d ≡ durable_of s
 
--- the lines that are left, where the disk stands for s, and the board takes commands or not
-abbrev pub IsPrefixed : DurableState → Bool → List Line → List Answer → Type 0
-IsPrefixed s up [] [] = ⊤
-IsPrefixed s up (line ∷ more) (answer ∷ answers) =
+-- The lines that are left, where the disk stands for s, and the board takes commands or not. After the last of
+-- them it stands for a state that is so.
+abbrev pub IsPrefixedTo : (DurableState → Type 0) → DurableState → Bool → List Line → List Answer → Type 0
+IsPrefixedTo Ends s up [] [] = Ends s
+IsPrefixedTo Ends s up (line ∷ more) (answer ∷ answers) =
     ShowsIts answer.found s × (t : DurableState) × (now : Bool)
-    × LineImplies (asked_by line) answer.line s up t now × IsPrefixed t now more answers
-IsPrefixed s up [] (answer ∷ answers) = ⊥
-IsPrefixed s up (line ∷ more) [] = ⊥
+    × LineImplies (asked_by line) answer.line s up t now × IsPrefixedTo Ends t now more answers
+IsPrefixedTo Ends s up [] (answer ∷ answers) = ⊥
+IsPrefixedTo Ends s up (line ∷ more) [] = ⊥
 
 -- the serials of the images that were resumed, in order
 abbrev pub serial_then : Option ImageHead → List ℕ → List ℕ
@@ -181,15 +182,24 @@ is_format_ok printed.Formatted = true
 is_format_ok line = false
 
 -- from the first format that answered Ok on, no board is on before it that could go on after it
-abbrev pub IsFoundByPrefix : List Line → List Answer → Type 0
-IsFoundByPrefix [] answers = ⊤
-IsFoundByPrefix (line ∷ more) [] = ⊥
-IsFoundByPrefix (line ∷ more) (answer ∷ answers) =
+abbrev pub IsFoundByPrefix : (DurableState → Type 0) → List Line → List Answer → Type 0
+IsFoundByPrefix Ends [] answers = ⊤
+IsFoundByPrefix Ends (line ∷ more) [] = ⊥
+IsFoundByPrefix Ends (line ∷ more) (answer ∷ answers) =
     MatchBool (is_format_ok answer.line)
-    (IsPrefixed formatted false more answers × RisesFrom 0 (resumes answers) × AreLoaded more answers)
-    (IsFoundByPrefix more answers)
+    (IsPrefixedTo Ends formatted false more answers × RisesFrom 0 (resumes answers) × AreLoaded more answers)
+    (IsFoundByPrefix Ends more answers)
 
--- a report: the first answer is the board line's
+-- a report, whose first answer is the board line's; after it, where a format answered Ok, the disk stands for a
+-- state that is so
+abbrev pub KeepsPrefixLawTo : (DurableState → Type 0) → List Line → List Answer → Type 0
+KeepsPrefixLawTo Ends script [] = ⊥
+KeepsPrefixLawTo Ends script (board ∷ answers) = IsFoundByPrefix Ends script answers
+
+-- the same for any state
 abbrev pub KeepsPrefixLaw : List Line → List Answer → Type 0
-KeepsPrefixLaw script [] = ⊥
-KeepsPrefixLaw script (board ∷ answers) = IsFoundByPrefix script answers
+KeepsPrefixLaw script answers = KeepsPrefixLawTo (λ t. ⊤) script answers
+
+-- The history that a report tells may end in this state.
+abbrev pub MayEndIn : DurableState → List Line → List Answer → Type 0
+MayEndIn t script answers = KeepsPrefixLawTo (λ s. s ≡ t) script answers

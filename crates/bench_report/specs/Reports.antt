@@ -8,7 +8,7 @@ use Rattle.script_lang.specs.declared.line.Line.{Line}
 use Rattle.bench_report.specs.declared.printed.Printed.TheVariants as printed
 use Rattle.bench_report.specs.declared.printed.Answer.{Answer}
 use Rattle.bench_report.specs.Texts.{found_line, line_text, found_count}
-use Rattle.bench_report.specs.Bench.{Bench, blank_bench}
+use Rattle.bench_report.specs.Bench.{Bench, bench_with, no_payloads}
 use Rattle.bench_report.specs.Deeds.{deed_of, IsByFirmwareAlone}
 use Rattle.bench_report.specs.Happens.{says}
 use Rattle.bench_report.specs.Steps.{Run}
@@ -40,12 +40,20 @@ abbrev pub AreByFirmware : List Line → Type 0
 AreByFirmware [] = ⊤
 AreByFirmware (line ∷ more) = IsByFirmware line × AreByFirmware more
 
--- these answers are a report of the script, and leave this bench
-abbrev pub IsReport : Script → List Answer → Bench → Type 0
-IsReport script [] end = ⊥
-IsReport script (board ∷ answers) end =
-    (board ≡ board_answer script.size) × Run script.size blank_bench script.lines answers end
+-- these answers are a report of the script that begins with these payloads, and leave this bench
+abbrev pub IsReportWith : List (List ℕ) → Script → List Answer → Bench → Type 0
+IsReportWith payloads script [] end = ⊥
+IsReportWith payloads script (board ∷ answers) end =
+    (board ≡ board_answer script.size) × Run script.size (bench_with payloads) script.lines answers end
 
--- these answers are a report of the script cut short: some first of its lines ran, and leave this bench
+-- these answers are a report of it cut short: some first of its lines ran, and leave this bench
+abbrev pub IsCutShortWith : List (List ℕ) → Script → List Answer → Bench → Type 0
+IsCutShortWith payloads script answers end =
+    (n : ℕ) × IsReportWith payloads (record script { lines = take n script.lines }) answers end
+
+-- the same of the script alone, which begins with none
+abbrev pub IsReport : Script → List Answer → Bench → Type 0
+IsReport script answers end = IsReportWith no_payloads script answers end
+
 abbrev pub IsCutShort : Script → List Answer → Bench → Type 0
-IsCutShort script answers end = (n : ℕ) × IsReport (record script { lines = take n script.lines }) answers end
+IsCutShort script answers end = IsCutShortWith no_payloads script answers end

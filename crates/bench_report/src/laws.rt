@@ -13,10 +13,10 @@ ghost use Rattle.script_lang.specs.declared.line.Line.TheVariants as lines;
 ghost use Rattle.bench_report.specs.Bench.{Bench, Blank, Formatted, IsFailureFree};
 ghost use Rattle.bench_report.specs.Happens.{says};
 ghost use Rattle.bench_report.specs.Examined.{inspection_of};
-ghost use Rattle.bench_report.specs.Plain.{ArePlain, ShowNoFailure, plain_report, plain_text};
+ghost use Rattle.bench_report.specs.Plain.{ArePlain, ShowNoFailure, plain_report_with, plain_text};
 ghost use Rattle.bench_report.specs.AllFound.{FindsAll};
-ghost use Rattle.bench_report.specs.Prefix.{KeepsPrefixLaw};
-ghost use Rattle.bench_report.specs.Reports.{AreByFirmware, IsReport};
+ghost use Rattle.bench_report.specs.Prefix.{KeepsPrefixLaw, MayEndIn};
+ghost use Rattle.bench_report.specs.Reports.{AreByFirmware, IsReportWith};
 ghost use Rattle.bench_report.specs.Resumes.{IsResumedFrom};
 ghost use Rattle.bench_report.specs.Steps.{Moves, Run};
 ghost use Rattle.bench_report.specs.declared.printed.Answer.{Answer};
@@ -29,13 +29,15 @@ ghost use Rattle.bench_report.specs.declared.printed.Printed.TheVariants as prin
 /// failed or that power was lost, and none of turns or of a call may hide that a hart's command was refused
 /// so.
 pub fn one_report()
-    ensures one { (script : Script) (answers others : List Answer) (end last : Bench) → AreByFirmware script.lines
-        → IsReport script answers end → IsReport script others last → IsFailureFree end → IsFailureFree last
+    ensures one { (payloads : List (List ℕ)) (script : Script) (answers others : List Answer) (end last : Bench)
+        → AreByFirmware script.lines → IsReportWith payloads script answers end
+        → IsReportWith payloads script others last → IsFailureFree end → IsFailureFree last
         → (answers ≡ others) × (end ≡ last) }
-    ensures failure_free { (script : Script) (answers : List Answer) (end : Bench) → IsReport script answers end
-        → ShowNoFailure answers → IsFailureFree end }
-    ensures plain { (script : Script) (answers : List Answer) (end : Bench) → IsReport script answers end
-        → IsFailureFree end → ArePlain script.lines → answers ≡ plain_report script }
+    ensures failure_free { (payloads : List (List ℕ)) (script : Script) (answers : List Answer) (end : Bench)
+        → IsReportWith payloads script answers end → ShowNoFailure answers → IsFailureFree end }
+    ensures plain { (payloads : List (List ℕ)) (script : Script) (answers : List Answer) (end : Bench)
+        → IsReportWith payloads script answers end → IsFailureFree end → ArePlain script.lines
+        → answers ≡ plain_report_with payloads script }
 {
     machine::one_turn();
     machine_lines::one_line();
@@ -50,12 +52,14 @@ pub fn one_report()
 /// gate is the parity of their number, the live record is in its form, and the other one from the first command
 /// on; an image is seen where one stands. It leaves the bench as it was.
 pub fn inspections()
-    ensures blank { (script : Script) (answers : List Answer) (b : Bench) → AreByFirmware script.lines
-        → IsReport script answers b → b.power ≡ None → b.disk_state ≡ Blank → (a : Answer) (new : Bench)
+    ensures blank { (payloads : List (List ℕ)) (script : Script) (answers : List Answer) (b : Bench)
+        → AreByFirmware script.lines → IsReportWith payloads script answers b → b.power ≡ None
+        → b.disk_state ≡ Blank → (a : Answer) (new : Bench)
         → Moves script.size lines.Inspect b a new → IsFailureFree new
         → (a ≡ says (printed.InspectRefused 1)) × (new ≡ b) }
-    ensures formatted { (script : Script) (answers : List Answer) (b : Bench) → AreByFirmware script.lines
-        → IsReport script answers b → b.power ≡ None → b.disk_state ≡ Formatted → (a : Answer) (new : Bench)
+    ensures formatted { (payloads : List (List ℕ)) (script : Script) (answers : List Answer) (b : Bench)
+        → AreByFirmware script.lines → IsReportWith payloads script answers b → b.power ≡ None
+        → b.disk_state ≡ Formatted → (a : Answer) (new : Bench)
         → Moves script.size lines.Inspect b a new → IsFailureFree new
         → (a ≡ says (printed.Inspected (inspection_of b.kept.changes))) × (new ≡ b) }
 {
@@ -70,26 +74,29 @@ pub fn inspections()
 /// of each life since, and of that life's commands none after it. No command takes effect that the table of
 /// commands refuses. The serials of the images that are resumed rise strictly, so an image whose consumption
 /// was acknowledged is never resumed again; and no power-on is refused 13, since each image that stands has
-/// the memory of its board.
+/// the memory of its board. Each state that an open may find after the last line ends such a history (`ends`).
 pub fn prefix_law()
-    ensures { (script : Script) (answers : List Answer) (end : Bench) → AreByFirmware script.lines
-        → IsReport script answers end → KeepsPrefixLaw script.lines answers }
+    ensures law { (payloads : List (List ℕ)) (script : Script) (answers : List Answer) (end : Bench)
+        → AreByFirmware script.lines → IsReportWith payloads script answers end → KeepsPrefixLaw script.lines answers }
+    ensures ends { (payloads : List (List ℕ)) (script : Script) (answers : List Answer) (end : Bench)
+        → AreByFirmware script.lines → IsReportWith payloads script answers end → (t : DurableState)
+        → (end.disk_state ≡ Formatted → MayFind end.kept t) → MayEndIn t script.lines answers }
 {}
 
 /// Where no failure of the disk was answered, each power-on of a whole run without `poke` finds what all commands
 /// that were acknowledged since the format make, in order, and none beside; and no armed cut struck in a line
 /// that asks something of the disk. It may be that memory was refused.
 pub fn all_are_found()
-    ensures { (script : Script) (answers : List Answer) (end : Bench) → AreByFirmware script.lines
-        → IsReport script answers end → end.failures ≡ 0 → FindsAll script.lines answers }
+    ensures { (payloads : List (List ℕ)) (script : Script) (answers : List Answer) (end : Bench)
+        → AreByFirmware script.lines → IsReportWith payloads script answers end → end.failures ≡ 0 → FindsAll script.lines answers }
 {}
 
 /// A report is one of its first lines, which leave a bench, and the lines that are left run on from that: so
 /// what a law says of a bench, and of a line after it, it says of each line of a whole report.
 pub fn reports_split()
-    ensures { (script : Script) (answers : List Answer) (end : Bench) (k : ℕ) → k ≤ length script.lines
-        → IsReport script answers end → (b : Bench)
-        × IsReport (record script { lines = take k script.lines }) (take (suc k) answers) b
+    ensures { (payloads : List (List ℕ)) (script : Script) (answers : List Answer) (end : Bench) (k : ℕ)
+        → k ≤ length script.lines → IsReportWith payloads script answers end → (b : Bench)
+        × IsReportWith payloads (record script { lines = take k script.lines }) (take (suc k) answers) b
         × Run script.size b (drop k script.lines) (drop (suc k) answers) end }
 {}
 
@@ -102,18 +109,21 @@ pub fn reports_split()
 /// all acknowledged commands (`all`). A board that is resumed has the memory of the suspension that made its
 /// image, byte for byte, and of its harts the image's alone runs (`resumes`).
 pub fn power_ons()
-    ensures finds { (script : Script) (answers : List Answer) (b : Bench) → IsReport script answers b
-        → b.disk_state ≡ Formatted → (mode : BootMode) (a : Answer) (new : Bench) (d : Durable)
+    ensures finds { (payloads : List (List ℕ)) (script : Script) (answers : List Answer) (b : Bench)
+        → IsReportWith payloads script answers b → b.disk_state ≡ Formatted
+        → (mode : BootMode) (a : Answer) (new : Bench) (d : Durable)
         → Moves script.size (lines.On mode) b a new
         → a.found ≡ Some d → (s : DurableState) × MayFind b.kept s × (d ≡ durable_of s) }
-    ensures sure { (script : Script) (answers : List Answer) (b : Bench) → AreByFirmware script.lines
-        → IsReport script answers b → IsFailureFree b → b.disk_state ≡ Formatted → b.kept.doubt ≡ None }
-    ensures all { (script : Script) (answers : List Answer) (b : Bench) → AreByFirmware script.lines
-        → IsReport script answers b → b.disk_state ≡ Formatted → b.power ≡ None
+    ensures sure { (payloads : List (List ℕ)) (script : Script) (answers : List Answer) (b : Bench)
+        → AreByFirmware script.lines → IsReportWith payloads script answers b → IsFailureFree b → b.disk_state ≡ Formatted → b.kept.doubt ≡ None }
+    ensures all { (payloads : List (List ℕ)) (script : Script) (answers : List Answer) (b : Bench)
+        → AreByFirmware script.lines → IsReportWith payloads script answers b → b.disk_state ≡ Formatted
+        → b.power ≡ None
         → (mode : BootMode) (a : Answer) (new : Bench) → Moves script.size (lines.On mode) b a new
         → a.line ≢ printed.PowerLost → IsFailureFree new → a.found ≡ Some (durable_of (found_of b.kept.changes)) }
-    ensures resumes { (script : Script) (answers : List Answer) (b : Bench) → IsReport script answers b
-        → b.disk_state ≡ Formatted → (a : Answer) (new : Bench) → Moves script.size (lines.On modes.Resume) b a new
+    ensures resumes { (payloads : List (List ℕ)) (script : Script) (answers : List Answer) (b : Bench)
+        → IsReportWith payloads script answers b → b.disk_state ≡ Formatted → (a : Answer) (new : Bench)
+        → Moves script.size (lines.On modes.Resume) b a new
         → a.line ≡ printed.On modes.Resume → IsResumedFrom script.size b a new }
 {}
 

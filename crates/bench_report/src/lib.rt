@@ -16,6 +16,6 @@ pub use laws::{
 };
 pub use power::Power;
 pub use printed::{Answer, Printed};
-pub use runs::{Report, Stopped, run, run_left, unwritten};
+pub use runs::{Report, Stopped, run, run_left, run_left_with, run_with, unwritten};
 pub use setting::Setting;
-pub use steps::{after, arm, console, disk_left, line_alone, power_on, struck};
+pub use steps::{after, arm, console, disk_left, line_alone, line_with_cuts, power_on, struck};

@@ -8,12 +8,12 @@ ghost use Rattle.script_lang.specs.Scripts.{script_of, Script as Said};
 ghost use Rattle.script_lang.specs.Views.{view};
 ghost use Rattle.store.specs.Leaves.{IsIdle};
 ghost use Rattle.bench_report.specs.Texts.{found_line, line_text};
-ghost use Rattle.bench_report.specs.Reports.{answer_text, AreByFirmware, IsReport, IsCutShort};
+ghost use Rattle.bench_report.specs.Reports.{answer_text, AreByFirmware, IsReport, IsReportWith, IsCutShort, IsCutShortWith};
 ghost use Rattle.bench_report.specs.Counts.{Adds, Reported};
 ghost use Rattle.bench_report.specs.Prefix.{KeepsPrefixLaw};
-ghost use Rattle.bench_report.specs.Bench.{Bench, blank_bench};
+ghost use Rattle.bench_report.specs.Bench.{Bench, bench_with};
 ghost use Rattle.bench_report.specs.Views.{facts};
-ghost use Rattle.bench_report.specs.Agree.{ArmsIts, fill_after, fills_after, EndsBy, Agrees, IsResting, OffIs, AreShort, IsBench, IsUnstruck};
+ghost use Rattle.bench_report.specs.Agree.{ArmsIts, fill_after, fills_after, EndsBy, Agrees, IsResting, OffIs, IsBench, IsUnstruck};
 ghost use Rattle.bench_report.specs.Laws.{KeepsLaws};
 ghost use Rattle.bench_report.specs.declared.printed.Answer.{Answer};
 ghost use Rattle.board_model.specs.declared.refusal.Refusal.{Refusal};
@@ -144,9 +144,7 @@ fn run_line<C: Crew, W: Write>(
     requires range { IsLineInRange setting.now.shape.now line.now }
     requires resting { IsResting power }
     requires calm { IsUnstruck power }
-    requires short { AreShort payloads.old }
     ensures resting { IsResting result.0 }
-    ensures short { AreShort payloads.new }
     ensures ok { OnOk result.1 ((b : Bench) → IsBench setting.now.shape.now b power payloads.old
         → (answer : Answer) × (new : Bench) × Moves setting.now.shape.now line.now b answer new
         × EndsBy setting.now.shape.now line.now fill.new b answer result.0 × IsBench setting.now.shape.now new result.0 payloads.new
@@ -185,7 +183,6 @@ fn run_lines<C: Crew, W: Write>(
     requires first { report.old.lines ≤ 1 }
     requires resting { IsResting power }
     requires calm { IsUnstruck power }
-    requires short { AreShort payloads.old }
     ensures resting { IsResting result.0 }
     ensures fill { OnOk result.1 (fill.new ≡ fills_after lines.now fill.old) }
     ensures ok { OnOk result.1 ((b : Bench) → IsBench setting.now.shape.now b power payloads.old
@@ -209,23 +206,25 @@ fn run_lines<C: Crew, W: Write>(
     (power, Ok(()))
 }
 
-/// Runs a script over a blank disk of the size that its board needs.
+/// Runs a script that begins with these payloads, over a blank disk of the size that its board needs.
 fn run_script<C: Crew, W: Write>(
     alloc: Global,
     script: &Script,
     crew: &C,
     disk: SimDisk,
+    payloads: Payloads,
     out: &mut W,
 ) -> (SimDisk, Result<Report, Refusal>)
     requires few { length script.now.lines.items ≤ 65535 }
     requires ranges { All (IsLineInRange script.now.shape) script.now.lines.items }
-    requires blank { OffIs script.now.shape blank_bench disk }
+    requires blank { OffIs script.now.shape (bench_with payloads) disk }
     requires idle { IsIdle (facts disk) }
     ensures report { IfOk result.1 (λ report. (answers : List Answer) × (end : Bench)
-        × IsReport (view script.now) answers end × Reported (W.contents out.old) (W.contents out.new) report answers
-        × OffIs script.now.shape (off end) result.0 × KeepsLaws (view script.now) answers (facts result.0)) }
+        × IsReportWith payloads (view script.now) answers end
+        × Reported (W.contents out.old) (W.contents out.new) report answers × OffIs script.now.shape (off end) result.0
+        × KeepsLaws (view script.now) answers (facts result.0)) }
     ensures stopped { OnErr result.1
-        ((answers : List Answer) × (end : Bench) × IsCutShort (view script.now) answers end
+        ((answers : List Answer) × (end : Bench) × IsCutShortWith payloads (view script.now) answers end
         × OffIs script.now.shape (off end) result.0) }
     ensures idle { IsIdle (facts result.0) }
     ensures err { IfErr result.1 (λ e. (e ≡ Refusal.Output) ⊎ (e ≡ Refusal.Memory)) }
@@ -242,7 +241,7 @@ fn run_script<C: Crew, W: Write>(
     if let Err(refusal) = add(out, &mut report, &board) {
         return (disk, Err(refusal));
     }
-    let mut payloads = Payloads::new(alloc);
+    let mut payloads = payloads;
     let mut fill = Fill::Old;
     let setting = Setting {
         alloc,
@@ -265,12 +264,56 @@ fn run_script<C: Crew, W: Write>(
     }
 }
 
-/// Runs a script and writes its report, as [`run`] does, and answers also the disk that is left, of a board
-/// whose power is off. That disk counted each failure that the report answers (each refusal 5, and each 6
-/// that begins a doubt), and each growth that its record was refused.
+/// Runs a script that begins with these payloads: a slot boots its own until a line `payload` says otherwise. Writes
+/// the script's report, as [`run`] does, and answers also the disk that is left, of a board whose power is off.
+/// That disk counted each failure that the report answers (each refusal 5, and each 6 that begins a doubt), and
+/// each growth that its record was refused. A payload may be of any length: where one of the four is longer than
+/// RAM each power-on that the state allows is refused 3 (docs/BOARD.md, "Power on").
 ///
 /// Refused as `run` is. Where a board was made its disk is given back, as the lines left it that ran: some
 /// first of the script's.
+pub fn run_left_with<C: Crew, W: Write>(
+    alloc: Global,
+    script: &[u8],
+    crew: &C,
+    payloads: Payloads,
+    out: &mut W,
+) -> Result<(Report, SimDisk), Stopped>
+    // What was written is a report of the script and nothing else, and so are the count and the states; the disk
+    // is the one of its end. Where no line is a poke, that report keeps the prefix law, from the script's bytes
+    // to its own; and where the disk that is left counted no failure, each power-on finds what all acknowledged
+    // commands make.
+    ensures report { IfOk result (λ left. (said : Said) × (answers : List Answer) × (end : Bench)
+        × (script_of script.now ≡ Ok said) × IsReportWith payloads said answers end
+        × Reported (W.contents out.old) (W.contents out.new) left.0 answers × OffIs said.size (off end) left.1
+        × KeepsLaws said answers (facts left.1)) }
+    // Where it stopped, the disk is the one of the end of some first lines.
+    ensures stopped { IfErr result (λ s. IfSome s.disk (λ disk. (said : Said) × (answers : List Answer)
+        × (end : Bench) × (script_of script.now ≡ Ok said) × IsCutShortWith payloads said answers end
+        × OffIs said.size (off end) disk)) }
+    // A board can be powered on over it.
+    ensures idle { MatchResult result (λ left. IsIdle (facts left.1)) (λ s. IfSome s.disk (λ disk. IsIdle
+        (facts disk))) }
+    // A refusal is the script's fault, or lack of memory, or the writer's.
+    ensures refused { IfErr result (λ s. (s.refusal ≡ Refusal.Memory) ⊎ (s.refusal ≡ Refusal.Output)
+        ⊎ (script_of script.now ≡ Err s.refusal)) }
+    // A script with a fault runs nothing.
+    ensures nothing { (e : Refusal) → script_of script.now ≡ Err e → (W.contents out.new ≡ W.contents out.old)
+        × MatchResult result (λ left. ⊥) (λ s. ((s.refusal ≡ e) ⊎ (s.refusal ≡ Refusal.Memory)) × (s.disk ≡ None)) }
+{
+    let script = parse_script(alloc, script)?;
+    blank_disks::<SimDisk>();
+    let disk = SimDisk::blank(alloc, script.shape.sectors())?;
+    match run_script(alloc, &script, crew, disk, payloads, out) {
+        (left, Ok(report)) => Ok((report, left)),
+        (left, Err(refusal)) => Err(Stopped {
+            refusal,
+            disk: Some(left),
+        }),
+    }
+}
+
+/// Runs a script that begins with no payloads, as [`run_left_with`] does.
 pub fn run_left<C: Crew, W: Write>(
     alloc: Global,
     script: &[u8],
@@ -299,19 +342,42 @@ pub fn run_left<C: Crew, W: Write>(
     ensures nothing { (e : Refusal) → script_of script.now ≡ Err e → (W.contents out.new ≡ W.contents out.old)
         × MatchResult result (λ left. ⊥) (λ s. ((s.refusal ≡ e) ⊎ (s.refusal ≡ Refusal.Memory)) × (s.disk ≡ None)) }
 {
-    let script = parse_script(alloc, script)?;
-    blank_disks::<SimDisk>();
-    let disk = SimDisk::blank(alloc, script.shape.sectors())?;
-    match run_script(alloc, &script, crew, disk, out) {
-        (left, Ok(report)) => Ok((report, left)),
-        (left, Err(refusal)) => Err(Stopped {
-            refusal,
-            disk: Some(left),
-        }),
+    run_left_with(alloc, script, crew, Payloads::new(alloc), out)
+}
+
+/// Runs a script (docs/SCRIPT.md) that begins with these payloads, and writes its report. The crew writes the lanes
+/// of an image; what comes of it is the same for each. A slot boots its own payload until a line `payload` says
+/// otherwise.
+///
+/// Refused `BadShape` or `BadScript` where the script has a fault, and then nothing ran and nothing is
+/// written; `Memory` where memory was refused, to the writer too; `Output` where the writer failed else. After
+/// the last two any part of the report may stand in the writer.
+pub fn run_with<C: Crew, W: Write>(
+    alloc: Global,
+    script: &[u8],
+    crew: &C,
+    payloads: Payloads,
+    out: &mut W,
+) -> Result<Report, Refusal>
+    // What was written is a report of the script and nothing else, and so are the count and the states. Where no
+    // line is a poke, that report keeps the prefix law, from the script's bytes to its own.
+    ensures report { IfOk result (λ report. (said : Said) × (answers : List Answer) × (end : Bench)
+        × (script_of script.now ≡ Ok said) × IsReportWith payloads said answers end
+        × Reported (W.contents out.old) (W.contents out.new) report answers
+        × (AreByFirmware said.lines → KeepsPrefixLaw said.lines answers)) }
+    // A refusal is the script's fault, or lack of memory, or the writer's.
+    ensures refused { IfErr result (λ e. (e ≡ Refusal.Memory) ⊎ (e ≡ Refusal.Output) ⊎ (script_of script.now ≡ Err e)) }
+    // A script with a fault runs nothing.
+    ensures nothing { (e : Refusal) → script_of script.now ≡ Err e
+        → (W.contents out.new ≡ W.contents out.old) × ((result ≡ Err e) ⊎ (result ≡ Err Refusal.Memory)) }
+{
+    match run_left_with(alloc, script, crew, payloads, out) {
+        Ok((report, _disk)) => Ok(report),
+        Err(stopped) => Err(stopped.refusal),
     }
 }
 
-/// Runs a script (docs/SCRIPT.md) and writes its report. The crew writes the lanes of an image; what comes of
+/// Runs a script (docs/SCRIPT.md) that begins with no payloads, and writes its report. The crew writes the lanes of an image; what comes of
 /// it is the same for each.
 ///
 /// Refused `BadShape` or `BadScript` where the script has a fault, and then nothing ran and nothing is
@@ -335,8 +401,5 @@ pub fn run<C: Crew, W: Write>(
     ensures nothing { (e : Refusal) → script_of script.now ≡ Err e
         → (W.contents out.new ≡ W.contents out.old) × ((result ≡ Err e) ⊎ (result ≡ Err Refusal.Memory)) }
 {
-    match run_left(alloc, script, crew, out) {
-        Ok((report, _disk)) => Ok(report),
-        Err(stopped) => Err(stopped.refusal),
-    }
+    run_with(alloc, script, crew, Payloads::new(alloc), out)
 }

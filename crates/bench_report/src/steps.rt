@@ -14,7 +14,7 @@ ghost use Rattle.bench_report.specs.Deeds.{SetSlot, CallWake, WritePast};
 ghost use Rattle.bench_report.specs.Steps.{FormatStep, OnStep, ConsoleStep, TurnStep, CallStep, ArmStep, Step, Moves};
 ghost use Rattle.disk.specs.FaultState.{armed_by};
 ghost use Rattle.simdisk.specs.declared.SimDisk.{SimDisk};
-ghost use Rattle.bench_report.specs.Agree.{HasDisk, IsCutBy, IsArmed, ArmsIts, Pokes, PokesIts, Inspects, InspectsIts, fill_after, EndsBy, Agrees, IsResting, OffIs, OnIs, BoardAfter, AreShort, IsBench, IsUnstruck, Matches, StepsTo};
+ghost use Rattle.bench_report.specs.Agree.{HasDisk, IsCutBy, IsArmed, ArmsIts, Pokes, PokesIts, Inspects, InspectsIts, fill_after, EndsBy, Agrees, IsResting, OffIs, OnIs, BoardAfter, IsBench, IsUnstruck, Matches, StepsTo};
 ghost use Rattle.board_model.specs.declared.refusal.Refusal.TheVariants.{Memory};
 
 use crate::armings::{fault_of, newest_fill};
@@ -64,7 +64,6 @@ pub fn power_on(
     payloads: &Payloads,
 ) -> (Power, Answer, Option<Durable>)
     requires idle { IsIdle (facts disk) }
-    requires short { AreShort payloads.now }
     ensures reported { (size : Size) (b : Bench) → OffIs size b disk → payloads.now ≡ b.payloads
         → StepsTo size b result.0
         (λ new. PowersOn size mode b result.1 new × TellsNow result.1.found result.2 new) }
@@ -225,7 +224,6 @@ fn inspect_line(alloc: Global, power: Power) -> (Power, Answer)
 
 fn on_line(alloc: Global, mode: BootMode, power: Power, payloads: &Payloads) -> (Power, Answer)
     requires resting { IsResting power }
-    requires short { AreShort payloads.now }
     ensures reported { (size : Size) (b : Bench) → IsBench size b power payloads.now
         → StepsTo size b result.0 (OnStep size b.power mode b result.1) }
     ensures resting { IsResting result.0 }
@@ -286,11 +284,9 @@ fn payload_line(
     payloads: &mut Payloads,
 ) -> Result<MachineLine, Refusal>
     requires bytes { length bytes.now ≤ 1024 }
-    requires short { AreShort payloads.old }
     ensures reported { IfOk result (λ line. (size : Size) (b : Bench) → IsBench size b power.now payloads.old
         → (new : Bench) × AsideStep (SetSlot slot bytes.now) b.power b (shows line) new
         × Matches size new power.now payloads.new) }
-    ensures short { OnOk result (AreShort payloads.new) }
     ensures slots { length payloads.new ≡ length payloads.old }
     ensures refused { OnErr result ((result ≡ Err Memory) × (payloads.new ≡ payloads.old)) }
 {
@@ -456,7 +452,6 @@ pub fn line_alone<C: Crew>(
     requires range { IsLineInRange setting.now.shape.now line.now }
     requires resting { IsResting power }
     requires calm { IsUnstruck power }
-    requires short { AreShort payloads.old }
     ensures reported { (b : Bench) → IsBench setting.now.shape.now b power payloads.old → MatchResult result.1
         (λ answer. (new : Bench) × Step setting.now.shape.now line.now b answer new
         × Matches setting.now.shape.now new result.0 payloads.new)
@@ -465,7 +460,6 @@ pub fn line_alone<C: Crew>(
     ensures pokes { PokesIts line.now power result.1 result.0 }
     ensures inspects { InspectsIts line.now power result.1 }
     ensures resting { IsResting result.0 }
-    ensures short { AreShort payloads.new }
     ensures slots { length payloads.new ≡ length payloads.old }
     ensures refused { OnErr result.1 (result.1 ≡ Err Memory) }
 {
@@ -491,8 +485,10 @@ pub fn line_alone<C: Crew>(
     }
 }
 
-/// One line of a script. Where an armed cut struck within it, its report is `power lost`, and what was
-/// written since the last sync holds what the newest armed cut is to leave. Refused as [`line_alone`] is.
+/// One line of a script, with the cut that a line before it may have armed. Where that cut strikes within the
+/// line, the answer is `power lost`, the board is off, and what was written since the last sync holds what the
+/// newest armed cut is to leave (`fill`, which the line itself may set). Refused as [`line_alone`] is: 11 where
+/// there is no memory for a payload or a poke, and then the bench is as it was. Source: docs/SCRIPT.md.
 pub fn line_with_cuts<C: Crew>(
     setting: &Setting<'_, C>,
     line: &Line,
@@ -503,7 +499,6 @@ pub fn line_with_cuts<C: Crew>(
     requires range { IsLineInRange setting.now.shape.now line.now }
     requires resting { IsResting power }
     requires calm { IsUnstruck power }
-    requires short { AreShort payloads.old }
     ensures reported { (b : Bench) → IsBench setting.now.shape.now b power payloads.old → MatchResult result.1
         (λ answer. (new : Bench) × Moves setting.now.shape.now line.now b answer new
         × IsBench setting.now.shape.now new result.0 payloads.new)
@@ -515,7 +510,6 @@ pub fn line_with_cuts<C: Crew>(
         → OnOk result.1 (ArmsIts line.now result.0) }
     ensures resting { IsResting result.0 }
     ensures calm { OnOk result.1 (IsUnstruck result.0) }
-    ensures short { AreShort payloads.new }
     ensures refused { OnErr result.1 (result.1 ≡ Err Memory) }
 {
     *fill = fill_after(line, *fill);

@@ -1,5 +1,5 @@
 -- Where a bench begins.
-use Rattle.std.proofs.Common.{◌≡◌, ◌⊎◌, inl, inr, List, [], Option, None, Some, refl, sym, ◌∙◌, ap, subst}
+use Rattle.std.proofs.Common.{◌≡◌, ◌⊎◌, ◌<◌, ◌+◌, ◌++◌, ◌∷◌, ℕ, false, length, take, get_or, inl, inr, List, [], Option, None, Some, refl, sym, ◌∙◌, ap, subst}
 use Rattle.board_model.specs.Durable.{DurableState, Change, CarriesWhole}
 use Rattle.board_model.specs.Kept.{Kept, nothing_kept}
 use Rattle.board_model.specs.Shapes.{Size}
@@ -11,26 +11,27 @@ use Rattle.bench_report.specs.declared.power.Power.TheVariants.{Off}
 use Rattle.bench_report.specs.declared.printed.Answer.{Answer}
 use Rattle.bench_report.specs.declared.printed.Printed.{Printed}
 use Rattle.bench_report.specs.declared.printed.Printed.TheVariants as printed
-use Rattle.bench_report.specs.Bench.{DiskState, Blank, Unknown, Formatted, BenchLife, Bench}
+use Rattle.bench_report.specs.Bench.{DiskState, Blank, Unknown, Formatted, BenchLife, Bench, bench_with}
 use Rattle.bench_report.specs.Happens.{says, off, formatted_anew}
 use Rattle.bench_report.specs.PowerOns.{FormatsOn}
-use Rattle.bench_report.specs.Steps.{FormatStep, Step}
-use Rattle.bench_report.specs.Agree.{OffIs, Agrees}
+use Rattle.bench_report.specs.Steps.{FormatStep, Step, Moves, Run}
+use Rattle.bench_report.proofs.RunLines.{run_more}
+use Rattle.bench_report.specs.Agree.{OffIs, Agrees, Matches}
 use Rattle.bench_judge.specs.declared.ledgers.Ledger.{Ledger}
 use Rattle.bench_judge.specs.Ledgers.{Tells}
-use Rattle.bench_sweep.specs.Runs.{TellsWhole, Runs, Begins, Begun, Formats}
+use Rattle.bench_sweep.specs.Runs.{TellsWhole, Begins, Begun, IsFormattedAt, Formats}
 
 -- ---- the line that formats the disk
-abbrev Fresh : Bench → Type 0
-Fresh new = (new.disk_state ≡ Formatted) × (new.kept ≡ nothing_kept)
+abbrev Fresh : Bench → Bench → Type 0
+Fresh b new = (new.disk_state ≡ Formatted) × (new.kept ≡ nothing_kept) × (new.fault_state.struck ≡ b.fault_state.struck)
 
-anew : (b new : Bench) → new ≡ formatted_anew b → Fresh new
-anew b new e = (ap (λ (x : Bench). x.disk_state) e, ap (λ (x : Bench). x.kept) e)
+anew : (b new : Bench) → new ≡ formatted_anew b → Fresh b new
+anew b new e = (ap (λ (x : Bench). x.disk_state) e, ap (λ (x : Bench). x.kept) e, ap (λ (x : Bench). x.fault_state.struck) e)
 
 other : {A : Type 0} (a : Answer) (line : Printed) → a ≡ says line → a.line ≡ printed.Formatted → (line ≡ printed.Formatted → ⊥) → A
 other a line e is not = absurd (not (sym (ap (λ (x : Answer). x.line) e) ∙ is))
 
-formats_on : (m : DiskState) (b : Bench) (a : Answer) (new : Bench) → a.line ≡ printed.Formatted → FormatsOn m b a new → Fresh new
+formats_on : (m : DiskState) (b : Bench) (a : Answer) (new : Bench) → a.line ≡ printed.Formatted → FormatsOn m b a new → Fresh b new
 formats_on Blank b a new is (inl x) = anew b new x.1
 formats_on Blank b a new is (inr x) = other a (printed.FormatRefused 5) x.0 is (λ e. let no : ⊥ = cc in no)
 formats_on Unknown b a new is (inl x) = anew b new x.1
@@ -39,24 +40,59 @@ formats_on Unknown b a new is (inr (inr x)) = other a (printed.FormatRefused x.0
 formats_on Formatted b a new is (inl x) = other a (printed.FormatRefused 2) x.0 is (λ e. let no : ⊥ = cc in no)
 formats_on Formatted b a new is (inr x) = other a (printed.FormatRefused 5) x.0 is (λ e. let no : ⊥ = cc in no)
 
-formats : (p : Option BenchLife) (b : Bench) (a : Answer) (new : Bench) → a.line ≡ printed.Formatted → FormatStep p b a new → Fresh new
+formats : (p : Option BenchLife) (b : Bench) (a : Answer) (new : Bench) → a.line ≡ printed.Formatted → FormatStep p b a new → Fresh b new
 formats None b a new is x = formats_on b.disk_state b a new is x
 formats (Some life) b a new is x = other a printed.Busy x.0 is (λ e. let no : ⊥ = cc in no)
 
-fresh_by : (size : Size) (line : Line) (b : Bench) (a : Answer) (new : Bench) → Formats line a → Step size line b a new → Fresh new
+fresh_by : (size : Size) (line : Line) (b : Bench) (a : Answer) (new : Bench) → Formats line a → Step size line b a new → Fresh b new
 fresh_by size lines.Format b a new is x = formats b.power b a new is x
 fresh_by size line b a new is x = absurd is
 
-pub begun_by : (size : Size) (line : Line) (b : Bench) (a : Answer) (new : Bench) (power : Power) → Formats line a → Step size line b a new → Agrees size new power → Begun size power
-begun_by size line b a new power is x agrees = let f = fresh_by size line b a new is x in record { bench = new; agrees = agrees; formatted = f.0; kept = f.1 }
+said : (line : Line) (a : Answer) → Formats line a → a.line ≡ printed.Formatted
+said lines.Format a is = is
+said line a is = absurd is
+
+-- after the lines before it
+pub begun_by : (size : Size) (start : List (List ℕ)) (lines : List Line) (i : ℕ) (line : Line) (d : Line) (power : Power) (slots : List (List ℕ)) (b new : Bench) (answers : List Answer) (a : Answer) → i < length lines → line ≡ get_or lines i d → Run size (bench_with start) (take i lines) answers b
+    → b.fault_state.struck ≡ false → Formats line a → Step size line b a new → Matches size new power slots → Begun size start (take (i + 1) lines) power slots
+begun_by size start lines i line d power slots b new answers a less is run quiet did step matches =
+    let f = fresh_by size line b a new did step in
+    let calm : new.fault_state.struck ≡ false = f.2 ∙ quiet in
+    let M : Line → Type 0 = λ l. Moves size l b a new in record {
+      bench = new;
+      before = answers;
+      last = a;
+      run = run_more size lines i d (bench_with start) answers b a new less run (subst M is (inl (step, calm)));
+      formats = said line a did;
+      agrees = matches.0;
+      same = matches.1;
+      formatted = f.0;
+      kept = f.1;
+    }
+
+-- one line more
+pub begins_more : (size : Size) (start : List (List ℕ)) (lines : List Line) (i : ℕ) (line : Line) (d : Line) (power : Power) (slots : List (List ℕ)) (b new : Bench) (answers : List Answer) (a : Answer) → i < length lines → line ≡ get_or lines i d → Run size (bench_with start) (take i lines) answers b
+    → Step size line b a new → Matches size new power slots → new.fault_state.struck ≡ false → Begins size start (take (i + 1) lines) power slots
+begins_more size start lines i line d power slots b new answers a less is run step matches calm =
+    let M : Line → Type 0 = λ l. Moves size l b a new in record {
+      bench = new;
+      answers = answers ++ a ∷ [];
+      run = run_more size lines i d (bench_with start) answers b a new less run (subst M is (inl (step, calm)));
+      is = (matches.0, matches.1, calm);
+    }
 
 -- ---- the site behind it
-pub site_runs : (size : Size) (power : Power) (disk : SimDisk) (ledger : Ledger) → Begun size power → ((z : Size) (b : Bench) → Agrees z b power → OffIs z (off b) disk) → Tells ledger nothing_kept → Runs size (Off disk) ledger
-site_runs size power disk ledger g ends tells =
+pub site_runs : (size : Size) (start : List (List ℕ)) (lines : List Line) (power : Power) (disk : SimDisk) (slots : List (List ℕ)) (ledger : Ledger) → Begun size start lines power slots → ((z : Size) (b : Bench) → Agrees z b power → OffIs z (off b) disk) → Tells ledger nothing_kept
+    → IsFormattedAt size start lines disk slots ledger
+site_runs size start lines power disk slots ledger g ends tells =
     let P : Kept → Type 0 = λ k. TellsWhole size ledger k in
     let doubt : (c : Change) → None ≡ Some c → CarriesWhole size c = λ c e. absurd (let no : ⊥ = cc in no) in
-    record {
-      bench = off g.bench;
-      agrees = ends size g.bench g.agrees;
-      follows = record { formatted = g.formatted; kept = subst P (sym g.kept) (record { tells = tells; whole = tt; doubt = doubt }) };
-    }
+    let at : OffIs size (off g.bench) disk = ends size g.bench g.agrees in (
+      g.bench,
+      record { before = g.before; last = g.last; run = g.run; formats = g.formats },
+      record {
+        agrees = at;
+        same = g.same;
+        follows = record { formatted = g.formatted; kept = subst P (sym g.kept) (record { tells = tells; whole = tt; doubt = doubt }) };
+      },
+    )

@@ -1,5 +1,5 @@
 -- What a run leaves, and what a power-on that keeps its image finds of it.
-use Rattle.std.proofs.Common.{◌≡◌, ◌≤◌, ◌⊎◌, ℕ, inl, inr, Bool, true, false, List, [], ◌∷◌, Option, None, Some, Result, Ok, Err, OnOk, refl, sym, ◌∙◌, ap, subst, arith}
+use Rattle.std.proofs.Common.{◌≡◌, ◌≤◌, ◌⊎◌, ℕ, inl, inr, Bool, true, false, List, [], ◌∷◌, Option, None, Some, Result, Ok, Err, OnOk, refl, sym, ◌∙◌, ap, subst, arith, length}
 use Rattle.std.specs.Prelude.{IfSome, is_some, if◌then◌else◌, length}
 use Rattle.board_model.proofs.Attempts.{attempt_image}
 use Rattle.board_model.specs.Durable.{DurableState, Image, Change, Attempt, IsWhole, after, refusal_of}
@@ -19,6 +19,8 @@ use Rattle.simdisk.specs.declared.SimDisk.{SimDisk}
 use Rattle.board_model.specs.declared.console_command.ConsoleCommand.{ConsoleCommand}
 use Rattle.board_model.specs.ConsoleCommands.{console_change}
 use Rattle.board_model.specs.declared.durable.Command.TheVariants as commands
+use Rattle.std.proofs.lemmas.List.Elements.{All-cons, All-nil}
+use Rattle.board.specs.Boots.{PayloadsFit}
 use Rattle.board.specs.Moments.{attempts_of}
 use Rattle.bench_report.specs.declared.power.Power.{Power}
 use Rattle.bench_report.specs.declared.power.Power.TheVariants.{Off, On}
@@ -26,19 +28,21 @@ use Rattle.bench_report.specs.declared.printed.Answer.{Answer}
 use Rattle.bench_report.specs.declared.printed.Printed.{Printed}
 use Rattle.bench_report.specs.declared.printed.Printed.TheVariants as printed
 use Rattle.bench_report.specs.Views.{SimBoard, store_in, facts, fault_state, store_now}
-use Rattle.bench_report.specs.Bench.{DiskState, Formatted, BenchLife, Bench}
-use Rattle.bench_report.specs.Happens.{FailsByFault, acknowledged, in_doubt, off, on_with, settled, unpowered, has_machine}
+use Rattle.bench_report.specs.Bench.{DiskState, Formatted, BenchLife, Bench, no_payloads}
+use Rattle.bench_report.specs.Happens.{FailsByFault, acknowledged, armed_with, in_doubt, off, on_with, says, settled, unpowered, has_machine}
 use Rattle.bench_report.specs.Commands.{Writes, Issued, IssuesAll}
-use Rattle.bench_report.specs.Steps.{ArmStep, ConsoleStep, Step}
+use Rattle.bench_report.specs.Steps.{ArmStep, ConsoleStep, OnStep, Step}
 use Rattle.bench_report.specs.PowerOns.{life_begun, IsBooted, Boots, Opens, ShowsFound, IsOpenRefusal, PowersOn, TellsNow}
-use Rattle.bench_report.specs.Agree.{BoardIs, OffIs, OnIs, Agrees, StepsTo}
+use Rattle.bench_report.specs.Agree.{BoardIs, OffIs, OnIs, Agrees, Matches, StepsTo}
 use Rattle.bench_report.proofs.Ended.{left_on, cut_leaves}
 use Rattle.bench_report.proofs.KeptDisks.{GoesOn as KeepsOn, less}
 use Rattle.bench_report.proofs.Sides.{sides_stay}
 use Rattle.bench_report.proofs.Issues.{GoesOn, IsSound}
 use Rattle.script_lang.specs.declared.line.Line.{Line}
+use Rattle.script_lang.specs.declared.line.Line.TheVariants as lines
 use Rattle.bench_judge.specs.declared.ledgers.Ledger.{Ledger}
 use Rattle.bench_judge.specs.Ledgers.{Tells}
+use Rattle.bench_sweep.specs.Lines.{LineMoves}
 use Rattle.bench_sweep.specs.Runs.{TellsWhole, Runs, RunsCalm, LeftOff, IsSpoilt, FindsState, Finds, PowerFinds}
 use Rattle.bench_sweep.specs.Swept.{IsPlainLine}
 use Rattle.bench_sweep.specs.Told.{moves_harts, powers_on, CommandTold, PowerTold, LineTold}
@@ -54,45 +58,45 @@ left_off goes_on size b old new off left m = (
 )
 
 -- of the disk of a run, with a ledger that tells the same
-pub left_by : (size : Size) (old new : SimDisk) (was ledger : Ledger) → Runs size (Off old) was → ((z : Size) (b : Bench) → OffIs z b old → OffIs z (unpowered b) new) → ((kept : Kept) → Tells was kept → Tells ledger kept) → LeftOff size new ledger
-left_by size old new was ledger r cut same = record {
-  bench = unpowered r.bench;
-  off = cut size r.bench r.agrees;
+pub left_by : (size : Size) (b : Bench) (old new : SimDisk) (slots now : List (List ℕ)) (was ledger : Ledger) → Runs size b (Off old) slots was → OffIs size (unpowered b) new → now ≡ slots → ((kept : Kept) → Tells was kept → Tells ledger kept)
+    → LeftOff size (unpowered b) new now ledger
+left_by size b old new slots now was ledger r cut same tells = record {
+  off = cut;
+  same = same ∙ r.same;
   follows = record {
     formatted = r.follows.formatted;
-    kept = record { tells = same r.bench.kept r.follows.kept.tells; whole = r.follows.kept.whole; doubt = r.follows.kept.doubt };
+    kept = record { tells = tells b.kept r.follows.kept.tells; whole = r.follows.kept.whole; doubt = r.follows.kept.doubt };
   };
   left = refl;
 }
 
 -- nothing has struck it
-pub calm_off : (size : Size) (disk : SimDisk) (ledger : Ledger) → LeftOff size disk ledger → RunsCalm size (Off disk) ledger
-calm_off size disk ledger l = record { bench = l.bench; agrees = l.off; follows = l.follows; calm = ap (λ (m : FaultState). m.struck) l.left }
+pub calm_off : (size : Size) (b : Bench) (disk : SimDisk) (slots : List (List ℕ)) (ledger : Ledger) → LeftOff size b disk slots ledger → RunsCalm size b (Off disk) slots ledger
+calm_off size b disk slots ledger l = record { agrees = l.off; same = l.same; follows = l.follows; calm = ap (λ (m : FaultState). m.struck) l.left }
+
+pub off_sits : (size : Size) (b : Bench) (disk : SimDisk) (slots : List (List ℕ)) (ledger : Ledger) → LeftOff size b disk slots ledger → Runs size b (Off disk) slots ledger
+off_sits size b disk slots ledger l = record { agrees = l.off; same = l.same; follows = l.follows }
 
 -- a cut or a failure is armed
-pub armed_off : (size : Size) (disk : SimDisk) (armed : Armed) (a : Answer) (power : Power) (ledger : Ledger) → LeftOff size disk ledger → ((z : Size) (b : Bench) → OffIs z b disk → StepsTo z b power (ArmStep armed b a)) → RunsCalm size power ledger
-armed_off size disk armed a power ledger l arms =
-    let did = arms size l.bench l.off in
-    let is = did.1.1 in
-    let kept : did.0.kept ≡ l.bench.kept = ap (λ (b : Bench). b.kept) is in
-    let P : Kept → Type 0 = λ k. TellsWhole size ledger k in record {
-      bench = did.0;
-      agrees = did.2;
-      follows = record { formatted = ap (λ (b : Bench). b.disk_state) is ∙ l.follows.formatted; kept = subst P (sym kept) l.follows.kept };
-      calm = ap (λ (b : Bench). b.fault_state.struck) is ∙ ap (λ (m : FaultState). m.struck) l.left;
+pub armed_off : (size : Size) (b : Bench) (disk : SimDisk) (armed is : Armed) (a : Answer) (power : Power) (slots : List (List ℕ)) (ledger : Ledger) → armed ≡ is → LeftOff size b disk slots ledger → ((z : Size) (c : Bench) → OffIs z c disk → StepsTo z c power (ArmStep armed c a))
+    → RunsCalm size (armed_with is b) power slots ledger
+armed_off size b disk armed is a power slots ledger e l arms =
+    let did = arms size b l.off in
+    let A : Bench → Type 0 = λ x. Agrees size x power in
+    let B : Armed → Type 0 = λ m. Agrees size (armed_with m b) power in record {
+      agrees = subst B e (subst A did.1.1 did.2);
+      same = l.same;
+      follows = record { formatted = l.follows.formatted; kept = l.follows.kept };
+      calm = ap (λ (m : FaultState). m.struck) l.left;
     }
 
 -- the board is off
-pub off_runs : (size : Size) (power : Power) (disk : SimDisk) (ledger : Ledger) → Runs size power ledger → ((z : Size) (b : Bench) → Agrees z b power → OffIs z (off b) disk) → Runs size (Off disk) ledger
-off_runs size power disk ledger r ends = record {
-  bench = off r.bench;
-  agrees = ends size r.bench r.agrees;
+pub off_runs : (size : Size) (b : Bench) (power : Power) (disk : SimDisk) (slots : List (List ℕ)) (ledger : Ledger) → Runs size b power slots ledger → ((z : Size) (c : Bench) → Agrees z c power → OffIs z (off c) disk) → Runs size (off b) (Off disk) slots ledger
+off_runs size b power disk slots ledger r ends = record {
+  agrees = ends size b r.agrees;
+  same = r.same;
   follows = record { formatted = r.follows.formatted; kept = r.follows.kept };
 }
-
--- no armed cut has struck
-pub calm_runs : (size : Size) (power : Power) (ledger : Ledger) (struck : Bool) → struck ≡ false → Runs size power ledger → ((z : Size) (b : Bench) → Agrees z b power → struck ≡ b.fault_state.struck) → RunsCalm size power ledger
-calm_runs size power ledger struck none r is = record { bench = r.bench; agrees = r.agrees; follows = r.follows; calm = sym (is size r.bench r.agrees) ∙ none }
 
 sound_of : (size : Size) (b : Bench) (power : Power) → b.disk_state ≡ Formatted → Agrees size b power → IsSound b
 sound_of size b power formatted agrees = (formatted, by power agrees)
@@ -105,41 +109,54 @@ sound_of size b power formatted agrees = (formatted, by power agrees)
     by (Off disk) is = let P : Option BenchLife → Type 0 = λ p. GoesOn b.kept p in subst P (sym is.0) tt
     by (On board) is = let M : DiskState → Type 0 = λ m. BoardIs size m b.kept b.power board in life b.power board (subst M formatted is.0)
 
-pub line_runs : (size : Size) (line : Line) (old new : Power) (payloads : List (List ℕ)) (answer : Answer) (was ledger : Ledger) → IsPlainLine line → moves_harts line ≡ false → powers_on line ≡ false → (r : RunsCalm size old was)
-    → ((x : Bench) × Step size line (record r.bench { payloads = payloads }) answer x × Agrees size x new)
-    → ((z : Size) (k n : Kept) → TellsWhole z was k → LineTold line answer k n → TellsWhole z ledger n) → Runs size new ledger
-line_runs size line old new payloads answer was ledger plain none unasked r (x, step, agrees) follows =
-    let b : Bench = record r.bench { payloads = payloads } in
-    let told = line_tells size line b answer x plain none unasked (sound_of size r.bench old r.follows.formatted r.agrees) step in
-    record { bench = x; agrees = agrees; follows = record { formatted = told.1 ∙ r.follows.formatted; kept = follows size r.bench.kept x.kept r.follows.kept told.0 } }
+pub line_runs : (size : Size) (line : Line) (b : Bench) (old new : Power) (slots now : List (List ℕ)) (answer : Answer) (was ledger : Ledger) → IsPlainLine line → moves_harts line ≡ false → powers_on line ≡ false → RunsCalm size b old slots was
+    → ((x : Bench) × Step size line b answer x × Matches size x new now)
+    → ((z : Size) (k n : Kept) → TellsWhole z was k → LineTold line answer k n → TellsWhole z ledger n) → LineMoves size line b new now ledger
+line_runs size line b old new slots now answer was ledger plain none unasked r (x, step, matches) follows =
+    let told = line_tells size line b answer x plain none unasked (sound_of size b old r.follows.formatted r.agrees) step in record {
+      bench = x;
+      does = (answer, step);
+      runs = record { agrees = matches.0; same = matches.1; follows = record { formatted = told.1 ∙ r.follows.formatted; kept = follows size b.kept x.kept r.follows.kept told.0 } };
+    }
 
 -- a line that powers a board on, which was off
-pub power_runs : (size : Size) (mode : BootMode) (old new : Power) (disk : SimDisk) (payloads : List (List ℕ)) (answer : Answer) (now : Option Durable) (was ledger : Ledger) → old ≡ Off disk → (r : RunsCalm size old was)
-    → ((b : Bench) → OffIs size b disk → payloads ≡ b.payloads → StepsTo size b new (λ x. PowersOn size mode b answer x × TellsNow answer.found now x))
-    → ((z : Size) (k n : Kept) → TellsWhole z was k → PowerTold mode answer.found answer.line now k n → TellsWhole z ledger n) → Runs size new ledger
-power_runs size mode old new disk payloads answer now was ledger is r powers_it follows =
-    let b : Bench = record r.bench { payloads = payloads } in
-    let A : Power → Type 0 = λ p. Agrees size r.bench p in
-    let off : OffIs size r.bench disk = subst A is r.agrees in
-    let did = powers_it b off refl in
+pub power_runs : (size : Size) (mode : BootMode) (b : Bench) (old new : Power) (disk : SimDisk) (slots : List (List ℕ)) (answer : Answer) (now : Option Durable) (was ledger : Ledger) → old ≡ Off disk → RunsCalm size b old slots was
+    → (OffIs size b disk → slots ≡ b.payloads → StepsTo size b new (λ x. PowersOn size mode b answer x × TellsNow answer.found now x))
+    → ((z : Size) (k n : Kept) → TellsWhole z was k → PowerTold mode answer.found answer.line now k n → TellsWhole z ledger n) → LineMoves size (lines.On mode) b new slots ledger
+power_runs size mode b old new disk slots answer now was ledger is r powers_it follows =
+    let A : Power → Type 0 = λ p. Agrees size b p in
+    let off : OffIs size b disk = subst A is r.agrees in
+    let did = powers_it off r.same in
     let told = power_tells size mode b answer now did.0 r.follows.formatted did.1.0 did.1.1 in
-    record { bench = did.0; agrees = did.2; follows = record { formatted = told.1 ∙ r.follows.formatted; kept = follows size r.bench.kept did.0.kept r.follows.kept told.0 } }
+    let P : Option BenchLife → Type 0 = λ p. OnStep size p mode b answer did.0 in record {
+      bench = did.0;
+      does = (answer, subst P (sym off.0) did.1.0);
+      runs = record { agrees = did.2; same = r.same ∙ sym did.3; follows = record { formatted = told.1 ∙ r.follows.formatted; kept = follows size b.kept did.0.kept r.follows.kept told.0 } };
+    }
 
 -- a line of the console
-pub command_runs : {E : Type 0} (r : Result (Unit {0}) E) (size : Size) (c : ConsoleCommand) (old new : Power) (answer : Answer) (was ledger : Ledger) → RunsCalm size old was
+pub command_runs : {E : Type 0} (r : Result (Unit {0}) E) (c : ConsoleCommand) (old new : Power) (slots : List (List ℕ)) (answer : Answer) (was ledger : Ledger)
     → ((z : Size) (b : Bench) → Agrees z b old → StepsTo z b new (ConsoleStep c b.power b answer))
-    → OnOk r ((z : Size) (k n : Kept) → TellsWhole z was k → CommandTold answer.line (console_change c) k n → TellsWhole z ledger n) → OnOk r (Runs size new ledger)
-command_runs (Err e) size c old new answer was ledger r issues follows = tt
-command_runs (Ok u) size c old new answer was ledger r issues follows =
-    let did = issues size r.bench r.agrees in
-    let told = console c r.bench.power r.bench answer did.0 refl (sound_of size r.bench old r.follows.formatted r.agrees).1 did.1 in
-    record { bench = did.0; agrees = did.2; follows = record { formatted = told.1 ∙ r.follows.formatted; kept = follows size r.bench.kept did.0.kept r.follows.kept told.0 } }
+    → OnOk r ((z : Size) (k n : Kept) → TellsWhole z was k → CommandTold answer.line (console_change c) k n → TellsWhole z ledger n) → OnOk r ((size : Size) (b : Bench) → RunsCalm size b old slots was → LineMoves size (lines.Command c) b new slots ledger)
+command_runs (Err e) c old new slots answer was ledger issues follows = tt
+command_runs (Ok u) c old new slots answer was ledger issues follows = λ size b r.
+    (let did = issues size b r.agrees in
+    let told = console c b.power b answer did.0 refl (sound_of size b old r.follows.formatted r.agrees).1 did.1 in record {
+      bench = did.0;
+      does = (answer, did.1);
+      runs = record { agrees = did.2; same = r.same ∙ sym did.3; follows = record { formatted = told.1 ∙ r.follows.formatted; kept = follows size b.kept did.0.kept r.follows.kept told.0 } };
+    })
 
 -- and one that was on
-pub busy_runs : (size : Size) (old : Power) (board : SimBoard) (ledger : Ledger) → old ≡ On board → RunsCalm size old ledger → Runs size (On board) ledger
-busy_runs size old board ledger is r =
-    let A : Power → Type 0 = λ p. Agrees size r.bench p in
-    record { bench = r.bench; agrees = subst A is r.agrees; follows = r.follows }
+busy : (size : Size) (mode : BootMode) (b : Bench) (p : Option BenchLife) (board : SimBoard) → BoardIs size b.disk_state b.kept p board → OnStep size p mode b (says printed.Busy) b
+busy size mode b None board at = absurd at
+busy size mode b (Some life) board at = (refl, refl)
+
+pub busy_runs : (size : Size) (mode : BootMode) (b : Bench) (old : Power) (board : SimBoard) (slots : List (List ℕ)) (ledger : Ledger) → old ≡ On board → RunsCalm size b old slots ledger → LineMoves size (lines.On mode) b (On board) slots ledger
+busy_runs size mode b old board slots ledger is r =
+    let A : Power → Type 0 = λ p. Agrees size b p in
+    let on : OnIs size b board = subst A is r.agrees in
+    record { bench = b; does = (says printed.Busy, busy size mode b b.power board on.0); runs = record { agrees = on; same = r.same; follows = r.follows } }
 
 -- ---- a disk with nothing armed fails by itself alone
 differ : {A : Type 0} (a b c : Armed) → a ≡ b → a ≡ c → (b ≡ c → ⊥) → A
@@ -239,17 +256,24 @@ found_as : (o : Option Durable) (s : DurableState) → ShowsFound o s → o ≡ 
 found_as None s h = absurd h
 found_as (Some d) s h = ap Some h
 
+-- slots that are empty fit into any RAM
+pub empty_fit : (z : Size) → PayloadsFit z no_payloads
+empty_fit z = one ([] ∷ [] ∷ [] ∷ []) (one ([] ∷ [] ∷ []) (one ([] ∷ []) (one [] (All-nil (λ (payload : List ℕ). length payload ≤ ram_bytes_of z)))))
+  where
+    one : (more : List (List ℕ)) → PayloadsFit z more → PayloadsFit z ([] ∷ more)
+    one more rest = All-cons (λ (payload : List ℕ). length payload ≤ ram_bytes_of z) [] more (omega arith) rest
+
 -- or it is off, and why
 record Unbooted (b : Bench) (line : Printed) (new : Bench) : Type 0 where
   pub off : new.power ≡ None
   pub why : (line ≡ printed.OnRefused 11) ⊎ ((m : FaultState) × Cause b.fault_state m × (new.fault_state ≡ m))
 
-module _ (size : Size) (b : Bench) (a : Answer) (new : Bench) (formatted : b.disk_state ≡ Formatted) (none : b.power ≡ None) (left : b.fault_state ≡ fault_state_left b.fault_state) where
+module _ (size : Size) (b : Bench) (a : Answer) (new : Bench) (formatted : b.disk_state ≡ Formatted) (none : b.power ≡ None) (left : b.fault_state ≡ fault_state_left b.fault_state) (fits : (z : Size) → PayloadsFit z b.payloads) where
   abbrev Ended : Type 0
   Ended = Booted b a.found new ⊎ Unbooted b a.line new
 
   stands : (z : Size) (s : DurableState) (changes : List Change) → MayKeep b.kept changes → s ≡ found_of changes → ShowsFound a.found s → Boots None modes.Keep z s (settled changes b) a.line new → Ended
-  stands z s changes may found shows_it (inl (o, mid, issues, booted)) = by (goes_from z s (settled changes b) s.trial refl o mid issues)
+  stands z s changes may found shows_it (inl (fit, (o, mid, issues, booted))) = by (goes_from z s (settled changes b) s.trial refl o mid issues)
     where
       by : GoesFrom z s (settled changes b) o mid → Ended
       by (inl (k, ok, life, on, image, fault, disk)) =
@@ -270,7 +294,8 @@ module _ (size : Size) (b : Bench) (a : Answer) (new : Bench) (formatted : b.dis
           let Q : Result ℕ ℕ → Type 0 = λ r. IsBooted r modes.Keep z s mid a.line new in
           let did = subst Q err booted in
           inr (record { off = ap (λ (x : Bench). x.power) did.1; why = inr (m, cause, ap (λ (x : Bench). x.fault_state) did.1 ∙ is) })
-  stands z s changes may found shows_it (inr x) = inr (record { off = ap (λ (y : Bench). y.power) x.1 ∙ none; why = inl x.0 })
+  stands z s changes may found shows_it (inr (inl x)) = absurd (x.0 (fits z))
+  stands z s changes may found shows_it (inr (inr x)) = inr (record { off = ap (λ (y : Bench). y.power) x.2 ∙ none; why = inl x.1 })
 
   powers : PowersOn size modes.Keep b a new → Ended
   powers (inl (s, z, mid, opens, shows_it, booted)) =

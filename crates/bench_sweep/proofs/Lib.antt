@@ -9,4 +9,7 @@ pub mod Serials
 pub mod Boots
 pub mod Spelled
 pub mod Reported
+pub mod Calls
+pub mod Ran
+pub mod Made
 pub mod Copied

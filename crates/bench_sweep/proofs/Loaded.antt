@@ -12,6 +12,7 @@ use Rattle.store.specs.Lives.{IsLoaded}
 use Rattle.bench_report.specs.declared.power.Power.{Power}
 use Rattle.bench_report.specs.declared.power.Power.TheVariants.{Off, On}
 use Rattle.bench_report.specs.Agree.{IsUnstruck}
+use Rattle.bench_report.specs.Bench.{Bench}
 use Rattle.bench_judge.specs.declared.ledgers.Ledger.{Ledger}
 use Rattle.bench_report.specs.declared.printed.Printed.{Printed}
 use Rattle.bench_report.specs.Views.{SimStore, SimBoard, store_now}
@@ -37,6 +38,6 @@ on_found (Err e) power board found said is told = tt
 on_found (Ok plain) power board found said is told = λ size. (let P : Power → Type 0 = λ p. PowerFinds size p found said plain in subst P (sym is) (told size said))
 
 -- ---- no armed cut has struck the disk of a board that stands so
-pub unstruck : (size : Size) (power : Power) (ledger : Ledger) → RunsCalm size power ledger → IsUnstruck power
-unstruck size (Off disk) ledger r = tt
-unstruck size (On board) ledger r = ap (λ (m : FaultState). m.struck) (sym r.agrees.1.0) ∙ r.calm
+pub unstruck : (size : Size) (b : Bench) (power : Power) (slots : List (List ℕ)) (ledger : Ledger) → RunsCalm size b power slots ledger → IsUnstruck power
+unstruck size b (Off disk) slots ledger r = tt
+unstruck size b (On board) slots ledger r = ap (λ (m : FaultState). m.struck) (sym r.agrees.1.0) ∙ r.calm

@@ -12,35 +12,39 @@ use Rattle.bench_sweep.specs.declared.sweeps.Report.{Report}
 use Rattle.bench_sweep.specs.Reports.{Reports}
 use Rattle.bench_sweep.specs.Rows.{row_text}
 use Rattle.bench_sweep.specs.Swept.{Cell, cell_of, IsPlainLine, AreSwept, Writes}
-use Rattle.bench_sweep.proofs.Written.{writes_one, writes_none, writes_more, writes_as, with_points}
+use Rattle.bench_report.specs.Bench.{Bench as ModelBench}
+use Rattle.bench_sweep.proofs.Written.{writes_one, writes_none, writes_more, writes_as, writes_weaker, with_points}
 
--- one row
-pub reports_one : {W E : Type 0} (contents : W → Option (List ℕ)) (r : Result (Unit {0}) E) (old new : Report W) (row : Row) → new.out.ghost_name ≡ old.out.ghost_name
+-- one row, of a run that was judged, whatever bench it ended at
+pub reports_one : {W E : Type 0} (contents : W → Option (List ℕ)) (Was : ModelBench → Type 0) (Is : ModelBench → Row → Type 0) (r : Result (Unit {0}) E) (old new : Report W) (row : Row) → ((b : ModelBench) → Was b → Is b row) → new.out.ghost_name ≡ old.out.ghost_name
     → OnOk r (Appends (contents old.out.now) (contents new.out.now) (row_text row ++ 10 ∷ [])) → new.sweep.points ≡ old.sweep.points → new.sweep.runs ≡ counted old.sweep.runs 1 → new.sweep.wrong ≡ old.sweep.wrong
-    → OnOk r (Reports contents old new (cell_of row ∷ []) 0)
-reports_one contents (Err e) old new row same text points runs wrong = tt
-reports_one {E = E} contents (Ok u) old new row same text points runs wrong =
-    let r : Result (Unit {0}) E = Ok u in
-    record { same = same; wrote = writes_one r _ _ old.sweep new.sweep row text points runs wrong }
+    → OnOk r ((b : ModelBench) → Was b → Reports contents (Is b) old new (cell_of row ∷ []) 0)
+reports_one contents Was Is (Err e) old new row is same text points runs wrong = tt
+reports_one contents Was Is (Ok u) old new row is same text points runs wrong = λ b was.
+    record { same = same; wrote = writes_one (Is b) _ _ old.sweep new.sweep row (is b was) text points runs wrong }
 
 -- no row
-pub reports_none : {W : Type 0} (contents : W → Option (List ℕ)) (now : Report W) → Reports contents now now [] 0
-reports_none contents now = record { same = refl; wrote = writes_none _ _ }
+pub reports_none : {W : Type 0} (contents : W → Option (List ℕ)) (Is : Row → Type 0) (now : Report W) → Reports contents Is now now [] 0
+reports_none contents Is now = record { same = refl; wrote = writes_none Is _ _ }
 
 -- and then more of them
-pub reports_more : {W : Type 0} (contents : W → Option (List ℕ)) (a b c : Report W) (xs ys : List Cell) (m n : ℕ) → Reports contents a b xs m → Reports contents b c ys n → Reports contents a c (xs ++ ys) (m + n)
-reports_more contents a b c xs ys m n first second = record { same = second.same ∙ first.same; wrote = writes_more _ _ _ _ _ _ _ _ _ _ first.wrote second.wrote }
+pub reports_more : {W : Type 0} (contents : W → Option (List ℕ)) (Is : Row → Type 0) (a b c : Report W) (xs ys : List Cell) (m n : ℕ) → Reports contents Is a b xs m → Reports contents Is b c ys n → Reports contents Is a c (xs ++ ys) (m + n)
+reports_more contents Is a b c xs ys m n first second = record { same = second.same ∙ first.same; wrote = writes_more Is _ _ _ _ _ _ _ _ _ _ first.wrote second.wrote }
 
 -- the same runs
-pub reports_as : {W : Type 0} (contents : W → Option (List ℕ)) (a b : Report W) (xs ys : List Cell) (m n : ℕ) → xs ≡ ys → m ≡ n → Reports contents a b xs m → Reports contents a b ys n
-reports_as contents a b xs ys m n e f r = record { same = r.same; wrote = writes_as _ _ _ _ _ _ _ _ e f r.wrote }
+pub reports_as : {W : Type 0} (contents : W → Option (List ℕ)) (Is : Row → Type 0) (a b : Report W) (xs ys : List Cell) (m n : ℕ) → xs ≡ ys → m ≡ n → Reports contents Is a b xs m → Reports contents Is a b ys n
+reports_as contents Is a b xs ys m n e f r = record { same = r.same; wrote = writes_as Is _ _ _ _ _ _ _ _ e f r.wrote }
+
+-- rows of which another thing holds too
+pub reports_weaker : {W : Type 0} (contents : W → Option (List ℕ)) (Is So : Row → Type 0) (a b : Report W) (xs : List Cell) (n : ℕ) → ((row : Row) → Is row → So row) → Reports contents Is a b xs n → Reports contents So a b xs n
+reports_weaker contents Is So a b xs n then r = record { same = r.same; wrote = writes_weaker Is So _ _ _ _ _ _ then r.wrote }
 
 -- points that are counted at the end
-pub reports_points : {W : Type 0} (contents : W → Option (List ℕ)) (a b c : Report W) (xs : List Cell) (n : ℕ) → Reports contents a b xs 0 → c.out.ghost_name ≡ b.out.ghost_name → contents c.out.now ≡ contents b.out.now
-    → c.sweep.points ≡ counted b.sweep.points (counted 0 n) → c.sweep.runs ≡ b.sweep.runs → c.sweep.wrong ≡ b.sweep.wrong → Reports contents a c xs n
-reports_points contents a b c xs n r same text points runs wrong =
-    let P : Option (List ℕ) → Type 0 = λ now. Writes (contents a.out.now) now a.sweep c.sweep xs n in
-    record { same = same ∙ r.same; wrote = subst P (sym text) (with_points _ _ a.sweep b.sweep c.sweep xs n r.wrote points runs wrong) }
+pub reports_points : {W : Type 0} (contents : W → Option (List ℕ)) (Is : Row → Type 0) (a b c : Report W) (xs : List Cell) (n : ℕ) → Reports contents Is a b xs 0 → c.out.ghost_name ≡ b.out.ghost_name → contents c.out.now ≡ contents b.out.now
+    → c.sweep.points ≡ counted b.sweep.points (counted 0 n) → c.sweep.runs ≡ b.sweep.runs → c.sweep.wrong ≡ b.sweep.wrong → Reports contents Is a c xs n
+reports_points contents Is a b c xs n r same text points runs wrong =
+    let P : Option (List ℕ) → Type 0 = λ now. Writes Is (contents a.out.now) now a.sweep c.sweep xs n in
+    record { same = same ∙ r.same; wrote = subst P (sym text) (with_points Is _ _ a.sweep b.sweep c.sweep xs n r.wrote points runs wrong) }
 
 -- ---- some of the lines
 pub swept_take : (size : Size) (n : ℕ) (lines : List Line) → AreSwept size lines → AreSwept size (take n lines)

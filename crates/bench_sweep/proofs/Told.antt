@@ -148,8 +148,9 @@ module _ (z : Size) (s : DurableState) (b : Bench) (line : Printed) (new : Bench
 
   boots : (r : Option ℕ) (mode : BootMode) → boot_refusal s mode ≡ r → Boots r mode z s b line new → Booted (commands_by mode s) b line new
   boots (Some n) mode table x = refused_by (commands_by mode s) b line new b n x.0 x.1 (not_six s mode n table) refl refl
-  boots None mode table (inl x) = begins mode x
-  boots None mode table (inr x) = booted_by (commands_by mode s) b line (printed.OnRefused 11) new (out_of_memory b) x.0 x.1 (inl refl, refl)
+  boots None mode table (inl x) = begins mode x.1
+  boots None mode table (inr (inl x)) = refused_by (commands_by mode s) b line new b 3 x.1 x.2 (λ e. omega (arith, e)) refl refl
+  boots None mode table (inr (inr x)) = booted_by (commands_by mode s) b line (printed.OnRefused 11) new (out_of_memory b) x.1 x.2 (inl refl, refl)
 
 -- a power-on, of which the state then is known
 abbrev pub Powered : BootMode → Bench → Option Durable → Printed → Option Durable → Bench → Type 0

@@ -176,7 +176,7 @@ module _ (size : Size) (b : Bench) (old new : SimBoard) (h : ℕ) (formatted : b
       let x = comes size b2 life2 h (machine_in new) (store_in old) (store_in new) refl (has_other size b life mid (store_in old) same is.0) device did word came in
       let told = came_to size h life2 b2 word x.0 link.0 refl (same ∙ link.1) did x.1 in
       let P : List ℕ → Type 0 = λ m. HartTold size word m b.kept x.0.kept in
-      (x.0, record { told = subst P (sym (memory_stays did h mid (machine_in new) (store_in old) (store_in new) word came)) told.0; same = told.1; after = stands_by size word x.0 new x.2 }, x.1)
+      (x.0, record { told = subst P (sym (memory_stays did h mid (machine_in new) (store_in old) (store_in new) word came)) told.0; same = told.1; slots = x.3; after = stands_by size word x.0 new x.2 }, x.1)
 
   -- a turn
   abbrev pub TurnMoves : Word → Type 0
@@ -197,7 +197,7 @@ module _ (size : Size) (b : Bench) (old new : SimBoard) (h : ℕ) (formatted : b
     Does n = (a : Answer) × CallStep b.power h asked b a n
 
     abbrev pub CallMoves : Option Word → Type 0
-    CallMoves None = (n : Bench) × OnIs size n new × (n.kept ≡ b.kept) × (n.disk_state ≡ b.disk_state) × Does n
+    CallMoves None = (n : Bench) × OnIs size n new × (n.kept ≡ b.kept) × (n.disk_state ≡ b.disk_state) × (n.payloads ≡ b.payloads) × Does n
     CallMoves (Some word) = (n : Bench) × HartMoves size b word n new × Does n
 
     does : (life : BenchLife) (mid : Machine) (by : Option Turned) (a : Answer) (n : Bench) → b.power ≡ Some life → machine_in old ≡ life.machine → MakesOneCall h asked life.machine mid by
@@ -215,7 +215,7 @@ module _ (size : Size) (b : Bench) (old new : SimBoard) (h : ℕ) (formatted : b
         let S : SimStore → Type 0 = λ store. DeviceIs size b (store_fault_state store) (store_facts store) in
         let C : Option Word → Type 0 = CallMoves in
         let did = does life mid None (shows (shown.NotStarted h)) n on is.1 makes_it (refl, refl) in
-        subst C (sym none) (n, ((subst Q (sym still) (has_other size b life mid (store_in old) same is.0), machine), subst S (sym still) device), refl, refl, did)
+        subst C (sym none) (n, ((subst Q (sym still) (has_other size b life mid (store_in old) same is.0), machine), subst S (sym still) device), refl, refl, refl, did)
     called life mid (Some did) said on is device same makes_it (word, came, some) =
         let C : Option Word → Type 0 = CallMoves in
         let m = moved life mid did word is device same came in
@@ -234,26 +234,26 @@ module _ (size : Size) (b : Bench) (old new : SimBoard) (h : ℕ) (formatted : b
 -- ---- the ledger follows
 -- one turn
 pub turn_goes : (size : Size) (b : Bench) (old new : SimBoard) (h : ℕ) (word : Word) (l m : Ledger) → OnIs size b old → Follows size b l → boards.TurnsHeld h (machine_in old) (machine_in new) (store_in old) (store_in new) word
-    → ((n : Bench) → Follows size b l → HartMoves size b word n new → Follows size n m) → HartGoes size (TurnsOnce h b word) word new m
+    → ((n : Bench) → Follows size b l → HartMoves size b word n new → Follows size n m) → HartGoes size b (TurnsOnce h b word) word new m
 turn_goes size b old new h word l m was told turned followed =
     let did = turn_moves size b old new h told.formatted word was turned in
-    record { bench = did.0; does = did.2; after = did.1.after; follows = followed did.0 told did.1 }
+    record { bench = did.0; does = did.2; slots = did.1.slots; after = did.1.after; follows = followed did.0 told did.1 }
 
 -- a call that was not made
 module _ (size : Size) (b : Bench) (old new : SimBoard) (h : ℕ) (asked : CallWords) (l : Ledger) (has : HasHart (machine_in old) h) (was : OnIs size b old) (told : Follows size b l) where
   abbrev Calls : Option Word → Type 0
   Calls said = boards.CallsHeld h asked (machine_in old) (machine_in new) (store_in old) (store_in new) said
 
-  pub call_unmade : Calls None → LineGoes size (λ n. (a : Answer) × CallStep b.power h asked b a n) None new l
+  pub call_unmade : Calls None → LineGoes size b (λ n. (a : Answer) × CallStep b.power h asked b a n) None new l
   call_unmade held =
       let did = call_moves size b old new h told.formatted asked has None was held in
-      (did.0, did.4, did.1, follows_same size b did.0 l told did.2 did.3)
+      (did.0, did.5, did.4, did.1, follows_same size b did.0 l told did.2 did.3)
 
   -- and one that was
-  pub call_made : (word : Word) (m : Ledger) → Calls (Some word) → ((n : Bench) → Follows size b l → HartMoves size b word n new → Follows size n m) → HartGoes size (λ n. (a : Answer) × CallStep b.power h asked b a n) word new m
+  pub call_made : (word : Word) (m : Ledger) → Calls (Some word) → ((n : Bench) → Follows size b l → HartMoves size b word n new → Follows size n m) → HartGoes size b (λ n. (a : Answer) × CallStep b.power h asked b a n) word new m
   call_made word m held followed =
       let did = call_moves size b old new h told.formatted asked has (Some word) was held in
-      record { bench = did.0; does = did.2; after = did.1.after; follows = followed did.0 told did.1 }
+      record { bench = did.0; does = did.2; slots = did.1.slots; after = did.1.after; follows = followed did.0 told did.1 }
 
 -- ---- turns in a line
 -- Turns were made, with so many that may follow: where the last was the last of the line, that is the line; else
@@ -287,24 +287,24 @@ struck_as size (words.Over end) b board is = ap (λ (m : FaultState). m.struck) 
 module _ (size : Size) (h count : ℕ) (b : Bench) where
   -- the turns so far
   abbrev pub GoesFar : ℕ → Word → SimBoard → Ledger → Type 0
-  GoesFar left word board l = HartGoes size (SoFar h left count b word) word board l
+  GoesFar left word board l = HartGoes size b (SoFar h left count b word) word board l
 
-  pub far_first : (left : ℕ) (word : Word) (board : SimBoard) (l : Ledger) → left ≡ count - 1 → 1 ≤ count → HartGoes size (TurnsOnce h b word) word board l → GoesFar left word board l
+  pub far_first : (left : ℕ) (word : Word) (board : SimBoard) (l : Ledger) → left ≡ count - 1 → 1 ≤ count → HartGoes size b (TurnsOnce h b word) word board l → GoesFar left word board l
   far_first left word board l is some r =
       let e : suc left ≡ count = omega (arith, is, some) in
       let P : ℕ → Type 0 = λ k. SoFar h left k b word r.bench in
-      record { bench = r.bench; does = subst P e (first_turn h left b word r.bench r.does); after = r.after; follows = r.follows }
+      record { bench = r.bench; does = subst P e (first_turn h left b word r.bench r.does); slots = r.slots; after = r.after; follows = r.follows }
 
   pub far_more : (left rest : ℕ) (word said : Word) (board new : SimBoard) (l m : Ledger) → rest ≡ left - 1 → 0 < left → ends word ≡ false → (store_fault_state (store_in board)).struck ≡ false → GoesFar left word board l
-      → ((x : Bench) → OnIs size x board → Follows size x l → HartGoes size (TurnsOnce h x said) said new m) → GoesFar rest said new m
+      → ((x : Bench) → OnIs size x board → Follows size x l → HartGoes size x (TurnsOnce h x said) said new m) → GoesFar rest said new m
   far_more left rest word said board new l m is some on calm r turns_it =
       let e : left ≡ suc rest = omega (arith, is, some) in
       let P : ℕ → Type 0 = λ k. SoFar h k count b word r.bench in
       let t = turns_it r.bench (goes_still size word r.bench board on r.after) r.follows in
-      record { bench = t.bench; does = next_turn h rest count b word r.bench said t.bench (subst P e r.does) on (struck_as size word r.bench board r.after ∙ calm) t.does; after = t.after; follows = t.follows }
+      record { bench = t.bench; does = next_turn h rest count b word r.bench said t.bench (subst P e r.does) on (struck_as size word r.bench board r.after ∙ calm) t.does; slots = t.slots ∙ r.slots; after = t.after; follows = t.follows }
 
-  pub far_all : (left : ℕ) (word : Word) (board : SimBoard) (l : Ledger) → (ends word ≡ true) ⊎ (left ≡ 0) ⊎ ((store_fault_state (store_in board)).struck ≡ true) → GoesFar left word board l → HartGoes size (TurnsMany h count b word) word board l
-  far_all left word board l last r = record { bench = r.bench; does = r.does.last (by last); after = r.after; follows = r.follows }
+  pub far_all : (left : ℕ) (word : Word) (board : SimBoard) (l : Ledger) → (ends word ≡ true) ⊎ (left ≡ 0) ⊎ ((store_fault_state (store_in board)).struck ≡ true) → GoesFar left word board l → HartGoes size b (TurnsMany h count b word) word board l
+  far_all left word board l last r = record { bench = r.bench; does = r.does.last (by last); slots = r.slots; after = r.after; follows = r.follows }
     where
       by : ((ends word ≡ true) ⊎ (left ≡ 0) ⊎ ((store_fault_state (store_in board)).struck ≡ true)) → IsLastTurn word left r.bench
       by (inl e) = inl e
@@ -317,8 +317,8 @@ module _ (size : Size) (b : Bench) (line x : Line) (is : line ≡ x) where
   does_as : (n : Bench) → DoesLine size x b n → DoesLine size line b n
   does_as n d = let P : Line → Type 0 = λ k. DoesLine size k b n in subst P (sym is) d
 
-  pub hart_line : (Does : Bench → Type 0) (word : Word) (board : SimBoard) (l : Ledger) → ((n : Bench) → Does n → DoesLine size x b n) → HartGoes size Does word board l → HartGoes size (DoesLine size line b) word board l
-  hart_line Does word board l steps r = record { bench = r.bench; does = does_as r.bench (steps r.bench r.does); after = r.after; follows = r.follows }
+  pub hart_line : (Does : Bench → Type 0) (word : Word) (board : SimBoard) (l : Ledger) → ((n : Bench) → Does n → DoesLine size x b n) → HartGoes size b Does word board l → HartGoes size b (DoesLine size line b) word board l
+  hart_line Does word board l steps r = record { bench = r.bench; does = does_as r.bench (steps r.bench r.does); slots = r.slots; after = r.after; follows = r.follows }
 
 -- turns of a hart that the board has
 pub turn_line : (size : Size) (b : Bench) (old : SimBoard) (h count : ℕ) (word : Word) (n : Bench) → HasHart (machine_in old) h → OnIs size b old → TurnsMany h count b word n → DoesLine size (lines.Turn h count) b n
@@ -332,17 +332,17 @@ turn_line size b old h count word n has was (made, turns_it) = by_life size b ol
 
 -- a line whose hart the board lacks
 module _ (size : Size) (b : Bench) (line x : Line) (is : line ≡ x) (board : SimBoard) (h : ℕ) (l : Ledger) (lacks : HasHart (machine_in board) h → ⊥) (was : OnIs size b board) (told : Follows size b l) where
-  off_line : ((life : BenchLife) → b.power ≡ Some life → (HasHart life.machine h → ⊥) → DoesLine size x b b) → LineGoes size (DoesLine size line b) None board l
-  off_line does = (b, does_as size b line x is b (by_life size b board (DoesLine size x b b) was by), was, told)
+  off_line : ((life : BenchLife) → b.power ≡ Some life → (HasHart life.machine h → ⊥) → DoesLine size x b b) → LineGoes size b (DoesLine size line b) None board l
+  off_line does = (b, does_as size b line x is b (by_life size b board (DoesLine size x b b) was by), refl, was, told)
     where
       by : (life : BenchLife) → b.power ≡ Some life → BoardIs size b.disk_state b.kept (Some life) board → DoesLine size x b b
       by life on at = let H : Machine → Type 0 = λ m. HasHart m h in does life on (λ has. lacks (subst H (sym at.1) has))
 
-pub turn_lacks : (size : Size) (b : Bench) (line : Line) (board : SimBoard) (h count : ℕ) (l : Ledger) → line ≡ lines.Turn h count → (HasHart (machine_in board) h → ⊥) → OnIs size b board → Follows size b l → LineGoes size (DoesLine size line b) None board l
+pub turn_lacks : (size : Size) (b : Bench) (line : Line) (board : SimBoard) (h count : ℕ) (l : Ledger) → line ≡ lines.Turn h count → (HasHart (machine_in board) h → ⊥) → OnIs size b board → Follows size b l → LineGoes size b (DoesLine size line b) None board l
 turn_lacks size b line board h count l is lacks was told = off_line size b line (lines.Turn h count) is board h l lacks was told (λ life on not.
     (let P : Option BenchLife → Type 0 = λ p. TurnStep p h count b (shows shown.Off) b in (shows shown.Off, subst P (sym on) (inr (not, refl, refl)))))
 
-pub call_lacks : (size : Size) (b : Bench) (line : Line) (board : SimBoard) (h : ℕ) (asked : CallWords) (l : Ledger) → line ≡ lines.Call h asked → (HasHart (machine_in board) h → ⊥) → OnIs size b board → Follows size b l → LineGoes size (DoesLine size line b) None board l
+pub call_lacks : (size : Size) (b : Bench) (line : Line) (board : SimBoard) (h : ℕ) (asked : CallWords) (l : Ledger) → line ≡ lines.Call h asked → (HasHart (machine_in board) h → ⊥) → OnIs size b board → Follows size b l → LineGoes size b (DoesLine size line b) None board l
 call_lacks size b line board h asked l is lacks was told = off_line size b line (lines.Call h asked) is board h l lacks was told (λ life on not.
     (let P : Option BenchLife → Type 0 = λ p. CallStep p h asked b (shows shown.Off) b in (shows shown.Off, subst P (sym on) (inr (not, refl, refl)))))
 
@@ -351,17 +351,17 @@ abbrev pub LeavesBy : Size → Option Word → SimBoard → Power → Type 0
 LeavesBy size None board now = (n : Bench) → OnIs size n board → Agrees size n now
 LeavesBy size (Some word) board now = (n : Bench) → BoardAfter size word n board → Agrees size n now
 
-line_left : (size : Size) (line : Line) (b : Bench) (said : Option Word) (board : SimBoard) (now : Power) (m : Ledger) → LeavesBy size said board now → LineGoes size (DoesLine size line b) said board m → LineMoves size line b now m
-line_left size line b None board now m leaves (n, does, on, follows) = record { bench = n; does = does; agrees = leaves n on; follows = follows }
-line_left size line b (Some word) board now m leaves r = record { bench = r.bench; does = r.does; agrees = leaves r.bench r.after; follows = r.follows }
+line_left : (size : Size) (line : Line) (b : Bench) (said : Option Word) (board : SimBoard) (now : Power) (slots : List (List ℕ)) (m : Ledger) → slots ≡ b.payloads → LeavesBy size said board now → LineGoes size b (DoesLine size line b) said board m → LineMoves size line b now slots m
+line_left size line b None board now slots m same leaves (n, does, kept, on, follows) = record { bench = n; does = does; runs = record { agrees = leaves n on; same = same ∙ sym kept; follows = follows } }
+line_left size line b (Some word) board now slots m same leaves r = record { bench = r.bench; does = r.does; runs = record { agrees = leaves r.bench r.after; same = same ∙ sym r.slots; follows = r.follows } }
 
 -- on a board that is on
-pub line_on : (size : Size) (line : Line) (b : Bench) (power now : Power) (old new : SimBoard) (said is_said : Option Word) (l m : Ledger) → power ≡ On old → said ≡ is_said → LeavesBy size is_said new now
-    → ((c : Bench) → OnIs size c old → Follows size c l → LineGoes size (DoesLine size line c) said new m) → Agrees size b power → Follows size b l → LineMoves size line b now m
-line_on size line b power now old new said is_said l m is e leaves goes was told =
+pub line_on : (size : Size) (line : Line) (b : Bench) (power now : Power) (old new : SimBoard) (said is_said : Option Word) (slots : List (List ℕ)) (l m : Ledger) → power ≡ On old → said ≡ is_said → LeavesBy size is_said new now
+    → ((c : Bench) → OnIs size c old → Follows size c l → LineGoes size c (DoesLine size line c) said new m) → Runs size b power slots l → LineMoves size line b now slots m
+line_on size line b power now old new said is_said slots l m is e leaves goes r =
     let P : Power → Type 0 = λ p. Agrees size b p in
     let L : Option Word → Type 0 = λ o. LeavesBy size o new now in
-    line_left size line b said new now m (subst L (sym e) leaves) (goes b (subst P is was) told)
+    line_left size line b said new now slots m r.same (subst L (sym e) leaves) (goes b (subst P is r.agrees) r.follows)
 
 -- on one that is off nothing is done
 off_does : (size : Size) (line : Line) (b : Bench) → moves_harts line ≡ true → b.power ≡ None → DoesLine size line b b
@@ -369,12 +369,8 @@ off_does size (lines.Turn h n) b of_harts off = let P : Option BenchLife → Typ
 off_does size (lines.Call h asked) b of_harts off = let P : Option BenchLife → Type 0 = λ p. CallStep p h asked b (shows shown.Off) b in (shows shown.Off, subst P (sym off) (refl, refl))
 off_does size line b of_harts off = absurd (let no : ⊥ = cc in no)
 
-pub line_off : (size : Size) (line : Line) (b : Bench) (power : Power) (disk : SimDisk) (l : Ledger) → moves_harts line ≡ true → power ≡ Off disk → Agrees size b power → Follows size b l → LineMoves size line b (Off disk) l
-line_off size line b power disk l of_harts is was told =
+pub line_off : (size : Size) (line : Line) (b : Bench) (power : Power) (disk : SimDisk) (slots : List (List ℕ)) (l : Ledger) → moves_harts line ≡ true → power ≡ Off disk → Runs size b power slots l → LineMoves size line b (Off disk) slots l
+line_off size line b power disk slots l of_harts is r =
     let P : Power → Type 0 = λ p. Agrees size b p in
-    let off : OffIs size b disk = subst P is was in
-    record { bench = b; does = off_does size line b of_harts off.0; agrees = off; follows = told }
-
--- whatever bench it stands for
-pub line_runs : (size : Size) (line : Line) (power now : Power) (l m : Ledger) → ((b : Bench) → Agrees size b power → Follows size b l → LineMoves size line b now m) → Runs size power l → Runs size now m
-line_runs size line power now l m moves r = let did = moves r.bench r.agrees r.follows in record { bench = did.bench; agrees = did.agrees; follows = did.follows }
+    let off : OffIs size b disk = subst P is r.agrees in
+    record { bench = b; does = off_does size line b of_harts off.0; runs = record { agrees = off; same = r.same; follows = r.follows } }

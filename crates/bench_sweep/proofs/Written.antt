@@ -1,7 +1,8 @@
 -- Rows that are written one after another, and counted.
-use Rattle.std.proofs.Common.{◌≡◌, ◌<◌, ◌≤◌, ℕ, zero, suc, ◌+◌, List, [], ◌∷◌, ◌++◌, Option, None, Some, Result, Ok, Err, OnOk, length, map, take, get_or, refl, sym, ◌∙◌, ap, subst, append_assoc, add_assoc, length-append, zero-add, add-one, arith}
+use Rattle.std.proofs.Common.{◌≡◌, ◌^◌, ◌<◌, ◌≤◌, ℕ, zero, suc, ◌+◌, List, [], ◌∷◌, ◌++◌, Option, None, Some, length, map, take, drop, get_or, refl, sym, ◌∙◌, ap, subst, append_assoc, add_assoc, length-append, zero-add, add-one, arith}
 use Rattle.std.proofs.lemmas.List.{append-nil, take_more, length-take-le}
 use Rattle.std.proofs.lemmas.Grind.{flat_map-append}
+use Rattle.std.proofs.lemmas.List.Elements.{All-nil, All-cons, All-append, All-weaker}
 use Rattle.std.specs.List.{flat_map}
 use Rattle.std.specs.Io.KnownBytes.{Appends, Keeps}
 use Rattle.disk.specs.Facts.{counted}
@@ -9,6 +10,11 @@ use Rattle.bench_judge.specs.declared.judges.Sweep.{Sweep}
 use Rattle.bench_sweep.specs.declared.points.Bench.{Bench}
 use Rattle.bench_sweep.specs.declared.points.Caller.{Caller}
 use Rattle.simdisk.specs.declared.fill.Fill.{Fill}
+use Rattle.board_model.specs.Shapes.{Size}
+use Rattle.script_lang.specs.declared.line.Line.{Line}
+use Rattle.bench_report.specs.Bench.{Bench as ModelBench}
+use Rattle.bench_report.specs.Happens.{unpowered}
+use Rattle.bench_sweep.specs.Made.{IsFormatted, IsPlainRun, IsRunOf}
 use Rattle.bench_sweep.specs.declared.rows.Row.{Row}
 use Rattle.bench_sweep.specs.Rows.{row_text, sweep_text}
 use Rattle.bench_sweep.specs.Swept.{Cell, cell, cell_of, runs_of, runs_from, callers, all_runs, rows_text, GoesOn, Writes, total, WroteAll}
@@ -47,12 +53,12 @@ one_more : (m n : ℕ) → n ≡ counted m 1 → GoesOn m n 1
 one_more m n is k e = omega (arith, is, e)
 
 -- one row
-pub writes_one : {E : Type 0} (r : Result (Unit {0}) E) (old now : Option (List ℕ)) (s t : Sweep) (row : Row) → OnOk r (Appends old now (row_text row ++ 10 ∷ [])) → t.points ≡ s.points → t.runs ≡ counted s.runs 1 → t.wrong ≡ s.wrong
-    → OnOk r (Writes old now s t (cell_of row ∷ []) 0)
-writes_one (Err e) old now s t row text points runs wrong = tt
-writes_one (Ok u) old now s t row text points runs wrong =
+pub writes_one : (Is : Row → Type 0) (old now : Option (List ℕ)) (s t : Sweep) (row : Row) → Is row → Appends old now (row_text row ++ 10 ∷ []) → t.points ≡ s.points → t.runs ≡ counted s.runs 1 → t.wrong ≡ s.wrong
+    → Writes Is old now s t (cell_of row ∷ []) 0
+writes_one Is old now s t row is text points runs wrong =
     let P : ℕ → Type 0 = λ n. GoesOn s.points n 0 in record {
       rows = row ∷ [];
+      each = All-cons Is row [] is (All-nil Is);
       text = rw (append-nil (line_of row)) text;
       cells = refl;
       points = subst P (sym points) (stays s.points);
@@ -61,8 +67,8 @@ writes_one (Ok u) old now s t row text points runs wrong =
     }
 
 -- no row
-pub writes_none : (now : Option (List ℕ)) (s : Sweep) → Writes now now s s [] 0
-writes_none now s = record { rows = []; text = nothing now; cells = refl; points = stays s.points; runs = stays s.runs; right = refl }
+pub writes_none : (Is : Row → Type 0) (now : Option (List ℕ)) (s : Sweep) → Writes Is now now s s [] 0
+writes_none Is now s = record { rows = []; each = All-nil Is; text = nothing now; cells = refl; points = stays s.points; runs = stays s.runs; right = refl }
 
 goes_more : (a b c m n : ℕ) → GoesOn a b m → GoesOn b c n → GoesOn a c (m + n)
 goes_more a b c m n first second k e = second (k + m) (first k e) ∙ ap (λ x. counted 0 x) (sum k m n)
@@ -71,9 +77,10 @@ goes_more a b c m n first second k e = second (k + m) (first k e) ∙ ap (λ x. 
     sum k m n = omega arith
 
 -- and then more of them
-pub writes_more : (a b c : Option (List ℕ)) (s t u : Sweep) (xs ys : List Cell) (m n : ℕ) → Writes a b s t xs m → Writes b c t u ys n → Writes a c s u (xs ++ ys) (m + n)
-writes_more a b c s t u xs ys m n first second = record {
+pub writes_more : (Is : Row → Type 0) (a b c : Option (List ℕ)) (s t u : Sweep) (xs ys : List Cell) (m n : ℕ) → Writes Is a b s t xs m → Writes Is b c t u ys n → Writes Is a c s u (xs ++ ys) (m + n)
+writes_more Is a b c s t u xs ys m n first second = record {
   rows = first.rows ++ second.rows;
+  each = All-append Is first.rows second.rows first.each second.each;
   text = rw (text_more first.rows second.rows) (appended a b c (rows_text first.rows) (rows_text second.rows) first.text second.text);
   cells = cells_more first.rows second.rows ∙ ap (λ zs. zs ++ map cell_of second.rows) first.cells ∙ ap (λ zs. xs ++ zs) second.cells;
   points = goes_more s.points t.points u.points m n first.points second.points;
@@ -82,17 +89,22 @@ writes_more a b c s t u xs ys m n first second = record {
 }
 
 -- the same runs
-pub writes_as : (a b : Option (List ℕ)) (s t : Sweep) (xs ys : List Cell) (m n : ℕ) → xs ≡ ys → m ≡ n → Writes a b s t xs m → Writes a b s t ys n
-writes_as a b s t xs ys m n e f w =
-    let P : List Cell → Type 0 = λ zs. Writes a b s t zs m in
-    let Q : ℕ → Type 0 = λ k. Writes a b s t ys k in
+pub writes_as : (Is : Row → Type 0) (a b : Option (List ℕ)) (s t : Sweep) (xs ys : List Cell) (m n : ℕ) → xs ≡ ys → m ≡ n → Writes Is a b s t xs m → Writes Is a b s t ys n
+writes_as Is a b s t xs ys m n e f w =
+    let P : List Cell → Type 0 = λ zs. Writes Is a b s t zs m in
+    let Q : ℕ → Type 0 = λ k. Writes Is a b s t ys k in
     subst Q f (subst P e w)
 
+-- rows of which another thing holds too
+pub writes_weaker : (Is So : Row → Type 0) (a b : Option (List ℕ)) (s t : Sweep) (xs : List Cell) (n : ℕ) → ((row : Row) → Is row → So row) → Writes Is a b s t xs n → Writes So a b s t xs n
+writes_weaker Is So a b s t xs n then w = record { rows = w.rows; each = All-weaker Is So then w.rows w.each; text = w.text; cells = w.cells; points = w.points; runs = w.runs; right = w.right }
+
 -- points that are counted at the end
-pub with_points : (a b : Option (List ℕ)) (s t u : Sweep) (xs : List Cell) (n : ℕ) → Writes a b s t xs 0 → u.points ≡ counted t.points (counted 0 n) → u.runs ≡ t.runs → u.wrong ≡ t.wrong → Writes a b s u xs n
-with_points a b s t u xs n w points runs wrong =
+pub with_points : (Is : Row → Type 0) (a b : Option (List ℕ)) (s t u : Sweep) (xs : List Cell) (n : ℕ) → Writes Is a b s t xs 0 → u.points ≡ counted t.points (counted 0 n) → u.runs ≡ t.runs → u.wrong ≡ t.wrong → Writes Is a b s u xs n
+with_points Is a b s t u xs n w points runs wrong =
     let P : ℕ → Type 0 = λ k. GoesOn s.runs k (length w.rows) in record {
       rows = w.rows;
+      each = w.each;
       text = w.text;
       cells = w.cells;
       points = λ k e. (let at = w.points k e in omega (arith, points, at));
@@ -143,6 +155,11 @@ pub next_calls : (bench : Bench) (caller : Caller) (n made first calls : ℕ) �
 next_calls bench caller n made first calls e f =
     ap (λ k. runs_from bench caller 1 n ++ runs_from bench caller k calls) (f ∙ ap (λ k. counted k 1) e) ∙ runs_on bench caller n calls
 
+-- the same of numbers that stay below the end
+pub next_exact : (bench : Bench) (caller : Caller) (made calls : ℕ) → made + calls < 2 ^ 64 → runs_from bench caller 1 made ++ runs_from bench caller (made + 1) calls ≡ runs_from bench caller 1 (made + calls)
+next_exact bench caller made zero less = append-nil (runs_from bench caller 1 made) ∙ ap (λ (n : ℕ). runs_from bench caller 1 n) (let same : made ≡ made + 0 = omega arith in same)
+next_exact bench caller made (suc calls) less = next_calls bench caller made made (made + 1) (suc calls) (omega (arith, less)) (omega (arith, less))
+
 pub made_more : (n made calls next : ℕ) → made ≡ counted 0 n → next ≡ counted made calls → next ≡ counted 0 (n + calls)
 made_more n made calls next e f = omega (arith, e, f)
 
@@ -158,14 +175,20 @@ pub longer : (counts : List ℕ) (n i : ℕ) → length counts ≡ i → length 
 longer counts n i e = length-append counts (n ∷ []) ∙ ap (λ k. k + 1) e
 
 -- all rows, and the last line
-pub wrote_all : (bench : Bench) (a b c : Option (List ℕ)) (s t : Sweep) (counts : List ℕ) → s.points ≡ 0 → s.runs ≡ 0 → s.wrong ≡ 0 → length counts ≡ 5 → Writes a b s t (all_runs bench callers counts) (total counts)
-    → Appends b c (sweep_text t ++ 10 ∷ []) → WroteAll bench a c t
-wrote_all bench a b c s t counts no_point no_run no_wrong five wrote last = record {
+pub wrote_all : (bench : Bench) (size : Size) (start : List (List ℕ)) (lines : List Line) (a b c : Option (List ℕ)) (s t : Sweep) (begin : ℕ) (first : ModelBench) (counts : List ℕ) → s.points ≡ 0 → s.runs ≡ 0 → s.wrong ≡ 0 → IsFormatted size start (take begin lines) first
+    → IsPlainRun size (unpowered first) (drop begin lines) → length counts ≡ 5 → Writes (λ row. IsRunOf size bench (unpowered first) (drop begin lines) row.left) a b s t (all_runs bench callers counts) (total counts)
+    → Appends b c (sweep_text t ++ 10 ∷ []) → WroteAll bench size start lines a c t
+wrote_all bench size start lines a b c s t begin first counts no_point no_run no_wrong format plain five wrote last = record {
+  begin = begin;
+  first = first;
+  format = format;
+  plain = plain;
   counts = counts;
   five = five;
   rows = wrote.rows;
-  text = appended a b c (rows_text wrote.rows) (sweep_text t ++ 10 ∷ []) wrote.text last;
+  each = wrote.each;
   cells = wrote.cells;
+  text = appended a b c (rows_text wrote.rows) (sweep_text t ++ 10 ∷ []) wrote.text last;
   points = wrote.points 0 no_point ∙ ap (λ k. counted 0 k) (zero-add (total counts));
   runs = wrote.runs 0 no_run ∙ ap (λ k. counted 0 k) (zero-add (length wrote.rows));
   right = wrote.right ∙ no_wrong;

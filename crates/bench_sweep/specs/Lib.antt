@@ -1,5 +1,6 @@
 pub mod Rows
 pub mod Points
+pub mod Made
 pub mod Swept
 pub mod Told
 pub mod Runs

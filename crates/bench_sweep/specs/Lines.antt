@@ -1,5 +1,5 @@
 -- What a line that moves harts does, by the steps of the model, and that the ledger follows it.
-use Rattle.std.specs.Prelude.{◌≡◌, ℕ, Option, None, Some}
+use Rattle.std.specs.Prelude.{◌≡◌, ℕ, List, Option, None, Some}
 use Rattle.board_model.specs.Shapes.{Size}
 use Rattle.sbi.specs.declared.words.Word.{Word}
 use Rattle.script_lang.specs.declared.line.Line.{Line}
@@ -8,10 +8,10 @@ use Rattle.bench_report.specs.declared.power.Power.{Power}
 use Rattle.bench_report.specs.Bench.{BenchLife, Bench}
 use Rattle.bench_report.specs.Steps.{Step}
 use Rattle.bench_report.specs.Turns.{GuestTurn, GuestTurns}
-use Rattle.bench_report.specs.Agree.{OnIs, BoardAfter, Agrees}
+use Rattle.bench_report.specs.Agree.{OnIs, BoardAfter}
 use Rattle.bench_report.specs.Views.{SimBoard}
 use Rattle.bench_judge.specs.declared.ledgers.Ledger.{Ledger}
-use Rattle.bench_sweep.specs.Runs.{Follows}
+use Rattle.bench_sweep.specs.Runs.{Follows, Runs}
 
 -- one turn of hart h, and what was said of it
 abbrev pub TurnsOnce : ℕ → Bench → Word → Bench → Type 0
@@ -25,22 +25,24 @@ TurnsMany h n b word new = (made : ℕ) × GuestTurns h n b made word new
 abbrev pub DoesLine : Size → Line → Bench → Bench → Type 0
 DoesLine size line b new = (answer : Answer) × Step size line b answer new
 
--- A hart came to that word by a step of which this holds; the board and the ledger then.
-pub record HartGoes (size : Size) (Does : Bench → Type 0) (word : Word) (board : SimBoard) (ledger : Ledger)
+-- A hart came to that word by a step from b of which this holds; the board and the ledger then.
+pub record HartGoes (size : Size) (b : Bench) (Does : Bench → Type 0) (word : Word) (board : SimBoard) (ledger : Ledger)
     : Type 0 where
   pub bench : Bench
   pub does : Does bench
+  pub slots : bench.payloads ≡ b.payloads
   pub after : BoardAfter size word bench board
   pub follows : Follows size bench ledger
 
 -- the same of a line of harts, of which no word is said where it did nothing
-abbrev pub LineGoes : Size → (Bench → Type 0) → Option Word → SimBoard → Ledger → Type 0
-LineGoes size Does None board ledger = (new : Bench) × Does new × OnIs size new board × Follows size new ledger
-LineGoes size Does (Some word) board ledger = HartGoes size Does word board ledger
+abbrev pub LineGoes : Size → Bench → (Bench → Type 0) → Option Word → SimBoard → Ledger → Type 0
+LineGoes size b Does None board ledger =
+    (new : Bench) × Does new × (new.payloads ≡ b.payloads) × OnIs size new board × Follows size new ledger
+LineGoes size b Does (Some word) board ledger = HartGoes size b Does word board ledger
 
 -- The line's step was made.
-pub record LineMoves (size : Size) (line : Line) (b : Bench) (power : Power) (ledger : Ledger) : Type 0 where
+pub record LineMoves (size : Size) (line : Line) (b : Bench) (power : Power) (slots : List (List ℕ)) (ledger : Ledger)
+    : Type 0 where
   pub bench : Bench
   pub does : DoesLine size line b bench
-  pub agrees : Agrees size bench power
-  pub follows : Follows size bench ledger
+  pub runs : Runs size bench power slots ledger

@@ -1,5 +1,5 @@
 -- The calls at which a bench cuts power, or lets one fail. Source: docs/SCRIPT.md, "The benches".
-use Rattle.std.specs.Prelude.{ℕ, List, get_or}
+use Rattle.std.specs.Prelude.{◌≡◌, ◌+◌, ℕ, List, get_or}
 use Rattle.disk.specs.declared.device.ArmedFault.{ArmedFault}
 use Rattle.disk.specs.declared.device.ArmedFault.TheVariants.{FailAt, CutAt, FailLane, CutLane}
 use Rattle.simdisk.specs.contracts.write_log.SimDiskLogged.TheImpl as sim_logged
@@ -14,6 +14,10 @@ use Rattle.bench_sweep.specs.declared.points.Caller.TheVariants.{Disk, Lane}
 abbrev pub calls_of : Caller → SimDisk → ℕ
 calls_of Disk disk = (facts disk).calls
 calls_of (Lane i) disk = get_or (sim_logged.ghosts.lane_calls disk) i 0
+
+-- of that caller so many calls were made from the one disk to the other
+abbrev pub MadeCalls : SimDisk → SimDisk → Caller → ℕ → Type 0
+MadeCalls from to caller n = calls_of caller to ≡ calls_of caller from + n
 
 -- power is cut within its call of that number from now on
 abbrev pub cut_of : Caller → ℕ → ArmedFault

@@ -1,10 +1,31 @@
 -- What a bench has written and counted so far. Source: docs/SCRIPT.md, "The benches".
 use Rattle.std.specs.Prelude.{◌≡◌, ℕ, List, Option}
+use Rattle.board_model.specs.Shapes.{Size}
+use Rattle.script_lang.specs.declared.line.Line.{Line}
+use Rattle.bench_report.specs.Bench.{Bench}
+use Rattle.bench_report.specs.Happens.{unpowered}
+use Rattle.bench_sweep.specs.declared.points.Bench.{Bench as Kind}
+use Rattle.bench_sweep.specs.declared.rows.Row.{Row}
 use Rattle.bench_sweep.specs.declared.sweeps.Report.{Report}
+use Rattle.bench_sweep.specs.Made.{LooksAt, RunsWith, IsRunOf}
 use Rattle.bench_sweep.specs.Swept.{Cell, Writes}
 
 -- The report goes on in the same writer: these runs were made at so many points, one line was written for each, and
--- each was counted. None was wrong.
-pub record Reports {W : Type 0} (contents : W → Option (List ℕ)) (old new : Report W) (made : List Cell) (n : ℕ) : Type 0 where
+-- each was counted. None was wrong, and of each row that holds.
+pub record Reports {W : Type 0} (contents : W → Option (List ℕ)) (Is : Row → Type 0) (old new : Report W) (made : List Cell)
+    (n : ℕ) : Type 0 where
   pub same : new.out.ghost_name ≡ old.out.ghost_name
-  pub wrote : Writes (contents old.out.now) (contents new.out.now) old.sweep new.sweep made n
+  pub wrote : Writes Is (contents old.out.now) (contents new.out.now) old.sweep new.sweep made n
+
+-- ---- rows so far
+-- a row whose run ended at that bench
+abbrev pub IsLeft : Size → Bench → Row → Type 0
+IsLeft size end row = (after : Bench) × LooksAt size (unpowered end) row.left after
+
+-- a row whose run begins at that bench, which is off
+abbrev pub RunsRow : Size → Kind → Bench → List Line → Row → Type 0
+RunsRow size kind b lines row = RunsWith size kind b lines row.left
+
+-- a row of a bench over those lines, of which the first begin at that bench
+abbrev pub IsRow : Size → Kind → Bench → List Line → Row → Type 0
+IsRow size kind first lines row = IsRunOf size kind first lines row.left

@@ -1,5 +1,5 @@
 -- A run that is under way, and the bench of the model that it stands for.
-use Rattle.std.specs.Prelude.{◌≡◌, ◌≤◌, ◌⊎◌, false, Option, Some}
+use Rattle.std.specs.Prelude.{◌≡◌, ◌≤◌, ◌<◌, ◌⊎◌, ◌∷◌, ◌++◌, [], ℕ, List, false, true, Option, None, Some, length, take}
 use Rattle.board_model.specs.Durable.{DurableState, Change, IsWhole, CarriesWhole}
 use Rattle.board_model.specs.Kept.{Kept, MayFind, nothing_kept, found_of}
 use Rattle.board_model.specs.Plains.{state_in}
@@ -17,11 +17,15 @@ use Rattle.bench_report.specs.declared.printed.Printed.{Printed}
 use Rattle.bench_report.specs.declared.printed.Printed.TheVariants as printed
 use Rattle.bench_report.specs.declared.power.Power.{Power}
 use Rattle.bench_report.specs.declared.power.Power.TheVariants.{Off, On}
-use Rattle.bench_report.specs.Bench.{Formatted, Bench}
-use Rattle.bench_report.specs.Agree.{OffIs, BoardAfter, Agrees}
+use Rattle.bench_report.specs.Bench.{Formatted, Bench, bench_with}
+use Rattle.bench_report.specs.Happens.{off, unpowered}
+use Rattle.bench_report.specs.Steps.{Run}
+use Rattle.bench_report.specs.Agree.{OffIs, BoardAfter, Agrees, IsBench}
 use Rattle.bench_report.specs.Views.{SimStore, SimBoard, machine_in, fault_state, store_in, store_size, store_now, store_fault_state}
 use Rattle.bench_judge.specs.Ledgers.{Tells}
 use Rattle.bench_judge.specs.declared.ledgers.Ledger.{Ledger}
+use Rattle.bench_sweep.specs.declared.points.Bench.TheVariants.{Cuts}
+use Rattle.bench_sweep.specs.Made.{IsFormatted, EndsAs}
 use Rattle.bench_sweep.specs.Told.{HartTold}
 
 -- The ledger tells the commands kept; an image that stands, or is in doubt, has the memory of a board of that size.
@@ -35,50 +39,91 @@ pub record Follows (size : Size) (b : Bench) (ledger : Ledger) : Type 0 where
   pub formatted : b.disk_state ≡ Formatted
   pub kept : TellsWhole size ledger b.kept
 
--- The board stands for a bench, and the ledger follows it.
-pub record Runs (size : Size) (power : Power) (ledger : Ledger) : Type 0 where
-  pub bench : Bench
-  pub agrees : Agrees size bench power
-  pub follows : Follows size bench ledger
+-- The board with its payloads stands for that bench, and the ledger follows it.
+pub record Runs (size : Size) (b : Bench) (power : Power) (slots : List (List ℕ)) (ledger : Ledger) : Type 0 where
+  pub agrees : Agrees size b power
+  pub same : slots ≡ b.payloads
+  pub follows : Follows size b ledger
 
 -- and no armed cut has struck
-pub record RunsCalm (size : Size) (power : Power) (ledger : Ledger) : Type 0 where
-  pub bench : Bench
-  pub agrees : Agrees size bench power
-  pub follows : Follows size bench ledger
-  pub calm : bench.fault_state.struck ≡ false
+pub record RunsCalm (size : Size) (b : Bench) (power : Power) (slots : List (List ℕ)) (ledger : Ledger) : Type 0 where
+  pub agrees : Agrees size b power
+  pub same : slots ≡ b.payloads
+  pub follows : Follows size b ledger
+  pub calm : b.fault_state.struck ≡ false
 
 -- the same of a disk that a power cut has left: nothing is armed
-pub record LeftOff (size : Size) (disk : SimDisk) (ledger : Ledger) : Type 0 where
+pub record LeftOff (size : Size) (b : Bench) (disk : SimDisk) (slots : List (List ℕ)) (ledger : Ledger) : Type 0 where
+  pub off : OffIs size b disk
+  pub same : slots ≡ b.payloads
+  pub follows : Follows size b ledger
+  pub left : b.fault_state ≡ fault_state_left b.fault_state
+
+-- a site stands for some bench
+abbrev pub Sits : Size → SimDisk → List (List ℕ) → Ledger → Type 0
+Sits size disk slots ledger = (b : Bench) × Runs size b (Off disk) slots ledger
+
+-- the same of one that a power cut has left
+abbrev pub SitsLeft : Size → SimDisk → List (List ℕ) → Ledger → Type 0
+SitsLeft size disk slots ledger = (b : Bench) × LeftOff size b disk slots ledger
+
+-- Lines were run from that bench: to their end, or an armed cut struck in the last of them, and power is still to be
+-- taken.
+pub record RanTo (size : Size) (b : Bench) (lines : List Line) (power : Power) (slots : List (List ℕ)) (ledger : Ledger)
+    : Type 0 where
+  pub answers : List Answer
+  pub end : Bench
+  pub run : Run size b lines answers end
   pub bench : Bench
-  pub off : OffIs size bench disk
-  pub follows : Follows size bench ledger
-  pub left : bench.fault_state ≡ fault_state_left bench.fault_state
+  pub runs : Runs size bench power slots ledger
+  pub calm : bench.fault_state.struck ≡ false → bench ≡ end
+  pub struck : bench.fault_state.struck ≡ true → (unpowered bench ≡ end) × EndsAs Cuts lines 0 answers
+
+-- The first of some lines were run from that site on, with nothing armed, up to the first that left the board off, or to
+-- the last; and then the board was turned off.
+pub record IsLife (size : Size) (b : Bench) (lines : List Line) (count : ℕ) (disk : SimDisk) (slots : List (List ℕ))
+    (ledger : Ledger) : Type 0 where
+  pub answers : List Answer
+  pub end : Bench
+  pub run : Run size (unpowered b) (take count lines) answers end
+  pub stops : count < length lines → end.power ≡ None
+  pub left : Runs size (off end) (Off disk) slots ledger
+
+-- a board that stands for a bench in which no cut has struck is off
+abbrev pub StopsOff : Power → Type 0
+StopsOff power = (size : Size) (b : Bench) → Agrees size b power → b.fault_state.struck ≡ false → b.power ≡ None
 
 -- A hart of the board made a turn, or a call, which ended so.
 pub record HartMoves (size : Size) (b : Bench) (word : Word) (new : Bench) (board : SimBoard) : Type 0 where
   pub told : HartTold size word (machine_in board).memory b.kept new.kept
   pub same : new.disk_state ≡ b.disk_state
+  pub slots : new.payloads ≡ b.payloads
   pub after : BoardAfter size word new board
 
 -- ---- before the disk is formatted
--- the board stands for a bench
-pub record Begins (size : Size) (power : Power) : Type 0 where
+-- lines of the script were run on a blank disk, and come to a bench for which the board with its payloads stands
+pub record Begins (size : Size) (start : List (List ℕ)) (lines : List Line) (power : Power) (slots : List (List ℕ)) : Type 0 where
   pub bench : Bench
-  pub agrees : Agrees size bench power
+  pub answers : List Answer
+  pub run : Run size (bench_with start) lines answers bench
+  pub is : IsBench size bench power slots
 
--- and no armed cut has struck
-pub record BeginsCalm (size : Size) (power : Power) : Type 0 where
+-- the last of them formatted it just now
+pub record Begun (size : Size) (start : List (List ℕ)) (lines : List Line) (power : Power) (slots : List (List ℕ)) : Type 0 where
   pub bench : Bench
+  pub before : List Answer
+  pub last : Answer
+  pub run : Run size (bench_with start) lines (before ++ last ∷ []) bench
+  pub formats : last.line ≡ printed.Formatted
   pub agrees : Agrees size bench power
-  pub calm : bench.fault_state.struck ≡ false
-
--- and its disk was formatted just now
-pub record Begun (size : Size) (power : Power) : Type 0 where
-  pub bench : Bench
-  pub agrees : Agrees size bench power
+  pub same : slots ≡ bench.payloads
   pub formatted : bench.disk_state ≡ Formatted
   pub kept : bench.kept ≡ nothing_kept
+
+-- the board is off behind it
+abbrev pub IsFormattedAt : Size → List (List ℕ) → List Line → SimDisk → List (List ℕ) → Ledger → Type 0
+IsFormattedAt size start lines disk slots ledger =
+    (b : Bench) × IsFormatted size start lines b × Runs size (off b) (Off disk) slots ledger
 
 -- the line formatted the disk
 abbrev pub Formats : Line → Answer → Type 0

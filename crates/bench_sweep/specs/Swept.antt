@@ -1,5 +1,5 @@
 -- What a bench wrote and counted. Source: docs/SCRIPT.md, "The benches".
-use Rattle.std.specs.Prelude.{◌≡◌, ◌+◌, ℕ, zero, suc, List, [], ◌∷◌, ◌++◌, ⊤, Option, None, Some, All, length, map}
+use Rattle.std.specs.Prelude.{◌≡◌, ◌+◌, ℕ, zero, suc, List, [], ◌∷◌, ◌++◌, ⊤, Option, None, Some, Ok, All, length, map, take, drop}
 use Rattle.std.specs.List.{flat_map}
 use Rattle.std.specs.Io.KnownBytes.{Appends}
 use Rattle.disk.specs.Facts.{counted}
@@ -7,7 +7,10 @@ use Rattle.simdisk.specs.declared.fill.Fill.{Fill}
 use Rattle.simdisk.specs.declared.fill.Fill.TheVariants.{Byte, Alternating, Old, New}
 use Rattle.board_model.specs.Shapes.{Size}
 use Rattle.script_lang.specs.Lines.{IsLineInRange}
+use Rattle.script_lang.specs.Scripts.{script_of, Script}
 use Rattle.script_lang.specs.declared.line.Line.{Line}
+use Rattle.bench_report.specs.Bench.{Bench as ModelBench}
+use Rattle.bench_report.specs.Happens.{unpowered}
 use Rattle.bench_report.specs.Deeds.{ArmFault, CutPower, WritePast, Deed, Beside, deed_of}
 use Rattle.bench_judge.specs.declared.judges.Sweep.{Sweep}
 use Rattle.bench_sweep.specs.declared.points.Bench.{Bench}
@@ -15,6 +18,7 @@ use Rattle.bench_sweep.specs.declared.points.Bench.TheVariants.{Cuts, Fails}
 use Rattle.bench_sweep.specs.declared.points.Caller.{Caller}
 use Rattle.bench_sweep.specs.declared.points.Caller.TheVariants.{Disk, Lane}
 use Rattle.bench_sweep.specs.declared.rows.Row.{Row}
+use Rattle.bench_sweep.specs.Made.{IsFormatted, IsPlainRun, IsRunOf}
 use Rattle.bench_sweep.specs.Rows.{row_text, sweep_text}
 
 -- a deed that a bench has done: it cuts nothing, lets nothing fail, and leaves the disk to the firmware
@@ -76,8 +80,10 @@ abbrev pub GoesOn : ℕ → ℕ → ℕ → Type 0
 GoesOn before after n = (k : ℕ) → before ≡ counted 0 k → after ≡ counted 0 (k + n)
 
 -- These runs were made at so many points, one line was written for each, and each was counted. None was wrong.
-pub record Writes (old now : Option (List ℕ)) (s t : Sweep) (made : List Cell) (n : ℕ) : Type 0 where
+-- Of each row that holds.
+pub record Writes (Is : Row → Type 0) (old now : Option (List ℕ)) (s t : Sweep) (made : List Cell) (n : ℕ) : Type 0 where
   pub rows : List Row
+  pub each : All Is rows
   pub text : Appends old now (rows_text rows)
   pub cells : map cell_of rows ≡ made
   pub points : GoesOn s.points t.points n
@@ -88,14 +94,25 @@ abbrev pub total : List ℕ → ℕ
 total [] = 0
 total (n ∷ ns) = n + total ns
 
--- Of each caller so many points; the runs at them, in order, a line for each, and then the line of the counts. No
--- run was wrong.
-pub record WroteAll (bench : Bench) (old now : Option (List ℕ)) (sweep : Sweep) : Type 0 where
+-- Of each caller so many points; the runs at them, in order, each of the script's own lines behind its first format, a
+-- line for each, and then the line of the counts. No run was wrong.
+pub record WroteAll (bench : Bench) (size : Size) (start : List (List ℕ)) (lines : List Line) (old now : Option (List ℕ)) (sweep : Sweep)
+    : Type 0 where
+  pub begin : ℕ
+  pub first : ModelBench
+  pub format : IsFormatted size start (take begin lines) first
+  pub plain : IsPlainRun size (unpowered first) (drop begin lines)
   pub counts : List ℕ
   pub five : length counts ≡ 5
   pub rows : List Row
-  pub text : Appends old now (rows_text rows ++ (sweep_text sweep ++ 10 ∷ []))
+  pub each : All (λ (row : Row). IsRunOf size bench (unpowered first) (drop begin lines) row.left) rows
   pub cells : map cell_of rows ≡ all_runs bench callers counts
+  pub text : Appends old now (rows_text rows ++ (sweep_text sweep ++ 10 ∷ []))
   pub points : sweep.points ≡ counted 0 (total counts)
   pub runs : sweep.runs ≡ counted 0 (length rows)
   pub right : sweep.wrong ≡ 0
+
+-- what a bench of that kind makes of a script that begins with these payloads
+abbrev pub IsBenchOf : Bench → List (List ℕ) → List ℕ → Option (List ℕ) → Option (List ℕ) → Sweep → Type 0
+IsBenchOf bench start script old now sweep =
+    (said : Script) × (script_of script ≡ Ok said) × WroteAll bench said.size start said.lines old now sweep

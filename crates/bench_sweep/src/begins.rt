@@ -1,17 +1,16 @@
 //! Where a bench begins: behind the first format of its script that answers Ok.
 
-ghost use Rattle.std.specs.Prelude.{◌≡◌, ◌≤◌, ◌⊎◌, false, true, length, All, IfOk, IfErr, ◌↔◌, IsTrue};
+ghost use Rattle.std.specs.Prelude.{◌≡◌, ◌≤◌, ◌⊎◌, ℕ, List, false, true, length, take, All, IfOk, IfErr, ◌↔◌, IsTrue};
+ghost use Rattle.board_model.specs.Shapes.{Size};
 ghost use Rattle.board_model.specs.declared.refusal.Refusal.TheVariants.{Memory, NotPlain};
 ghost use Rattle.script_lang.specs.Lines.{IsLineInRange};
-ghost use Rattle.store.specs.Leaves.{IsIdle};
-ghost use Rattle.bench_report.specs.declared.power.Power.TheVariants.{Off};
-ghost use Rattle.bench_report.specs.Agree.{AreShort, OffIs, IsResting, IsUnstruck};
-ghost use Rattle.bench_report.specs.Bench.{Bench, blank_bench};
-ghost use Rattle.bench_report.specs.Views.{facts};
-ghost use Rattle.bench_sweep.specs.Runs.{Runs, Begins, BeginsCalm, Begun, Formats};
-ghost use Rattle.bench_sweep.specs.Swept.{IsPlainLine};
+ghost use Rattle.bench_report.specs.Agree.{Agrees, IsBench, IsResting, IsUnstruck, Matches};
+ghost use Rattle.bench_report.specs.Bench.{Bench, bench_with};
+ghost use Rattle.bench_report.specs.Steps.{Step};
+ghost use Rattle.bench_sweep.specs.Made.{four_of};
+ghost use Rattle.bench_sweep.specs.Runs.{Begun, IsFormattedAt, Formats};
 
-use crate::sites::Site;
+use crate::sites::{Site, copy_payloads};
 use bench_judge::Ledger;
 use bench_report::{Answer, Power, Printed, Setting, disk_left, line_alone, struck};
 use board::Payloads;
@@ -42,12 +41,11 @@ fn tries<C: Crew>(
     requires range { IsLineInRange setting.now.shape.now line.now }
     requires calm { IsUnstruck power }
     requires resting { IsResting power }
-    requires short { AreShort payloads.old }
-    requires begins { BeginsCalm setting.now.shape.now power }
     ensures resting { IfOk result (λ did. IsResting did.0) }
-    ensures short { AreShort payloads.new }
-    ensures begins { IfOk result (λ did. Begins setting.now.shape.now did.0) }
-    ensures begun { IfOk result (λ did. did.1 ≡ true → Begun setting.now.shape.now did.0) }
+    ensures slots { length payloads.new ≡ length payloads.old }
+    ensures stepped { IfOk result (λ did. (b : Bench) → IsBench setting.now.shape.now b power payloads.old
+        → (answer : Answer) × (new : Bench) × Step setting.now.shape.now line.now b answer new
+        × Matches setting.now.shape.now new did.0 payloads.new × (did.1 ≡ true → Formats line.now answer)) }
     ensures refused { IfErr result (λ e. e ≡ Memory) }
 {
     let (power, answer) = line_alone(setting, line, power, payloads);
@@ -61,9 +59,9 @@ fn tries<C: Crew>(
 }
 
 /// Whether an armed cut has struck, with nothing armed.
-fn is_struck(shape: &Shape, power: &Power) -> bool
+fn is_struck(power: &Power) -> bool
     ensures calm { result ≡ false → IsUnstruck power.now }
-    ensures begins { result ≡ false → Begins shape.now power.now → BeginsCalm shape.now power.now }
+    ensures exact { (size : Size) (b : Bench) → Agrees size b power.now → result ≡ b.fault_state.struck }
 {
     struck(power)
 }
@@ -72,7 +70,7 @@ fn is_struck(shape: &Shape, power: &Power) -> bool
 fn blank(alloc: Global, shape: &Shape) -> Result<Power, Refusal>
     ensures calm { IfOk result (λ power. IsUnstruck power) }
     ensures resting { IfOk result (λ power. IsResting power) }
-    ensures begins { IfOk result (λ power. BeginsCalm shape.now power) }
+    ensures blank { IfOk result (λ power. (start : List (List ℕ)) → Agrees shape.now (bench_with start) power) }
     ensures refused { IfErr result (λ e. e ≡ Memory) }
 {
     blank_disks::<SimDisk>();
@@ -83,9 +81,9 @@ fn blank(alloc: Global, shape: &Shape) -> Result<Power, Refusal>
 /// Turns the board off behind the format. Refused `Memory` where the disk's record found none.
 fn begun(alloc: Global, shape: &Shape, power: Power, payloads: Payloads) -> Result<Site, Refusal>
     requires resting { IsResting power }
-    requires short { AreShort payloads }
-    requires begun { Begun shape.now power }
-    ensures runs { IfOk result (λ site. Runs shape.now (Off site.disk) site.ledger) }
+    requires four { length payloads ≡ 4 }
+    ensures runs { IfOk result (λ site. (start : List (List ℕ)) (lines : List Line) → Begun shape.now start lines power payloads
+        → IsFormattedAt shape.now start lines site.disk site.payloads site.ledger) }
     ensures refused { IfErr result (λ e. e ≡ Memory) }
 {
     let disk = disk_left(power);
@@ -111,18 +109,23 @@ fn unformatted(power: Power) -> Refusal
     }
 }
 
-/// Runs a script up to the first format that answers Ok: how many lines that were, and the board then. Refused
-/// `NotPlain` where no format does, and `Memory`.
-pub fn formats<C: Crew>(setting: &Setting<'_, C>, lines: &[Line]) -> Result<(usize, Site), Refusal>
+/// Runs a script that begins with these payloads up to the first format that answers Ok: how many lines that were,
+/// and the board then. Refused `NotPlain` where no format does, and `Memory`.
+pub fn formats<C: Crew>(
+    setting: &Setting<'_, C>,
+    lines: &[Line],
+    payloads: Payloads,
+) -> Result<(usize, Site), Refusal>
     requires { All (IsLineInRange setting.now.shape.now) lines.now }
     ensures few { IfOk result (λ did. did.0 ≤ length lines.now) }
-    ensures runs { IfOk result (λ did. Runs setting.now.shape.now (Off did.1.disk) did.1.ledger) }
+    ensures runs { IfOk result (λ did. IsFormattedAt setting.now.shape.now (four_of payloads) (take did.0 lines.now) did.1.disk
+        did.1.payloads did.1.ledger) }
     ensures refused { IfErr result (λ e. (e ≡ Memory) ⊎ (e ≡ NotPlain)) }
 {
     let alloc = setting.alloc;
     let shape = setting.shape;
     let mut power = blank(alloc, shape)?;
-    let mut payloads = Payloads::new(alloc);
+    let mut payloads = copy_payloads(alloc, &payloads)?;
     let mut count = 0;
     for line in lines {
         let (after, formatted) = tries(setting, line, power, &mut payloads)?;
@@ -131,7 +134,7 @@ pub fn formats<C: Crew>(setting: &Setting<'_, C>, lines: &[Line]) -> Result<(usi
             let site = begun(alloc, shape, after, payloads)?;
             return Ok((count, site));
         }
-        if is_struck(shape, &after) {
+        if is_struck(&after) {
             return Err(Refusal::Memory);
         }
         power = after;

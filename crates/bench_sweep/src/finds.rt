@@ -1,6 +1,6 @@
 //! What a run left: a power-on that keeps its image, and the judge's word of what that found.
 
-ghost use Rattle.std.specs.Prelude.{◌≡◌, ◌⊎◌, ◌≢◌, Option, None, Some, IfErr, IfOk, OnOk, IsTrue, ◌↔◌};
+ghost use Rattle.std.specs.Prelude.{◌≡◌, ◌⊎◌, ◌≢◌, ℕ, List, Option, None, Some, IfErr, IfOk, OnOk, IsTrue, ◌↔◌};
 ghost use Rattle.board_model.specs.Durable.{DurableState, IsWhole};
 ghost use Rattle.board_model.specs.Kept.{MayFind};
 ghost use Rattle.board_model.specs.Plains.{state_in};
@@ -14,19 +14,18 @@ ghost use Rattle.store.specs.Leaves.{IsIdle};
 ghost use Rattle.bench_report.specs.declared.power.Power.TheVariants.{On};
 ghost use Rattle.bench_report.specs.declared.printed.Printed.{Printed as Said};
 ghost use Rattle.bench_report.specs.declared.printed.Printed.TheVariants.{OnRefused};
-ghost use Rattle.bench_report.specs.Agree.{AreShort, OffIs};
+ghost use Rattle.bench_report.specs.Agree.{OffIs};
 ghost use Rattle.bench_report.specs.Bench.{Bench, Formatted};
 ghost use Rattle.bench_report.specs.Views.{facts, fault_state, store_in, store_size, store_now, store_fault_state};
-ghost use Rattle.bench_sweep.specs.Runs.{LeftOff, Finds, FindsState, IsSpoilt, PowerFinds};
+ghost use Rattle.bench_sweep.specs.Made.{LooksAt};
+ghost use Rattle.bench_sweep.specs.Runs.{LeftOff, SitsLeft, Finds, FindsState, IsSpoilt, PowerFinds};
 
 use crate::follows::is_of_memory;
 use bench_judge::{Ledger, Sweep};
-use bench_report::{Answer, Power, Printed, Setting, line_alone};
+use bench_report::{Answer, Power, Printed, power_on};
 use board::{Board, Parts, Payloads};
 use board_model::{BootMode, Durable, Plain, Refusal, Shape};
-use crew::Crew;
 use ram::Ram;
-use script_lang::Line;
 use simdisk::SimDisk;
 use std::alloc::Global;
 use store::whole_images_load;
@@ -120,44 +119,41 @@ fn sizes(shape: &Shape)
     let _lanes = shape.lanes();
 }
 
-/// Powers a board on that keeps its image, and looks what was found. Refused `Memory` alone.
-fn keeps<C: Crew>(
-    setting: &Setting<'_, C>,
-    disk: SimDisk,
-    payloads: &mut Payloads,
-) -> Result<Found, Refusal>
+/// Powers a board on that keeps its image, and looks what was found. Its slots are empty, whatever the script's are:
+/// it makes no turn, and is not refused for a payload that is longer than RAM. Refused `Memory` alone.
+fn keeps(alloc: Global, shape: &Shape, disk: SimDisk) -> Result<Found, Refusal>
     requires idle { IsIdle (facts disk) }
-    requires short { AreShort payloads.old }
-    ensures short { AreShort payloads.new }
-    ensures finds { IfOk result (λ found. (ledger : Ledger) → LeftOff setting.now.shape.now disk ledger → Finds ledger found.plain) }
+    ensures finds { IfOk result (λ found. (b : Bench) (slots : List (List ℕ)) (ledger : Ledger)
+        → LeftOff shape.now b disk slots ledger → Finds ledger found.plain) }
+    ensures says { IfOk result (λ found. (b : Bench) → OffIs shape.now b disk
+        → (after : Bench) × LooksAt shape.now b found.left after) }
     ensures refused { IfErr result (λ e. e ≡ Memory) }
 {
-    sizes(setting.shape);
-    let keep = Line::On(BootMode::Keep);
-    let (power, answer) = line_alone(setting, &keep, Power::Off(disk), payloads);
-    let left = answer?;
-    let plain = found_by(setting.alloc, power, left.found, left.line)?;
+    sizes(shape);
+    let empty = Payloads::new(alloc);
+    let (power, left, _now) = power_on(alloc, BootMode::Keep, disk, &empty);
+    let plain = found_by(alloc, power, left.found, left.line)?;
     Ok(Found { plain, left })
 }
 
 /// Counts a run that left that disk, and answers what the power-on after it said. Refused `Memory` alone.
-pub fn counts<C: Crew>(
-    setting: &Setting<'_, C>,
+pub fn counts(
+    alloc: Global,
+    shape: &Shape,
     disk: SimDisk,
-    payloads: &mut Payloads,
     ledger: &Ledger,
     sweep: &mut Sweep,
 ) -> Result<Answer, Refusal>
     requires idle { IsIdle (facts disk) }
-    requires short { AreShort payloads.old }
-    requires left { LeftOff setting.now.shape.now disk ledger.now }
-    ensures short { AreShort payloads.new }
+    requires left { (slots : List (List ℕ)) × SitsLeft shape.now disk slots ledger.now }
+    ensures says { IfOk result (λ left. (b : Bench) → OffIs shape.now b disk
+        → (after : Bench) × LooksAt shape.now b left after) }
     ensures points { sweep.new.points ≡ sweep.old.points }
     ensures runs { OnOk result (sweep.new.runs ≡ counted sweep.old.runs 1) }
     ensures right { OnOk result (sweep.new.wrong ≡ sweep.old.wrong) }
     ensures refused { IfErr result (λ e. e ≡ Memory) }
 {
-    let found = keeps(setting, disk, payloads)?;
+    let found = keeps(alloc, shape, disk)?;
     ledger.counts(found.plain.as_ref(), sweep);
     Ok(found.left)
 }

@@ -1,13 +1,13 @@
 //! Lines that move harts, turn by turn, so that the ledger sees each command that they make.
 
-ghost use Rattle.std.specs.Prelude.{◌≡◌, ◌≤◌, ◌<◌, false, true, Some, None, length, IfOk, IfErr, OnOk};
+ghost use Rattle.std.specs.Prelude.{◌≡◌, ◌≤◌, ◌<◌, ℕ, List, false, true, Some, None, length, IfOk, IfErr, OnOk};
 ghost use Rattle.board_model.specs.Shapes.{Size};
 ghost use Rattle.board_model.specs.declared.refusal.Refusal.TheVariants.{Memory};
 ghost use Rattle.script_lang.specs.Lines.{IsLineInRange};
 ghost use Rattle.script_lang.specs.declared.line.Line.TheVariants as lines;
 ghost use Rattle.bench_report.specs.Views.{machine_in};
 ghost use Rattle.bench_report.specs.Bench.{Bench};
-ghost use Rattle.bench_report.specs.Agree.{OnIs, Agrees, IsResting};
+ghost use Rattle.bench_report.specs.Agree.{OnIs, IsResting};
 ghost use Rattle.bench_sweep.specs.Runs.{Follows, Runs};
 ghost use Rattle.bench_sweep.specs.Lines.{TurnsOnce, TurnsMany, DoesLine, HartGoes, LineGoes, LineMoves};
 ghost use Rattle.bench_sweep.specs.Told.{moves_harts};
@@ -34,7 +34,7 @@ fn turned_once<C: Crew>(
     requires hart { hart < length (machine_in board.old).harts }
     ensures harts { length (machine_in board.new).harts ≡ length (machine_in board.old).harts }
     ensures goes { IfOk result (λ word. (size : Size) (b : Bench) → OnIs size b board.old → Follows size b ledger.old
-        → HartGoes size (TurnsOnce hart b word) word board.new ledger.new) }
+        → HartGoes size b (TurnsOnce hart b word) word board.new ledger.new) }
     ensures resumed { ledger.new.resumed ≡ ledger.old.resumed }
     ensures memory { IfErr result (λ e. e ≡ Memory) }
 {
@@ -55,7 +55,7 @@ fn turned<C: Crew>(
     requires hart { hart < length (machine_in board.old).harts }
     requires some { 1 ≤ count }
     ensures goes { IfOk result (λ word. (size : Size) (b : Bench) → OnIs size b board.old → Follows size b ledger.old
-        → HartGoes size (TurnsMany hart count b word) word board.new ledger.new) }
+        → HartGoes size b (TurnsMany hart count b word) word board.new ledger.new) }
     ensures resumed { ledger.new.resumed ≡ ledger.old.resumed }
     ensures memory { IfErr result (λ e. e ≡ Memory) }
 {
@@ -79,7 +79,7 @@ fn called<C: Crew>(
 ) -> Result<Option<Word>, Refusal>
     requires hart { hart < length (machine_in board.old).harts }
     ensures goes { IfOk result (λ said. (size : Size) (b : Bench) → OnIs size b board.old → Follows size b ledger.old
-        → LineGoes size (DoesLine size (lines.Call hart words) b) said board.new ledger.new) }
+        → LineGoes size b (DoesLine size (lines.Call hart words) b) said board.new ledger.new) }
     ensures resumed { ledger.new.resumed ≡ ledger.old.resumed }
     ensures memory { IfErr result (λ e. e ≡ Memory) }
 {
@@ -104,7 +104,7 @@ fn moved<C: Crew>(
     requires range { IsLineInRange shape.now line.now }
     requires of_harts { moves_harts line.now ≡ true }
     ensures goes { IfOk result (λ said. (size : Size) (b : Bench) → OnIs size b board.old → Follows size b ledger.old
-        → LineGoes size (DoesLine size line.now b) said board.new ledger.new) }
+        → LineGoes size b (DoesLine size line.now b) said board.new ledger.new) }
     ensures resumed { ledger.new.resumed ≡ ledger.old.resumed }
     ensures memory { IfErr result (λ e. e ≡ Memory) }
 {
@@ -142,9 +142,8 @@ pub fn moves<C: Crew>(
     requires of_harts { moves_harts line.now ≡ true }
     requires resting { IsResting power }
     ensures resting { IfOk result (λ power. IsResting power) }
-    ensures goes { IfOk result (λ now. (size : Size) (b : Bench) → Agrees size b power → Follows size b ledger.old
-        → LineMoves size line.now b now ledger.new) }
-    ensures runs { IfOk result (λ now. (size : Size) → Runs size power ledger.old → Runs size now ledger.new) }
+    ensures goes { IfOk result (λ now. (size : Size) (b : Bench) (slots : List (List ℕ)) → Runs size b power slots ledger.old
+        → LineMoves size line.now b now slots ledger.new) }
     ensures resumed { ledger.new.resumed ≡ ledger.old.resumed }
     ensures memory { IfErr result (λ e. e ≡ Memory) }
 {

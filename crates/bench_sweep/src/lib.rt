@@ -13,4 +13,4 @@ mod sites;
 mod sweeps;
 
 pub use bench_judge::{Sweep, judge};
-pub use sweeps::{faults, sweep};
+pub use sweeps::{faults, faults_with, sweep, sweep_with};

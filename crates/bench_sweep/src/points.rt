@@ -1,6 +1,6 @@
 //! Places at which power is cut, or a call fails, and what the cuts leave.
 
-ghost use Rattle.std.specs.Prelude.{◌≡◌};
+ghost use Rattle.std.specs.Prelude.{◌≡◌, ◌+◌};
 ghost use Rattle.bench_sweep.specs.Points.{calls_of, cut_of, failure_of, fault_at};
 
 use disk::ArmedFault;
@@ -74,6 +74,9 @@ pub struct Point {
     pub number: u64,
     /// The number of the call from the site on at which its run begins, from 1.
     pub call: u64,
+    /// How many calls the caller made up to that site.
+    pub before: u64,
+    ghost counts: { number ≡ before + call },
 }
 
 /// In the order of their points.

@@ -1,29 +1,35 @@
 //! A bench between two lines of its script, and how it goes on.
 
-ghost use Rattle.std.specs.Prelude.{◌≡◌, ◌≤◌, ◌<◌, ◌⊎◌, Some, None, false, ℕ, length, slice_set, All, IfOk, IfErr, OnOk, MatchOption};
+ghost use Rattle.std.specs.Prelude.{◌≡◌, ◌≤◌, ◌<◌, Some, None, true, false, length, take, slice_set, All, IfOk, IfErr, OnOk, MatchOption};
 ghost use Rattle.board.specs.Boots.{payload_at};
 ghost use Rattle.board_model.specs.Shapes.{Size};
 ghost use Rattle.board_model.specs.declared.refusal.Refusal.TheVariants.{Memory};
 ghost use Rattle.script_lang.specs.Lines.{IsLineInRange};
 ghost use Rattle.script_lang.specs.declared.line.Line.TheVariants as lines;
+ghost use Rattle.simdisk.specs.Views.{left_by_fill};
+ghost use Rattle.simdisk.specs.WriteLog.{synced};
 ghost use Rattle.store.specs.Leaves.{IsIdle};
 ghost use Rattle.bench_report.specs.declared.power.Power.TheVariants.{Off};
-ghost use Rattle.bench_report.specs.Agree.{AreShort, OffIs, IsResting, IsUnstruck};
+ghost use Rattle.bench_report.specs.Agree.{Agrees, IsArmed, OffIs, IsResting, IsUnstruck};
 ghost use Rattle.bench_report.specs.Bench.{Bench};
-ghost use Rattle.bench_report.specs.Happens.{unpowered};
-ghost use Rattle.bench_report.specs.Views.{facts};
-ghost use Rattle.bench_sweep.specs.Runs.{Runs, RunsCalm, LeftOff};
+ghost use Rattle.bench_report.specs.Happens.{armed_with, off, unpowered};
+ghost use Rattle.bench_report.specs.Views.{facts, sim_log_of};
+ghost use Rattle.bench_sweep.specs.Lines.{LineMoves};
+ghost use Rattle.bench_sweep.specs.Made.{armed_of, four_of};
+ghost use Rattle.bench_sweep.specs.Points.{calls_of, fault_at};
+ghost use Rattle.bench_sweep.specs.Runs.{Runs, RunsCalm, LeftOff, SitsLeft, RanTo, StopsOff};
 ghost use Rattle.bench_sweep.specs.Swept.{IsPlainLine};
 ghost use Rattle.bench_sweep.specs.Told.{moves_harts, powers_on};
+ghost use Rattle.bench_sweep.specs.declared.points.Caller.{Caller};
 
 use crate::follows::{commands, follows, follows_boot};
 use crate::harts::{is_of_harts, moves};
+use crate::points::{Bench as Kind, Point};
 use bench_judge::Ledger;
 use bench_report::{Power, Setting, arm, console, disk_left, line_alone, power_on, struck};
 use board::Payloads;
 use board_model::{BootMode, ConsoleCommand, Refusal, Shape, Slot};
 use crew::Crew;
-use disk::ArmedFault;
 use script_lang::Line;
 use simdisk::{Fill, SimDisk};
 use std::alloc::Global;
@@ -35,6 +41,9 @@ pub fn cut_by(disk: &SimDisk, fill: Fill) -> Result<SimDisk, Refusal>
     ensures idle { IfOk result (λ left. IsIdle (facts left)) }
     ensures left { IfOk result (λ left. (size : Size) (b : Bench) → OffIs size b disk.now
         → OffIs size (unpowered b) left) }
+    ensures exact { IfOk result (λ left. (facts left).content
+        ≡ left_by_fill fill (synced (sim_log_of disk.now)) (sim_log_of disk.now).written) }
+    ensures calls { IfOk result (λ left. (caller : Caller) → calls_of caller left ≡ calls_of caller disk.now) }
     ensures refused { IfErr result (λ e. e ≡ Memory) }
 {
     kept_disks::<SimDisk>();
@@ -48,14 +57,12 @@ pub struct Site {
     pub payloads: Payloads,
     pub ledger: Ledger,
     ghost idle: { IsIdle (facts disk) },
-    ghost short: { AreShort payloads },
+    ghost four: { length payloads ≡ 4 },
 }
 
 /// Copies what one slot boots.
 fn copy_slot(alloc: Global, from: &Payloads, to: &mut Payloads, number: u32) -> Result<(), Refusal>
     requires number { number < 4 }
-    requires short { AreShort from.now × AreShort to.old }
-    ensures short { AreShort to.new }
     ensures copied { OnOk result (to.new ≡ slice_set to.old number (payload_at from.now number)) }
     ensures refused { IfErr result (λ e. e ≡ Memory) }
 {
@@ -64,10 +71,9 @@ fn copy_slot(alloc: Global, from: &Payloads, to: &mut Payloads, number: u32) -> 
     Ok(())
 }
 
-fn copy_payloads(alloc: Global, from: &Payloads) -> Result<Payloads, Refusal>
-    requires { AreShort from.now }
-    ensures short { IfOk result (λ to. AreShort to) }
-    ensures copied { IfOk result (λ to. (slot : ℕ) → slot < 4 → payload_at to slot ≡ payload_at from.now slot) }
+/// What four slots boot, copied.
+pub fn copy_payloads(alloc: Global, from: &Payloads) -> Result<Payloads, Refusal>
+    ensures copied { IfOk result (λ to. to ≡ four_of from.now) }
     ensures refused { IfErr result (λ e. e ≡ Memory) }
 {
     let mut to = Payloads::new(alloc);
@@ -79,10 +85,12 @@ fn copy_payloads(alloc: Global, from: &Payloads) -> Result<Payloads, Refusal>
 }
 
 impl Site {
-    /// The same again, on the disk that a power cut leaves of its own. Of a site all is durable.
+    /// A site to run from: its disk is the one that a power cut leaves of this one's, of which all is durable.
     pub fn copy(&self, alloc: Global) -> Result<Site, Refusal>
-        ensures runs { IfOk result (λ copy. (size : Size) → Runs size (Off self.now.disk) self.now.ledger
-            → LeftOff size copy.disk copy.ledger) }
+        ensures runs { IfOk result (λ copy. (size : Size) (b : Bench)
+            → Runs size b (Off self.now.disk) self.now.payloads self.now.ledger
+            → LeftOff size (unpowered b) copy.disk copy.payloads copy.ledger) }
+        ensures calls { IfOk result (λ copy. (caller : Caller) → calls_of caller copy.disk ≡ calls_of caller self.now.disk) }
         ensures refused { IfErr result (λ e. e ≡ Memory) }
     {
         let disk = cut_by(&self.disk, Fill::Old)?;
@@ -102,7 +110,7 @@ pub struct Going {
     pub power: Power,
     pub payloads: Payloads,
     pub ledger: Ledger,
-    ghost short: { AreShort payloads },
+    ghost four: { length payloads ≡ 4 },
 }
 
 impl Going {
@@ -110,8 +118,8 @@ impl Going {
     pub fn from(site: Site) -> Going
         ensures calm { IsUnstruck result.power }
         ensures resting { IsResting result.power }
-        ensures runs { (size : Size) → LeftOff size site.disk site.ledger
-            → RunsCalm size result.power result.ledger }
+        ensures runs { (size : Size) (b : Bench) → LeftOff size b site.disk site.payloads site.ledger
+            → RunsCalm size b result.power result.payloads result.ledger }
     {
         Going {
             power: Power::Off(site.disk),
@@ -120,18 +128,20 @@ impl Going {
         }
     }
 
-    /// Goes on from there with that cut or failure armed.
-    pub fn armed(site: Site, fault: ArmedFault) -> Going
-        ensures calm { (size : Size) → LeftOff size site.disk site.ledger → IsUnstruck result.power }
+    /// Goes on from there with what a bench of that kind does at the point.
+    pub fn armed(site: Site, bench: Kind, point: Point) -> Going
+        ensures calm { (size : Size) → SitsLeft size site.disk site.payloads site.ledger → IsUnstruck result.power }
         ensures resting { IsResting result.power }
-        ensures runs { (size : Size) → LeftOff size site.disk site.ledger
-            → RunsCalm size result.power result.ledger }
+        ensures runs { (size : Size) (b : Bench) → LeftOff size b site.disk site.payloads site.ledger
+            → RunsCalm size (armed_with (armed_of bench) b) result.power result.payloads result.ledger }
+        ensures arms { IsArmed (fault_at bench point.caller point.call) result.power }
     {
         let Site {
             disk,
             payloads,
             ledger,
         } = site;
+        let fault = bench.fault_at(point.caller, point.call);
         let (power, _answer) = arm(Power::Off(disk), fault);
         Going {
             power,
@@ -143,8 +153,8 @@ impl Going {
     /// Turns the board off.
     pub fn ends(self) -> Site
         requires { IsResting self.power }
-        ensures { (size : Size) → Runs size self.power self.ledger
-            → Runs size (Off result.disk) result.ledger }
+        ensures { (size : Size) (b : Bench) → Runs size b self.power self.payloads self.ledger
+            → Runs size (off b) (Off result.disk) result.payloads result.ledger }
     {
         Site {
             disk: disk_left(self.power),
@@ -153,7 +163,9 @@ impl Going {
         }
     }
 
-    pub fn is_off(&self) -> bool {
+    pub fn is_off(&self) -> bool
+        ensures { result ≡ true → StopsOff self.now.power }
+    {
         match &self.power {
             Power::Off(_) => true,
             Power::On(_) => false,
@@ -163,8 +175,7 @@ impl Going {
     /// Whether an armed cut has struck.
     pub fn is_struck(&self) -> bool
         ensures calm { result ≡ false → IsUnstruck self.now.power }
-        ensures runs { (size : Size) → result ≡ false → Runs size self.now.power self.now.ledger
-            → RunsCalm size self.now.power self.now.ledger }
+        ensures exact { (size : Size) (b : Bench) → Agrees size b self.now.power → result ≡ b.fault_state.struck }
     {
         struck(&self.power)
     }
@@ -180,9 +191,9 @@ fn powers(
     ledger: &mut Ledger,
 ) -> Result<Power, Refusal>
     requires resting { IsResting power }
-    requires short { AreShort payloads.now }
     ensures resting { IfOk result (λ power. IsResting power) }
-    ensures runs { RunsCalm shape.now power ledger.old → IfOk result (λ now. Runs shape.now now ledger.new) }
+    ensures runs { IfOk result (λ now. (b : Bench) → RunsCalm shape.now b power payloads.now ledger.old
+        → LineMoves shape.now (lines.On mode) b now payloads.now ledger.new) }
     ensures refused { IfErr result (λ e. e ≡ Memory) }
 {
     match power {
@@ -209,11 +220,10 @@ fn answers<C: Crew>(
     requires no_boot { powers_on line.now ≡ false }
     requires calm { IsUnstruck power }
     requires resting { IsResting power }
-    requires short { AreShort payloads.old }
     ensures resting { IfOk result (λ power. IsResting power) }
-    ensures short { AreShort payloads.new }
-    ensures runs { RunsCalm setting.now.shape.now power ledger.old
-        → IfOk result (λ now. Runs setting.now.shape.now now ledger.new) }
+    ensures slots { length payloads.new ≡ length payloads.old }
+    ensures runs { IfOk result (λ now. (b : Bench) → RunsCalm setting.now.shape.now b power payloads.old ledger.old
+        → LineMoves setting.now.shape.now line.now b now payloads.new ledger.new) }
     ensures refused { IfErr result (λ e. e ≡ Memory) }
 {
     let (power, answer) = line_alone(setting, line, power, payloads);
@@ -248,11 +258,10 @@ fn does<C: Crew>(
     requires plain { IsPlainLine line.now }
     requires calm { IsUnstruck power }
     requires resting { IsResting power }
-    requires short { AreShort payloads.old }
     ensures resting { IfOk result (λ power. IsResting power) }
-    ensures short { AreShort payloads.new }
-    ensures runs { RunsCalm setting.now.shape.now power ledger.old
-        → IfOk result (λ now. Runs setting.now.shape.now now ledger.new) }
+    ensures slots { length payloads.new ≡ length payloads.old }
+    ensures runs { IfOk result (λ now. (b : Bench) → RunsCalm setting.now.shape.now b power payloads.old ledger.old
+        → LineMoves setting.now.shape.now line.now b now payloads.new ledger.new) }
     ensures refused { IfErr result (λ e. e ≡ Memory) }
 {
     let Setting { alloc, crew, shape } = *setting;
@@ -276,9 +285,10 @@ fn goes<C: Crew>(setting: &Setting<'_, C>, line: &Line, going: Going) -> Result<
     requires plain { IsPlainLine line.now }
     requires calm { IsUnstruck going.power }
     requires resting { IsResting going.power }
-    requires runs { RunsCalm setting.now.shape.now going.power going.ledger }
-    ensures resting { IfOk result (λ going. IsResting going.power) }
-    ensures runs { IfOk result (λ going. Runs setting.now.shape.now going.power going.ledger) }
+    ensures resting { IfOk result (λ now. IsResting now.power) }
+    ensures runs { IfOk result (λ now. (b : Bench)
+        → RunsCalm setting.now.shape.now b going.power going.payloads going.ledger
+        → LineMoves setting.now.shape.now line.now b now.power now.payloads now.ledger) }
     ensures refused { IfErr result (λ e. e ≡ Memory) }
 {
     let Going {
@@ -298,8 +308,9 @@ fn goes<C: Crew>(setting: &Setting<'_, C>, line: &Line, going: Going) -> Result<
 /// pay for moving it more than for the commands.
 fn issues(alloc: Global, command: ConsoleCommand, going: &mut Going) -> Result<(), Refusal>
     ensures resting { IsResting going.old.power → IsResting going.new.power }
-    ensures runs { (size : Size) → RunsCalm size going.old.power going.old.ledger
-        → OnOk result (Runs size going.new.power going.new.ledger) }
+    ensures runs { OnOk result ((size : Size) (b : Bench)
+        → RunsCalm size b going.old.power going.old.payloads going.old.ledger
+        → LineMoves size (lines.Command command) b going.new.power going.new.payloads going.new.ledger) }
     ensures refused { IfErr result (λ e. e ≡ Memory) }
 {
     let answer = console(command, &mut going.power);
@@ -326,9 +337,11 @@ pub fn goes_on<C: Crew>(
     requires plain { All IsPlainLine lines.now }
     requires calm { IsUnstruck going.power }
     requires resting { IsResting going.power }
-    requires runs { RunsCalm setting.now.shape.now going.power going.ledger }
     ensures resting { IfOk result (λ went. IsResting went.going.power) }
-    ensures runs { IfOk result (λ went. Runs setting.now.shape.now went.going.power went.going.ledger) }
+    ensures ran { IfOk result (λ went. (b : Bench)
+        → RunsCalm setting.now.shape.now b going.power going.payloads going.ledger
+        → RanTo setting.now.shape.now b (take went.count lines.now) went.going.power went.going.payloads went.going.ledger) }
+    ensures stops { IfOk result (λ went. until_off ≡ true → went.count < length lines.now → StopsOff went.going.power) }
     ensures few { IfOk result (λ went. went.count ≤ length lines.now) }
     ensures some { IfOk result (λ went. 0 < length lines.now → 0 < went.count) }
     ensures refused { IfErr result (λ e. e ≡ Memory) }

@@ -1,27 +1,34 @@
 //! Whole benches.
 
-ghost use Rattle.std.specs.Prelude.{◌≡◌, ◌⊎◌, ◌↔◌, ◌≤◌, ◌<◌, ◌∷◌, [], ℕ, List, None, length, All, Ok, Err, IsTrue, IfOk, IfErr, OnOk};
+ghost use Rattle.std.specs.Prelude.{◌≡◌, ◌⊎◌, ◌↔◌, ◌≤◌, ◌<◌, ◌+◌, ◌^◌, ◌∷◌, [], ℕ, List, None, false, length, take, All, Ok, Err, IsTrue, IfOk, IfErr, OnOk};
+ghost use Rattle.std.specs.List.{AllZip};
+ghost use Rattle.board_model.specs.Shapes.{Size};
 ghost use Rattle.board_model.specs.declared.refusal.Refusal.{Refusal};
 ghost use Rattle.board_model.specs.declared.refusal.Refusal.TheVariants.{Memory, Output, NotPlain};
-ghost use Rattle.disk.specs.Facts.{counted};
 ghost use Rattle.script_lang.specs.Lines.{IsLineInRange};
 ghost use Rattle.script_lang.specs.Scripts.{script_of, Script as Said};
 ghost use Rattle.bench_report.specs.declared.power.Power.TheVariants.{Off};
 ghost use Rattle.bench_report.specs.Agree.{IsResting};
-ghost use Rattle.bench_sweep.specs.Runs.{Runs, LeftOff};
-ghost use Rattle.bench_sweep.specs.Swept.{IsPlainLine, AreSwept, cell, runs_of, runs_from, all_runs, callers, total, WroteAll};
-ghost use Rattle.bench_sweep.specs.Reports.{Reports};
+ghost use Rattle.bench_report.specs.Bench.{Bench as ModelBench, no_payloads};
+ghost use Rattle.bench_report.specs.Happens.{off, unpowered};
+ghost use Rattle.bench_sweep.specs.Made.{IsPlainRun, four_of};
+ghost use Rattle.bench_sweep.specs.Points.{calls_of, MadeCalls};
+ghost use Rattle.bench_sweep.specs.Runs.{Runs, LeftOff, Sits, SitsLeft, IsLife};
+ghost use Rattle.bench_sweep.specs.Swept.{IsPlainLine, AreSwept, cell, runs_of, runs_from, all_runs, callers, total, WroteAll, IsBenchOf};
+ghost use Rattle.bench_sweep.specs.Reports.{Reports, IsLeft, RunsRow, IsRow};
 
 use crate::begins::formats;
 use crate::finds::counts;
 use crate::points::{Bench, CALLERS, Caller, FILLS, Point};
 use crate::rows::{Row, write_row, write_sweep};
 use crate::runner::Runner;
-use crate::sites::{Going, Site, Went, cut_by, goes_on};
+use crate::sites::{Going, Site, cut_by, goes_on};
 use bench_judge::Sweep;
 use bench_report::Setting;
+use board::Payloads;
 use board_model::{Refusal, Shape};
 use crew::{Crew, Sequential};
+use disk::Disk;
 use script_lang::{Line, Script, parse_script};
 use simdisk::Fill;
 use std::alloc::Global;
@@ -39,22 +46,23 @@ struct Report<'a, W> {
 /// synced is left by the run's fill; where a run has none, behind a failure, with zeros.
 fn judge_run<C: Crew, W: Write>(
     setting: &Setting<'_, C>,
-    site: &mut Site,
+    site: &Site,
     point: Point,
     fill: Option<Fill>,
     report: &mut Report<'_, W>,
 ) -> Result<(), Refusal>
-    requires runs { Runs setting.now.shape.now (Off site.old.disk) site.old.ledger }
-    ensures runs { Runs setting.now.shape.now (Off site.new.disk) site.new.ledger }
-    ensures wrote { OnOk result (Reports W.contents report.old report.new
+    requires sits { Sits setting.now.shape.now site.now.disk site.now.payloads site.now.ledger }
+    ensures wrote { OnOk result ((b : ModelBench)
+        → Runs setting.now.shape.now b (Off site.now.disk) site.now.payloads site.now.ledger
+        → Reports W.contents (IsLeft setting.now.shape.now b) report.old report.new
         (cell point.caller point.number fill ∷ []) 0) }
     ensures refused { IfErr result (λ e. (e ≡ Memory) ⊎ (e ≡ Output)) }
 {
     let disk = cut_by(&site.disk, fill.unwrap_or(Fill::Byte(0)))?;
     let left = counts(
-        setting,
+        setting.alloc,
+        setting.shape,
         disk,
-        &mut site.payloads,
         &site.ledger,
         &mut report.sweep,
     )?;
@@ -70,18 +78,19 @@ fn judge_run<C: Crew, W: Write>(
 /// Judges what a run that a cut ended leaves by each fill.
 fn judge_each_fill<C: Crew, W: Write>(
     setting: &Setting<'_, C>,
-    site: Site,
+    site: &Site,
     point: Point,
     report: &mut Report<'_, W>,
 ) -> Result<(), Refusal>
-    requires runs { Runs setting.now.shape.now (Off site.disk) site.ledger }
-    ensures wrote { OnOk result (Reports W.contents report.old report.new
+    requires sits { Sits setting.now.shape.now site.now.disk site.now.payloads site.now.ledger }
+    ensures wrote { OnOk result ((b : ModelBench)
+        → Runs setting.now.shape.now b (Off site.now.disk) site.now.payloads site.now.ledger
+        → Reports W.contents (IsLeft setting.now.shape.now b) report.old report.new
         (runs_of Bench.Cuts point.caller point.number) 0) }
     ensures refused { IfErr result (λ e. (e ≡ Memory) ⊎ (e ≡ Output)) }
 {
-    let mut site = site;
     for fill in FILLS {
-        judge_run(setting, &mut site, point, Some(fill), report)?;
+        judge_run(setting, site, point, Some(fill), report)?;
     }
     Ok(())
 }
@@ -95,18 +104,22 @@ fn run_to_cut<C: Crew, W: Write>(
     report: &mut Report<'_, W>,
 ) -> Result<(), Refusal>
     requires lines { AreSwept runner.now.setting.shape.now runner.now.lines.now }
-    requires left { LeftOff runner.now.setting.shape.now site.disk site.ledger }
-    ensures wrote { OnOk result (Reports W.contents report.old report.new
-        (runs_of Bench.Cuts point.caller point.number) 0) }
+    requires sits { SitsLeft runner.now.setting.shape.now site.disk site.payloads site.ledger }
+    ensures wrote { OnOk result ((b : ModelBench)
+        → LeftOff runner.now.setting.shape.now b site.disk site.payloads site.ledger
+        → Reports W.contents (RunsRow runner.now.setting.shape.now Bench.Cuts b runner.now.lines.now)
+        report.old report.new (runs_of Bench.Cuts point.caller point.number) 0) }
     ensures refused { IfErr result (λ e. (e ≡ Memory) ⊎ (e ≡ Output)) }
 {
-    let armed = Going::armed(site, Bench::Cuts.fault_at(point.caller, point.call));
-    let going = goes_on(&runner.setting, runner.lines, false, armed)?.going;
-    // The plain run made the call. Only one that was refused memory can have missed it.
-    if !going.is_struck() {
-        return Err(Refusal::Memory);
+    let armed = Going::armed(site, Bench::Cuts, point);
+    let went = goes_on(&runner.setting, runner.lines, false, armed)?;
+    if went.going.is_struck() {
+        let left = off_whole(went.going)?;
+        judge_each_fill(&runner.setting, &left, point, report)
+    } else {
+        // The plain run made the call. Only one that was refused memory can have missed it.
+        Err(Refusal::Memory)
     }
-    judge_each_fill(&runner.setting, going.ends(), point, report)
 }
 
 /// Runs the lines to their end with a failure armed at that call, cuts power, and judges what is left.
@@ -117,28 +130,57 @@ fn run_past_failure<C: Crew, W: Write>(
     report: &mut Report<'_, W>,
 ) -> Result<(), Refusal>
     requires lines { AreSwept runner.now.setting.shape.now runner.now.lines.now }
-    requires left { LeftOff runner.now.setting.shape.now site.disk site.ledger }
-    ensures wrote { OnOk result (Reports W.contents report.old report.new
-        (runs_of Bench.Fails point.caller point.number) 0) }
+    requires sits { SitsLeft runner.now.setting.shape.now site.disk site.payloads site.ledger }
+    ensures wrote { OnOk result ((b : ModelBench)
+        → LeftOff runner.now.setting.shape.now b site.disk site.payloads site.ledger
+        → Reports W.contents (RunsRow runner.now.setting.shape.now Bench.Fails b runner.now.lines.now)
+        report.old report.new (runs_of Bench.Fails point.caller point.number) 0) }
     ensures refused { IfErr result (λ e. (e ≡ Memory) ⊎ (e ≡ Output)) }
 {
-    let armed = Going::armed(site, Bench::Fails.fault_at(point.caller, point.call));
-    let going = goes_on(&runner.setting, runner.lines, false, armed)?.going;
-    let mut left = turn_off(runner.setting.shape, going)?;
-    judge_run(&runner.setting, &mut left, point, None, report)
+    let failed = site.disk.failures();
+    let armed = Going::armed(site, Bench::Fails, point);
+    let went = goes_on(&runner.setting, runner.lines, false, armed)?;
+    let count = went.count;
+    let all = runner.lines.len();
+    // No cut is armed that could end the run before its last line.
+    if count < all {
+        return Err(Refusal::Memory);
+    }
+    let left = turn_off(went.going)?;
+    // As with a cut, only a run that was refused memory can have missed the call.
+    if left.disk.failures() == failed {
+        return Err(Refusal::Memory);
+    }
+    judge_run(&runner.setting, &left, point, None, report)
 }
 
-/// Turns the board off after lines of the plain run. Refused `Memory` where the disk's record found none in them.
-fn turn_off(shape: &Shape, going: Going) -> Result<Site, Refusal>
+/// Turns the board off. Refused `Memory` where the disk's record found none.
+fn off_whole(going: Going) -> Result<Site, Refusal>
     requires resting { IsResting going.power }
-    requires runs { Runs shape.now going.power going.ledger }
-    ensures runs { IfOk result (λ site. Runs shape.now (Off site.disk) site.ledger) }
+    ensures runs { IfOk result (λ site. (size : Size) (b : ModelBench)
+        → Runs size b going.power going.payloads going.ledger
+        → Runs size (off b) (Off site.disk) site.payloads site.ledger) }
     ensures refused { IfErr result (λ e. e ≡ Memory) }
 {
     let site = going.ends();
     if site.disk.refused() != 0 {
         return Err(Refusal::Memory);
     }
+    Ok(site)
+}
+
+/// Turns the board off after lines in which no cut is armed. Refused `Memory` where the disk's record found none.
+fn turn_off(going: Going) -> Result<Site, Refusal>
+    requires resting { IsResting going.power }
+    ensures runs { IfOk result (λ site. (size : Size) (b : ModelBench)
+        → Runs size b going.power going.payloads going.ledger
+        → (b.fault_state.struck ≡ false) × Runs size (off b) (Off site.disk) site.payloads site.ledger) }
+    ensures refused { IfErr result (λ e. e ≡ Memory) }
+{
+    if going.is_struck() {
+        return Err(Refusal::Memory);
+    }
+    let site = off_whole(going)?;
     Ok(site)
 }
 
@@ -152,9 +194,11 @@ fn run_at_point<C: Crew, W: Write>(
 ) -> Result<(), Refusal>
     requires few { count ≤ length runner.now.lines.now }
     requires lines { AreSwept runner.now.setting.shape.now runner.now.lines.now }
-    requires left { LeftOff runner.now.setting.shape.now site.disk site.ledger }
-    ensures wrote { OnOk result (Reports W.contents report.old report.new
-        (runs_of runner.now.bench point.caller point.number) 0) }
+    requires sits { SitsLeft runner.now.setting.shape.now site.disk site.payloads site.ledger }
+    ensures wrote { OnOk result ((b : ModelBench)
+        → LeftOff runner.now.setting.shape.now b site.disk site.payloads site.ledger
+        → Reports W.contents (RunsRow runner.now.setting.shape.now runner.now.bench b runner.now.lines.now)
+        report.old report.new (runs_of runner.now.bench point.caller point.number) 0) }
     ensures refused { IfErr result (λ e. (e ≡ Memory) ⊎ (e ≡ Output)) }
 {
     match runner.bench {
@@ -174,8 +218,8 @@ fn run_at_point<C: Crew, W: Write>(
 #[derive(Clone, Copy, Drop)]
 struct Calls {
     caller: Caller,
-    /// The number of the first from the first `format ok` on, from 1.
-    first: u64,
+    /// How many it has made before, from the first `format ok` on.
+    made: u64,
     /// How many they are.
     count: u64,
 }
@@ -189,17 +233,21 @@ fn run_at_calls<C: Crew, W: Write>(
     report: &mut Report<'_, W>,
 ) -> Result<(), Refusal>
     requires few { count ≤ length runner.now.lines.now }
+    requires numbers { calls.made + calls.count < 2 ^ 64 }
     requires lines { AreSwept runner.now.setting.shape.now runner.now.lines.now }
-    requires runs { Runs runner.now.setting.shape.now (Off site.now.disk) site.now.ledger }
-    ensures wrote { OnOk result (Reports W.contents report.old report.new
-        (runs_from runner.now.bench calls.caller calls.first calls.count) 0) }
+    requires sits { Sits runner.now.setting.shape.now site.now.disk site.now.payloads site.now.ledger }
+    ensures wrote { OnOk result ((b : ModelBench)
+        → Runs runner.now.setting.shape.now b (Off site.now.disk) site.now.payloads site.now.ledger
+        → Reports W.contents (RunsRow runner.now.setting.shape.now runner.now.bench (unpowered b) runner.now.lines.now)
+        report.old report.new (runs_from runner.now.bench calls.caller (calls.made + 1) calls.count) 0) }
     ensures refused { IfErr result (λ e. (e ≡ Memory) ⊎ (e ≡ Output)) }
 {
     for done in 0..calls.count {
         let point = Point {
             caller: calls.caller,
-            number: calls.first.saturating_add(done),
+            number: calls.made + done + 1,
             call: done + 1,
+            before: calls.made,
         };
         let from = site.copy(runner.setting.alloc)?;
         run_at_point(runner, count, from, point, report)?;
@@ -212,60 +260,97 @@ fn run_at_calls<C: Crew, W: Write>(
 struct Stretch {
     /// How many lines they are.
     count: usize,
-    /// How many calls they made.
-    calls: u64,
     /// The board then.
     next: Site,
 }
 
+/// The lines of the plain run from that site up to the next moment at which the board is off. Refused `Memory` alone.
+fn stretch_of<C: Crew>(runner: &Runner<'_, C>, site: &Site) -> Result<Stretch, Refusal>
+    requires lines { AreSwept runner.now.setting.shape.now runner.now.lines.now }
+    requires sits { Sits runner.now.setting.shape.now site.now.disk site.now.payloads site.now.ledger }
+    ensures few { IfOk result (λ did. did.count ≤ length runner.now.lines.now) }
+    ensures some { IfOk result (λ did. 0 < length runner.now.lines.now → 0 < did.count) }
+    ensures sits { IfOk result (λ did. Sits runner.now.setting.shape.now did.next.disk did.next.payloads did.next.ledger) }
+    ensures lives { IfOk result (λ did. (b : ModelBench)
+        → Runs runner.now.setting.shape.now b (Off site.now.disk) site.now.payloads site.now.ledger
+        → IsLife runner.now.setting.shape.now b runner.now.lines.now did.count did.next.disk did.next.payloads
+        did.next.ledger) }
+    ensures refused { IfErr result (λ e. e ≡ Memory) }
+{
+    let plain = Going::from(site.copy(runner.setting.alloc)?);
+    let went = goes_on(&runner.setting, runner.lines, true, plain)?;
+    let count = went.count;
+    let next = turn_off(went.going)?;
+    Ok(Stretch { count, next })
+}
+
+/// How many calls of that caller were made from the one site to the other. A disk never counts back.
+fn calls_between(caller: Caller, from: &Site, to: &Site) -> Result<u64, Refusal>
+    ensures calls { IfOk result (λ n. calls_of caller to.now.disk ≡ calls_of caller from.now.disk + n) }
+    ensures below { IfOk result (λ n. calls_of caller to.now.disk < 2 ^ 64) }
+    ensures refused { IfErr result (λ e. e ≡ Memory) }
+{
+    let before = caller.calls(&from.disk);
+    let after = caller.calls(&to.disk);
+    if after < before {
+        return Err(Refusal::Memory);
+    }
+    Ok(after - before)
+}
+
 /// Goes over the points of that caller in the lines up to the next moment at which the board is off. So many points
-/// were before them.
+/// were before them. Answers these lines, and how many calls they made.
 fn sweep_stretch<C: Crew, W: Write>(
     runner: &Runner<'_, C>,
     site: &Site,
     caller: Caller,
     made: u64,
     report: &mut Report<'_, W>,
-) -> Result<Stretch, Refusal>
+) -> Result<(Stretch, u64), Refusal>
     requires lines { AreSwept runner.now.setting.shape.now runner.now.lines.now }
-    requires runs { Runs runner.now.setting.shape.now (Off site.now.disk) site.now.ledger }
-    ensures few { IfOk result (λ did. did.count ≤ length runner.now.lines.now) }
-    ensures some { IfOk result (λ did. 0 < length runner.now.lines.now → 0 < did.count) }
-    ensures runs { IfOk result (λ did. Runs runner.now.setting.shape.now (Off did.next.disk) did.next.ledger) }
-    ensures wrote { IfOk result (λ did. Reports W.contents report.old report.new
-        (runs_from runner.now.bench caller (counted made 1) did.calls) 0) }
+    requires sits { Sits runner.now.setting.shape.now site.now.disk site.now.payloads site.now.ledger }
+    requires made { made ≤ calls_of caller site.now.disk }
+    ensures few { IfOk result (λ did. did.0.count ≤ length runner.now.lines.now) }
+    ensures some { IfOk result (λ did. 0 < length runner.now.lines.now → 0 < did.0.count) }
+    ensures calls { IfOk result (λ did. calls_of caller did.0.next.disk ≡ calls_of caller site.now.disk + did.1) }
+    ensures below { IfOk result (λ did. calls_of caller did.0.next.disk < 2 ^ 64) }
+    ensures sits { IfOk result (λ did. Sits runner.now.setting.shape.now did.0.next.disk did.0.next.payloads
+        did.0.next.ledger) }
+    ensures lives { IfOk result (λ did. (b : ModelBench)
+        → Runs runner.now.setting.shape.now b (Off site.now.disk) site.now.payloads site.now.ledger
+        → IsLife runner.now.setting.shape.now b runner.now.lines.now did.0.count did.0.next.disk did.0.next.payloads
+        did.0.next.ledger) }
+    ensures wrote { IfOk result (λ did. (b : ModelBench)
+        → Runs runner.now.setting.shape.now b (Off site.now.disk) site.now.payloads site.now.ledger
+        → Reports W.contents (RunsRow runner.now.setting.shape.now runner.now.bench (unpowered b) runner.now.lines.now)
+        report.old report.new (runs_from runner.now.bench caller (made + 1) did.1) 0) }
     ensures refused { IfErr result (λ e. (e ≡ Memory) ⊎ (e ≡ Output)) }
 {
-    let plain = Going::from(site.copy(runner.setting.alloc)?);
-    let Went { count, going } = goes_on(&runner.setting, runner.lines, true, plain)?;
-    let next = turn_off(runner.setting.shape, going)?;
+    let did = stretch_of(runner, site)?;
+    let count = calls_between(caller, site, &did.next)?;
     let calls = Calls {
         caller,
-        first: made.saturating_add(1),
-        count: caller
-            .calls(&next.disk)
-            .saturating_sub(caller.calls(&site.disk)),
-    };
-    run_at_calls(runner, count, site, calls, report)?;
-    Ok(Stretch {
+        made,
         count,
-        calls: calls.count,
-        next,
-    })
+    };
+    run_at_calls(runner, did.count, site, calls, report)?;
+    Ok((did, count))
 }
 
-/// Goes over the points of that caller. Each run begins at the last moment before its call at which the board
-/// was off.
+/// Goes over the points of that caller, and answers how many they were. Each run begins at the last moment before its
+/// call at which the board was off.
 fn sweep_caller<C: Crew, W: Write>(
     runner: &Runner<'_, C>,
     begin: Site,
     caller: Caller,
     report: &mut Report<'_, W>,
-) -> Result<(), Refusal>
+) -> Result<u64, Refusal>
     requires lines { AreSwept runner.now.setting.shape.now runner.now.lines.now }
-    requires runs { Runs runner.now.setting.shape.now (Off begin.disk) begin.ledger }
-    ensures wrote { OnOk result ((n : ℕ) × Reports W.contents report.old report.new
-        (runs_from runner.now.bench caller 1 n) n) }
+    requires sits { Sits runner.now.setting.shape.now begin.disk begin.payloads begin.ledger }
+    ensures wrote { IfOk result (λ n. (b : ModelBench)
+        → Runs runner.now.setting.shape.now b (Off begin.disk) begin.payloads begin.ledger
+        → Reports W.contents (IsRow runner.now.setting.shape.now runner.now.bench b runner.now.lines.now)
+        report.old report.new (runs_from runner.now.bench caller 1 n) n) }
     ensures refused { IfErr result (λ e. (e ≡ Memory) ⊎ (e ≡ Output)) }
 {
     let mut site = begin;
@@ -277,30 +362,69 @@ fn sweep_caller<C: Crew, W: Write>(
             bench: runner.bench,
             lines: &runner.lines[from..],
         };
-        let Stretch { count, calls, next } = sweep_stretch(&rest, &site, caller, made, report)?;
+        let (did, calls) = sweep_stretch(&rest, &site, caller, made, report)?;
+        let Stretch { count, next } = did;
         from += count;
-        made = made.saturating_add(calls);
+        made += calls;
         site = next;
     }
     report.sweep.points = report.sweep.points.saturating_add(made);
-    Ok(())
+    Ok(made)
 }
 
-/// Goes over the points of each caller in turn, over the lines from that site on.
+/// Runs the lines as they are, and answers the board then, turned off. Refused `Memory` where the disk's record found
+/// none.
+fn run_plain<C: Crew>(runner: &Runner<'_, C>, begin: Site) -> Result<Site, Refusal>
+    requires lines { AreSwept runner.now.setting.shape.now runner.now.lines.now }
+    requires sits { Sits runner.now.setting.shape.now begin.disk begin.payloads begin.ledger }
+    ensures plain { IfOk result (λ end. (b : ModelBench)
+        → Runs runner.now.setting.shape.now b (Off begin.disk) begin.payloads begin.ledger
+        → IsPlainRun runner.now.setting.shape.now b runner.now.lines.now) }
+    ensures refused { IfErr result (λ e. e ≡ Memory) }
+{
+    let mut site = begin;
+    let mut from = 0;
+    while from < runner.lines.len() {
+        let rest = Runner {
+            setting: runner.setting,
+            bench: runner.bench,
+            lines: &runner.lines[from..],
+        };
+        let Stretch { count, next } = stretch_of(&rest, &site)?;
+        from += count;
+        site = next;
+    }
+    if site.disk.refused() != 0 {
+        return Err(Refusal::Memory);
+    }
+    Ok(site)
+}
+
+/// Goes over the points of each caller in turn, over the lines from that site on. Of each there are as many as it made
+/// calls up to that end of the plain run. Refused `Memory` where another run of the lines made others: then the one or
+/// the other was refused some.
 fn sweep_all_callers<C: Crew, W: Write>(
     runner: &Runner<'_, C>,
     site: &Site,
+    end: &Site,
     report: &mut Report<'_, W>,
 ) -> Result<(), Refusal>
     requires lines { AreSwept runner.now.setting.shape.now runner.now.lines.now }
-    requires runs { Runs runner.now.setting.shape.now (Off site.now.disk) site.now.ledger }
-    ensures wrote { OnOk result ((counts : List ℕ) × (length counts ≡ 5) × Reports W.contents report.old report.new
-        (all_runs runner.now.bench callers counts) (total counts)) }
+    requires sits { Sits runner.now.setting.shape.now site.now.disk site.now.payloads site.now.ledger }
+    ensures wrote { OnOk result ((b : ModelBench)
+        → Runs runner.now.setting.shape.now b (Off site.now.disk) site.now.payloads site.now.ledger
+        → (counts : List ℕ) × AllZip (MadeCalls site.now.disk end.now.disk) callers counts
+        × Reports W.contents (IsRow runner.now.setting.shape.now runner.now.bench (unpowered b) runner.now.lines.now)
+        report.old report.new (all_runs runner.now.bench callers counts) (total counts)) }
     ensures refused { IfErr result (λ e. (e ≡ Memory) ⊎ (e ≡ Output)) }
 {
     for caller in CALLERS {
+        let calls = calls_between(caller, site, end)?;
         let begin = site.copy(runner.setting.alloc)?;
-        sweep_caller(runner, begin, caller, report)?;
+        let made = sweep_caller(runner, begin, caller, report)?;
+        if made != calls {
+            return Err(Refusal::Memory);
+        }
     }
     Ok(())
 }
@@ -322,22 +446,24 @@ fn are_plain(lines: &[Line]) -> bool
     lines.iter().all(|line| is_plain(line))
 }
 
-/// Runs that bench over those lines, on boards of that shape. Refused `NotPlain` before anything is written.
+/// Runs that bench over those lines, on boards of that shape, of a script that begins with these payloads. Refused `NotPlain` before anything is written.
 fn sweep_lines<'a, C: Crew, W: Write>(
     alloc: Global,
     crew: &'a C,
     bench: Bench,
     shape: &'a Shape,
     lines: &'a [Line],
+    payloads: Payloads,
     out: &mut W,
 ) -> Result<Sweep, Refusal>
     requires lines { AreSwept shape.now lines.now }
-    ensures wrote { IfOk result (λ sweep. WroteAll bench (W.contents out.old) (W.contents out.new) sweep) }
+    ensures wrote { IfOk result (λ sweep. WroteAll bench shape.now (four_of payloads) lines.now (W.contents out.old)
+        (W.contents out.new) sweep) }
     ensures refused { IfErr result (λ e. (e ≡ Memory) ⊎ (e ≡ Output)
         ⊎ ((e ≡ NotPlain) × (W.contents out.new ≡ W.contents out.old))) }
 {
     let setting = Setting { alloc, crew, shape };
-    let (count, site) = formats(&setting, lines)?;
+    let (count, site) = formats(&setting, lines, payloads)?;
     let runner = Runner {
         setting,
         bench,
@@ -348,8 +474,9 @@ fn sweep_lines<'a, C: Crew, W: Write>(
         runs: 0,
         wrong: 0,
     };
+    let end = run_plain(&runner, site.copy(alloc)?)?;
     let mut report = Report { out, sweep };
-    sweep_all_callers(&runner, &site, &mut report)?;
+    sweep_all_callers(&runner, &site, &end, &mut report)?;
     let Report { out, sweep } = report;
     write_sweep(out, sweep)?;
     Ok(sweep)
@@ -360,28 +487,40 @@ fn sweep_plain_script<R: Threads + Sync, W: Write>(
     alloc: Global,
     bench: Bench,
     script: &Script,
+    payloads: Payloads,
     out: &mut W,
 ) -> Result<Sweep, Refusal>
     requires ranges { All (IsLineInRange script.now.shape) script.now.lines.items }
     requires plain { All IsPlainLine script.now.lines.items }
-    ensures wrote { IfOk result (λ sweep. WroteAll bench (W.contents out.old) (W.contents out.new) sweep) }
+    ensures wrote { IfOk result (λ sweep. WroteAll bench script.now.shape (four_of payloads) script.now.lines.items (W.contents out.old)
+        (W.contents out.new) sweep) }
     ensures refused { IfErr result (λ e. (e ≡ Memory) ⊎ (e ≡ Output)
         ⊎ ((e ≡ NotPlain) × (W.contents out.new ≡ W.contents out.old))) }
 {
     let crew = Sequential::<R>::new([0, 1, 2, 3])?;
-    sweep_lines(alloc, &crew, bench, &script.shape, &script.lines, out)
+    sweep_lines(
+        alloc,
+        &crew,
+        bench,
+        &script.shape,
+        &script.lines,
+        payloads,
+        out,
+    )
 }
 
-/// Runs that bench over the script.
+/// Runs that bench over the script that begins with these payloads.
 fn run_bench<R: Threads + Sync, W: Write>(
     alloc: Global,
     bench: Bench,
     script: &[u8],
+    payloads: Payloads,
     out: &mut W,
 ) -> Result<Sweep, Refusal>
     // What was written is a line for each run, in order, and the line of the counts. The runs are those of the points
-    // of each caller, from number 1 on, and none was wrong.
-    ensures wrote { IfOk result (λ sweep. WroteAll bench (W.contents out.old) (W.contents out.new) sweep) }
+    // of each caller, from number 1 on: as many as the script makes calls of it. Each is a run of the script's own lines
+    // with that call armed, and tells what a power-on then said. None was wrong.
+    ensures wrote { IfOk result (λ sweep. IsBenchOf bench (four_of payloads) script.now (W.contents out.old) (W.contents out.new) sweep) }
     // A refusal is the script's fault, or want of memory, or the writer's, or the script is not plain.
     ensures refused { IfErr result (λ e. (e ≡ Memory) ⊎ (e ≡ Output) ⊎ (script_of script.now ≡ Err e)
         ⊎ ((e ≡ NotPlain) × (W.contents out.new ≡ W.contents out.old))) }
@@ -395,7 +534,31 @@ fn run_bench<R: Threads + Sync, W: Write>(
     if !are_plain(&script.lines) {
         return Err(Refusal::NotPlain);
     }
-    sweep_plain_script::<R, W>(alloc, bench, &script, out)
+    sweep_plain_script::<R, W>(alloc, bench, &script, payloads, out)
+}
+
+/// [`sweep`] over a script that begins with these payloads: a slot boots its own until a line `payload` says otherwise.
+pub fn sweep_with<R: Threads + Sync, W: Write>(
+    alloc: Global,
+    script: &[u8],
+    payloads: Payloads,
+    out: &mut W,
+) -> Result<Sweep, Refusal>
+    // What was written is a line for each run, in order, and the line of the counts. The runs are those of the points
+    // of each caller, from number 1 on: as many as the script makes calls of it. Each is a run of the script's own lines
+    // with that call armed, and tells what a power-on then said. None was wrong.
+    ensures wrote { IfOk result (λ sweep. IsBenchOf Bench.Cuts (four_of payloads) script.now (W.contents out.old)
+        (W.contents out.new) sweep) }
+    // A refusal is the script's fault, or want of memory, or the writer's, or the script is not plain.
+    ensures refused { IfErr result (λ e. (e ≡ Memory) ⊎ (e ≡ Output) ⊎ (script_of script.now ≡ Err e)
+        ⊎ ((e ≡ NotPlain) × (W.contents out.new ≡ W.contents out.old))) }
+    // A script with a fault runs nothing, and neither does one with a line that is not plain.
+    ensures nothing { (e : Refusal) → script_of script.now ≡ Err e
+        → (W.contents out.new ≡ W.contents out.old) × ((result ≡ Err e) ⊎ (result ≡ Err Memory)) }
+    ensures plain { (said : Said) → script_of script.now ≡ Ok said → (All IsPlainLine said.lines → ⊥)
+        → (W.contents out.new ≡ W.contents out.old) × ((result ≡ Err NotPlain) ⊎ (result ≡ Err Memory)) }
+{
+    run_bench::<R, W>(alloc, Bench::Cuts, script, payloads, out)
 }
 
 /// The power-cut bench (docs/SCRIPT.md, "The benches"): cuts power at each call of the disk, and of each of its
@@ -412,8 +575,10 @@ pub fn sweep<R: Threads + Sync, W: Write>(
     out: &mut W,
 ) -> Result<Sweep, Refusal>
     // What was written is a line for each run, in order, and the line of the counts. The runs are those of the points
-    // of each caller, from number 1 on, and none was wrong.
-    ensures wrote { IfOk result (λ sweep. WroteAll Bench.Cuts (W.contents out.old) (W.contents out.new) sweep) }
+    // of each caller, from number 1 on: as many as the script makes calls of it. Each is a run of the script's own lines
+    // with that call armed, and tells what a power-on then said. None was wrong.
+    ensures wrote { IfOk result (λ sweep. IsBenchOf Bench.Cuts no_payloads script.now (W.contents out.old)
+        (W.contents out.new) sweep) }
     // A refusal is the script's fault, or want of memory, or the writer's, or the script is not plain.
     ensures refused { IfErr result (λ e. (e ≡ Memory) ⊎ (e ≡ Output) ⊎ (script_of script.now ≡ Err e)
         ⊎ ((e ≡ NotPlain) × (W.contents out.new ≡ W.contents out.old))) }
@@ -423,7 +588,31 @@ pub fn sweep<R: Threads + Sync, W: Write>(
     ensures plain { (said : Said) → script_of script.now ≡ Ok said → (All IsPlainLine said.lines → ⊥)
         → (W.contents out.new ≡ W.contents out.old) × ((result ≡ Err NotPlain) ⊎ (result ≡ Err Memory)) }
 {
-    run_bench::<R, W>(alloc, Bench::Cuts, script, out)
+    sweep_with::<R, W>(alloc, script, Payloads::new(alloc), out)
+}
+
+/// [`faults`] over a script that begins with these payloads, as [`sweep_with`] is.
+pub fn faults_with<R: Threads + Sync, W: Write>(
+    alloc: Global,
+    script: &[u8],
+    payloads: Payloads,
+    out: &mut W,
+) -> Result<Sweep, Refusal>
+    // What was written is a line for each run, in order, and the line of the counts. The runs are those of the points
+    // of each caller, from number 1 on: as many as the script makes calls of it. Each is a run of the script's own lines
+    // with that call armed, and tells what a power-on then said. None was wrong.
+    ensures wrote { IfOk result (λ sweep. IsBenchOf Bench.Fails (four_of payloads) script.now (W.contents out.old)
+        (W.contents out.new) sweep) }
+    // A refusal is the script's fault, or want of memory, or the writer's, or the script is not plain.
+    ensures refused { IfErr result (λ e. (e ≡ Memory) ⊎ (e ≡ Output) ⊎ (script_of script.now ≡ Err e)
+        ⊎ ((e ≡ NotPlain) × (W.contents out.new ≡ W.contents out.old))) }
+    // A script with a fault runs nothing, and neither does one with a line that is not plain.
+    ensures nothing { (e : Refusal) → script_of script.now ≡ Err e
+        → (W.contents out.new ≡ W.contents out.old) × ((result ≡ Err e) ⊎ (result ≡ Err Memory)) }
+    ensures plain { (said : Said) → script_of script.now ≡ Ok said → (All IsPlainLine said.lines → ⊥)
+        → (W.contents out.new ≡ W.contents out.old) × ((result ≡ Err NotPlain) ⊎ (result ≡ Err Memory)) }
+{
+    run_bench::<R, W>(alloc, Bench::Fails, script, payloads, out)
 }
 
 /// The fault bench: lets each of these calls fail in turn, with power on, runs the script to its end, cuts power,
@@ -434,8 +623,10 @@ pub fn faults<R: Threads + Sync, W: Write>(
     out: &mut W,
 ) -> Result<Sweep, Refusal>
     // What was written is a line for each run, in order, and the line of the counts. The runs are those of the points
-    // of each caller, from number 1 on, and none was wrong.
-    ensures wrote { IfOk result (λ sweep. WroteAll Bench.Fails (W.contents out.old) (W.contents out.new) sweep) }
+    // of each caller, from number 1 on: as many as the script makes calls of it. Each is a run of the script's own lines
+    // with that call armed, and tells what a power-on then said. None was wrong.
+    ensures wrote { IfOk result (λ sweep. IsBenchOf Bench.Fails no_payloads script.now (W.contents out.old)
+        (W.contents out.new) sweep) }
     // A refusal is the script's fault, or want of memory, or the writer's, or the script is not plain.
     ensures refused { IfErr result (λ e. (e ≡ Memory) ⊎ (e ≡ Output) ⊎ (script_of script.now ≡ Err e)
         ⊎ ((e ≡ NotPlain) × (W.contents out.new ≡ W.contents out.old))) }
@@ -445,5 +636,5 @@ pub fn faults<R: Threads + Sync, W: Write>(
     ensures plain { (said : Said) → script_of script.now ≡ Ok said → (All IsPlainLine said.lines → ⊥)
         → (W.contents out.new ≡ W.contents out.old) × ((result ≡ Err NotPlain) ⊎ (result ≡ Err Memory)) }
 {
-    run_bench::<R, W>(alloc, Bench::Fails, script, out)
+    faults_with::<R, W>(alloc, script, Payloads::new(alloc), out)
 }

@@ -3,12 +3,12 @@
 ghost use Rattle.std.specs.Prelude.{◌≡◌, false, IfOk};
 ghost use Rattle.clap.specs.Words.{app_of, rule_of};
 ghost use Rattle.clap.specs.declared.builder.value_parser.ValueParser.{ValueParser as Parser};
-ghost use Rattle.board_help.specs.Lines.{option_rule, path_rule, number_rule, mode_rule, named_app, board_line, with_shape, with_payloads, sbiboard};
+ghost use Rattle.board_help.specs.Lines.{number_rule, mode_rule, named_app, board_line, with_shape, sbiboard};
 
 use board_model::refusal_lines;
 use clap::builder::ValueParser;
-use clap::{Arg, ArgAction, Command};
-use command_line::flag;
+use clap::{Arg, Command};
+use command_line::{flag, option, path, with_payloads};
 use std::alloc::{AllocError, Global};
 
 /// The version of the firmware.
@@ -91,6 +91,8 @@ pub const NEW: &str = "new";
 
 pub const SYNC: &str = "sync";
 
+pub const TELL: &str = "tell";
+
 pub const HARTS: &str = "harts";
 
 pub const PAGES: &str = "pages";
@@ -99,23 +101,8 @@ pub const LANES: &str = "lanes";
 
 pub const TURNS: &str = "turns";
 
-/// The options of the payload files, by slot.
-pub const PAYLOADS: [&str; 4] = ["p0", "p1", "p2", "p3"];
-
 /// The most turns of a hart.
 pub const MOST_TURNS: u64 = 1_000_000_000;
-
-/// An option with one value, which help calls so.
-fn option<'a>(alloc: Global, id: &'a str, value: &'a str, help: &'a str) -> Arg<'a>
-    ensures rule { rule_of result ≡ option_rule id.entry.now }
-    ensures local { result.global ≡ false }
-{
-    Arg::new(alloc, id)
-        .long(id)
-        .value_name(value)
-        .action(ArgAction::Set)
-        .help(help)
-}
 
 /// An option with a number from 1 to `most`.
 fn number<'a>(alloc: Global, id: &'a str, most: u64, default: &'a str, help: &'a str) -> Arg<'a>
@@ -125,14 +112,6 @@ fn number<'a>(alloc: Global, id: &'a str, most: u64, default: &'a str, help: &'a
     option(alloc, id, "N", help)
         .value_parser(ValueParser::unsigned(1, most))
         .default_value(default)
-}
-
-/// An option with a path.
-fn path<'a>(alloc: Global, id: &'a str, help: &'a str) -> Arg<'a>
-    ensures rule { rule_of result ≡ path_rule id.entry.now }
-    ensures local { result.global ≡ false }
-{
-    option(alloc, id, "PATH", help).value_parser(ValueParser::NonEmptyString)
 }
 
 /// How the board is powered on.
@@ -185,28 +164,23 @@ fn shaped<'a>(alloc: Global, command: Command<'a>) -> Result<Command<'a>, AllocE
         .arg(number(alloc, LANES, 4, "1", "Its saver lanes, 1 to 4"))
 }
 
-/// The command with the files of the payloads.
-fn booted<'a>(alloc: Global, command: Command<'a>) -> Result<Command<'a>, AllocError>
-    ensures { IfOk result (λ c. app_of c ≡ with_payloads (app_of command.entry)) }
-{
-    command
-        .arg(path(alloc, PAYLOADS[0], "What boot slot 0 boots"))?
-        .arg(path(alloc, PAYLOADS[1], "What boot slot 1 boots"))?
-        .arg(path(alloc, PAYLOADS[2], "What boot slot 2 boots"))?
-        .arg(path(alloc, PAYLOADS[3], "What boot slot 3 boots"))
-}
-
 /// The command.
 pub fn command<'a>(alloc: Global) -> Result<Command<'a>, AllocError>
     ensures { IfOk result (λ c. (modes : Parser) × (app_of c ≡ sbiboard modes)) }
 {
     let board = board(alloc)?;
     let shaped = shaped(alloc, board)?;
-    booted(alloc, shaped)?.arg(number(
-        alloc,
-        TURNS,
-        MOST_TURNS,
-        "1000000",
-        "Turns that each hart makes at most, 1 to 1000000000",
-    ))
+    with_payloads(alloc, shaped)?
+        .arg(number(
+            alloc,
+            TURNS,
+            MOST_TURNS,
+            "1000000",
+            "Turns that each hart makes at most, 1 to 1000000000",
+        ))?
+        .arg(flag(
+            alloc,
+            TELL,
+            "Tells on standard error how each hart ended, as is done at a terminal anyway",
+        ))
 }

@@ -5,5 +5,5 @@
 mod help;
 
 pub use help::{
-    DISK, HARTS, LANES, MODE, MOST_TURNS, NEW, PAGES, PAYLOADS, SYNC, TURNS, USAGE, command,
+    DISK, HARTS, LANES, MODE, MOST_TURNS, NEW, PAGES, SYNC, TELL, TURNS, USAGE, command,
 };

@@ -25,6 +25,8 @@ pub struct Options {
     pub new: bool,
     /// Whether each sync of the disk waits for its file. Else the file is written at the end.
     pub sync: bool,
+    /// Whether it is told on standard error how each hart ended. At a terminal it is anyway.
+    pub tell: bool,
     /// The shape of a new disk.
     pub shape: Shape,
     /// Which of its numbers were given.

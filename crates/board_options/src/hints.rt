@@ -4,7 +4,7 @@ ghost use Rattle.std.specs.Io.KnownBytes.{Keeps, WriteAppends};
 ghost use Rattle.std.specs.Io.{WritesAtMost};
 
 use arrayvec::ArrayVec;
-use std::io::{self, IsTerminal, Write};
+use std::io::{self, IsTerminal, Read, Write};
 
 const WELCOME: &str = "\
 slot S, tries S N, good, discard, state, wake, quit: a line each.
@@ -17,6 +17,9 @@ const UNKNOWN: &str = "? is no answer but to: slot S, tries S N, good, discard, 
 
 const OVER: &str = "\
 7: the guest has ended this life by a reset or a suspension. 'quit' ends the session.";
+
+const ENDED: &str = "\
+The input has ended. Harts that run on make the turns that they have left (--turns); Ctrl-C ends them.";
 
 /// A writer of answers that explains some of them to a person at a terminal.
 #[derive(Drop)]
@@ -85,5 +88,34 @@ impl<'a, W: Write + Drop> Write for Hints<'a, W> {
         ensures bytes { Keeps (W.contents self.old.inner) (W.contents self.new.inner) }
     {
         self.inner.flush()
+    }
+}
+
+/// A reader of lines that tells a person at a terminal that the input has ended, since the harts may go on.
+#[derive(Drop)]
+pub struct EndHint<'a, R: Read + Drop> {
+    inner: R,
+    rt: &'a HostRuntime,
+    is_on: bool,
+}
+
+impl<'a, R: Read + Drop> EndHint<'a, R> {
+    /// It tells where lines are typed and standard error is seen.
+    pub fn new(rt: &'a HostRuntime, inner: R) -> EndHint<'a, R> {
+        let is_on = rt.stdin().is_terminal() && rt.stderr().is_terminal();
+        EndHint { inner, rt, is_on }
+    }
+}
+
+impl<'a, R: Read + Drop> Read for EndHint<'a, R> {
+    ghost remaining = { λ h. R.remaining h.inner };
+
+    fn read(&mut self, buf: &mut [u8]) -> io::Result<usize> {
+        let read = self.inner.read(buf)?;
+        if read == 0 && self.is_on && !buf.is_empty() {
+            let _told = eprintln!(self.rt; "{ENDED}");
+            self.is_on = false;
+        }
+        Ok(read)
     }
 }

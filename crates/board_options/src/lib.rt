@@ -8,5 +8,5 @@ mod parsed;
 
 pub use board_help::USAGE;
 pub use given::{Options, ShapeGiven};
-pub use hints::Hints;
+pub use hints::{EndHint, Hints};
 pub use parsed::read_options as options;

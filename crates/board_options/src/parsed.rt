@@ -1,7 +1,6 @@
 //! From words to options.
 
-ghost use Rattle.std.specs.Prelude.{◌≡◌, ◌<◌, [], ◌∷◌, map, string_bytes, string_len, codes, Some, IfOk, IfSome};
-ghost use Rattle.std.specs.Option.{option_map};
+ghost use Rattle.std.specs.Prelude.{◌≡◌, ◌<◌, map, string_len, codes, Some, IfOk, IfSome};
 ghost use Rattle.board_model.specs.Shapes.{IsSize};
 ghost use Rattle.clap.specs.Facts.{is_present};
 ghost use Rattle.clap.specs.Words.{first_value, found_of, rows_of, matches_of};
@@ -10,51 +9,18 @@ ghost use Rattle.clap.specs.declared.parser.matches.Found.{Found};
 ghost use Rattle.board_options.specs.Limits.{AreTurns};
 ghost use Rattle.board_help.specs.Lines.{sbiboard};
 ghost use Rattle.board_options.specs.Modes.{mode_named};
-ghost use Rattle.board_options.specs.Reads.{ReadsOptions, path_named, number_named};
+ghost use Rattle.board_options.specs.Reads.{ReadsOptions, number_named};
 
 use crate::given::{Options, ShapeGiven};
-use board_help::{
-    DISK, HARTS, LANES, MODE, MOST_TURNS, NEW, PAGES, PAYLOADS, SYNC, TURNS, command,
-};
+use board_help::{DISK, HARTS, LANES, MODE, MOST_TURNS, NEW, PAGES, SYNC, TELL, TURNS, command};
 use board_model::{BootMode, Shape};
 use clap::error::ErrorKind;
 use clap::parser::ValueSource;
 use clap::{ArgMatches, Error};
+use command_line::{path_given, payload_paths};
 use script_lang::{mode, number as number_of};
 use std::alloc::{AllocError, Global};
 use std::convert::AsStr;
-
-/// A path that was given; none that is empty.
-fn path(alloc: Global, matches: &ArgMatches<'_>, id: &str) -> Result<Option<String>, AllocError>
-    ensures some { IfOk result (λ path. IfSome path (λ text. 0 < string_len text)) }
-    ensures named { IfOk result (λ path. option_map string_bytes path
-        ≡ path_named (first_value (found_of matches.now) id.now)) }
-{
-    let Some(text) = matches.get_str(id) else {
-        return Ok(None);
-    };
-    if text.is_empty() {
-        return Ok(None);
-    }
-    let path = text.to_string(alloc)?;
-    Ok(Some(path))
-}
-
-/// The payload files, by slot.
-fn payloads(alloc: Global, matches: &ArgMatches<'_>) -> Result<[Option<String>; 4], AllocError>
-    ensures { IfOk result (λ paths. map (option_map string_bytes) paths
-        ≡ path_named (first_value (found_of matches.now) (codes "p0"))
-        ∷ path_named (first_value (found_of matches.now) (codes "p1"))
-        ∷ path_named (first_value (found_of matches.now) (codes "p2"))
-        ∷ path_named (first_value (found_of matches.now) (codes "p3")) ∷ []) }
-{
-    Ok([
-        path(alloc, matches, PAYLOADS[0])?,
-        path(alloc, matches, PAYLOADS[1])?,
-        path(alloc, matches, PAYLOADS[2])?,
-        path(alloc, matches, PAYLOADS[3])?,
-    ])
-}
 
 /// The boot mode that was named.
 fn boot_mode(matches: &ArgMatches<'_>) -> Option<BootMode>
@@ -123,10 +89,10 @@ fn turns(matches: &ArgMatches<'_>) -> Option<u64>
 fn options_of(alloc: Global, matches: &ArgMatches<'_>) -> Result<Option<Options>, AllocError>
     ensures { IfOk result (λ found. IfSome found (ReadsOptions (found_of matches.now))) }
 {
-    let Some(disk) = path(alloc, matches, DISK)? else {
+    let Some(disk) = path_given(alloc, matches, DISK)? else {
         return Ok(None);
     };
-    let payloads = payloads(alloc, matches)?;
+    let payloads = payload_paths(alloc, matches)?;
     let Some(mode) = boot_mode(matches) else {
         return Ok(None);
     };
@@ -141,6 +107,7 @@ fn options_of(alloc: Global, matches: &ArgMatches<'_>) -> Result<Option<Options>
         mode,
         new: matches.get_flag(NEW),
         sync: matches.get_flag(SYNC),
+        tell: matches.get_flag(TELL),
         shape,
         given: shape_given(matches),
         payloads,

@@ -23,6 +23,9 @@ use Rattle.board.specs.Unbooted.{LeavesLife}
 use Rattle.receipts.specs.Closed.{AreReceiptsOf}
 use Rattle.shared_store.specs.Noted.{boot_told, entries_in}
 use Rattle.hart_threads.specs.Threads.{ends_life}
+use Rattle.hart_threads.specs.Ends.{Ending, IsEnding}
+use Rattle.hart_threads.specs.declared.closing.AfterConsole.{AfterConsole}
+use Rattle.hart_threads.specs.declared.closing.AfterConsole.TheVariants.{RunOut, Halt}
 use Rattle.shared_store.specs.Heard.{Hearing}
 use Rattle.board_console.specs.Commands.{party}
 use Rattle.board_console.specs.Dialogues.{DialogueEnds, Talks, dialogue_ends}
@@ -116,10 +119,27 @@ outcome_of (Some lefts.EndOfInput) = Ok tt
 outcome_of (Some lefts.InputFailed) = Ok tt
 outcome_of (Some lefts.Unwritten) = Err Output
 
+-- ---- the harts of the session
+-- what they do once the console has left
+abbrev pub harts_after : Left → AfterConsole
+harts_after lefts.Quit = Halt
+harts_after lefts.EndOfInput = RunOut
+harts_after lefts.InputFailed = RunOut
+harts_after lefts.Unwritten = Halt
+
+-- Where the console was begun each hart had a loop. It made all the turns that each hart is given, or a hart ended the
+-- life by a command that was acknowledged, or the console had left so that the harts are halted.
+abbrev pub AreDriven : ℕ → ℕ → DurableState → Option Left → List Ending → Type 0
+AreDriven harts turns found None ends = Unit {0}
+AreDriven harts turns found (Some left) ends =
+    (length ends ≡ harts) × All (IsEnding turns found false (harts_after left)) ends
+
 -- The board was on, over a disk that allows it. The disk given back is that of the life that it then began, and what
--- was read and answered is of that life, with its receipts, and with the refusals and states that the console heard.
-pub record RanOver (new : Bool) (shape : Size) (mode : BootMode) (payloads : List (List ℕ)) (old disk : Facts)
-    (left : Option Left) (a : DialogueEnds) (input output : Option (List ℕ)) (heard : Hearing) : Type 0 where
+-- was read and answered is of that life, with its receipts, and with the refusals and states that the console heard. Its
+-- harts were driven, and ended so.
+pub record RanOver (new : Bool) (shape : Size) (mode : BootMode) (payloads : List (List ℕ)) (turns : ℕ)
+    (old disk : Facts) (left : Option Left) (a : DialogueEnds) (input output : Option (List ℕ)) (heard : Hearing)
+    (ends : List Ending) : Type 0 where
   pub allowed : RunsOver new shape mode payloads old.content
   pub size : Size
   pub found : DurableState
@@ -127,3 +147,4 @@ pub record RanOver (new : Bool) (shape : Size) (mode : BootMode) (payloads : Lis
   pub console : List (ℕ × Entry)
   pub life : IsOfLife size found (commands_by mode found) console disk
   pub talks : TalksIf found (commands_by mode found) left a (dialogue_ends input output (party console heard))
+  pub driven : AreDriven size.harts turns found left ends

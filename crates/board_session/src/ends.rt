@@ -1,39 +1,59 @@
 //! The end of a life: the receipts that were told, and the disk.
 
-ghost use Rattle.std.specs.Prelude.{◌≡◌, ◌≤◌, ◌+◌, [], ◌∷◌, true, All, length, vec_len};
+ghost use Rattle.std.specs.Prelude.{◌≡◌, ◌≤◌, ◌+◌, [], ◌∷◌, true, All, length, vec_len, vec_capacity};
 ghost use Rattle.store.specs.Leaves.{IsIdle};
 ghost use Rattle.store.specs.Taken.{are_taken};
 ghost use Rattle.store.specs.Views.{size_of_store, found_state, journal_of};
 ghost use Rattle.shared_store.specs.Noted.{boot_told};
 ghost use Rattle.shared_store.specs.Views.{inside, parts_with};
+ghost use Rattle.hart_threads.specs.Ends.{IsEnding};
 ghost use Rattle.board_session.specs.Backs.{AreBack};
 ghost use Rattle.board_session.specs.Sessions.{IsOfLife};
 
 use disk::Disk;
-use hart_threads::{Ended, HartLocal};
-use shared_store::{Journal, Part, Unshared};
+use hart_threads::{HartEnd, HartLocal, Parted, Rested, Threaded};
+use shared_store::{Part, Unshared};
 use store::Store;
 
+/// The harts of those loops without their life, in the order of their numbers: the loop of the highest comes first. Their
+/// console has said that when it left.
+pub(crate) fn ends_of<'c, J: Threaded>(
+    loops: &[Rested<'c, J>],
+    parted: &Parted<'c, J>,
+    room: Vec<HartEnd>,
+) -> Vec<HartEnd>
+    requires empty { vec_len room ≡ 0 }
+    requires room { length loops.now ≤ vec_capacity room }
+    ensures many { vec_len result ≡ length loops.entry.now }
+    ensures well { All (IsEnding J.turns J.found J.gated parted.now.token.value) result.items }
+{
+    let (mut ends, many) = (room, loops.len());
+    for k in 0..many {
+        ends.push_reserved(loops[many - 1 - k].end(parted));
+    }
+    ends
+}
+
 /// The parts of loops that ended come back to the store.
-fn gather_loops<D: Disk + Drop, J: Journal>(whole: &mut Unshared<D, J>, loops: Vec<Ended<J>>)
+fn gather_loops<D: Disk + Drop, J: Threaded>(whole: &mut Unshared<D, J>, loops: Vec<Rested<'_, J>>)
     requires back { AreBack (parts_with whole.old) }
     ensures store { inside whole.new ≡ inside whole.old }
     ensures back { AreBack (parts_with whole.new) }
-    ensures many { length (parts_with whole.new) ≡ length (parts_with whole.old) + vec_len loops }
+    ensures many { length (parts_with whole.new) ≡ length (parts_with whole.old) + vec_len loops.entry }
 {
     let mut loops = loops;
-    while let Some(ended) = loops.pop() {
+    while let Some(rested) = loops.pop() {
         let HartLocal {
             seats: _,
             doze: _,
             part,
-        } = ended.local;
+        } = rested.ended.local;
         whole.gather(part);
     }
 }
 
 /// Parts that no loop had come back to the store.
-fn gather_parts<D: Disk + Drop, J: Journal>(whole: &mut Unshared<D, J>, parts: Vec<Part<J>>)
+fn gather_parts<D: Disk + Drop, J: Threaded>(whole: &mut Unshared<D, J>, parts: Vec<Part<J>>)
     requires back { AreBack (parts_with whole.old) }
     requires fresh { All (λ p. p.told ≡ []) parts.items }
     ensures store { inside whole.new ≡ inside whole.old }
@@ -47,7 +67,7 @@ fn gather_parts<D: Disk + Drop, J: Journal>(whole: &mut Unshared<D, J>, parts: V
 }
 
 /// The console's part and the boot's come back.
-fn gather_last<D: Disk + Drop, J: Journal>(
+fn gather_last<D: Disk + Drop, J: Threaded>(
     whole: &mut Unshared<D, J>,
     console: Part<J>,
     boot: Part<J>,
@@ -60,9 +80,9 @@ fn gather_last<D: Disk + Drop, J: Journal>(
 }
 
 /// The disk of a store whose life ends here, once the harts' parts, the console's and the boot's are back.
-pub(crate) fn disk_of<D: Disk + Drop, J: Journal>(
+pub(crate) fn disk_of<D: Disk + Drop, J: Threaded>(
     whole: Unshared<D, J>,
-    loops: Vec<Ended<J>>,
+    loops: Vec<Rested<'_, J>>,
     parts: Vec<Part<J>>,
     console: Part<J>,
     boot: Part<J>,

@@ -1,6 +1,6 @@
 //! A board from its power-on to the end of its threads.
 
-ghost use Rattle.std.specs.Prelude.{◌≡◌, ◌⊎◌, ◌≤◌, ◌+◌, ℕ, List, [], All, length, Some, None, true, false, OnOk, IfOk, IfErr, MatchResult, vec_len};
+ghost use Rattle.std.specs.Prelude.{◌≡◌, ◌⊎◌, ◌≤◌, ◌+◌, ℕ, List, [], All, length, Some, None, true, false, OnOk, IfOk, IfErr, MatchResult, vec_len, vec_capacity};
 ghost use Rattle.std.specs.Option.{option_to_list};
 ghost use Rattle.board_model.specs.Durable.{formatted};
 ghost use Rattle.board_model.specs.Shapes.{Size};
@@ -22,21 +22,23 @@ ghost use Rattle.store.specs.Taken.{are_taken};
 ghost use Rattle.board_console.specs.Commands.{party};
 ghost use Rattle.board_console.specs.Dialogues.{Talks, dialogue_ends};
 ghost use Rattle.board_session.specs.Backs.{AreBack};
-ghost use Rattle.board_session.specs.Sessions.{TakesFormat, RunsOver, RefusesDisk, RefusesSession, Begins, IsOfLife, RanOver, TalksIf, outcome_of};
+ghost use Rattle.board_session.specs.Sessions.{TakesFormat, RunsOver, RefusesDisk, RefusesSession, Begins, IsOfLife, RanOver, TalksIf, outcome_of, harts_after, AreDriven};
 
-use crate::ends::{disk_at_once, disk_of};
-use crate::gate::UntilQuit;
+use crate::ends::{disk_at_once, disk_of, ends_of};
+use crate::gate::{Open, harts_after};
 use board::{Board, Parts, Payloads};
 use board_console::{Left, console};
 use board_model::{Refusal, Shape};
 use board_options::Options;
 use disk::Disk;
-use hart_threads::{Ended, SharedBoard, Undriven, drive};
+use hart_threads::{
+    AfterConsole, Closing, HartEnd, Parted, Rested, SharedBoard, Threaded, Undriven, drive,
+};
 use shared_store::{Heard, Journal, NewBook, Part, SharedStore, Unshared};
 use std::alloc::Global;
 use std::io::{Read, Write};
 use std::marker::Brand;
-use std::sync::{Mutex, Wait};
+use std::sync::{Mutex, OnceLock, Wait};
 use std::thread::Threads;
 use store::{Saving, format, kept_disks};
 use susp::Bus;
@@ -61,6 +63,8 @@ pub struct SessionEnd<D: Disk + Drop, I: Read + Drop, W: Write + Drop> {
     pub left: Option<Left>,
     /// What the console heard of the store beside its receipts.
     pub heard: Heard,
+    /// The harts as their loops ended, in the order of their numbers; none where the console was not begun.
+    pub harts: Vec<HartEnd>,
 }
 
 /// A board that is on, its shape, and the book of its receipts.
@@ -79,22 +83,24 @@ struct Ends<J: Journal, I: Read + Drop, W: Write + Drop> {
     heard: Heard,
 }
 
-/// A console that has left.
+/// A console that has left, and what it said of the harts.
 #[derive(Drop)]
-struct Talked<J: Journal, I: Read + Drop, W: Write + Drop> {
+struct Talked<'c, J: Threaded, I: Read + Drop, W: Write + Drop> {
     ends: Ends<J, I, W>,
     left: Left,
+    parted: Parted<'c, J>,
+    ghost parts: { parted.token.value ≡ harts_after left },
 }
 
-/// The console beside the harts. The gate is shut after `quit`, and where an answer could not be written; where the
-/// input ends or fails the harts run out their turns.
-fn attend<R: Wait, D: Disk + Drop, J: Journal, I: Read + Drop, W: Write + Drop>(
+/// The console beside the harts. The harts are halted after `quit`, and where an answer could not be written; where the
+/// input ends or fails they run out their turns.
+fn attend<'c, R: Wait, D: Disk + Drop, J: Threaded, I: Read + Drop, W: Write + Drop>(
     rt: &R,
     bus: &Mutex<Bus>,
     store: &Mutex<SharedStore<D, J>>,
-    gate: &UntilQuit,
+    closing: &'c Closing<J>,
     ends: Ends<J, I, W>,
-) -> Talked<J, I, W>
+) -> Talked<'c, J, I, W>
     ensures { Talks J.found J.issued result.left
         (dialogue_ends (I.remaining ends.streams.input) (W.contents ends.streams.out) (party ends.part.told ends.heard))
         (dialogue_ends (I.remaining result.ends.streams.input) (W.contents result.ends.streams.out)
@@ -108,10 +114,7 @@ fn attend<R: Wait, D: Disk + Drop, J: Journal, I: Read + Drop, W: Write + Drop>(
     let Streams { mut input, mut out } = streams;
     let mut heard = heard;
     let (part, left) = console(rt, bus, store, part, &mut heard, &mut input, &mut out);
-    match left {
-        Left::Quit | Left::Unwritten => gate.shut(),
-        Left::EndOfInput | Left::InputFailed => {}
-    }
+    let parted = closing.part(rt, harts_after(left));
     Talked {
         ends: Ends {
             streams: Streams { input, out },
@@ -119,6 +122,7 @@ fn attend<R: Wait, D: Disk + Drop, J: Journal, I: Read + Drop, W: Write + Drop>(
             heard,
         },
         left,
+        parted,
     }
 }
 
@@ -139,7 +143,7 @@ fn outcome(left: Option<Left>) -> Result<(), Refusal>
 /// written. The book of receipts has a part for each hart, one for the console and one for the boot.
 fn run_board<
     D: Disk + Drop + Send,
-    J: Journal + Send + Sync,
+    J: Threaded + Send + Sync,
     R: Threads + Wait + Sync,
     I: Read + Drop,
     W: Write + Drop,
@@ -148,6 +152,7 @@ fn run_board<
     alloc: Global,
     booted: BootedBoard<D>,
     turns: u64,
+    lock: OnceLock<AfterConsole>,
     streams: Streams<I, W>,
 ) -> SessionEnd<D, I, W>
     requires held { IsHeld booted.shape booted.parts.harts.items booted.parts.tables (Some booted.parts.seats)
@@ -156,6 +161,9 @@ fn run_board<
     requires shape { booted.shape ≡ J.size }
     requires store { (size_of_store booted.parts.store ≡ J.size) × (found_state booted.parts.store ≡ J.found)
         × (journal_of booted.parts.store ≡ J.issued) }
+    requires turns { turns ≡ J.turns }
+    requires lock { lock.id ≡ J.parting }
+    requires ungated { J.gated ≡ false }
     requires taken { (are_taken J.found J.issued ≡ true) × (length J.issued ≤ 2) }
     requires book { (id_of booted.book ≡ J.book) × (parts_of booted.book ≡ J.parts)
         × (J.parts ≡ J.size.harts + 2) }
@@ -165,6 +173,7 @@ fn run_board<
         (dialogue_ends (I.remaining streams.input) (W.contents streams.out) (party [] heard_nothing))
         (dialogue_ends (I.remaining result.streams.input) (W.contents result.streams.out) (party console result.heard)) }
     ensures ran { result.ran ≡ outcome_of result.left }
+    ensures driven { AreDriven J.size.harts J.turns J.found result.left result.harts.items }
     ensures unheard { result.left ≡ None → (result.streams ≡ streams) × (result.heard ≡ heard_nothing) }
 {
     let BootedBoard { parts, shape, book } = booted;
@@ -182,25 +191,43 @@ fn run_board<
         part,
         heard: Heard::nothing(),
     };
+    let Ok(room) = Vec::with_capacity(alloc, harts.len()) else {
+        return over(
+            whole,
+            Vec::new(alloc),
+            Vec::new(alloc),
+            ends,
+            boot,
+            unled(alloc),
+        );
+    };
     let Ok(given) = whole.hand_out_all(alloc, harts.len()) else {
-        return over(whole, Vec::new(alloc), Vec::new(alloc), ends, boot, None);
+        return over(
+            whole,
+            Vec::new(alloc),
+            Vec::new(alloc),
+            ends,
+            boot,
+            unled(alloc),
+        );
     };
     let doze = bus.doze;
     let bus = Mutex::new(bus);
     let store: Mutex<SharedStore<D, J>> = Mutex::new(whole.share());
-    let gate = UntilQuit::new();
+    let closing = Closing::new(lock);
     let crew = crew::Threads::new(rt);
-    let (rung, shared, shut) = (&bus, &store, &gate);
+    let (rung, shared, shut) = (&bus, &store, &closing);
     let board = SharedBoard {
         saving: Saving { alloc, crew: &crew },
         tables: &tables,
         shape: &shape,
         bus: &bus,
         store: &store,
+        closing: &closing,
     };
     let driven = drive(
         rt,
-        &gate,
+        &Open,
         board,
         harts,
         seats,
@@ -208,7 +235,7 @@ fn run_board<
         turns,
         given,
         ends,
-        move |ends: Ends<J, I, W>| -> Talked<J, I, W>
+        move |ends: Ends<J, I, W>| -> Talked<'_, J, I, W>
             ensures { Talks J.found J.issued result.left
                 (dialogue_ends (I.remaining ends.streams.input) (W.contents ends.streams.out)
                 (party ends.part.told ends.heard))
@@ -220,8 +247,9 @@ fn run_board<
     match driven {
         Ok(done) => {
             let (loops, talked) = done;
-            let Talked { ends, left } = talked;
-            over(whole, loops, Vec::new(alloc), ends, boot, Some(left))
+            let Talked { ends, left, parted } = talked;
+            let led = led_by(left, &loops, &parted, room);
+            over(whole, loops, Vec::new(alloc), ends, boot, led)
         }
         Err(undriven) => {
             let Undriven {
@@ -230,19 +258,57 @@ fn run_board<
                 loops,
                 parts,
             } = undriven;
-            over(whole, loops, parts, ends, boot, None)
+            over(whole, loops, parts, ends, boot, unled(alloc))
         }
     }
 }
 
+/// Why the console left, and the harts as their loops ended then; or none was begun.
+#[derive(Drop)]
+struct Led {
+    left: Option<Left>,
+    harts: Vec<HartEnd>,
+}
+
+/// No console was begun.
+fn unled(alloc: Global) -> Led
+    ensures { (result.left ≡ None) × (result.harts.items ≡ []) }
+{
+    Led {
+        left: None,
+        harts: Vec::new(alloc),
+    }
+}
+
+/// The console has left so, and those are the loops of the harts.
+fn led_by<'c, J: Threaded>(
+    left: Left,
+    loops: &[Rested<'c, J>],
+    parted: &Parted<'c, J>,
+    room: Vec<HartEnd>,
+) -> Led
+    requires parts { parted.now.token.value ≡ harts_after left }
+    requires ungated { J.gated ≡ false }
+    requires many { length loops.now ≡ J.size.harts }
+    requires empty { vec_len room ≡ 0 }
+    requires room { length loops.now ≤ vec_capacity room }
+    ensures left { result.left ≡ Some left }
+    ensures driven { AreDriven J.size.harts J.turns J.found (Some left) result.harts.items }
+{
+    Led {
+        left: Some(left),
+        harts: ends_of(loops, parted, room),
+    }
+}
+
 /// What a session gives back once all threads have ended, or where none has begun.
-fn over<D: Disk + Drop, J: Journal, I: Read + Drop, W: Write + Drop>(
+fn over<D: Disk + Drop, J: Threaded, I: Read + Drop, W: Write + Drop>(
     whole: Unshared<D, J>,
-    loops: Vec<Ended<J>>,
+    loops: Vec<Rested<'_, J>>,
     parts: Vec<Part<J>>,
     ends: Ends<J, I, W>,
     boot: Part<J>,
-    left: Option<Left>,
+    led: Led,
 ) -> SessionEnd<D, I, W>
     requires back { AreBack (parts_with whole) }
     requires fresh { All (λ p. p.told ≡ []) parts.items }
@@ -253,14 +319,16 @@ fn over<D: Disk + Drop, J: Journal, I: Read + Drop, W: Write + Drop>(
     ensures life { IsOfLife J.size J.found J.issued ends.part.told (D.facts result.disk) }
     ensures streams { result.streams ≡ ends.streams }
     ensures heard { result.heard ≡ ends.heard }
-    ensures left { result.left ≡ left }
-    ensures ran { result.ran ≡ outcome_of left }
+    ensures left { result.left ≡ led.left }
+    ensures harts { result.harts.items ≡ led.harts.items }
+    ensures ran { result.ran ≡ outcome_of led.left }
 {
     let Ends {
         streams,
         part,
         heard,
     } = ends;
+    let Led { left, harts } = led;
     let disk = disk_of(whole, loops, parts, part, boot);
     SessionEnd {
         disk,
@@ -268,6 +336,7 @@ fn over<D: Disk + Drop, J: Journal, I: Read + Drop, W: Write + Drop>(
         streams,
         left,
         heard,
+        harts,
     }
 }
 
@@ -350,12 +419,14 @@ pub fn session<R: Threads + Wait + Sync, D: Disk + Drop + Send, I: Read + Drop, 
     // A refusal is the first of the format's, the open's and the boot's, before any line is read or answered; or
     // the board was on over the disk that was given, and the disk given back is that of its life, to which what
     // was read and answered belongs: each command of its journal was acknowledged to the boot, the console or a
-    // hart, and no other was. It is then refused by why the console left alone.
+    // hart, and no other was. Each hart made all its turns, or one of them ended the life, or the console left so that
+    // they were halted. It is then refused by why the console left alone.
     ensures ended { (RefusesSession options.now.new options.now.shape options.now.mode payloads.now (D.facts disk)
         result.ran (D.facts result.disk) × (result.left ≡ None))
-        ⊎ (RanOver options.now.new options.now.shape options.now.mode payloads.now (D.facts disk) (D.facts result.disk)
-        result.left (dialogue_ends (I.remaining streams.input) (W.contents streams.out) (party [] heard_nothing))
-        (I.remaining result.streams.input) (W.contents result.streams.out) result.heard
+        ⊎ (RanOver options.now.new options.now.shape options.now.mode payloads.now options.now.turns (D.facts disk)
+        (D.facts result.disk) result.left
+        (dialogue_ends (I.remaining streams.input) (W.contents streams.out) (party [] heard_nothing))
+        (I.remaining result.streams.input) (W.contents result.streams.out) result.heard result.harts.items
         × (result.ran ≡ outcome_of result.left)) }
     ensures unheard { result.left ≡ None → (result.streams ≡ streams) × (result.heard ≡ heard_nothing) }
     // Whatever it answers, a disk of which each crash leaves a state is given back as one.
@@ -368,6 +439,7 @@ pub fn session<R: Threads + Wait + Sync, D: Disk + Drop + Send, I: Read + Drop, 
             streams,
             left: None,
             heard: Heard::nothing(),
+            harts: Vec::new(alloc),
         },
         Ok(board) => {
             let shape = board.shape();
@@ -375,7 +447,9 @@ pub fn session<R: Threads + Wait + Sync, D: Disk + Drop + Send, I: Read + Drop, 
             match NewBook::new(alloc, shape.harts() + 2) {
                 Ok(book) => {
                     let booted = BootedBoard { parts, shape, book };
-                    run_board::<D, Brand, R, I, W>(rt, alloc, booted, options.turns, streams)
+                    let lock = OnceLock::new();
+                    let turns = options.turns;
+                    run_board::<D, Brand, R, I, W>(rt, alloc, booted, turns, lock, streams)
                 }
                 Err(_) => {
                     let Parts {
@@ -391,6 +465,7 @@ pub fn session<R: Threads + Wait + Sync, D: Disk + Drop + Send, I: Read + Drop, 
                         streams,
                         left: None,
                         heard: Heard::nothing(),
+                        harts: Vec::new(alloc),
                     }
                 }
             }

@@ -8,6 +8,8 @@ use Rattle.command_line.specs.declared.NoWork.{NoWork}
 use Rattle.command_line.specs.declared.NoWork.TheVariants as words
 use Rattle.command_line.specs.declared.fault.ProgramFault.{ProgramFault}
 use Rattle.command_line.specs.declared.fault.ProgramFault.TheVariants.{Usage, Refused, File}
+use Rattle.std.specs.declared.io.ErrorKind.{ErrorKind}
+use Rattle.std.specs.declared.io.ErrorKind.TheVariants.{OutOfMemory}
 use lib.Chars.{codes}
 
 -- the line of a program with this name
@@ -29,7 +31,12 @@ without_work words.Shown = Ok tt
 without_work words.Usage = Err Usage
 without_work words.Memory = Err (Refused refusals.Memory)
 
+-- the fault of a file, for an error of that kind
+abbrev pub fault_of_kind : ErrorKind → ProgramFault
+fault_of_kind OutOfMemory = Refused refusals.Memory
+fault_of_kind _ = File
+
 -- of two faults the first is told
-abbrev pub first_fault : {A : Type 0} → Result A ProgramFault → Result A ProgramFault → Result A ProgramFault
+abbrev pub first_fault : {A E : Type 0} → Result A E → Result A E → Result A E
 first_fault (Err fault) later = Err fault
 first_fault (Ok done) later = later

@@ -1,13 +1,12 @@
 //! Why a program over a disk's file ends with a fault: the status for it, and the line that says so.
 
 ghost use Rattle.std.specs.Prelude.{◌≡◌, ◌≤◌, Some};
-ghost use Rattle.command_line.specs.Faults.{fault_text, first_fault, status_after, without_work};
+ghost use Rattle.command_line.specs.Faults.{fault_of_kind, fault_text, status_after, without_work};
 
 use crate::NoWork;
 use board_model::Refusal;
-use std::alloc::AllocError;
 use std::fmt;
-use std::io::{self, ErrorKind};
+use std::io::ErrorKind;
 
 /// Why the program ends with a fault.
 #[derive(Clone, Copy, Drop)]
@@ -64,29 +63,14 @@ pub fn without_work(why: NoWork) -> Result<(), ProgramFault>
     }
 }
 
-/// The first fault of two.
-pub fn first_fault(
-    ran: Result<(), ProgramFault>,
-    written: Result<(), ProgramFault>,
-) -> Result<(), ProgramFault>
-    ensures { result ≡ first_fault ran written }
+/// The fault of a file that could not be read or written, for an error of that kind: a refusal where it was memory
+/// that was refused.
+pub fn file_fault(why: ErrorKind) -> ProgramFault
+    ensures { result ≡ fault_of_kind why }
 {
-    match ran {
-        Err(fault) => Err(fault),
-        Ok(()) => written,
-    }
-}
-
-/// The fault of a file that could not be read or written: a refusal where it was memory that was refused.
-pub fn file_fault(e: io::Error) -> ProgramFault {
-    if e.kind() == ErrorKind::OutOfMemory {
+    if why == ErrorKind::OutOfMemory {
         ProgramFault::Refused(Refusal::Memory)
     } else {
         ProgramFault::File
     }
-}
-
-/// The fault where memory was refused.
-pub fn memory_fault(_refused: AllocError) -> ProgramFault {
-    ProgramFault::Refused(Refusal::Memory)
 }

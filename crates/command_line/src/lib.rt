@@ -3,17 +3,25 @@
 #![tactic(auto)]
 
 mod fault;
+mod files;
 mod flags;
+mod options;
+mod pipe;
+mod reads;
 mod written;
 
 ghost use Rattle.std.specs.Prelude.{◌≡◌};
 ghost use Rattle.clap.specs.Values.{kind_of};
 ghost use Rattle.command_line.specs.Kinds.{no_work};
 
-pub use crate::fault::{
-    ProgramFault, ToldBy, file_fault, first_fault, memory_fault, status_of, without_work,
+pub use crate::fault::{ProgramFault, ToldBy, file_fault, status_of, without_work};
+pub use crate::files::{
+    FileFault, end_with, explain_fault, first_of, not_regular, open_regular, read_file, tell_fault,
 };
 pub use crate::flags::flag;
+pub use crate::options::{option, path, path_given, payload_paths, with_payloads};
+pub use crate::pipe::Pipe;
+pub use crate::reads::read_at_most;
 pub use crate::written::write_to_end;
 use clap::Error;
 use clap::error::ErrorKind;

@@ -7,11 +7,13 @@
 //! over the disk that is left finds, and the report, as far as it was written (tools/refuse-memory).
 #![tactic(auto)]
 
+mod files;
 mod left;
 mod reported;
 mod runs;
 mod streams;
 
+use crate::files::Folder;
 use crate::left::tell;
 use crate::reported::{AsReported, ExampleFault, compare_report};
 use crate::runs::{AsTold, RunFault, compare_run};
@@ -102,32 +104,33 @@ fn compare_all<A: Crew, B: Crew>(
     Ok(true)
 }
 
-/// The run of the folder's file of that name.
+/// The run of the folder's file of that name, with payload files of the examples.
 fn compare_file<'a, R: thread::Threads + Sync>(
-    rt: &HostRuntime,
     threads: &R,
+    examples: Folder<'_>,
     folder: &str,
     name: &'a str,
 ) -> Result<AsTold<'a>, RunFault> {
-    let file = file_of(rt, folder, name, RUN).map_err(RunFault::Unread)?;
+    let file = file_of(examples.rt, folder, name, RUN).map_err(RunFault::Unread)?;
     let text = str::from_utf8(&file).map_err(|_| RunFault::Form)?;
-    compare_run(rt.alloc(), threads, name, text)
+    compare_run(examples.rt.alloc(), threads, &examples, name, text)
 }
 
 /// Makes all runs of the folder, up to the first that does not come to what its file says. Answers whether
 /// all do.
 fn compare_runs<R: thread::Threads + Sync>(
-    rt: &HostRuntime,
     threads: &R,
+    examples: Folder<'_>,
     folder: &str,
 ) -> io::Result<bool> {
+    let rt = examples.rt;
     let names = names_in(rt, folder, RUN)?;
     if names.is_empty() {
         eprintln!(rt; "examples: no run in {folder}")?;
         return Ok(false);
     }
     for name in &names {
-        match compare_file(rt, threads, folder, name.as_str()) {
+        match compare_file(threads, examples, folder, name.as_str()) {
             Ok(told) => println!(rt; "{told}")?,
             Err(fault) => {
                 eprintln!(rt; "examples: {name}{RUN}: {fault}")?;
@@ -149,7 +152,7 @@ fn compare_folder<R: thread::Threads + Sync>(
     let runs = format!(in rt.alloc(); "{folder}/{RUNS}")?;
     let is_well = compare_all(rt, &crews.0, &crews.1, folder)?
         && compare_all(rt, &crews.0, &crews.1, &cases)?
-        && compare_runs(rt, threads, &runs)?;
+        && compare_runs(threads, Folder { rt, path: folder }, &runs)?;
     Ok(is_well)
 }
 

@@ -1,5 +1,6 @@
 //! Runs of `sbibench` by the words of a command line, over streams in memory (README.md, "Runs").
 
+use crate::files::Folder;
 use crate::streams::{Input, Output, Room};
 use bench_judge::line_apart;
 use bench_program::{Pipe, run_on};
@@ -73,6 +74,8 @@ struct Run<'a> {
     status: u8,
     streams: Streams,
     input: &'a str,
+    /// Whether only the end of the output is told.
+    is_end: bool,
     output: &'a str,
     faults: &'a str,
 }
@@ -110,6 +113,14 @@ fn output_of(text: &str) -> Option<Room> {
     Some(Room { bytes, ..ALL })
 }
 
+/// Whether only the end of an output is told, by what stands behind its name.
+fn end_of(text: &str) -> Option<bool> {
+    if text.is_empty() {
+        return Some(false);
+    }
+    if text == " ends" { Some(true) } else { None }
+}
+
 /// The run that a file asks for: its words, its status and its streams, a line each; then what is said of it
 /// up to the input, and the input, the output and the faults, each behind a line of its name.
 fn run_of(text: &str) -> Option<Run<'_>> {
@@ -117,22 +128,37 @@ fn run_of(text: &str) -> Option<Run<'_>> {
     let (status, text) = text.split_once('\n')?;
     let (streams, text) = text.split_once('\n')?;
     let (_said, text) = text.split_once("--- input\n")?;
-    let (input, text) = text.split_once("--- output\n")?;
+    let (input, text) = text.split_once("--- output")?;
+    let (end, text) = text.split_once('\n')?;
     let (output, faults) = text.split_once("--- error\n")?;
     Some(Run {
         words,
         status: status.strip_prefix("status ")?.parse().ok()?,
         streams: streams_of(streams)?,
         input,
+        is_end: end_of(end)?,
         output,
         faults,
     })
+}
+
+/// Compares what the run wrote, or the end of it.
+fn compare_output(run: &Run<'_>, written: &[u8]) -> Result<(), RunFault> {
+    let told = run.output.as_bytes();
+    if run.is_end && written.ends_with(told) {
+        return Ok(());
+    }
+    match line_apart(written, told) {
+        None => Ok(()),
+        Some(line) => Err(RunFault::Output(line)),
+    }
 }
 
 /// Makes the run with an output that holds back so many bytes, and compares what comes of it.
 fn compare_held<R: Threads + Sync>(
     alloc: Global,
     threads: &R,
+    files: &Folder<'_>,
     run: &Run<'_>,
     held_back: usize,
 ) -> Result<(), RunFault> {
@@ -149,6 +175,7 @@ fn compare_held<R: Threads + Sync>(
     let status = run_on(
         alloc,
         threads,
+        files,
         words.as_slice(),
         input,
         &mut out,
@@ -157,25 +184,24 @@ fn compare_held<R: Threads + Sync>(
     if status != run.status {
         return Err(RunFault::Status(status));
     }
-    if let Some(line) = line_apart(out.get_ref().get_ref().taken(), run.output.as_bytes()) {
-        return Err(RunFault::Output(line));
-    }
+    compare_output(run, out.get_ref().get_ref().taken())?;
     if let Some(line) = line_apart(faults.taken(), run.faults.as_bytes()) {
         return Err(RunFault::Faults(line));
     }
     Ok(())
 }
 
-/// Makes the run that the text asks for, with an output as a terminal is and as a pipe is. `Ok` where each
+/// Makes the run that the text asks for, with payload files of that folder, and with an output as a terminal is and as a pipe is. `Ok` where each
 /// time the status and both outputs are those of the text.
 pub fn compare_run<'a, R: Threads + Sync>(
     alloc: Global,
     threads: &R,
+    files: &Folder<'_>,
     name: &'a str,
     text: &str,
 ) -> Result<AsTold<'a>, RunFault> {
     let run = run_of(text).ok_or(RunFault::Form)?;
-    compare_held(alloc, threads, &run, 0)?;
-    compare_held(alloc, threads, &run, 65_536)?;
+    compare_held(alloc, threads, files, &run, 0)?;
+    compare_held(alloc, threads, files, &run, 65_536)?;
     Ok(AsTold { name })
 }

@@ -1,1 +1,4 @@
 mod Beside
+mod Pushed
+mod Kept
+mod KeptFiles

@@ -3,8 +3,6 @@
 use Rattle.std.specs.Prelude.{ℕ}
 use Rattle.disk.specs.Facts.{Facts, counted}
 use Rattle.disk.specs.FaultState.{FaultState}
-use Rattle.simdisk.specs.declared.SimDisk.{SimDisk}
-use Rattle.simdisk.specs.contracts.device.SimDiskDisk.TheImpl as sim_disk
 
 -- the facts of a disk beside which a file failed so often
 abbrev pub facts_beside : ℕ → Facts → Facts

@@ -1,21 +1,26 @@
 //! The disk in memory with its file.
-ghost use Rattle.std.specs.Prelude.{◌≡◌, ◌<◌, ◌^◌, IfOk, map};
-ghost use Rattle.disk.specs.Facts.{Unchanged, InRow, Joined, Passes, Stays, counted, nothing, lane_failures};
+ghost use Rattle.std.specs.Prelude.{◌≡◌, ◌<◌, ◌^◌, IfOk, OnOk, map};
+ghost use Rattle.disk.specs.Facts.{Content, Unchanged, InRow, Joined, Only, Passes, Stays, Torn, counted, nothing, lane_failures, lent_sectors};
+ghost use Rattle.disk.specs.Calls.{MakesCalls};
 ghost use Rattle.disk.specs.FaultState.{CausedInLanes};
+ghost use Rattle.simdisk.specs.WriteLog.{ranges};
+ghost use Rattle.file_disk.specs.Files.{AreMarks, EverAllowed, IfKnown, IfKnown-prop, IsDurable, IsKeptIn, LeavesNoMore};
+ghost use Rattle.std.proofs.Props.{props};
 
 use crate::file::SectorFile;
 use crate::pushing::{Stretch, mark, push};
 use disk::{ArmedFault, Disk, Fault, Lane, Sector};
-use simdisk::{SimDisk, SimLane};
+use simdisk::{Logged, SimDisk, SimLane, exactly_the_model};
 use std::alloc::{AllocError, Global};
 
 /// A disk in memory that is kept in a file.
 ///
 /// What it promises is what the disk in memory promises, and a failure of the file is a failure of the disk,
 /// which counts it. Each sync first writes into the file, in place, the sectors that were written since the last
-/// one, and makes the file durable; only then is anything durable in memory. So a process that is killed leaves
-/// a file which holds what a power cut may leave. Of the file itself no clause speaks: what it keeps is the
-/// system's.
+/// one, and makes the file durable; only then is anything durable in memory. So a process that is killed, or a
+/// host that crashes, leaves a file which holds what a power cut may leave. That is proved over any file of which
+/// something is known ([`SectorFile`]): of a file of the system it says that the calls are made of it that a file
+/// which keeps its word needs.
 #[derive(Drop)]
 pub struct FileDisk<F: SectorFile + Drop> {
     memory: SimDisk,
@@ -24,11 +29,17 @@ pub struct FileDisk<F: SectorFile + Drop> {
     lent: Stretch,
     failed: u64,
     ghost few: { failed < 2 ^ 64 },
+    ghost marked: { AreMarks marks.items lent.first lent.count (⟦<SimDisk as Disk>⟧.facts memory)
+        (ranges (⟦<SimDisk as Logged>⟧.log memory).written) },
+    ghost kept: { IfKnown (F.file_facts file) (IsKeptIn marks.items (⟦<SimDisk as Disk>⟧.facts memory)) } by { IfKnown-prop (F.file_facts file) (IsKeptIn marks.items (⟦<SimDisk as Disk>⟧.facts memory)) (λ f. Prim.hlevel props) },
 }
 
 impl<F: SectorFile + Drop> FileDisk<F> {
-    /// The disk in memory with this file, which holds just its sectors. At `Err` memory was refused.
+    /// The disk in memory with this file, which holds just its sectors, all of them durable. At `Err` memory was
+    /// refused.
     pub fn new(alloc: Global, memory: SimDisk, file: F) -> Result<FileDisk<F>, AllocError>
+        requires none_out { (⟦<SimDisk as Disk>⟧.facts memory).lent.lanes ≡ 0 }
+        requires durable { IfKnown (F.file_facts file) (IsDurable (⟦<SimDisk as Disk>⟧.facts memory).content) }
         ensures same { IfOk result (λ disk. Unchanged (⟦<SimDisk as Disk>⟧.facts memory)
             (⟦<FileDisk<F> as Disk>⟧.facts disk)) }
     {
@@ -42,10 +53,27 @@ impl<F: SectorFile + Drop> FileDisk<F> {
         })
     }
 
-    /// The file, as the disk leaves it.
-    pub fn into_file(self) -> F {
+    /// The file, as the disk leaves it: each content that a crash may leave in it now, or might have left at any
+    /// moment since the disk was made, is one that the disk may leave, or might have left.
+    pub fn into_file(self) -> F
+        ensures now { IfKnown (F.file_facts result) (LeavesNoMore (⟦<FileDisk<F> as Disk>⟧.facts self)) }
+        ensures ever { IfKnown (F.file_facts result) (EverAllowed (⟦<FileDisk<F> as Disk>⟧.facts self)) }
+    {
+        exactly_the_model(&self.memory);
         self.file
     }
+}
+
+/// A disk that is kept in a file.
+pub trait Filed {
+    ghost use Rattle.file_disk.specs.Files.{FileKnown};
+
+    /// What is known of that file.
+    ghost file: { Self → FileKnown };
+}
+
+impl<F: SectorFile + Drop> Filed for FileDisk<F> {
+    ghost file = { λ d. F.file_facts d.file };
 }
 
 impl<F: SectorFile + Drop> Disk for FileDisk<F> {
@@ -71,12 +99,30 @@ impl<F: SectorFile + Drop> Disk for FileDisk<F> {
 
     fn write(&mut self, first: usize, sectors: &[Sector]) -> Result<(), Fault> {
         let count = sectors.len();
+        let Ok(()) = self.memory.write(first, sectors) else {
+            return Err(Fault);
+        };
         mark(&mut self.marks, Stretch { first, count });
-        self.memory.write(first, sectors)
+        Ok(())
     }
 
     #[tactic(auto, using(crate::proofs::Beside::file_failed))]
-    fn sync(&mut self) -> Result<(), Fault> {
+    fn sync(&mut self) -> Result<(), Fault>
+        ensures durable { OnOk result
+            ((⟦<FileDisk<F> as Disk>⟧.facts self.old).lent.lanes ≡ 0
+            → Only (⟦<FileDisk<F> as Disk>⟧.facts self.new).content (⟦<FileDisk<F> as Disk>⟧.facts self.new).may_leave) }
+        ensures but_lent { OnOk result
+            ((c : Content) → (⟦<FileDisk<F> as Disk>⟧.facts self.new).may_leave c
+            → Torn (⟦<FileDisk<F> as Disk>⟧.facts self.old).lent.first
+            (lent_sectors (⟦<FileDisk<F> as Disk>⟧.facts self.old).lent)
+            (⟦<FileDisk<F> as Disk>⟧.facts self.new).content c) }
+        ensures called { MakesCalls 1 Stays (⟦<FileDisk<F> as Disk>⟧.facts self.old) (⟦<FileDisk<F> as Disk>⟧.facts self.new)
+            (⟦<FileDisk<F> as Disk>⟧.fault_state self.old) (⟦<FileDisk<F> as Disk>⟧.fault_state self.new) result }
+        // A crash leaves in the file what the disk's content is, and nothing else.
+        ensures file { OnOk result (IfKnown (⟦<FileDisk<F> as Filed>⟧.file self.new)
+            (λ f. Only (⟦<FileDisk<F> as Disk>⟧.facts self.new).content f.may_leave)) }
+    {
+        exactly_the_model(&self.memory);
         let Ok(()) = push(&mut self.file, self.memory.content(), &mut self.marks) else {
             self.failed = self.failed.saturating_add(1);
             return Err(Fault);
@@ -91,8 +137,11 @@ impl<F: SectorFile + Drop> Disk for FileDisk<F> {
         each: usize,
     ) -> Result<Vec<SimLane>, AllocError> {
         let count = lanes * each;
+        let Ok(out) = self.memory.split(first, lanes, each) else {
+            return Err(AllocError);
+        };
         self.lent = Stretch { first, count };
-        self.memory.split(first, lanes, each)
+        Ok(out)
     }
 
     fn join(&mut self, lanes: Vec<SimLane>)
@@ -110,8 +159,10 @@ impl<F: SectorFile + Drop> Disk for FileDisk<F> {
             (⟦<FileDisk<F> as Disk>⟧.fault_state self.new)
             (lane_failures (map ⟦<SimLane as Lane>⟧.lane_facts lanes.items)) }
     {
-        mark(&mut self.marks, self.lent);
+        exactly_the_model(&self.memory);
         self.memory.join(lanes);
+        mark(&mut self.marks, self.lent);
+        self.lent = Stretch { first: 0, count: 0 };
     }
 
     fn failures(&self) -> u64 {

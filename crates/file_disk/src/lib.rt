@@ -4,7 +4,11 @@
 
 mod file;
 mod filed;
+mod memory_file;
+mod past;
 mod pushing;
 
 pub use file::SectorFile;
-pub use filed::FileDisk;
+pub use filed::{FileDisk, Filed};
+pub use memory_file::{FileFate, MemoryFile};
+pub use past::Past;

@@ -13,7 +13,10 @@ use Rattle.sbi.specs.declared.words.Word.{Word}
 use Rattle.sbi.specs.declared.words.Word.TheVariants.{Goes, Over}
 use Rattle.sbi_calls.specs.declared.tables.Seats.{Seats}
 use Rattle.sbi_calls.specs.declared.tables.Tables.{Tables}
-use Rattle.sbi_calls.specs.Both.{GivesBack, Acts, AreSeatsOfBoth}
+use Rattle.hsm.specs.Calls.{Sits}
+use Rattle.hsm_steps.specs.States.{IsBetweenCalls}
+use Rattle.hsm_steps.specs.declared.view.Stage.TheVariants.{Out, Running, Suspended, Quiet}
+use Rattle.sbi_calls.specs.Both.{GivesBack, Acts, AreSeatsOfBoth, views}
 use Rattle.susp.specs.declared.buses.Doze.{Doze}
 use Rattle.susp.specs.declared.sleeps.Sleep.{Sleep}
 use Rattle.susp.specs.declared.sleeps.Sleep.TheVariants.{ToRam, ToDisk}
@@ -27,6 +30,7 @@ use Rattle.sbi_calls.specs.Both.{Known}
 use Rattle.hart_threads.specs.Looks.{Looked}
 use Rattle.hart_threads.specs.Seated.{StandsAfterTurn, StandsAfter}
 use Rattle.hart_threads.specs.Threads.{Seated, seated, HeldOnce, IsDozeBy, ComesOnce, OwnOnce, DozeOnce, TurnOnceBy, TurnOnce, TurnsOn, LoopOnce, loop_goes_on}
+use Rattle.hart_threads.specs.declared.loops.Why.{Why}
 use Rattle.hart_threads.specs.declared.loops.Why.TheVariants as whys
 
 -- ---- nothing was done yet
@@ -62,6 +66,34 @@ pub stands_over : (by : ℕ) (s : Seats) (word : Word) (doze : Option Doze) → 
 stands_over by s (Goes did) doze e stands = let n : ⊥ = cc in absurd n
 stands_over by s (Over ends.Asleep) doze e stands = inr stands
 stands_over by s (Over (ends.Reset kind)) doze e stands = inl stands
+
+-- at some stage, whatever ended its loop
+rests_sits : (by : ℕ) (s : Seats) (doze : Option Doze) → RestsBy doze by s → Sits by (views s)
+rests_sits by s None (inl a, b) = (Out, a)
+rests_sits by s None (inr (inl a), b) = (Running, a)
+rests_sits by s None (inr (inr a), b) = (Suspended, a)
+rests_sits by s (Some d) (a, b) = (Quiet, a)
+
+pub sits_after : (by : ℕ) (s : Seats) (why : Why) (doze : Option Doze) → StandsAfter why doze by s → Sits by (views s)
+sits_after by s whys.Life doze (inl a) = (Running, a.0)
+sits_after by s whys.Life doze (inr a) = (Quiet, a.0)
+sits_after by s whys.Closed doze a = rests_sits by s doze a
+sits_after by s whys.Gate doze a = rests_sits by s doze a
+sits_after by s whys.Turns doze a = rests_sits by s doze a
+
+-- it has no start in flight, and is not in the midst of an entry
+rests_between : (by : ℕ) (s : Seats) (doze : Option Doze) → RestsBy doze by s → IsBetweenCalls by (views s)
+rests_between by s None (inl a, b) = inl a
+rests_between by s None (inr (inl a), b) = inr (inl a)
+rests_between by s None (inr (inr a), b) = inr (inr (inl a))
+rests_between by s (Some d) (a, b) = inr (inr (inr a))
+
+pub between_after : (by : ℕ) (s : Seats) (why : Why) (doze : Option Doze) → StandsAfter why doze by s → IsBetweenCalls by (views s)
+between_after by s whys.Life doze (inl a) = inr (inl a.0)
+between_after by s whys.Life doze (inr a) = inr (inr (inr a.0))
+between_after by s whys.Closed doze a = rests_between by s doze a
+between_after by s whys.Gate doze a = rests_between by s doze a
+between_after by s whys.Turns doze a = rests_between by s doze a
 
 -- ---- one turn
 -- of a hart that does not doze

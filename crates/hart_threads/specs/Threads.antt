@@ -1,7 +1,7 @@
 -- A hart's turns on a thread of its own: each turn's own steps on the tables and what came of it, whatever
 -- the other threads do between two of them. Source: docs/THREADS.md; docs/BOARD.md, "A turn of a hart".
 use Rattle.std.specs.Prelude.{◌≡◌, ◌⊎◌, ◌<◌, ℕ, zero, suc, Bool, true, false, List, [], Option, Some, None, Result, Ok, Err}
-use Rattle.board_model.specs.Durable.{ends_life as ends_the_life}
+use Rattle.board_model.specs.Durable.{DurableState, ends_life as ends_the_life}
 use Rattle.board_model.specs.Views.{change_in}
 use Rattle.board_model.specs.declared.durable.Entry.{Entry}
 use Rattle.board_model.specs.Shapes.{Size}
@@ -23,6 +23,7 @@ use Rattle.sbi_calls.specs.declared.words.Did.TheVariants.{Idle, Resumed, Next, 
 use Rattle.sbi_calls.specs.declared.words.Turned.{Turned}
 use Rattle.sbi_calls.specs.declared.words.Turned.TheVariants.{Made, Durable}
 use Rattle.shared_store.specs.Called.{AsksDoze, IsToldBy}
+use Rattle.shared_store.specs.Legal.{IsToldOf}
 use Rattle.susp.specs.Checks.{IsChecked}
 use Rattle.susp.specs.Dozes.{dozing}
 use Rattle.susp.specs.Sleeps.{AreUnclaimed}
@@ -148,13 +149,15 @@ TurnsOn size answers hears (suc n) a b =
     (mid : Seated) × (word : Word) × TurnsOn size answers hears n a mid × TurnOnce size mid b word None
     × (loop_goes_on word ≡ true) × answers n true × hears n
 
--- A loop of at most so many turns made that many, and ended so: by the life's end, which its last turn told;
--- by the gate, which said so before the loop had made all; or with the last of them.
+-- A loop of at most so many turns made that many, and ended so: by the life's end, which its last turn told; by what
+-- ended all loops, before it had made all; by the gate, which said so before then; or with the last of them.
 abbrev pub LoopOnce : Size → (ℕ → Bool → Type 0) → (ℕ → Type 0) → ℕ → ℕ → Seated → Seated → Why → Option (ℕ × Entry) → Type 0
 LoopOnce size answers hears turns made a b whys.Life told =
     (n : ℕ) × (mid : Seated) × (word : Word) × (made ≡ suc n)
     × TurnsOn size answers hears n a mid × TurnOnce size mid b word told × (loop_goes_on word ≡ false)
     × answers n true × hears n
+LoopOnce size answers hears turns made a b whys.Closed told =
+    TurnsOn size answers hears made a b × (made < turns) × (told ≡ None)
 LoopOnce size answers hears turns made a b whys.Gate told =
     TurnsOn size answers hears made a b × (made < turns) × (told ≡ None) × answers made false
 LoopOnce size answers hears turns made a b whys.Turns told =
@@ -168,3 +171,7 @@ is_end entry = ends_the_life (change_in entry [])
 abbrev pub ends_life : Option (ℕ × Entry) → Bool
 ends_life None = true
 ends_life (Some t) = is_end t.1
+
+-- in a life that began in that state such a command may stand at that place of its journal, which ends with it
+abbrev pub EndsLife : DurableState → ℕ → Entry → Type 0
+EndsLife found n entry = IsToldOf found n entry × (is_end entry ≡ true)

@@ -1,46 +1,49 @@
 //! The harts' threads and the console, until all have ended.
 
-ghost use Rattle.std.specs.Prelude.{◌≡◌, ◌≤◌, ◌<◌, ◌+◌, [], Some, All, IfOk, IfErr, vec_len, vec_capacity};
+ghost use Rattle.std.specs.Prelude.{◌≡◌, ◌≤◌, ◌<◌, ◌+◌, ℕ, [], true, false, Some, All, IfOk, IfErr, vec_len, vec_capacity};
 ghost use Rattle.board_model.specs.declared.refusal.Refusal.TheVariants.{Memory};
 ghost use Rattle.sbi_calls.specs.Both.{AreTablesOf};
 ghost use Rattle.machine.specs.Held.{IsHeld};
 ghost use Rattle.hart_threads.specs.Seated.{IsSeated};
 
-use crate::gates::{Gate, UntilOver};
-use crate::loops::{Ended, Why, hart_loop};
+use crate::closing::Closing;
+use crate::ends::{Rested, at_rest};
+use crate::gates::Gate;
+use crate::loops::{Why, hart_loop};
 use crate::seated::{Acting, seat_harts};
 use crate::shared::{HartLocal, SharedBoard};
+use crate::threaded::Threaded;
+use crate::works::{Rooms, Stop, on_threads};
 use board_model::Refusal;
 use disk::Disk;
 use hart::Hart;
 use sbi_calls::{Seats, Tables};
-use shared_store::{Journal, Part};
+use shared_store::Part;
 use std::alloc::{AllocError, Global};
 use std::sync::Wait;
-use std::sync::atomic::{AtomicBool, Ordering};
-use std::thread::{self, JoinHandle, Threads};
+use std::thread::Threads;
 use susp::Doze;
 
 /// What comes back where no console could be begun.
 #[derive(Drop)]
-pub struct Undriven<J: Journal, E: Drop> {
+pub struct Undriven<'a, J: Threaded, E: Drop> {
     /// What the console was to be given.
     pub ends: E,
     /// Why.
     pub refusal: Refusal,
     /// The loops, which have ended: of each hart, or none.
-    pub loops: Vec<Ended<J>>,
+    pub loops: Vec<Rested<'a, J>>,
     /// The parts that no loop had; they were told nothing.
     pub parts: Vec<Part<J>>,
 }
 
 /// No loop was begun.
-fn unbegun<J: Journal, E: Drop>(
+fn unbegun<'a, J: Threaded, E: Drop>(
     alloc: Global,
     refusal: Refusal,
     parts: Vec<Part<J>>,
     ends: E,
-) -> Undriven<J, E>
+) -> Undriven<'a, J, E>
     ensures refused { (result.ends ≡ ends) × (result.refusal ≡ refusal) }
     ensures loops { vec_len result.loops ≡ 0 }
     ensures parts { result.parts.items ≡ parts.items }
@@ -57,25 +60,30 @@ fn unbegun<J: Journal, E: Drop>(
 /// all threads have ended.
 ///
 /// The harts, seats, tables and bus are those of a board's parts, and `doze` is the doze of that bus, of which its hart
-/// is given a copy: it is read before the bus goes behind its lock. Once a loop ended with the life, the
-/// gate that the other loops see is shut: each ends before its next turn. The console goes on until it
-/// returns by itself, and where it returns first the harts run out their turns, as far as the gate lets them.
+/// is given a copy: it is read before the bus goes behind its lock. Once a loop ended with the life, each other one
+/// ends before its next turn. The console goes on until it returns by itself, and where it returns first the harts
+/// run out their turns, unless it halts them by the board's `closing`, and as far as the gate lets them.
+///
+/// A loop that ended with its turns made all that the life gives each hart, which is `turns`; one that ended before has
+/// what ended it.
 ///
 /// The console is given `ends`, as its input and its output, and what it gives back comes back with the loops
 /// that ended, one for each hart. Each has one of `parts`, which were told nothing yet. Refused `Memory` where
 /// there is no room for the harts' seats, or where a thread could not be started: the loops of all harts have
 /// then ended, or none has begun, and the console was not called.
 pub fn drive<
+    'c,
     R: Threads + Wait + Sync,
+    G: Gate + Sync,
     D: Disk + Drop + Send,
-    J: Journal + Send + Sync,
+    J: Threaded + Send + Sync,
     E: Drop,
     T: Drop,
     K: FnOnce(E) -> T,
 >(
     rt: &R,
-    gate: &(dyn Gate + Sync),
-    board: SharedBoard<'_, D, J, crew::Threads<'_, R>>,
+    gate: &G,
+    board: SharedBoard<'_, 'c, D, J, crew::Threads<'_, R>>,
     harts: Vec<Hart>,
     seats: Seats,
     doze: Option<Doze>,
@@ -83,9 +91,11 @@ pub fn drive<
     parts: Vec<Part<J>>,
     ends: E,
     console: K,
-) -> Result<(Vec<Ended<J>>, T), Undriven<J, E>>
+) -> Result<(Vec<Rested<'c, J>>, T), Undriven<'c, J, E>>
     requires console { K.IsAlwaysCallable console }
     requires board { board.shape.now ≡ J.size }
+    requires turns { turns ≡ J.turns }
+    requires gated { (h n : ℕ) → G.answers gate.now h n false → J.gated ≡ true }
     requires parts { vec_len parts ≡ vec_len harts }
     requires fresh { All (λ p. p.told ≡ []) parts.items }
     requires held { IsHeld board.shape.now harts.items board.tables.now (Some seats) doze }
@@ -95,104 +105,145 @@ pub fn drive<
     ensures back { IfErr result (λ e. vec_len e.loops + vec_len e.parts ≡ vec_len harts) }
     ensures fresh { IfErr result (λ e. All (λ p. p.told ≡ []) e.parts.items) }
 {
-    match seat_harts(board.saving.alloc, harts, seats, doze, board.tables) {
-        Ok(all) => run_all(rt, gate, board, all, turns, parts, ends, console),
-        Err(refusal) => Err(unbegun(board.saving.alloc, refusal, parts, ends)),
+    let alloc = board.saving.alloc;
+    let all = match seat_harts(alloc, harts, seats, doze, board.tables) {
+        Ok(all) => all,
+        Err(refusal) => return Err(unbegun(alloc, refusal, parts, ends)),
+    };
+    let many = all.len();
+    let Ok(rooms) = Rooms::new(alloc, many) else {
+        return Err(unbegun(alloc, Refusal::Memory, parts, ends));
+    };
+    let Ok(room) = Vec::with_capacity(alloc, many) else {
+        return Err(unbegun(alloc, Refusal::Memory, parts, ends));
+    };
+    let (works, parts) = works_of(rt, gate, board, all, parts, turns, room);
+    let done = on_threads(
+        rt,
+        board.closing,
+        rooms,
+        works,
+        &|work|
+            requires { IsSeated work.board.tables.now work.acting.hart.id work.acting.seats work.acting.doze }
+        { loop_of(work) },
+        ends,
+        console,
+    );
+    match done {
+        Ok(done) => Ok(done),
+        Err((loops, ends)) => Err(Undriven {
+            ends,
+            refusal: Refusal::Memory,
+            loops,
+            parts,
+        }),
     }
 }
 
-/// The same, for harts with seats of their own.
-fn run_all<
-    R: Threads + Wait + Sync,
-    D: Disk + Drop + Send,
-    J: Journal + Send + Sync,
-    E: Drop,
-    T: Drop,
-    K: FnOnce(E) -> T,
->(
-    rt: &R,
-    gate: &(dyn Gate + Sync),
-    board: SharedBoard<'_, D, J, crew::Threads<'_, R>>,
-    all: Vec<Acting>,
+/// A hart's loop, with all that it runs on.
+#[derive(Drop)]
+struct HartWork<'r, 'g, 'a, 'c, 's, R, G: Gate, D: Disk + Drop, J: Threaded> {
+    rt: &'r R,
+    gate: &'g G,
+    board: SharedBoard<'a, 'c, D, J, crew::Threads<'s, R>>,
+    acting: Acting,
+    part: Part<J>,
     turns: u64,
-    parts: Vec<Part<J>>,
-    ends: E,
-    console: K,
-) -> Result<(Vec<Ended<J>>, T), Undriven<J, E>>
-    requires console { K.IsAlwaysCallable console }
-    requires board { board.shape.now ≡ J.size }
-    requires parts { vec_len parts ≡ vec_len all }
-    requires fresh { All (λ p. p.told ≡ []) parts.items }
-    requires tables { AreTablesOf board.shape.now board.tables.now }
-    requires seated { All (λ a. IsSeated board.tables.now a.hart.id a.seats a.doze) all.items }
-    ensures said { IfOk result (λ r. K.post console ends r.1) }
-    ensures loops { IfOk result (λ r. vec_len r.0 ≡ vec_len all) }
-    ensures refused { IfErr result (λ e. (e.ends ≡ ends) × (e.refusal ≡ Memory)) }
-    ensures back { IfErr result (λ e. vec_len e.loops + vec_len e.parts ≡ vec_len all) }
-    ensures fresh { IfErr result (λ e. All (λ p. p.told ≡ []) e.parts.items) }
-{
-    let over = AtomicBool::new(false);
-    let over = &over;
-    thread::scope(
-        thread::scope_env(),
-        rt,
-        move |scope| -> Result<(Vec<Ended<J>>, T), Undriven<J, E>>
-            requires { K.IsAlwaysCallable console × (board.shape.now ≡ J.size) × AreTablesOf board.shape.now board.tables.now
-                × All (λ a. IsSeated board.tables.now a.hart.id a.seats a.doze) all.items
-                × (vec_len parts ≡ vec_len all) × All (λ p. p.told ≡ []) parts.items }
-            ensures { IfOk result (λ r. K.post console ends r.1 × (vec_len r.0 ≡ vec_len all))
-                × IfErr result (λ e. (e.ends ≡ ends) × (e.refusal ≡ Memory)
-                × (vec_len e.loops + vec_len e.parts ≡ vec_len all) × All (λ p. p.told ≡ []) e.parts.items) }
-        {
-            let Ok((mut handles, mut loops)) = rooms::<J>(board.saving.alloc, all.len()) else {
-                return Err(unbegun(board.saving.alloc, Refusal::Memory, parts, ends));
-            };
-            let mut parts = parts;
-            let mut unstarted = false;
-            for acting in all {
-                let part = next_part(&mut parts);
-                known_seated(&acting, board.tables);
-                let started = scope.spawn(
-                    move || -> Ended<J>
-                        requires { (board.shape.now ≡ J.size) × AreTablesOf board.shape.now board.tables.now
-                            × IsSeated board.tables.now acting.hart.id acting.seats acting.doze × (part.told ≡ []) }
-                    {
-                        let (hart, local) = taken(acting, part, board.tables);
-                        let gate = UntilOver { gate, over };
-                        let ended = hart_loop(rt, &gate, board, hart, local, turns);
-                        if ended.why == Why::Life {
-                            over.store(true, Ordering::SeqCst);
-                        }
-                        ended
-                    },
-                );
-                match started {
-                    Ok(handle) => handles.push_reserved(handle),
-                    // Its loop ends before its first turn.
-                    Err(refused) => {
-                        over.store(true, Ordering::SeqCst);
-                        loops.push_reserved((refused.value)());
-                        unstarted = true;
-                    }
-                }
-            }
-            if unstarted {
-                let loops = joined(rt, handles, loops);
-                let refusal = Refusal::Memory;
-                return Err(Undriven {
-                    ends,
-                    refusal,
-                    loops,
-                    parts,
-                });
-            }
-            let said = console(ends);
-            Ok((joined(rt, handles, loops), said))
-        },
-    )
+    ghost sized: { board.shape.now ≡ J.size },
+    ghost tables: { AreTablesOf board.shape.now board.tables.now },
+    ghost fresh: { part.told ≡ [] },
+    ghost given: { turns ≡ J.turns },
+    ghost gated: { (h n : ℕ) → G.answers gate.now h n false → J.gated ≡ true },
 }
 
-/// What is known of a hart that comes out of the list of all, before its thread takes it.
+/// The hart's loop, and the end of the life where that ended it.
+fn loop_of<
+    'r,
+    'g,
+    'a,
+    'c,
+    's,
+    R: Threads + Wait + Sync,
+    G: Gate + Sync,
+    D: Disk + Drop + Send,
+    J: Threaded + Send + Sync,
+>(work: HartWork<'r, 'g, 'a, 'c, 's, R, G, D, J>) -> Rested<'c, J>
+    requires { IsSeated work.board.tables.now work.acting.hart.id work.acting.seats work.acting.doze }
+{
+    let HartWork {
+        rt,
+        gate,
+        board,
+        acting,
+        part,
+        turns,
+    } = work;
+    let Acting { hart, seats, doze } = acting;
+    let local = HartLocal { seats, doze, part };
+    let ended = hart_loop(rt, gate, board, hart, local, turns);
+    if ended.why == Why::Life {
+        board.closing.end_life(&ended.told);
+    }
+    at_rest(ended, board.tables)
+}
+
+impl<J: Threaded> Stop for Closing<J> {
+    fn stop(&self) {
+        self.halt();
+    }
+}
+
+/// The loops of those harts, each with one of the parts, and the parts that are left.
+fn works_of<
+    'r,
+    'g,
+    'a,
+    'c,
+    's,
+    R: Threads + Wait + Sync,
+    G: Gate + Sync,
+    D: Disk + Drop + Send,
+    J: Threaded + Send + Sync,
+>(
+    rt: &'r R,
+    gate: &'g G,
+    board: SharedBoard<'a, 'c, D, J, crew::Threads<'s, R>>,
+    all: Vec<Acting>,
+    parts: Vec<Part<J>>,
+    turns: u64,
+    room: Vec<HartWork<'r, 'g, 'a, 'c, 's, R, G, D, J>>,
+) -> (Vec<HartWork<'r, 'g, 'a, 'c, 's, R, G, D, J>>, Vec<Part<J>>)
+    requires board { board.shape.now ≡ J.size }
+    requires turns { turns ≡ J.turns }
+    requires gated { (h n : ℕ) → G.answers gate.now h n false → J.gated ≡ true }
+    requires tables { AreTablesOf board.shape.now board.tables.now }
+    requires seated { All (λ a. IsSeated board.tables.now a.hart.id a.seats a.doze) all.items }
+    requires parts { vec_len parts ≡ vec_len all }
+    requires fresh { All (λ p. p.told ≡ []) parts.items }
+    requires room { (vec_len room ≡ 0) × (vec_capacity room ≡ vec_len all) }
+    ensures all { vec_len result.0 ≡ vec_len all }
+    ensures none { vec_len result.1 ≡ 0 }
+    ensures seated { All (λ w. IsSeated w.board.tables.now w.acting.hart.id w.acting.seats w.acting.doze)
+        result.0.items }
+    ensures fresh { All (λ p. p.told ≡ []) result.1.items }
+{
+    let (mut works, mut parts) = (room, parts);
+    for acting in all {
+        let part = next_part(&mut parts);
+        known_seated(&acting, board.tables);
+        works.push_reserved(HartWork {
+            rt,
+            gate,
+            board,
+            acting,
+            part,
+            turns,
+        });
+    }
+    (works, parts)
+}
+
+/// What is known of a hart that comes out of the list of all.
 fn known_seated(acting: &Acting, tables: &Tables)
     requires { IsSeated tables.now acting.now.hart.id acting.now.seats acting.now.doze }
     ensures { IsSeated tables.now acting.now.hart.id acting.now.seats acting.now.doze }
@@ -201,19 +252,8 @@ fn known_seated(acting: &Acting, tables: &Tables)
     let _ = tables;
 }
 
-/// A hart, and what it has beside its registers.
-fn taken<J: Journal>(acting: Acting, part: Part<J>, tables: &Tables) -> (Hart, HartLocal<J>)
-    requires { IsSeated tables.now acting.hart.id acting.seats acting.doze }
-    ensures seated { IsSeated tables.now result.0.id result.1.seats result.1.doze }
-    ensures part { result.1.part ≡ part }
-{
-    let _ = tables;
-    let Acting { hart, seats, doze } = acting;
-    (hart, HartLocal { seats, doze, part })
-}
-
 /// One of the parts.
-fn next_part<J: Journal>(parts: &mut Vec<Part<J>>) -> Part<J>
+fn next_part<J: Threaded>(parts: &mut Vec<Part<J>>) -> Part<J>
     requires some { 0 < vec_len parts.old }
     requires fresh { All (λ p. p.told ≡ []) parts.old.items }
     ensures told { result.told ≡ [] }
@@ -224,36 +264,4 @@ fn next_part<J: Journal>(parts: &mut Vec<Part<J>>) -> Part<J>
         unreachable!()
     };
     part
-}
-
-/// The threads of so many loops.
-type Handles<J> = Vec<JoinHandle<Ended<J>>>;
-
-/// Room for so many threads, and for what they give back.
-fn rooms<J: Journal + Send>(
-    alloc: Global,
-    harts: usize,
-) -> Result<(Handles<J>, Vec<Ended<J>>), AllocError>
-    ensures handles { IfOk result (λ r. (vec_len r.0 ≡ 0) × (vec_capacity r.0 ≡ harts)) }
-    ensures loops { IfOk result (λ r. (vec_len r.1 ≡ 0) × (vec_capacity r.1 ≡ harts)) }
-{
-    let handles = Vec::with_capacity(alloc, harts)?;
-    let loops = Vec::with_capacity(alloc, harts)?;
-    Ok((handles, loops))
-}
-
-/// Those loops, and then those of the threads, in their order.
-fn joined<R: Threads + Wait, J: Journal + Send + Sync>(
-    rt: &R,
-    handles: Handles<J>,
-    loops: Vec<Ended<J>>,
-) -> Vec<Ended<J>>
-    requires { vec_len loops + vec_len handles ≤ vec_capacity loops }
-    ensures { vec_len result ≡ vec_len loops + vec_len handles }
-{
-    let mut loops = loops;
-    for handle in handles {
-        loops.push_reserved(handle.join(rt));
-    }
-    loops
 }

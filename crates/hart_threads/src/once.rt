@@ -11,12 +11,13 @@ ghost use Rattle.hart_threads.specs.Threads.{HeldOnce, IsDozeBy};
 
 use crate::dozes::doze_by;
 use crate::shared::{HartLocal, SharedBoard};
+use crate::threaded::Threaded;
 use crew::Crew;
 use disk::Disk;
 use hart::{Hart, Outcome};
 use sbi::Word;
 use sbi_calls::Seats;
-use shared_store::{Journal, Part, Told};
+use shared_store::{Part, Told};
 use std::sync::{Mutex, Wait};
 use susp::Bus;
 use turns::MemoryBus;
@@ -43,9 +44,9 @@ impl<'a, R: Wait> MemoryBus for SharedBus<'a, R> {
 /// The durable call at which a hart stands, made in one hold of the bus and of the store. The bus is taken
 /// first: whoever takes both does so, and no thread that holds the store waits for the bus. Where the board then
 /// dozes, the hart has a copy of its doze.
-pub(crate) fn call_locked<R: Wait, D: Disk + Drop, J: Journal, C: Crew>(
+pub(crate) fn call_locked<R: Wait, D: Disk + Drop, J: Threaded, C: Crew>(
     rt: &R,
-    board: SharedBoard<'_, D, J, C>,
+    board: SharedBoard<'_, '_, D, J, C>,
     hart: &mut Hart,
     seats: Seats,
     part: Part<J>,

@@ -1,5 +1,7 @@
 //! What the threads of a board's harts share, and what each has of its own.
 
+use crate::closing::Closing;
+use crate::threaded::Threaded;
 use board_model::Shape;
 use disk::Disk;
 use sbi_calls::{Seats, Tables};
@@ -10,19 +12,20 @@ use store::Saving;
 use susp::{Bus, Doze};
 
 /// A board as the threads of its harts share it: the two tables, whose words change in single steps, the bus and the
-/// store, each behind its lock, and what an image is written with.
-pub struct SharedBoard<'a, D: Disk + Drop, J: Journal, C> {
+/// store, each behind its lock, what ends the loops of all harts, and what an image is written with.
+pub struct SharedBoard<'a, 'c, D: Disk + Drop, J: Threaded, C> {
     pub saving: Saving<'a, C>,
     pub tables: &'a Tables,
     pub shape: &'a Shape,
     pub bus: &'a Mutex<Bus>,
     pub store: &'a Mutex<SharedStore<D, J>>,
+    pub closing: &'c Closing<J>,
 }
 
-impl<'a, D: Disk + Drop, J: Journal, C> Copy for SharedBoard<'a, D, J, C> {}
+impl<'a, 'c, D: Disk + Drop, J: Threaded, C> Copy for SharedBoard<'a, 'c, D, J, C> {}
 
-impl<'a, D: Disk + Drop, J: Journal, C> Clone for SharedBoard<'a, D, J, C> {
-    fn clone(&self) -> Result<SharedBoard<'a, D, J, C>, AllocError> {
+impl<'a, 'c, D: Disk + Drop, J: Threaded, C> Clone for SharedBoard<'a, 'c, D, J, C> {
+    fn clone(&self) -> Result<SharedBoard<'a, 'c, D, J, C>, AllocError> {
         Ok(*self)
     }
 }

@@ -1,6 +1,6 @@
 //! Boards that sleep in their RAM, on threads (docs/THREADS.md, "A doze").
 
-ghost use Rattle.std.specs.Prelude.{◌≡◌, ◌+◌, [], Some, IfOk, IfSome};
+ghost use Rattle.std.specs.Prelude.{◌≡◌, ◌+◌, [], true, Some, IfOk, IfSome};
 ghost use Rattle.store.specs.Views.{found_state};
 ghost use Rattle.machine.specs.Held.{IsHeld};
 ghost use Rattle.receipts.specs.Views.{id_of, parts_of};
@@ -13,20 +13,23 @@ use board_console::console;
 use board_model::{CallWords, Command, HartId, RAM_BASE, Reason, Shape};
 use crew::Sequential;
 use disk::ArmedFault;
-use hart_threads::{Ended, Gate, SharedBoard, Why, drive};
+use hart_threads::{AfterConsole, Closing, Ended, Gate, Rested, SharedBoard, Threaded, Why, drive};
 use machine::{Did, Word};
 use rv_decode::Reg;
-use shared_store::{Heard, Journal, NewBook, Unshared};
+use shared_store::{Heard, NewBook, Unshared};
 use simdisk::SimDisk;
 use std::alloc::Global;
 use std::marker::Brand;
 use std::process::Abort;
 use std::sync::atomic::{AtomicBool, AtomicU64, Ordering};
-use std::sync::{Mutex, Wait};
+use std::sync::{Mutex, OnceLock, Wait};
 use std::test::*;
 use std::thread::{self, Threads};
 use std::time::{Clock, Duration};
 use store::Saving;
+
+/// More turns than a test has time for.
+const ENDLESS: u64 = 1_000_000_000_000;
 
 /// Two jumps to themselves.
 const WAITER: [u8; 8] = [0x6f, 0x00, 0x00, 0x00, 0x6f, 0x00, 0x00, 0x00];
@@ -187,7 +190,7 @@ impl Gate for UntilWoken {
 /// board woken.
 type Woken = (u64, u64, u64, Why, u64, u64);
 
-fn woken<J: Journal>(ended: &Ended<J>) -> Woken {
+fn woken<J: Threaded>(ended: &Ended<'_, J>) -> Woken {
     (
         ended.hart.reg(Reg::new(10)),
         ended.hart.reg(Reg::new(11)),
@@ -199,10 +202,10 @@ fn woken<J: Journal>(ended: &Ended<J>) -> Woken {
 }
 
 /// How the loop of that hart ended.
-fn ended_of<J: Journal>(loops: Vec<Ended<J>>, number: usize) -> Option<Woken> {
-    for ended in loops {
-        if ended.hart.id().index() == number {
-            return Some(woken(&ended));
+fn ended_of<J: Threaded>(loops: Vec<Rested<'_, J>>, number: usize) -> Option<Woken> {
+    for rested in loops {
+        if rested.ended.hart.id().index() == number {
+            return Some(woken(&rested.ended));
         }
     }
     None
@@ -219,21 +222,25 @@ fn driven<R: Threads + Wait + Clock + Sync>(
     requires begun { IsBegun shape.now parts.store }
 {
     let book = NewBook::new(alloc, shape.harts() + 2)?;
-    driven_as::<Brand, R>(rt, alloc, parts, book, shape)
+    let lock = OnceLock::new();
+    driven_as::<Brand, R>(rt, alloc, parts, book, lock, ENDLESS, shape)
 }
 
 /// The same, of a journal that has a name.
-fn driven_as<J: Journal + Send + Sync, R: Threads + Wait + Clock + Sync>(
+fn driven_as<J: Threaded + Send + Sync, R: Threads + Wait + Clock + Sync>(
     rt: &R,
     alloc: Global,
     parts: Parts<SimDisk>,
     book: NewBook,
+    lock: OnceLock<AfterConsole>,
+    turns: u64,
     shape: &Shape,
 ) -> Result<(Vec<u8>, Option<Woken>), Fail>
     requires held { IsHeld shape.now parts.harts.items parts.tables (Some parts.seats) parts.bus.doze }
     requires begun { IsBegun shape.now parts.store }
     requires named { (J.size ≡ shape.now) × (J.found ≡ found_state parts.store) × (J.issued ≡ []) }
     requires book { (id_of book ≡ J.book) × (parts_of book ≡ J.parts) × (J.parts ≡ shape.now.harts + 2) }
+    requires driven { (lock.id ≡ J.parting) × (turns ≡ J.turns) × (J.gated ≡ true) }
 {
     let Parts {
         harts,
@@ -248,6 +255,7 @@ fn driven_as<J: Journal + Send + Sync, R: Threads + Wait + Clock + Sync>(
     let doze = bus.doze;
     let bus = Mutex::new(bus);
     let store = Mutex::new(whole.share());
+    let closing = Closing::new(lock);
     let crew = crew::Threads::new(rt);
     let gate = UntilWoken::new();
     let (rung, shared, waits) = (&bus, &store, &gate);
@@ -258,6 +266,7 @@ fn driven_as<J: Journal + Send + Sync, R: Threads + Wait + Clock + Sync>(
         shape: &size,
         bus: &bus,
         store: &store,
+        closing: &closing,
     };
     let done = drive(
         rt,
@@ -266,7 +275,7 @@ fn driven_as<J: Journal + Send + Sync, R: Threads + Wait + Clock + Sync>(
         harts,
         seats,
         doze,
-        1_000_000_000_000,
+        turns,
         given,
         (part, Vec::new(alloc)),
         move |ends| {

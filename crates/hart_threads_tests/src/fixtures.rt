@@ -1,6 +1,6 @@
 //! Boards that are about to be run, and gates.
 
-ghost use Rattle.std.specs.Prelude.{◌≡◌, ◌+◌, [], All, Some, IfOk, IfSome};
+ghost use Rattle.std.specs.Prelude.{◌≡◌, ◌+◌, [], true, All, Some, IfOk, IfSome};
 ghost use Rattle.board_model.specs.Durable.{formatted as new_state};
 ghost use Rattle.store.specs.Leaves.{IsIdle, LeavesOnly};
 ghost use Rattle.store.specs.Views.{found_state};
@@ -11,13 +11,13 @@ ghost use Rattle.hart_threads_tests.specs.Begun.{IsBegun};
 use board::{Board, Parts, Payloads};
 use board_model::{BootMode, HartId, Shape, Slot};
 use disk::Disk;
-use hart_threads::{Gate, SharedBoard, drive};
+use hart_threads::{AfterConsole, Closing, Gate, SharedBoard, Threaded, drive};
 use shared_store::{Journal, NewBook, Part, Unshared};
 use simdisk::SimDisk;
 use std::alloc::Global;
 use std::marker::Brand;
 use std::process::Abort;
-use std::sync::{Mutex, Wait};
+use std::sync::{Mutex, OnceLock, Wait};
 use std::test::Fail;
 use std::thread::Threads;
 use store::{Saving, Store, format};
@@ -129,18 +129,22 @@ pub fn driven<R: Threads + Wait + Sync>(
     ensures { IsIdle (⟦<SimDisk as Disk>⟧.facts result.1) }
 {
     match NewBook::new(alloc, shape.harts() + 1) {
-        Ok(book) => driven_as::<Brand, R>(rt, alloc, gate, parts, book, shape, turns),
+        Ok(book) => {
+            let lock = OnceLock::new();
+            driven_as::<Brand, R>(rt, alloc, gate, parts, book, lock, shape, turns)
+        }
         Err(_) => (false, store_of(parts).into_disk()),
     }
 }
 
 /// The same, of a journal that has a name.
-fn driven_as<J: Journal + Send + Sync, R: Threads + Wait + Sync>(
+fn driven_as<J: Threaded + Send + Sync, R: Threads + Wait + Sync>(
     rt: &R,
     alloc: Global,
     gate: &(dyn Gate + Sync),
     parts: Parts<SimDisk>,
     book: NewBook,
+    lock: OnceLock<AfterConsole>,
     shape: &Shape,
     turns: u64,
 ) -> (bool, SimDisk)
@@ -148,6 +152,7 @@ fn driven_as<J: Journal + Send + Sync, R: Threads + Wait + Sync>(
     requires begun { IsBegun shape.now parts.store }
     requires named { (J.size ≡ shape.now) × (J.found ≡ found_state parts.store) × (J.issued ≡ []) }
     requires book { (id_of book ≡ J.book) × (parts_of book ≡ J.parts) × (J.parts ≡ shape.now.harts + 1) }
+    requires driven { (lock.id ≡ J.parting) × (turns ≡ J.turns) × (J.gated ≡ true) }
     ensures { IsIdle (⟦<SimDisk as Disk>⟧.facts result.1) }
 {
     let Parts {
@@ -164,6 +169,7 @@ fn driven_as<J: Journal + Send + Sync, R: Threads + Wait + Sync>(
     let doze = bus.doze;
     let bus = Mutex::new(bus);
     let store = Mutex::new(whole.share());
+    let closing = Closing::new(lock);
     let crew = crew::Threads::new(rt);
     let size = *shape;
     let board = SharedBoard {
@@ -172,10 +178,11 @@ fn driven_as<J: Journal + Send + Sync, R: Threads + Wait + Sync>(
         shape: &size,
         bus: &bus,
         store: &store,
+        closing: &closing,
     };
     let done = drive(
         rt,
-        gate,
+        &gate,
         board,
         harts,
         seats,

@@ -1,6 +1,6 @@
 //! One loop, by how it ends.
 
-ghost use Rattle.std.specs.Prelude.{◌≡◌, ◌+◌, [], Some};
+ghost use Rattle.std.specs.Prelude.{◌≡◌, ◌+◌, [], true, Some};
 ghost use Rattle.store.specs.Views.{found_state};
 ghost use Rattle.machine.specs.Held.{IsHeld};
 ghost use Rattle.receipts.specs.Views.{id_of, parts_of};
@@ -9,12 +9,15 @@ ghost use Rattle.hart_threads_tests.specs.Begun.{IsBegun};
 use crate::fixtures::{Open, next_part, parts_of, same};
 use board::Parts;
 use board_model::{Command, HartId, Shape};
-use hart_threads::{Acting, Gate, HartLocal, SharedBoard, Why, hart_loop, seat_harts};
+use hart_threads::{
+    Acting, AfterConsole, Closing, Gate, HartLocal, SharedBoard, Threaded, Why, hart_loop,
+    seat_harts,
+};
 use shared_store::{Heard, Journal, NewBook, Part, SharedStore, Unshared};
 use simdisk::SimDisk;
 use std::alloc::Global;
 use std::marker::Brand;
-use std::sync::{Mutex, Wait};
+use std::sync::{Mutex, OnceLock, Wait};
 use std::test::*;
 use std::thread::Threads;
 use store::Saving;
@@ -53,7 +56,8 @@ pub fn looped<R: Threads + Wait + Sync, G: Gate>(
     requires begun { IsBegun shape.now parts.store }
 {
     let book = NewBook::new(alloc, shape.harts() + 1)?;
-    looped_as::<Brand, R, G>(rt, alloc, gate, parts, book, shape, commands, turns)
+    let lock = OnceLock::new();
+    looped_as::<Brand, R, G>(rt, alloc, gate, parts, book, lock, shape, commands, turns)
 }
 
 /// Issues these commands, whatever they are answered.
@@ -67,12 +71,13 @@ fn issue<J: Journal>(store: &mut SharedStore<SimDisk, J>, part: Part<J>, command
 }
 
 /// The same, of a journal that has a name.
-fn looped_as<J: Journal + Send + Sync, R: Threads + Wait + Sync, G: Gate>(
+fn looped_as<J: Threaded + Send + Sync, R: Threads + Wait + Sync, G: Gate>(
     rt: &R,
     alloc: Global,
     gate: &G,
     parts: Parts<SimDisk>,
     book: NewBook,
+    lock: OnceLock<AfterConsole>,
     shape: &Shape,
     commands: &[Command],
     turns: u64,
@@ -81,6 +86,7 @@ fn looped_as<J: Journal + Send + Sync, R: Threads + Wait + Sync, G: Gate>(
     requires begun { IsBegun shape.now parts.store }
     requires named { (J.size ≡ shape.now) × (J.found ≡ found_state parts.store) × (J.issued ≡ []) }
     requires book { (id_of book ≡ J.book) × (parts_of book ≡ J.parts) × (J.parts ≡ shape.now.harts + 1) }
+    requires driven { (lock.id ≡ J.parting) × (turns ≡ J.turns) × (J.gated ≡ true) }
 {
     let Parts {
         harts,
@@ -96,6 +102,7 @@ fn looped_as<J: Journal + Send + Sync, R: Threads + Wait + Sync, G: Gate>(
     let mut shared = whole.share();
     issue(&mut shared, boot, commands);
     let store = Mutex::new(shared);
+    let closing = Closing::new(lock);
     let crew = crew::Threads::new(rt);
     let size = *shape;
     let board = SharedBoard {
@@ -104,6 +111,7 @@ fn looped_as<J: Journal + Send + Sync, R: Threads + Wait + Sync, G: Gate>(
         shape: &size,
         bus: &bus,
         store: &store,
+        closing: &closing,
     };
     let mut ends = Vec::new(alloc);
     for acting in seat_harts(alloc, harts, seats, doze, &tables)? {

@@ -1,7 +1,9 @@
 //! The disk's file, which one session has at a time.
 
+use crate::written::{make_beside, path_beside};
+use board_model::Refusal;
 use board_options::Options;
-use command_line::{ProgramFault, file_fault, memory_fault};
+use command_line::{FileFault, not_regular};
 use std::fs::{self, File, OpenOptions, TryLockError};
 use std::io::{self, ErrorKind};
 use std::os::unix::fs::MetadataExt;
@@ -11,59 +13,84 @@ use std::os::unix::fs::MetadataExt;
 pub struct Held {
     /// The path of the file, behind what symbolic links lead there.
     pub path: String,
-    /// None where it could not be opened or made and is to be replaced: that fault comes when it is.
-    pub file: Option<File>,
+    /// Open for reading and writing.
+    pub file: File,
 }
 
 /// The path to which symbolic links lead, or the path as it is where nothing stands there.
-fn real_path(rt: &HostRuntime, path: &str) -> Result<String, ProgramFault> {
+fn real_path(rt: &HostRuntime, path: &str) -> Result<String, FileFault> {
     match fs::canonicalize(rt, path) {
         Ok(found) => Ok(found.into_string()),
-        Err(_) => path.to_string(rt.alloc()).map_err(memory_fault),
+        Err(_) => {
+            path.to_string(rt.alloc())
+                .map_err(|_| FileFault::refused(Refusal::Memory))
+        }
     }
 }
 
 /// The file as this session's: a fault where another session has it, or has just put another one in its place, and
 /// where it is no regular file. The lock goes with the process, so that of a session that was killed locks nobody
 /// out. Where a file system has no locks there is none.
-pub fn locked(rt: &HostRuntime, path: &str, file: File) -> Result<File, ProgramFault> {
+pub fn locked(rt: &HostRuntime, path: &str, file: File) -> io::Result<File> {
     if let Err(TryLockError::WouldBlock) = file.try_lock() {
-        return Err(ProgramFault::File);
+        return Err(io::Error::other("another session has it"));
     }
-    let here = file.metadata().map_err(file_fault)?;
-    let there = fs::metadata(rt, path).map_err(file_fault)?;
-    if here.is_file() && here.dev() == there.dev() && here.ino() == there.ino() {
+    let here = file.metadata()?;
+    let there = fs::metadata(rt, path)?;
+    if !here.is_file() {
+        return Err(not_regular());
+    }
+    if here.dev() == there.dev() && here.ino() == there.ino() {
         Ok(file)
     } else {
-        Err(ProgramFault::File)
+        Err(io::Error::other("another session has replaced it"))
     }
 }
 
 /// The file that stands at that path, or an empty one where none stands and a new disk is asked for. It is open for
-/// writing too where it is to be kept along with the disk that it has.
-fn opened(rt: &HostRuntime, path: &str, options: &Options) -> io::Result<File> {
+/// writing too: a file that may not be written is no disk of a session, also where another one would be put in its
+/// place.
+fn opened(rt: &HostRuntime, path: &str, is_new: bool) -> io::Result<File> {
+    if let Ok(found) = fs::metadata(rt, path) {
+        if !found.is_file() {
+            return Err(not_regular());
+        }
+    }
     let mut how = OpenOptions::new();
     how.read(true);
-    how.write(options.sync && !options.new);
-    match how.open(rt, path) {
-        Err(e) if options.new && e.kind() == ErrorKind::NotFound => File::create_new(rt, path),
-        found => found,
-    }
+    how.write(true);
+    let file = match how.open(rt, path) {
+        Err(e) if is_new && e.kind() == ErrorKind::NotFound => {
+            how.create_new(true);
+            how.open(rt, path)?
+        }
+        found => found?,
+    };
+    locked(rt, path, file)
+}
+
+/// Tries whether the folder takes the file that is to be put into the place of the disk's, so that nobody is told so
+/// only when commands were made. What it makes it removes.
+fn try_beside(rt: &HostRuntime, held: &Held) -> Result<(), FileFault> {
+    let beside = path_beside(rt, held)?;
+    let tried = match make_beside(rt, held, &beside) {
+        Ok(_file) => fs::remove_file(rt, beside.as_str()),
+        Err(e) => Err(e),
+    };
+    tried.map_err(|e| FileFault::new(rt.alloc(), &beside, e))
 }
 
 /// Takes the disk's file for this session. What is there and no regular file, as a device or a folder, is a
-/// fault, and so is a file that another session has.
-pub fn hold(rt: &HostRuntime, options: &Options) -> Result<Held, ProgramFault> {
+/// fault, and so is a file that another session has, and one that could not be written or replaced at the end.
+pub fn hold(rt: &HostRuntime, options: &Options) -> Result<Held, FileFault> {
     let path = real_path(rt, &options.disk)?;
-    if let Ok(found) = fs::metadata(rt, path.as_str()) {
-        if !found.is_file() {
-            return Err(ProgramFault::File);
-        }
-    }
-    let file = match opened(rt, &path, options) {
-        Ok(file) => Some(locked(rt, &path, file)?),
-        Err(e) if options.new && e.kind() != ErrorKind::AlreadyExists => None,
-        Err(e) => return Err(file_fault(e)),
+    let file = match opened(rt, &path, options.new) {
+        Ok(file) => file,
+        Err(e) => return Err(FileFault::new(rt.alloc(), &path, e)),
     };
-    Ok(Held { path, file })
+    let held = Held { path, file };
+    if !options.sync {
+        try_beside(rt, &held)?;
+    }
+    Ok(held)
 }

@@ -6,7 +6,7 @@
 mod disk_file;
 mod held;
 mod operates;
-mod payload_files;
+mod told;
 mod written;
 
 use crate::operates::operate;

@@ -1,19 +1,17 @@
 //! The disk's file, written beside and renamed.
 
 use crate::held::{Held, locked};
-use command_line::{ProgramFault, file_fault, memory_fault};
+use board_model::Refusal;
+use command_line::FileFault;
 use disk::Sector;
 use simdisk::SimDisk;
 use std::fs::{self, File};
-use std::io::{self, BufWriter, Write};
+use std::io::{self, BufWriter, Seek, SeekFrom, Write};
 use std::os::unix::fs::{FileExt, MetadataExt, fchown};
 use std::path::Path;
 
-/// Whether the file holds just these sectors.
-fn holds(file: &File, sectors: &[Sector]) -> io::Result<bool> {
-    if file.metadata()?.len() != (sectors.len() as u64).saturating_mul(512) {
-        return Ok(false);
-    }
+/// Whether the file begins with just these sectors.
+fn begins_with(file: &File, sectors: &[Sector]) -> io::Result<bool> {
     let mut at = 0u64;
     let mut found: Sector = [0; 512];
     for sector in sectors {
@@ -26,27 +24,58 @@ fn holds(file: &File, sectors: &[Sector]) -> io::Result<bool> {
     Ok(true)
 }
 
+/// So many sectors, in bytes.
+fn bytes_of(sectors: usize) -> u64 {
+    (sectors as u64).saturating_mul(512)
+}
+
+/// Whether nothing is to be written: the file holds the disk. What stands behind that in the file of a disk that was
+/// there is not the disk's; behind a new disk nothing stands.
+fn holds(file: &File, sectors: &[Sector], is_new: bool) -> io::Result<bool> {
+    let length = file.metadata()?.len();
+    let whole = bytes_of(sectors.len());
+    if length < whole || is_new && length != whole {
+        return Ok(false);
+    }
+    begins_with(file, sectors)
+}
+
 /// Makes an empty file at that path, in the place of a file that was left there, with the mode of the disk's, and
 /// its owner where the system lets it be given.
-fn make_beside(rt: &HostRuntime, held: &Held, beside: &str) -> io::Result<File> {
+pub fn make_beside(rt: &HostRuntime, held: &Held, beside: &str) -> io::Result<File> {
     if let Ok(left) = fs::symlink_metadata(rt, beside) {
         if left.is_file() {
             fs::remove_file(rt, beside)?;
         }
     }
     let file = File::create_new(rt, beside)?;
-    if let Ok(old) = fs::metadata(rt, held.path.as_str()) {
-        let _given = fchown(&file, Some(old.uid()), Some(old.gid()));
-        file.set_permissions(old.permissions())?;
-    }
+    let old = held.file.metadata()?;
+    let _given = fchown(&file, Some(old.uid()), Some(old.gid()));
+    file.set_permissions(old.permissions())?;
     Ok(file)
 }
 
-/// Makes a file of these sectors, and makes it durable.
-fn write_sectors(rt: &HostRuntime, file: File, sectors: &[Sector]) -> io::Result<()> {
+/// Writes what stands in a file from that byte on.
+fn copy_behind<W: Write>(mut from: File, at: u64, out: &mut W) -> io::Result<()> {
+    let _at = from.seek(SeekFrom::Start(at))?;
+    let _count = io::copy(&mut from, out)?;
+    Ok(())
+}
+
+/// Makes a file of these sectors, and behind them of what stood behind them in the file of a disk that was there;
+/// and makes it durable.
+fn write_sectors(
+    rt: &HostRuntime,
+    file: File,
+    sectors: &[Sector],
+    behind: Option<File>,
+) -> io::Result<()> {
     let mut out = BufWriter::new(rt.alloc(), file)?;
     for sector in sectors {
         out.write_all(sector)?;
+    }
+    if let Some(old) = behind {
+        copy_behind(old, bytes_of(sectors.len()), &mut out)?;
     }
     out.flush()?;
     out.get_ref().sync_all()
@@ -62,46 +91,86 @@ fn sync_folder(rt: &HostRuntime, path: &str) -> io::Result<()> {
 }
 
 /// Puts the file beside into the place of the disk's, and makes that durable.
-fn replace(rt: &HostRuntime, held: &Held, beside: &str) -> Result<(), ProgramFault> {
-    fs::rename(rt, beside, held.path.as_str()).map_err(file_fault)?;
-    sync_folder(rt, &held.path).map_err(file_fault)
+fn replace(rt: &HostRuntime, held: &Held, beside: &str) -> io::Result<()> {
+    fs::rename(rt, beside, held.path.as_str())?;
+    sync_folder(rt, &held.path)
 }
 
 /// The path of the file beside.
-fn path_beside(rt: &HostRuntime, held: &Held) -> Result<String, ProgramFault> {
+pub fn path_beside(rt: &HostRuntime, held: &Held) -> Result<String, FileFault> {
     let path = &held.path;
-    format!(in rt.alloc(); "{path}.new").map_err(memory_fault)
+    match format!(in rt.alloc(); "{path}.new") {
+        Ok(beside) => Ok(beside),
+        Err(_) => Err(FileFault::refused(Refusal::Memory)),
+    }
 }
 
-/// Writes the disk's file, where it doesn't hold just the disk: into a file beside it, named `.new`, which is then
+/// Writes the disk into the file beside. Where it cannot be written whole it is removed.
+fn write_beside(
+    rt: &HostRuntime,
+    held: &Held,
+    beside: &str,
+    sectors: &[Sector],
+    is_new: bool,
+) -> io::Result<()> {
+    let file = make_beside(rt, held, beside)?;
+    let behind = if is_new {
+        Ok(None)
+    } else {
+        held.file.try_clone().map(Some)
+    };
+    let wrote = match behind {
+        Ok(behind) => write_sectors(rt, file, sectors, behind),
+        Err(e) => Err(e),
+    };
+    if let Err(e) = wrote {
+        let _gone = fs::remove_file(rt, beside);
+        return Err(e);
+    }
+    Ok(())
+}
+
+/// Writes the disk's file, where it doesn't hold the disk: into a file beside it, named `.new`, which is then
 /// renamed over it. So a host that crashes meanwhile leaves the file as it was or as it is written, and perhaps
-/// the other one. Where the other one cannot be written whole it is removed.
-pub fn write_disk(rt: &HostRuntime, held: &Held, disk: &SimDisk) -> Result<(), ProgramFault> {
-    if let Some(file) = &held.file {
-        if let Ok(true) = holds(file, disk.content()) {
-            return Ok(());
-        }
+/// the other one. Where the other one cannot be written whole it is removed. Answers whether it was written.
+pub fn write_disk(
+    rt: &HostRuntime,
+    held: &Held,
+    disk: &SimDisk,
+    is_new: bool,
+) -> Result<(), FileFault> {
+    if let Ok(true) = holds(&held.file, disk.content(), is_new) {
+        return Ok(());
     }
     let beside = path_beside(rt, held)?;
-    let file = make_beside(rt, held, &beside).map_err(file_fault)?;
-    if let Err(e) = write_sectors(rt, file, disk.content()) {
-        let _gone = fs::remove_file(rt, beside.as_str());
-        return Err(file_fault(e));
+    if let Err(e) = write_beside(rt, held, &beside, disk.content(), is_new) {
+        return Err(FileFault::new(rt.alloc(), &beside, e));
     }
-    replace(rt, held, &beside)
+    replace(rt, held, &beside).map_err(|e| FileFault::new(rt.alloc(), &held.path, e))
 }
 
-/// Puts a blank file of so many sectors into the place of the disk's, and gives it. It is this session's before it
-/// stands there.
-pub fn blank_file(rt: &HostRuntime, held: &Held, sectors: usize) -> Result<File, ProgramFault> {
-    let beside = path_beside(rt, held)?;
-    let made = make_beside(rt, held, &beside).map_err(file_fault)?;
-    let file = locked(rt, &beside, made)?;
-    let bytes = (sectors as u64).saturating_mul(512);
-    if let Err(e) = file.set_len(bytes).and_then(|()| file.sync_all()) {
-        let _gone = fs::remove_file(rt, beside.as_str());
-        return Err(file_fault(e));
+/// A file of so many zero sectors at that path, which is this session's before it stands in the disk's place.
+fn blank_beside(rt: &HostRuntime, held: &Held, beside: &str, sectors: usize) -> io::Result<File> {
+    let file = locked(rt, beside, make_beside(rt, held, beside)?)?;
+    let made = file
+        .set_len(bytes_of(sectors))
+        .and_then(|()| file.sync_all());
+    if let Err(e) = made {
+        let _gone = fs::remove_file(rt, beside);
+        return Err(e);
     }
-    replace(rt, held, &beside)?;
     Ok(file)
+}
+
+/// Puts a blank file of so many sectors into the place of the disk's, and gives it.
+pub fn blank_file(rt: &HostRuntime, held: &Held, sectors: usize) -> Result<File, FileFault> {
+    let beside = path_beside(rt, held)?;
+    let file = match blank_beside(rt, held, &beside, sectors) {
+        Ok(file) => file,
+        Err(e) => return Err(FileFault::new(rt.alloc(), &beside, e)),
+    };
+    match replace(rt, held, &beside) {
+        Ok(()) => Ok(file),
+        Err(e) => Err(FileFault::new(rt.alloc(), &held.path, e)),
+    }
 }

@@ -1,83 +1,33 @@
-//! Files in memory, and the disks and stores that the tests begin with.
+//! The disks over files in memory, and the stores, that the tests begin with.
 ghost use Rattle.std.specs.Prelude.{◌≡◌, IfOk};
 
 use board_model::Shape;
 use disk::{Disk, Sector};
-use file_disk::{FileDisk, SectorFile};
+use file_disk::{FileDisk, FileFate, MemoryFile};
 use simdisk::SimDisk;
 use std::alloc::Global;
-use std::io::{self, ErrorKind};
 use std::test::Fail;
 use store::{Store, format};
 
-/// What becomes of a file's call and of those after it.
-#[derive(Clone, Copy, Drop, PartialEq, Eq)]
-pub enum Fate {
-    /// That call fails, and the later ones don't.
-    Fails,
-    /// That call and all later ones do nothing, as those of a process that was killed.
-    Killed,
-}
-
-/// A file in memory: its sectors as a read gives them now.
-#[derive(Drop)]
-pub struct Kept {
-    pub sectors: Vec<Sector>,
-    /// The calls until the fate comes.
-    pub left: u64,
-    pub fate: Fate,
-}
-
-impl Kept {
-    /// Whether this call is done.
-    fn called(&mut self) -> io::Result<bool> {
-        if self.left > 0 {
-            self.left -= 1;
-            return Ok(true);
-        }
-        match self.fate {
-            Fate::Killed => Ok(false),
-            Fate::Fails => {
-                self.left = u64::MAX;
-                Err(io::Error::from(ErrorKind::StorageFull))
-            }
-        }
-    }
-}
-
-impl SectorFile for Kept {
-    fn write_sector(&mut self, number: usize, sector: &Sector) -> io::Result<()> {
-        if self.called()? && number < self.sectors.len() {
-            self.sectors[number] = *sector;
-        }
-        Ok(())
-    }
-
-    fn sync(&mut self) -> io::Result<()> {
-        self.called()?;
-        Ok(())
-    }
-}
-
 /// A blank disk for that board, with a blank file.
-fn blank(alloc: Global, shape: Shape, left: u64, fate: Fate) -> Result<FileDisk<Kept>, Fail>
-    ensures { IfOk result (λ disk. (⟦<FileDisk<Kept> as Disk>⟧.facts disk).lent.lanes ≡ 0) }
+fn blank(
+    alloc: Global,
+    shape: Shape,
+    left: u64,
+    fate: FileFate,
+) -> Result<FileDisk<MemoryFile>, Fail>
+    ensures { IfOk result (λ disk. (⟦<FileDisk<MemoryFile> as Disk>⟧.facts disk).lent.lanes ≡ 0) }
 {
     let memory = SimDisk::blank(alloc, shape.sectors())?;
-    let sectors = vec![in alloc; [0; 512]; shape.sectors()]?;
-    let file = Kept {
-        sectors,
-        left,
-        fate,
-    };
+    let file = MemoryFile::of(alloc, memory.content(), left, fate)?;
     Ok(FileDisk::new(alloc, memory, file)?)
 }
 
 /// The file of a disk that was formatted for that board.
 pub fn formatted(alloc: Global, shape: Shape) -> Result<Vec<Sector>, Fail> {
-    let mut disk = blank(alloc, shape, u64::MAX, Fate::Fails)?;
+    let mut disk = blank(alloc, shape, u64::MAX, FileFate::Fails)?;
     format(&mut disk, &shape)?;
-    Ok(disk.into_file().sectors)
+    Ok(disk.into_file().found())
 }
 
 /// A disk in memory of what stands in a file.
@@ -96,18 +46,12 @@ fn over_file(
     alloc: Global,
     sectors: &[Sector],
     left: u64,
-    fate: Fate,
-) -> Result<FileDisk<Kept>, Fail>
-    ensures { IfOk result (λ disk. (⟦<FileDisk<Kept> as Disk>⟧.facts disk).lent.lanes ≡ 0) }
+    fate: FileFate,
+) -> Result<FileDisk<MemoryFile>, Fail>
+    ensures { IfOk result (λ disk. (⟦<FileDisk<MemoryFile> as Disk>⟧.facts disk).lent.lanes ≡ 0) }
 {
     let memory = read(alloc, sectors)?;
-    let mut copy = Vec::new(alloc);
-    copy.extend_from_slice(sectors)?;
-    let file = Kept {
-        sectors: copy,
-        left,
-        fate,
-    };
+    let file = MemoryFile::of(alloc, memory.content(), left, fate)?;
     Ok(FileDisk::new(alloc, memory, file)?)
 }
 
@@ -116,8 +60,8 @@ pub fn opened(
     alloc: Global,
     sectors: &[Sector],
     left: u64,
-    fate: Fate,
-) -> Result<Store<FileDisk<Kept>>, Fail> {
+    fate: FileFate,
+) -> Result<Store<FileDisk<MemoryFile>>, Fail> {
     // An open makes one call of the file, its sync.
     match Store::open(
         alloc,
@@ -128,9 +72,9 @@ pub fn opened(
     }
 }
 
-/// The file of a store, as a process that ends now leaves it.
-pub fn file_of(store: Store<FileDisk<Kept>>) -> Kept {
-    store.into_disk().into_file()
+/// The file of a store, as the next process finds it.
+pub fn file_of(store: Store<FileDisk<MemoryFile>>) -> Vec<Sector> {
+    store.into_disk().into_file().found()
 }
 
 /// The store that the next process finds in what stands in a file.

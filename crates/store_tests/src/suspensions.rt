@@ -1,23 +1,24 @@
 //! A suspension over a file: the lanes of its image come into the file too.
 
-use crate::files::{Fate, file_of, formatted, found, opened};
+use crate::files::{file_of, formatted, found, opened};
 use crate::fixtures::same;
 use board_model::{Addr, HartId, PageNo, Refusal, Shape};
 use crew::{Crew, Sequential};
 use disk::Sector;
+use file_disk::FileFate;
 use ram::Ram;
 use simdisk::SimDisk;
 use std::alloc::Global;
 use std::test::*;
 use store::{Resumption, Saving, Store};
 
-/// A memory of that board in which page k is k + 1 throughout.
+/// A memory of that board in which page k is k + 1 throughout, modulo 256.
 fn memory(alloc: Global, shape: Shape) -> Result<Ram, Fail> {
     let mut ram = Ram::new(alloc, shape)?;
-    for number in 0..5 {
+    for number in 0..256 {
         if let Some(page) = PageNo::new(number) {
             if page.number() < ram.pages() {
-                ram.fill_page(page, &[number as u8 + 1; 4096]);
+                ram.fill_page(page, &[(number as u8).wrapping_add(1); 4096]);
             }
         }
     }
@@ -32,7 +33,7 @@ fn suspended<C: Crew>(
     crew: &C,
     left: u64,
 ) -> Result<Vec<Sector>, Fail> {
-    let mut store = opened(alloc, file, left, Fate::Killed)?;
+    let mut store = opened(alloc, file, left, FileFate::Killed)?;
     let hart = HartId::new(0).ok_or(Refusal::BadShape)?;
     let address = Addr::new(0x8000_0008).ok_or(Refusal::BadShape)?;
     let at = Resumption {
@@ -41,7 +42,7 @@ fn suspended<C: Crew>(
         opaque: 77,
     };
     let _told = store.suspend(Saving { alloc, crew }, ram, at)?;
-    Ok(file_of(store).sectors)
+    Ok(file_of(store))
 }
 
 /// Whether an image is found, and if so, whether it is this memory, byte for byte.
@@ -72,5 +73,18 @@ fn a_killed_suspension_leaves_no_image_or_a_whole_one(rt: HostRuntime) -> Result
         let left_behind = suspended(alloc, &file, &ram, &crew, left)?;
         same(&rt, image_of(alloc, &left_behind, &ram)?, Some(true));
     }
+    Ok(())
+}
+
+/// Each of the 2,304 sectors that the image of 256 pages has comes into the file.
+#[test]
+fn the_image_of_the_largest_board_comes_into_the_file(rt: HostRuntime) -> Result<(), Fail> {
+    let alloc = rt.alloc();
+    let shape = Shape::new(1, 256, 1)?;
+    let file = formatted(alloc, shape)?;
+    let ram = memory(alloc, shape)?;
+    let crew = Sequential::<HostRuntime>::new([0, 1, 2, 3])?;
+    let left_behind = suspended(alloc, &file, &ram, &crew, u64::MAX)?;
+    same(&rt, image_of(alloc, &left_behind, &ram)?, Some(true));
     Ok(())
 }

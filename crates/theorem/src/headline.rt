@@ -24,10 +24,10 @@ ghost use Rattle.board.specs.Views.{store_of, machine_of};
 ghost use Rattle.machine.specs.Machine.{woken};
 ghost use Rattle.lives.specs.Events.{Event, World, new_world, Runs, Rises};
 ghost use Rattle.script_lang.specs.Scripts.{script_of, Script as Said};
-ghost use Rattle.bench_report.specs.Reports.{report_text, AreByFirmware, IsReport};
-ghost use Rattle.bench_report.specs.Prefix.{KeepsPrefixLaw};
-ghost use Rattle.bench_report.specs.AllFound.{FindsAll};
-ghost use Rattle.bench_report.specs.Bench.{Bench};
+ghost use Rattle.bench_report.specs.Reports.{report_text, AreByFirmware, IsReportWith};
+ghost use Rattle.bench_report.specs.Prefix.{KeepsPrefixLaw, MayEndIn};
+ghost use Rattle.bench_report.specs.Laws.{KeepsLaws};
+ghost use Rattle.bench_report.specs.Bench.{Bench, Formatted};
 ghost use Rattle.bench_report.specs.declared.printed.Answer.{Answer};
 ghost use Rattle.theorem.specs.Prefixes.{IsAfterFirst};
 
@@ -214,9 +214,10 @@ pub fn many_lives()
     lives();
 }
 
-/// *From the bytes of a script to those of its report.* What was written is the text of answers that keep the
-/// prefix law, where no line writes the disk past the firmware; and where the disk counted no failure, each
-/// power-on finds what all acknowledged commands make.
+/// *From the bytes of a script to those of its report.* What was written is the text of answers to the script's
+/// lines. Where no line writes the disk past the firmware, these answers keep the prefix law (`prefix`). The disk
+/// that is left is the one that they tell of: each state that a crash may leave of it ends a history that they tell
+/// (`ends`). Where it counted no failure, each power-on found what all acknowledged commands make (`all`).
 pub fn a_script<C: Crew, W: Write>(
     alloc: Global,
     script: &[u8],
@@ -225,15 +226,19 @@ pub fn a_script<C: Crew, W: Write>(
 ) -> Result<(Report, SimDisk), Stopped>
     ensures { IfOk result (λ left. (said : Said) × (answers : List Answer) × (script_of script.now ≡ Ok said)
         × Appends (W.contents out.old) (W.contents out.new) (report_text answers)
-        × (AreByFirmware said.lines → KeepsPrefixLaw said.lines answers)) }
+        × KeepsLaws said answers (⟦<SimDisk as Disk>⟧.facts left.1)) }
 {
     run_left(alloc, script, crew, out)
 }
 
-/// The same of each report that a script may have.
+/// The same of each report that a script may have, with whatever payloads it begins: the prefix law, and that each
+/// state which an open may find after its last line ends such a history.
 pub fn reports_of_scripts()
-    ensures { (said : Said) (answers : List Answer) (end : Bench) → AreByFirmware said.lines
-        → IsReport said answers end → KeepsPrefixLaw said.lines answers }
+    ensures law { (payloads : List (List ℕ)) (said : Said) (answers : List Answer) (end : Bench)
+        → AreByFirmware said.lines → IsReportWith payloads said answers end → KeepsPrefixLaw said.lines answers }
+    ensures ends { (payloads : List (List ℕ)) (said : Said) (answers : List Answer) (end : Bench)
+        → AreByFirmware said.lines → IsReportWith payloads said answers end → (t : DurableState)
+        → (end.disk_state ≡ Formatted → MayFind end.kept t) → MayEndIn t said.lines answers }
 {
     prefix_law();
 }

@@ -1,12 +1,36 @@
-use Rattle.std.proofs.Common.{◌∙◌, ap, inl}
-use Rattle.std.proofs.lemmas.Result.{on_ok_weaker}
+use Rattle.std.proofs.Common.{◌≡◌, ◌∙◌, ◌⊎◌, ℕ, List, Option, ap, inl, map}
+use Rattle.std.proofs.lemmas.Result.{on_ok_weaker, IfErr-weaker}
 use Rattle.clap.specs.Words.{kind_of}
 use Rattle.bench_program.specs.Faults.{without_work}
-use Rattle.bench_program.proofs.Ends.{nothing_more}
+use Rattle.bench_program.specs.Usage.{IsNamedBy, NamesBoth, NamesNoWork}
+use Rattle.bench_program.specs.Written.{IsFault, IsFaultOf, IsUnread}
+use Rattle.bench_program.specs.declared.fault.BenchFault.{BenchFault}
+use Rattle.bench_program.specs.declared.fault.BenchFault.TheVariants.{Refused}
+use Rattle.board_model.specs.declared.refusal.Refusal.TheVariants.{Memory}
+use Rattle.bench_program.specs.declared.usage.Options.{Options}
+use Rattle.bench_program.proofs.Ends.{nothing_more, line_fault}
+use Rattle.bench_program.proofs.Told.{of_options}
 use Rattle.bench_program.proofs.streams.run_words.Goals as goal
 
-pub returns-in-Ok : goal.returns-in-Ok
-returns-in-Ok g c = on_ok_weaker c.run_work.result (λ done. inl (c.in-Ok.work, c.in-Ok.ensures.named, done)) c.run_work.ensures
+pub returns-in-Ok-clause-done : goal.returns-in-Ok-clause-done
+returns-in-Ok-clause-done g c = on_ok_weaker c.run_options.result (λ done. inl (c.in-Ok.options, c.in-Ok.ensures.named, done)) c.run_options.ensures.done
 
-pub returns-in-Err : goal.returns-in-Err
-returns-in-Err g c = nothing_more (kind_of c.in-Err.text) c.without_work.result _ _ (c.without_work.ensures ∙ ap without_work c.show_on.ensures) c.in-Err.ensures.refused
+pub returns-in-Err-clause-done : goal.returns-in-Err-clause-done
+returns-in-Err-clause-done g c = nothing_more (kind_of c.in-Err.text) c.without_work.result _ _ _ (c.without_work.ensures ∙ ap without_work c.show_on.ensures) c.in-Err.ensures.refused
+
+-- of the work that the words name
+pub returns-in-Ok-clause-faults : goal.returns-in-Ok-clause-faults
+returns-in-Ok-clause-faults g c =
+    let words : List (List ℕ) = map g.S.AsStr.text c.args.words.now in
+    let input : Option (List ℕ) = g.I.Read.remaining c.args.input in
+    let options : Options = c.in-Ok.options in
+    let Of : BenchFault → Type 0 = λ fault. IsUnread options fault ⊎ (fault ≡ Refused Memory) ⊎ IsFaultOf options.work input fault in
+    let Any : BenchFault → Type 0 = λ fault. IsFault words input fault in
+    IfErr-weaker c.run_options.result Of Any (λ fault is. of_options words input fault options c.in-Ok.ensures.named is) c.run_options.ensures.faults
+
+pub returns-in-Err-clause-faults : goal.returns-in-Err-clause-faults
+returns-in-Err-clause-faults g c =
+    let words : List (List ℕ) = map g.S.AsStr.text c.args.words.now in
+    let input : Option (List ℕ) = g.I.Read.remaining c.args.input in
+    let Of : BenchFault → Type 0 = λ fault. (options : Options) × IsNamedBy words options × (IsUnread options fault ⊎ IsFaultOf options.work input fault) in
+    line_fault (kind_of c.in-Err.text) c.without_work.result Of (NamesNoWork words) (NamesBoth words) (c.without_work.ensures ∙ ap without_work c.show_on.ensures) c.in-Err.ensures.refused

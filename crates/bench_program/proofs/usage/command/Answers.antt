@@ -2,6 +2,7 @@ use Rattle.std.proofs.Common.{◌≡◌, ◌∙◌, true, ap, ap₂}
 use Rattle.std.proofs.lemmas.Result.{IfOk-weaker}
 use Rattle.clap.specs.Simple.{app_of_fields}
 use Rattle.clap.specs.Words.{App, app_of, with_rule}
+use Rattle.command_line.specs.Options.{with_payloads}
 use Rattle.bench_program.specs.Usage.{named_app}
 use Rattle.bench_program.proofs.usage.command.Goals as goal
 
@@ -17,4 +18,5 @@ returns c =
     let named_is : app_of c.after_help.result ≡ named_app = ap app_of_fields c.after_help.ensures ∙ a3 in
     let one = c.in_ok-arg.ensures.shape c.crew.ensures.local ∙ ap₂ with_rule named_is c.crew.ensures.rule.1 in
     let two = c.in_ok-arg-2.ensures.shape c.flag.ensures.local ∙ ap₂ with_rule one c.flag.ensures.rule in
-    IfOk-weaker c.arg-3.result _ _ (λ r h. (crews, h.shape c.flag-2.ensures.local ∙ ap₂ with_rule two c.flag-2.ensures.rule)) c.arg-3.ensures
+    let three = c.in_ok-command.ensures.shape c.flag-2.ensures.local ∙ ap₂ with_rule two c.flag-2.ensures.rule in
+    IfOk-weaker c.with_payloads.result _ _ (λ r h. (crews, h ∙ ap with_payloads three)) c.with_payloads.ensures

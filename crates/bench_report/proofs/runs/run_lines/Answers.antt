@@ -12,7 +12,6 @@ loop-line-init g c = record {
   few = omega arith;
   resting = c.requires.resting;
   calm = c.requires.calm;
-  short = c.requires.short;
   fill = refl;
   reported = λ b h. ([], b, refl, h, λ before start r. rw append-nil r);
 }
@@ -22,7 +21,6 @@ loop-line-preserved g c = record {
   few = (let few = rw c.in_default.is at c.run_line-after.ensures.few in omega (arith, few, c.loop-line.invariant.few));
   resting = c.run_line-after.ensures.resting;
   calm = rw c.in_default.is at c.run_line-after.ensures.calm;
-  short = c.run_line-after.ensures.short;
   fill = c.run_line-after.ensures.fill ∙ ap (λ (line : Line). fill_after line c.loop-line.fill) c.line-item.is ∙ ap (fill_after (get_or c.args.lines.now c.loop-line.line-index c.line-item.result)) c.loop-line.invariant.fill ∙ sym (fills_more c.args.lines.now c.loop-line.line-index c.line-item.result c.args.fill.now c.loop-line-test.true);
   reported = λ b h.
       let was = c.loop-line.invariant.reported b h in

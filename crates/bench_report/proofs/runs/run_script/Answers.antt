@@ -3,10 +3,11 @@ use Rattle.script_lang.specs.declared.line.Line.{Line}
 use Rattle.bench_report.specs.Steps.{Run}
 use Rattle.bench_report.specs.declared.printed.Answer.{Answer}
 use Rattle.bench_report.specs.declared.printed.Printed.TheVariants as printed
-use Rattle.bench_report.specs.Bench.{blank_bench}
-use Rattle.bench_report.specs.Reports.{board_answer, IsReport}
+use Rattle.bench_report.specs.Bench.{bench_with}
+use Rattle.bench_report.specs.Reports.{board_answer, IsReportWith}
 use Rattle.script_lang.specs.Views.{view}
-use Rattle.bench_report.proofs.Prefixed.{prefix_law}
+use Rattle.bench_report.proofs.Prefixed.{prefix_law, end_law}
+use Rattle.bench_report.proofs.Devices.{may_find}
 use Rattle.bench_report.proofs.Found.{all_found}
 use Rattle.bench_report.proofs.Written.{unwritten}
 use Rattle.bench_report.proofs.Told.{reported_more}
@@ -16,7 +17,7 @@ pub returns-in-Err-clause-stopped : goal.returns-in-Err-clause-stopped
 returns-in-Err-clause-stopped g c =
     let board : Answer = record { found = None; line = printed.Board c.harts.result c.pages.result c.lanes.result c.sectors.result } in
     let is_board : board ≡ board_answer c.args.script.now.shape = rw (c.harts.ensures.value, c.pages.ensures.value, c.lanes.ensures.value, c.sectors.ensures.value) refl in
-    (board ∷ [], blank_bench, (0, (is_board, refl)), c.requires.blank)
+    (board ∷ [], bench_with c.args.payloads, (0, (is_board, refl)), c.requires.blank)
 
 pub returns-in-Ok-clause-report : goal.returns-in-Ok-clause-report
 returns-in-Ok-clause-report g c =
@@ -26,9 +27,9 @@ returns-in-Ok-clause-report g c =
     let is_board : board ≡ board_answer size = rw (c.harts.ensures.value, c.pages.ensures.value, c.lanes.ensures.value, c.sectors.ensures.value) refl in
     let first = reported_more start start _ _ _ [] board (record { text = unwritten start; lines = refl; found = c.new.ensures.items }) c.in_default.ensures.ok in
     let ok = rw c.in-Ok.is at c.run_lines-power.ensures.ok in
-    let ran = ok blank_bench (c.requires.blank, c.new-payloads.ensures, refl) in
-    let P : List Line → Type 0 = λ ls. Run size blank_bench ls ran.0 ran.1 in
-    let is : IsReport (view c.args.script.now) (board ∷ ran.0) ran.1 = (is_board, subst P c.deref.ensures.value ran.2) in
+    let ran = ok (bench_with c.args.payloads) (c.requires.blank, refl, refl) in
+    let P : List Line → Type 0 = λ ls. Run size (bench_with c.args.payloads) ls ran.0 ran.1 in
+    let is : IsReportWith c.args.payloads (view c.args.script.now) (board ∷ ran.0) ran.1 = (is_board, subst P c.deref.ensures.value ran.2) in
     let left = c.disk_left-left.ensures.reported size ran.1 ran.3 in (
       board ∷ ran.0,
       ran.1,
@@ -36,8 +37,9 @@ returns-in-Ok-clause-report g c =
       ran.4 (board ∷ []) start first,
       left,
       record {
-        prefix = λ by. prefix_law (view c.args.script.now) (board ∷ ran.0) ran.1 by is;
-        all = λ by none. all_found (view c.args.script.now) (board ∷ ran.0) ran.1 by is (omega (arith, left.2.1, none));
+        prefix = λ by. prefix_law c.args.payloads (view c.args.script.now) (board ∷ ran.0) ran.1 by is;
+        ends = λ by t leaves. end_law c.args.payloads (view c.args.script.now) (board ∷ ran.0) ran.1 by is t (may_find size ran.1 c.disk_left-left.result left t leaves);
+        all = λ by none. all_found c.args.payloads (view c.args.script.now) (board ∷ ran.0) ran.1 by is (omega (arith, left.2.1, none));
       },
     )
 
@@ -47,6 +49,6 @@ returns-in-Err-ran-clause-stopped g c =
     let board : Answer = record { found = None; line = printed.Board c.harts.result c.pages.result c.lanes.result c.sectors.result } in
     let is_board : board ≡ board_answer size = rw (c.harts.ensures.value, c.pages.ensures.value, c.lanes.ensures.value, c.sectors.ensures.value) refl in
     let stopped = rw c.in-Err-ran.is at c.run_lines-power.ensures.stopped in
-    let ran = stopped blank_bench (c.requires.blank, c.new-payloads.ensures, refl) in
-    let P : List Line → Type 0 = λ ls. Run size blank_bench (take ran.0 ls) ran.1 ran.2 in
+    let ran = stopped (bench_with c.args.payloads) (c.requires.blank, refl, refl) in
+    let P : List Line → Type 0 = λ ls. Run size (bench_with c.args.payloads) (take ran.0 ls) ran.1 ran.2 in
     (board ∷ ran.1, ran.2, (ran.0, (is_board, subst P c.deref.ensures.value ran.3)), c.disk_left-left.ensures.reported size ran.2 ran.4)

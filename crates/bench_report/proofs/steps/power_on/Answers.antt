@@ -23,4 +23,4 @@ returns-in-Err-clause-reported c = λ size b h same.
     let kept : KeptLaw = record { goes_on = k.goes_on; marked = k.marked; one_size = k.one_size; sized = k.sized; opens = k.opens; formats = k.formats } in
     let blank : BlankLaw = record { unmarked = n.unmarked; stands = n.stands; opens = n.opens; formats = n.formats } in
     let e = c.in-Err.unpowered in
-    unpowered kept blank size c.args.mode b c.args.disk e.disk c.args.payloads.now e.refusal c.code.result e.found e.now h c.requires.short c.code.ensures did.off did.keeps
+    unpowered kept blank size c.args.mode b c.args.disk e.disk c.args.payloads.now e.refusal c.code.result e.found e.now h same c.code.ensures did.off did.keeps

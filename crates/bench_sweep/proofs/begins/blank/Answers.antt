@@ -1,14 +1,10 @@
 use Rattle.std.proofs.Common.{refl, sym, ◌∙◌, ap, arith, length, replicate}
 use Rattle.std.proofs.lemmas.List.{length-replicate}
-use Rattle.bench_report.specs.Bench.{blank_bench}
 use Rattle.bench_report.proofs.Sides.{zero_sides}
 use Rattle.bench_sweep.proofs.begins.blank.Goals as goal
 
-pub returns-clause-begins : goal.returns-clause-begins
-returns-clause-begins c =
+pub returns-clause-blank : goal.returns-clause-blank
+returns-clause-blank c =
     let made = c.in_ok-disk.ensures in
-    let long = ap length made.fresh.reads ∙ length-replicate c.sectors.result (replicate 512 0) in record {
-      bench = blank_bench;
-      agrees = (refl, c.blank_disks.ensures.zeros c.sectors.result c.in_ok-disk.disk made.fresh, (sym made.no_fault, omega arith, omega (arith, long, c.sectors.ensures.value), zero_sides _ c.sectors.result _ made.fresh));
-      calm = refl;
-    }
+    let long = ap length made.fresh.reads ∙ length-replicate c.sectors.result (replicate 512 0) in
+    λ start. (refl, c.blank_disks.ensures.zeros c.sectors.result c.in_ok-disk.disk made.fresh, (sym made.no_fault, omega arith, omega (arith, long, c.sectors.ensures.value), zero_sides start _ c.sectors.result _ made.fresh))

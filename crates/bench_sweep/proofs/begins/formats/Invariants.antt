@@ -1,13 +1,14 @@
-use Rattle.std.proofs.Common.{◌≡◌}
-use Rattle.bench_report.specs.Agree.{AreShort, IsResting, IsUnstruck}
-use Rattle.bench_sweep.specs.Runs.{BeginsCalm}
+use Rattle.std.proofs.Common.{◌≡◌, length, take}
+use Rattle.bench_report.specs.Agree.{IsResting, IsUnstruck}
+use Rattle.bench_sweep.specs.Made.{four_of}
+use Rattle.bench_sweep.specs.Runs.{Begins}
 use Rattle.bench_sweep.proofs.begins.formats.Given as goal
 
 abbrev pub invariant-loop-line : goal.invariant-loop-line
 invariant-loop-line g l = record {
   calm : IsUnstruck l.power;
   resting : IsResting l.power;
-  short : AreShort l.payloads;
-  begins : BeginsCalm l.setting.shape.now l.power;
+  four : length l.payloads ≡ 4;
+  begins : Begins l.setting.shape.now (four_of l.fn.payloads) (take l.line-index l.lines) l.power l.payloads;
   count : l.count ≡ l.line-index;
 }

@@ -1,10 +1,17 @@
-use Rattle.std.proofs.Common.{◌≡◌, ℕ, List, length, take}
-use Rattle.bench_sweep.specs.Reports.{Reports}
+use Rattle.std.proofs.Common.{ℕ, List, take}
+use Rattle.std.specs.List.{AllZip}
+use Rattle.bench_report.specs.Bench.{Bench}
+use Rattle.bench_report.specs.Happens.{unpowered}
+use Rattle.bench_report.specs.declared.power.Power.TheVariants.{Off}
+use Rattle.bench_sweep.specs.Points.{MadeCalls}
+use Rattle.bench_sweep.specs.Reports.{Reports, IsRow}
+use Rattle.bench_sweep.specs.Runs.{Runs}
 use Rattle.bench_sweep.specs.Swept.{all_runs, total}
 use Rattle.bench_sweep.proofs.sweeps.sweep_all_callers.Given as goal
 
 -- the runs of the callers so far are written
 abbrev pub invariant-loop-caller : goal.invariant-loop-caller
 invariant-loop-caller g l =
-    (counts : List ℕ) × (length counts ≡ l.caller-index) × Reports g.W.Write.contents l.fn.report l.report
-    (all_runs l.runner.bench (take l.caller-index l.caller-items) counts) (total counts)
+    (b : Bench) → Runs l.runner.setting.shape.now b (Off l.site.disk) l.site.payloads l.site.ledger
+    → (counts : List ℕ) × AllZip (MadeCalls l.site.disk l.end.disk) (take l.caller-index l.caller-items) counts
+    × Reports g.W.Write.contents (IsRow l.runner.setting.shape.now l.runner.bench (unpowered b) l.runner.lines.now) l.fn.report l.report (all_runs l.runner.bench (take l.caller-index l.caller-items) counts) (total counts)

@@ -1,31 +1,51 @@
-use Rattle.std.proofs.Common.{◌+◌, arith, refl}
-use Rattle.bench_sweep.proofs.Reported.{reports_none, reports_more, reports_as, reports_points, swept_take, swept_drop, stays_within}
-use Rattle.bench_sweep.proofs.Written.{next_calls, made_more}
+use Rattle.std.proofs.Common.{◌≡◌, ◌+◌, ◌-◌, ◌≤◌, ◌∙◌, length, drop, ap, arith, refl, sym}
+use Rattle.bench_sweep.proofs.Made.{none_yet, sits_at, went_more, rest_is, row_of}
+use Rattle.bench_sweep.proofs.Reported.{reports_none, reports_more, reports_as, reports_points, reports_weaker, swept_take, swept_drop, stays_within}
+use Rattle.bench_sweep.proofs.Written.{next_exact}
 use Rattle.bench_sweep.proofs.sweeps.sweep_caller.Goals as goal
 
 pub loop-from-init : goal.loop-from-init
-loop-from-init g c = record { within = omega arith; runs = c.requires.runs; wrote = (0, refl, reports_none _ _) }
+loop-from-init g c = record {
+  within = omega arith;
+  sits = c.requires.sits;
+  counts = omega arith;
+  lives = λ b r. none_yet _ b _ _ _ _ r;
+  wrote = λ b r. reports_none _ _ _;
+}
 
 pub sweep_stretch-requires-clause-lines : goal.sweep_stretch-requires-clause-lines
 sweep_stretch-requires-clause-lines g c κs within =
     let shape = c.args.runner.now.setting.shape.now in
     swept_take shape _ _ (swept_drop shape c.loop-from.from c.args.runner.now.lines.now c.requires.lines)
 
+pub sweep_stretch-requires-clause-made : goal.sweep_stretch-requires-clause-made
+sweep_stretch-requires-clause-made g c κs within = omega (arith, c.loop-from.invariant.counts)
+
 pub loop-from-preserved : goal.loop-from-preserved
 loop-from-preserved g c =
-    let did = c.in_ok-count in
-    let calls = did.field-0.calls in
-    let w = c.loop-from.invariant.wrote in record {
-      within = stays_within c.loop-from.from did.field-0.count _ c.args.runner.now.lines.now c.loop-from.invariant.within did.ensures.few;
-      runs = did.ensures.runs;
-      wrote = (
-        w.0 + calls,
-        made_more w.0 c.loop-from.made calls _ w.1 (omega (arith, c.saturating_add-made.ensures)),
-        reports_as _ _ _ _ _ _ _ (next_calls c.args.runner.now.bench c.args.caller w.0 c.loop-from.made _ calls w.1 refl) refl (reports_more _ _ _ _ _ _ _ _ w.2 did.ensures.wrote),
-      );
+    let size = c.args.runner.now.setting.shape.now in
+    let kind = c.args.runner.now.bench in
+    let lines = c.args.runner.now.lines.now in
+    let did = c.in_ok-did in
+    let calls = did.calls in
+    let count = did.did.count in
+    let from = c.loop-from.from in
+    let made = c.loop-from.made in
+    let i = c.loop-from.invariant in
+    let rest = rest_is from lines in record {
+      within = stays_within from count _ lines i.within did.ensures.few;
+      sits = did.ensures.sits;
+      counts = omega (arith, i.counts, did.ensures.calls);
+      lives = λ b r.
+          (let f = sits_at size b lines from _ _ _ c.loop-from-test.true (i.lives b r) in
+          went_more size b lines _ from count c.loop-from.site.disk did.did.next.disk _ _ _ _ rest i.within f (did.ensures.lives f.bench f.site));
+      wrote = λ b r.
+          (let f = sits_at size b lines from _ _ _ c.loop-from-test.true (i.lives b r) in
+          reports_as _ _ _ _ _ _ _ _ (next_exact kind c.args.caller made calls (omega (arith, i.counts, did.ensures.calls, did.ensures.below))) refl
+          (reports_more _ _ _ _ _ _ _ _ _ (i.wrote b r) (reports_weaker _ _ _ _ _ _ _ (row_of size kind b lines _ from c.loop-from.site.disk _ _ rest f) (did.ensures.wrote f.bench f.site))));
     }
 
 pub returns-clause-wrote : goal.returns-clause-wrote
-returns-clause-wrote g c =
-    let w = c.loop-from.invariant.wrote in
-    (w.0, reports_points _ _ c.loop-from.report _ _ w.0 w.2 refl refl (omega (arith, w.1, c.saturating_add-report.ensures)) refl refl)
+returns-clause-wrote g c = λ b r.
+    let i = c.loop-from.invariant in
+    reports_points _ _ _ c.loop-from.report _ _ c.loop-from.made (i.wrote b r) refl refl (omega (arith, c.saturating_add-report.ensures)) refl refl

@@ -1,17 +1,22 @@
-use Rattle.std.proofs.Common.{◌≡◌, ◌≤◌, ◌-◌, ℕ, length}
-use Rattle.disk.specs.Facts.{counted}
+use Rattle.std.proofs.Common.{◌≡◌, ◌≤◌, ◌+◌, ◌-◌, length}
+use Rattle.bench_report.specs.Bench.{Bench}
 use Rattle.bench_report.specs.declared.power.Power.TheVariants.{Off}
-use Rattle.bench_sweep.specs.Reports.{Reports}
-use Rattle.bench_sweep.specs.Runs.{Runs}
+use Rattle.bench_sweep.specs.Points.{calls_of}
+use Rattle.bench_sweep.specs.Reports.{Reports, IsRow}
+use Rattle.bench_sweep.specs.Runs.{Runs, Sits}
 use Rattle.bench_sweep.specs.Swept.{runs_from}
+use Rattle.bench_sweep.proofs.Made.{Went}
 use Rattle.bench_sweep.proofs.sweeps.sweep_caller.Given as goal
 
 -- the runs of the points so far are written
 abbrev pub invariant-loop-from : goal.invariant-loop-from
 invariant-loop-from g l = record {
   within : l.from ≤ length l.runner.lines.now;
-  runs : Runs l.runner.setting.shape.now (Off l.site.disk) l.site.ledger;
-  wrote : (n : ℕ) × (l.made ≡ counted 0 n) × Reports g.W.Write.contents l.fn.report l.report (runs_from l.runner.bench l.caller 1 n) 0;
+  sits : Sits l.runner.setting.shape.now l.site.disk l.site.payloads l.site.ledger;
+  counts : calls_of l.caller l.site.disk ≡ calls_of l.caller l.fn.begin.disk + l.made;
+  lives : (b : Bench) → Runs l.runner.setting.shape.now b (Off l.fn.begin.disk) l.fn.begin.payloads l.fn.begin.ledger → Went l.runner.setting.shape.now b l.runner.lines.now l.from l.site.disk l.site.payloads l.site.ledger;
+  wrote : (b : Bench) → Runs l.runner.setting.shape.now b (Off l.fn.begin.disk) l.fn.begin.payloads l.fn.begin.ledger
+      → Reports g.W.Write.contents (IsRow l.runner.setting.shape.now l.runner.bench b l.runner.lines.now) l.fn.report l.report (runs_from l.runner.bench l.caller 1 l.made) 0;
 }
 
 abbrev pub decreases-loop-from : goal.decreases-loop-from

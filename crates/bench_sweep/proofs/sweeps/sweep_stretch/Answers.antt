@@ -1,4 +1,5 @@
+use Rattle.std.proofs.Common.{arith}
 use Rattle.bench_sweep.proofs.sweeps.sweep_stretch.Goals as goal
 
-pub goes_on-requires-clause-runs : goal.goes_on-requires-clause-runs
-goes_on-requires-clause-runs g c κs within = c.from-plain.ensures.runs c.args.runner.now.setting.shape.now (c.in_ok-copy.ensures.runs c.args.runner.now.setting.shape.now c.requires.runs)
+pub run_at_calls-requires-clause-numbers : goal.run_at_calls-requires-clause-numbers
+run_at_calls-requires-clause-numbers g c κs within = let did = c.in_ok-count.ensures in omega (arith, c.requires.made, did.calls, did.below)

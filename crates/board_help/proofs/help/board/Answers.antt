@@ -2,7 +2,8 @@ use Rattle.std.proofs.Common.{◌≡◌, ◌∙◌, Bool, false, ap, ap₂, code
 use Rattle.std.proofs.lemmas.Result.{IfOk-weaker}
 use Rattle.clap.specs.Words.{rule_of, with_rule}
 use Rattle.clap.specs.declared.builder.arg.Arg.{Arg}
-use Rattle.board_help.specs.Lines.{path_rule, required}
+use Rattle.command_line.specs.Options.{path_rule}
+use Rattle.board_help.specs.Lines.{required}
 use Rattle.board_help.proofs.help.board.Goals as goal
 
 abbrev is_global : Arg → Bool

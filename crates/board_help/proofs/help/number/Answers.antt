@@ -2,7 +2,7 @@ use Rattle.std.proofs.Common.{◌≡◌, ◌∙◌, Bool, [], ◌∷◌, ap, ap�
 use Rattle.clap.specs.Words.{Rule, rule_of}
 use Rattle.clap.specs.declared.builder.arg.Arg.{Arg}
 use Rattle.clap.specs.declared.builder.value_parser.ValueParser.{ValueParser}
-use Rattle.board_help.specs.Lines.{value_rule}
+use Rattle.command_line.specs.Options.{value_rule}
 use Rattle.board_help.proofs.help.number.Goals as goal
 
 abbrev is_global : Arg → Bool

@@ -5,16 +5,44 @@ use Rattle.board_session.specs.Backs.{AreBack}
 use Rattle.board_session.proofs.Backing.{one_back}
 use Rattle.board_session.proofs.ends.gather_loops.Goals as goal
 
-pub loop-ended-preserved : goal.loop-ended-preserved
-loop-ended-preserved g c =
-    let i = c.loop-ended.invariant in
-    let e = c.in-Some.ended in
+pub loop-rested-preserved-in-Some : goal.loop-rested-preserved-in-Some
+loop-rested-preserved-in-Some g c =
+    let i = c.loop-rested.invariant in
+    let e = c.in-Some.rested.ended in
     let parts = c.gather.ensures.parts in
     let long = ap (λ (ps : List PartView). length ps) parts in
     let was = i.many in
     let fewer = c.in-Some.ensures.cases in
     record {
       store = c.gather.ensures.store ∙ i.store;
-      back = subst (λ (ps : List PartView). AreBack ps) (sym parts) (one_back e.local.part (parts_with c.loop-ended.whole) e.told e.asked e.noted i.back);
+      back = subst (λ (ps : List PartView). AreBack ps) (sym parts) (one_back e.local.part (parts_with c.loop-rested.whole) e.told e.ends e.noted i.back);
+      many = omega (arith, long, was, fewer);
+    }
+
+pub loop-rested-preserved-in-Some-2 : goal.loop-rested-preserved-in-Some-2
+loop-rested-preserved-in-Some-2 g c =
+    let i = c.loop-rested.invariant in
+    let e = c.in-Some.rested.ended in
+    let parts = c.gather.ensures.parts in
+    let long = ap (λ (ps : List PartView). length ps) parts in
+    let was = i.many in
+    let fewer = c.in-Some.ensures.cases in
+    record {
+      store = c.gather.ensures.store ∙ i.store;
+      back = subst (λ (ps : List PartView). AreBack ps) (sym parts) (one_back e.local.part (parts_with c.loop-rested.whole) e.told e.ends e.noted i.back);
+      many = omega (arith, long, was, fewer);
+    }
+
+pub loop-rested-preserved : goal.loop-rested-preserved
+loop-rested-preserved g c =
+    let i = c.loop-rested.invariant in
+    let e = c.in-Some.rested.ended in
+    let parts = c.gather.ensures.parts in
+    let long = ap (λ (ps : List PartView). length ps) parts in
+    let was = i.many in
+    let fewer = c.in-Some.ensures.cases in
+    record {
+      store = c.gather.ensures.store ∙ i.store;
+      back = subst (λ (ps : List PartView). AreBack ps) (sym parts) (one_back e.local.part (parts_with c.loop-rested.whole) e.told e.ends e.noted i.back);
       many = omega (arith, long, was, fewer);
     }

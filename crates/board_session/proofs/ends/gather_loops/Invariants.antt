@@ -3,12 +3,12 @@ use Rattle.shared_store.specs.Views.{inside, parts_with}
 use Rattle.board_session.specs.Backs.{AreBack}
 use Rattle.board_session.proofs.ends.gather_loops.Given as goal
 
-abbrev pub invariant-loop-ended : goal.invariant-loop-ended
-invariant-loop-ended g l = record {
+abbrev pub invariant-loop-rested : goal.invariant-loop-rested
+invariant-loop-rested g l = record {
   store : inside l.whole ≡ inside l.fn.whole;
   back : AreBack (parts_with l.whole);
   many : length (parts_with l.whole) + vec_len l.loops ≡ length (parts_with l.fn.whole) + vec_len l.fn.loops;
 }
 
-abbrev pub decreases-loop-ended : goal.decreases-loop-ended
-decreases-loop-ended g l = vec_len l.loops
+abbrev pub decreases-loop-rested : goal.decreases-loop-rested
+decreases-loop-rested g l = vec_len l.loops

@@ -10,28 +10,28 @@ use Rattle.hart_threads.specs.Threads.{seated, IsDozeBy}
 use Rattle.hart_threads.proofs.Looping.{stands_told, dozed, own_once, held_turn}
 use Rattle.hart_threads.proofs.loops.whole_turn.Goals as goal
 
-pub call_locked-requires-clause-acts : goal.call_locked-requires-clause-acts
-call_locked-requires-clause-acts g c κs within = subst (λ (k : ℕ). Acts k Running c.turn_by_bus-seats.result.0) (sym c.turn_by_bus-seats.ensures.id) (c.turn_by_bus-seats.ensures.asks c.in-Durable.is)
+pub call_locked-local-requires-clause-acts : goal.call_locked-local-requires-clause-acts
+call_locked-local-requires-clause-acts g c κs within = subst (λ (k : ℕ). Acts k Running c.turn_by_bus-seats.result.0) (sym c.turn_by_bus-seats.ensures.id) (c.turn_by_bus-seats.ensures.asks c.in-Durable.is)
 
 pub returns-in-Durable-clause-gives : goal.returns-in-Durable-clause-gives
 returns-in-Durable-clause-gives g c =
-    let t = c.args.board.tables.now in let s = c.args.local.seats in let s1 = c.turn_by_bus-seats.result.0 in let s2 = c.call_locked.result.0.seats in
-    gives_then t c.args.hart.now.id s s1 s2 c.turn_by_bus-seats.ensures.gives (subst (λ (k : ℕ). GivesBack t k s1 s2) c.turn_by_bus-seats.ensures.id c.call_locked.ensures.gives)
+    let t = c.args.board.tables.now in let s = c.args.local.seats in let s1 = c.turn_by_bus-seats.result.0 in let s2 = c.call_locked-local.result.0.seats in
+    gives_then t c.args.hart.now.id s s1 s2 c.turn_by_bus-seats.ensures.gives (subst (λ (k : ℕ). GivesBack t k s1 s2) c.turn_by_bus-seats.ensures.id c.call_locked-local.ensures.gives)
 
 pub returns-in-Durable-clause-stands : goal.returns-in-Durable-clause-stands
 returns-in-Durable-clause-stands g c =
-    let by = c.args.hart.now.id in let u = c.turn_by_bus-seats.new.hart in let m = c.call_locked in let s = m.result.0.seats in
+    let by = c.args.hart.now.id in let u = c.turn_by_bus-seats.new.hart in let m = c.call_locked-local in let s = m.result.0.seats in
     let acts = subst (λ (k : ℕ). Acts k (stage_told m.result.1) s) c.turn_by_bus-seats.ensures.id m.ensures.acts in
     let doze = subst (λ (k : ℕ). IsDozeBy c.args.board.shape.now (call_of u) k m.result.1 m.result.0.doze) c.turn_by_bus-seats.ensures.id m.ensures.doze in
     stands_told c.args.board.shape.now (call_of u) by u m.new.hart (known c.turn_by_bus-seats.result.0) (known s) s m.result.0.doze m.result.1 m.ensures.once doze acts
 
 pub returns-in-Durable-clause-id : goal.returns-in-Durable-clause-id
-returns-in-Durable-clause-id g c = c.call_locked.ensures.id ∙ c.turn_by_bus-seats.ensures.id
+returns-in-Durable-clause-id g c = c.call_locked-local.ensures.id ∙ c.turn_by_bus-seats.ensures.id
 
 pub returns-in-Durable-clause-once : goal.returns-in-Durable-clause-once
 returns-in-Durable-clause-once g c =
     let turn = c.turn_by_bus-seats.ensures.turns in
-    let t = c.turn_by_bus-seats in let m = c.call_locked in
+    let t = c.turn_by_bus-seats in let m = c.call_locked-local in
     held_turn c.args.board.shape.now c.args.hart.now t.new.hart m.new.hart (known c.args.local.seats) (known t.result.0) (known m.result.0.seats) c.args.local.doze m.result.0.doze c.args.looks.now
     turn.0 turn.1 t.result.1 m.result.1 m.result.2 c.in_default.is c.in-Durable.is turn.4 m.ensures.once m.ensures.told m.ensures.doze
 
@@ -44,8 +44,8 @@ returns-in-Made-clause-once g c =
 pub turn_by_bus-seats-requires-clause-hart : goal.turn_by_bus-seats-requires-clause-hart
 turn_by_bus-seats-requires-clause-hart g c = subst (λ (n : ℕ). c.args.hart.now.id < n) c.requires.tables c.requires.seated.1
 
-pub call_locked-requires-clause-hart : goal.call_locked-requires-clause-hart
-call_locked-requires-clause-hart g c κs within =
+pub call_locked-local-requires-clause-hart : goal.call_locked-local-requires-clause-hart
+call_locked-local-requires-clause-hart g c κs within =
     subst (λ (k : ℕ). k < c.args.board.shape.now.harts) (sym c.turn_by_bus-seats.ensures.id) (subst (λ (n : ℕ). c.args.hart.now.id < n) c.requires.tables c.requires.seated.1)
 
 pub turn_by_bus-seats-requires-clause-rests : goal.turn_by_bus-seats-requires-clause-rests

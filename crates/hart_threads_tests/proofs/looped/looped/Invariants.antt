@@ -1,8 +1,12 @@
-use Rattle.std.proofs.Common.{[]}
+use Rattle.std.proofs.Common.{[], true}
 use Rattle.store.specs.Views.{found_state}
 use Rattle.receipts.specs.Views.{id_of, parts_of}
 use Rattle.hart_threads_tests.proofs.looped.looped.Given as goal
 
 -- the life that the board has just begun
-abbrev pub ghosts-looped_as : goal.ghosts-looped_as
-ghosts-looped_as g a = record { found = found_state a.parts.store; size = a.shape.now; issued = []; book = id_of a.book; parts = parts_of a.book }
+abbrev pub ghosts-looped_as-J-Journal : goal.ghosts-looped_as-J-Journal
+ghosts-looped_as-J-Journal g a = record { found = found_state a.parts.store; size = a.shape.now; issued = []; book = id_of a.book; parts = parts_of a.book }
+
+-- and its harts, which the gate may end
+abbrev pub ghosts-looped_as-J-Threaded : goal.ghosts-looped_as-J-Threaded
+ghosts-looped_as-J-Threaded g a = record { turns = a.turns; parting = a.lock.id; gated = true }

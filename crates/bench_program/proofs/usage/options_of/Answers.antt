@@ -1,0 +1,17 @@
+use Rattle.std.proofs.Common.{inl, inr}
+use Rattle.clap.specs.Words.{found_of}
+use Rattle.bench_program.proofs.usage.options_of.Goals as goal
+
+pub returns-clause-named : goal.returns-clause-named
+returns-clause-named g c =
+    let parsed = c.in_ok-matches.ensures.matches in
+    let asked = c.in-Ok.ensures.named in
+    (parsed.0, found_of c.in_ok-matches.matches, asked.0, asked.1, parsed.1, asked.2, asked.3, asked.4, c.in_ok-payloads.ensures)
+
+pub returns-in-Err-clause-refused : goal.returns-in-Err-clause-refused
+returns-in-Err-clause-refused g c =
+    let parsed = c.in_ok-matches.ensures.matches in
+    elim c.in-Err.ensures.both [
+      | inl memory ↦ inl memory
+      | inr both ↦ inr (inl (both.0, (parsed.0, found_of c.in_ok-matches.matches, both.1, both.2, parsed.1, both.3, both.4, both.5)))
+    ]

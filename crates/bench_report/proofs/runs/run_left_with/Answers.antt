@@ -1,0 +1,10 @@
+use Rattle.std.proofs.Common.{refl, sym, ◌∙◌, ap, arith, length, replicate}
+use Rattle.std.proofs.lemmas.List.{length-replicate}
+use Rattle.bench_report.proofs.Sides.{zero_sides}
+use Rattle.bench_report.proofs.runs.run_left_with.Goals as goal
+
+pub run_script-requires-clause-blank : goal.run_script-requires-clause-blank
+run_script-requires-clause-blank g c κs within =
+    let made = c.in_ok-disk.ensures in
+    let long = ap length made.fresh.reads ∙ length-replicate c.sectors.result (replicate 512 0) in
+    (refl, c.blank_disks.ensures.zeros c.sectors.result c.in_ok-disk.disk made.fresh, (sym made.no_fault, omega arith, omega (arith, long, c.sectors.ensures.value), zero_sides c.args.payloads _ c.sectors.result _ made.fresh))

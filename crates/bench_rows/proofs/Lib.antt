@@ -1,0 +1,4 @@
+pub mod Turns
+pub mod Joins
+pub mod Idles
+pub mod Noted

@@ -1,0 +1,104 @@
+//! What came of turns of a hart.
+
+ghost use Rattle.std.specs.Prelude.{◌≡◌, ◌<◌, ◌+◌, ◌^◌};
+ghost use Rattle.bench_rows.specs.Rows.{goes_on, is_idle, is_idle_row, is_off, last_of, made_in, row_answer, row_then};
+
+use bench_report::{Answer, Printed};
+use board_model::HartId;
+use machine::{Did, Word};
+use machine_lines::MachineLine;
+
+/// What came of turns of a hart.
+#[derive(Clone, Copy, PartialEq, Eq, Drop)]
+pub enum Row {
+    /// The board is off, or has no such hart, and nothing was done.
+    Off,
+    /// So many were made, and this is said of the last.
+    Made(u32, Word),
+    /// So many were made, an armed cut struck in the last, and power is lost.
+    Lost(u32),
+}
+
+impl Row {
+    /// What the line `turn` of these turns answers.
+    pub fn answer(self, hart: HartId) -> Answer
+        ensures { result ≡ row_answer hart self }
+    {
+        let line = match self {
+            Row::Off => Printed::Shown(MachineLine::Off),
+            Row::Made(count, word) => Printed::Shown(MachineLine::Turn(hart, count, word)),
+            Row::Lost(_) => Printed::PowerLost,
+        };
+        Answer { found: None, line }
+    }
+
+    /// Whether no turn was made.
+    pub fn is_off(self) -> bool
+        ensures { result ≡ is_off self }
+    {
+        match self {
+            Row::Off => true,
+            Row::Made(_, _) | Row::Lost(_) => false,
+        }
+    }
+
+    /// Whether the last turn was idle.
+    pub fn is_idle(self) -> bool
+        ensures { result ≡ is_idle_row self }
+    {
+        match self {
+            Row::Made(_, word) => is_idle(word),
+            Row::Off | Row::Lost(_) => false,
+        }
+    }
+
+    /// Whether a further turn of the hart is one row with these.
+    pub fn goes_on(self) -> bool
+        ensures { result ≡ goes_on self }
+    {
+        match self {
+            Row::Made(_, word) => !word.ends_row(),
+            Row::Off | Row::Lost(_) => false,
+        }
+    }
+
+    /// The last of these turns alone.
+    pub fn last(self) -> Row
+        ensures { result ≡ last_of self }
+    {
+        match self {
+            Row::Off => Row::Off,
+            Row::Made(_, word) => Row::Made(1, word),
+            Row::Lost(_) => Row::Lost(1),
+        }
+    }
+
+    /// These turns, and then those, as one row.
+    pub fn then(self, next: Row) -> Row
+        requires { made_in self + made_in next < 2 ^ 32 }
+        ensures { result ≡ row_then self next }
+    {
+        match next {
+            Row::Off => self,
+            Row::Made(count, word) => Row::Made(self.made() + count, word),
+            Row::Lost(count) => Row::Lost(self.made() + count),
+        }
+    }
+
+    /// How many turns were made.
+    pub fn made(self) -> u32
+        ensures { result ≡ made_in self }
+    {
+        match self {
+            Row::Off => 0,
+            Row::Made(count, _) | Row::Lost(count) => count,
+        }
+    }
+}
+
+/// Whether a hart had nothing to do, and its turn changed nothing.
+fn is_idle(word: Word) -> bool
+    ensures { result ≡ is_idle word }
+{
+    word == Word::Goes(Did::Idle)
+}

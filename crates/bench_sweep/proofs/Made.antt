@@ -1,0 +1,196 @@
+-- Rows of runs that were made.
+use Rattle.std.proofs.Common.{◌≡◌, ◌≤◌, ◌<◌, ◌+◌, ◌-◌, ◌⊎◌, ◌++◌, ◌∷◌, [], ℕ, suc, List, None, true, false, inl, inr, length, take, drop, refl, sym, ◌∙◌, ap, subst, arith}
+use Rattle.std.proofs.lemmas.List.{take-append-drop, take-take, take_all, drop_all, drop-take, length-drop, length-take-le, append-nil}
+use Rattle.std.proofs.lemmas.Bool.{cases_lt}
+use Rattle.std.proofs.lemmas.Grind.{flat_map-append}
+use Rattle.std.specs.List.{flat_map, AllZip}
+use Rattle.board_model.specs.Shapes.{Size}
+use Rattle.disk.specs.FaultState.{FaultState}
+use Rattle.simdisk.specs.declared.SimDisk.{SimDisk}
+use Rattle.script_lang.specs.declared.line.Line.{Line}
+use Rattle.bench_report.specs.declared.power.Power.{Power}
+use Rattle.bench_report.specs.declared.power.Power.TheVariants.{Off}
+use Rattle.bench_report.specs.declared.printed.Answer.{Answer}
+use Rattle.bench_report.specs.Bench.{Bench}
+use Rattle.bench_report.specs.Happens.{off, unpowered, armed_with}
+use Rattle.bench_report.specs.Steps.{Run}
+use Rattle.bench_report.specs.Views.{fault_state}
+use Rattle.bench_judge.specs.declared.ledgers.Ledger.{Ledger}
+use Rattle.bench_sweep.specs.declared.points.Bench.{Bench as Kind}
+use Rattle.bench_sweep.specs.declared.points.Bench.TheVariants.{Cuts, Fails}
+use Rattle.bench_sweep.specs.declared.rows.Row.{Row}
+use Rattle.bench_sweep.specs.Made.{LooksAt, Lives, ComesTo, IsPlainRun, EndsAs, RunsWith, armed_of}
+use Rattle.bench_sweep.specs.Reports.{IsLeft, RunsRow, IsRow}
+use Rattle.bench_sweep.specs.Runs.{Runs, RanTo, IsLife}
+
+-- ---- a run with a fault armed
+module _ (size : Size) (kind : Kind) (b : Bench) (lines : List Line) (count : ℕ) (power : Power) (slots : List (List ℕ)) (ledger : Ledger) (few : count ≤ length lines) (ran : RanTo size (armed_with (armed_of kind) b) (take count lines) power slots ledger) where
+  made : (row : Row) → unpowered ran.bench ≡ unpowered ran.end → EndsAs kind lines count ran.answers → IsLeft size (off ran.bench) row → RunsRow size kind b lines row
+  made row same ends (after, said) =
+      let P : Bench → Type 0 = λ x. LooksAt size x row.left after in record {
+        count = count;
+        few = few;
+        answers = ran.answers;
+        end = ran.end;
+        run = ran.run;
+        ends = ends;
+        after = after;
+        says = subst P same said;
+      }
+
+-- up to the line in which a cut struck
+pub to_cut : (size : Size) (b : Bench) (lines : List Line) (count : ℕ) (power : Power) (slots : List (List ℕ)) (ledger : Ledger) → count ≤ length lines → (ran : RanTo size (armed_with (armed_of Cuts) b) (take count lines) power slots ledger)
+    → ran.bench.fault_state.struck ≡ true → (row : Row) → IsLeft size (off ran.bench) row → RunsRow size Cuts b lines row
+to_cut size b lines count power slots ledger few ran hit row left = let s = ran.struck hit in made size Cuts b lines count power slots ledger few ran row (ap (λ (x : Bench). unpowered x) s.0) s.1 left
+
+-- or to the last of them
+pub past_failure : (size : Size) (b : Bench) (lines : List Line) (count : ℕ) (power : Power) (slots : List (List ℕ)) (ledger : Ledger) → count ≡ length lines → (ran : RanTo size (armed_with (armed_of Fails) b) (take count lines) power slots ledger)
+    → ran.bench.fault_state.struck ≡ false → (row : Row) → IsLeft size (off ran.bench) row → RunsRow size Fails b lines row
+past_failure size b lines count power slots ledger all ran calm row left = made size Fails b lines count power slots ledger (omega (arith, all)) ran row (ap (λ (x : Bench). unpowered x) (ran.calm calm)) all left
+
+-- over the first of some lines, of which a cut ended it
+pub over_all : (size : Size) (b : Bench) (lines : List Line) (n : ℕ) → n ≤ length lines → (row : Row) → RunsRow size Cuts b (take n lines) row → RunsRow size Cuts b lines row
+over_all size b lines n few row r =
+    let long = length-take-le n lines few in
+    let P : List Line → Type 0 = λ ls. Run size (armed_with (armed_of Cuts) b) ls r.answers r.end in record {
+      count = r.count;
+      few = omega (arith, few, long, r.few);
+      answers = r.answers;
+      end = r.end;
+      run = subst P (take-take r.count n lines (omega (arith, long, r.few))) r.run;
+      ends = r.ends;
+      after = r.after;
+      says = r.says;
+    }
+
+-- ---- lives
+lives_more : (size : Size) (b : Bench) (lives : List (List Line)) (at : Bench) (life : List Line) (answers : List Answer) (end : Bench) → Lives size b lives at → Run size (unpowered at) life answers end → end.power ≡ None → Lives size b (lives ++ life ∷ []) (off end)
+lives_more size b [] at life answers end is run none = let P : Bench → Type 0 = λ x. Run size (unpowered x) life answers end in (answers, end, subst P is run, none, refl)
+lives_more size b (l ∷ ls) at life answers end (x, mid, ran, out, more) run none = (x, mid, ran, out, lives_more size (off mid) ls at life answers end more run none)
+
+abbrev pub all_of : List (List Line) → List Line
+all_of lives = flat_map (λ (life : List Line). life) lives
+
+all_more : (lives : List (List Line)) (life : List Line) → all_of (lives ++ life ∷ []) ≡ all_of lives ++ life
+all_more lives life = flat_map-append (λ (l : List Line). l) lives (life ∷ []) ∙ ap (λ ls. all_of lives ++ ls) (append-nil life)
+
+take_plus : (n m : ℕ) (lines : List Line) → take n lines ++ take m (drop n lines) ≡ take (n + m) lines
+take_plus n m lines =
+    ap (λ ls. ls ++ take m (drop n lines)) (sym (take-take n (n + m) lines (omega arith))) ∙ ap (λ ls. take n (take (n + m) lines) ++ ls) (sym (drop-take n m lines))
+    ∙ take-append-drop n (take (n + m) lines)
+
+-- the lines behind some, as a slice of all has them
+pub rest_is : (n : ℕ) (lines : List Line) → take (length lines - n) (drop n lines) ≡ drop n lines
+rest_is n lines = let long = length-drop n lines in take_all (length lines - n) (drop n lines) (omega (arith, long))
+
+-- the lives up to a site of the plain run, and the site
+pub record SoFar (size : Size) (first : Bench) (lines : List Line) (disk : SimDisk) (slots : List (List ℕ)) (ledger : Ledger) : Type 0 where
+  pub bench : Bench
+  pub comes : ComesTo size first lines bench
+  pub site : Runs size bench (Off disk) slots ledger
+
+-- the last life too, to the end of the lines
+pub record AllRan (size : Size) (first : Bench) (lines : List Line) (disk : SimDisk) (slots : List (List ℕ)) (ledger : Ledger) : Type 0 where
+  pub before : ℕ
+  pub bench : Bench
+  pub lives : ComesTo size first (take before lines) bench
+  pub answers : List Answer
+  pub end : Bench
+  pub run : Run size (unpowered bench) (drop before lines) answers end
+  pub site : Runs size (off end) (Off disk) slots ledger
+
+-- one or the other, behind so many lines
+abbrev pub Went : Size → Bench → List Line → ℕ → SimDisk → List (List ℕ) → Ledger → Type 0
+Went size first lines n disk slots ledger =
+    SoFar size first (take n lines) disk slots ledger ⊎ ((length lines ≤ n) × AllRan size first lines disk slots ledger)
+
+pub none_yet : (size : Size) (first : Bench) (lines : List Line) (disk : SimDisk) (slots : List (List ℕ)) (ledger : Ledger) → Runs size first (Off disk) slots ledger → Went size first lines 0 disk slots ledger
+none_yet size first lines disk slots ledger r = inl (record { bench = first; comes = record { lives = []; all = refl; run = refl }; site = r })
+
+-- there are lines behind them
+pub sits_at : (size : Size) (first : Bench) (lines : List Line) (n : ℕ) (disk : SimDisk) (slots : List (List ℕ)) (ledger : Ledger) → n < length lines → Went size first lines n disk slots ledger → SoFar size first (take n lines) disk slots ledger
+sits_at size first lines n disk slots ledger less (inl f) = f
+sits_at size first lines n disk slots ledger less (inr (all, f)) = absurd (omega (arith, less, all))
+
+one_life : (size : Size) (first : Bench) (lines rest : List Line) (n m : ℕ) (disk next : SimDisk) (slots now : List (List ℕ)) (was ledger : Ledger) → rest ≡ drop n lines → (f : SoFar size first (take n lines) disk slots was) → (l : IsLife size f.bench rest m next now ledger)
+    → l.end.power ≡ None → SoFar size first (take (n + m) lines) next now ledger
+one_life size first lines rest n m disk next slots now was ledger is f l none = record {
+  bench = off l.end;
+  comes = record {
+    lives = f.comes.lives ++ take m rest ∷ [];
+    all = all_more f.comes.lives (take m rest) ∙ ap (λ ls. ls ++ take m rest) f.comes.all ∙ ap (λ ls. take n lines ++ take m ls) is ∙ take_plus n m lines;
+    run = lives_more size first f.comes.lives f.bench (take m rest) l.answers l.end f.comes.run l.run none;
+  };
+  site = l.left;
+}
+
+last_life : (size : Size) (first : Bench) (lines rest : List Line) (n m : ℕ) (disk next : SimDisk) (slots now : List (List ℕ)) (was ledger : Ledger) → rest ≡ drop n lines → length rest ≤ m → (f : SoFar size first (take n lines) disk slots was)
+    → IsLife size f.bench rest m next now ledger → AllRan size first lines next now ledger
+last_life size first lines rest n m disk next slots now was ledger is all f l =
+    let P : List Line → Type 0 = λ ls. Run size (unpowered f.bench) ls l.answers l.end in record {
+      before = n;
+      bench = f.bench;
+      lives = f.comes;
+      answers = l.answers;
+      end = l.end;
+      run = subst P (take_all m rest all ∙ is) l.run;
+      site = l.left;
+    }
+
+long_rest : (n : ℕ) (lines rest : List Line) → rest ≡ drop n lines → n ≤ length lines → n + length rest ≡ length lines
+long_rest n lines rest is few = let long = length-drop n lines in let same : length rest ≡ length (drop n lines) = ap (λ (ls : List Line). length ls) is in omega (arith, long, same, few)
+
+-- one stretch more
+pub went_more : (size : Size) (first : Bench) (lines rest : List Line) (n m : ℕ) (disk next : SimDisk) (slots now : List (List ℕ)) (was ledger : Ledger) → rest ≡ drop n lines → n ≤ length lines → (f : SoFar size first (take n lines) disk slots was)
+    → IsLife size f.bench rest m next now ledger → Went size first lines (n + m) next now ledger
+went_more size first lines rest n m disk next slots now was ledger is few f l = by (cases_lt m (length rest))
+  where
+    by : (m < length rest) ⊎ (length rest ≤ m) → Went size first lines (n + m) next now ledger
+    by (inl less) = inl (one_life size first lines rest n m disk next slots now was ledger is f l (l.stops less))
+    by (inr all) = inr (let long = long_rest n lines rest is few in omega (arith, all, long), last_life size first lines rest n m disk next slots now was ledger is all f l)
+
+-- the last of them was run
+pub plain_run : (size : Size) (first : Bench) (lines : List Line) (n : ℕ) (disk : SimDisk) (slots : List (List ℕ)) (ledger : Ledger) → length lines ≤ n → (fault_state disk).own ≡ 0 → Went size first lines n disk slots ledger → IsPlainRun size first lines
+plain_run size first lines n disk slots ledger all none (inl f) = record {
+  before = n;
+  bench = f.bench;
+  lives = f.comes;
+  answers = [];
+  end = unpowered f.bench;
+  run = let P : List Line → Type 0 = λ ls. Run size (unpowered f.bench) ls [] (unpowered f.bench) in subst P (sym (drop_all n lines all)) refl;
+  refused_none = ap (λ (m : FaultState). m.own) f.site.agrees.2.0 ∙ none;
+}
+plain_run size first lines n disk slots ledger all none (inr (long, f)) = record {
+  before = f.before;
+  bench = f.bench;
+  lives = f.lives;
+  answers = f.answers;
+  end = f.end;
+  run = f.run;
+  refused_none = ap (λ (m : FaultState). m.own) f.site.agrees.2.0 ∙ none;
+}
+
+-- a row behind so many lines
+pub row_of : (size : Size) (kind : Kind) (first : Bench) (lines rest : List Line) (n : ℕ) (disk : SimDisk) (slots : List (List ℕ)) (ledger : Ledger) → rest ≡ drop n lines → (f : SoFar size first (take n lines) disk slots ledger) → (row : Row) → RunsRow size kind (unpowered f.bench) rest row
+    → IsRow size kind first lines row
+row_of size kind first lines rest n disk slots ledger is f row r =
+    let P : List Line → Type 0 = λ ls. RunsWith size kind (unpowered f.bench) ls row.left in record { before = n; bench = f.bench; plain = f.comes; run = subst P is r }
+
+-- ---- counts of callers
+pub zip_long : {A B : Type 0} (R : A → B → Type 0) (xs : List A) (ys : List B) → AllZip R xs ys → length ys ≡ length xs
+zip_long R [] [] z = refl
+zip_long R [] (y ∷ ys) z = absurd z
+zip_long R (x ∷ xs) [] z = absurd z
+zip_long R (x ∷ xs) (y ∷ ys) z = ap (λ (n : ℕ). suc n) (zip_long R xs ys z.1)
+
+pub zip_more : {A B : Type 0} (R : A → B → Type 0) (xs : List A) (ys : List B) (x : A) (y : B) → AllZip R xs ys → R x y → AllZip R (xs ++ x ∷ []) (ys ++ y ∷ [])
+zip_more R [] [] x y z r = (r, tt)
+zip_more R [] (b ∷ ys) x y z r = absurd z
+zip_more R (a ∷ xs) [] x y z r = absurd z
+zip_more R (a ∷ xs) (b ∷ ys) x y z r = (z.0, zip_more R xs ys x y z.1 r)
+
+pub row_lines : (size : Size) (kind : Kind) (first : Bench) (lines same : List Line) → lines ≡ same → (row : Row) → IsRow size kind first lines row → IsRow size kind first same row
+row_lines size kind first lines same is row r = let P : List Line → Type 0 = λ ls. IsRow size kind first ls row in subst P is r
+
+pub plain_lines : (size : Size) (first : Bench) (lines same : List Line) → lines ≡ same → IsPlainRun size first lines → IsPlainRun size first same
+plain_lines size first lines same is r = let P : List Line → Type 0 = λ ls. IsPlainRun size first ls in subst P is r

@@ -1,0 +1,87 @@
+-- Lines that are run one after another, and the bench then.
+use Rattle.std.proofs.Common.{◌≡◌, ◌<◌, ◌+◌, ◌∷◌, ◌++◌, [], ℕ, true, false, Bool, List, inl, inr, length, take, drop, get_or, refl, sym, ◌∙◌, ap, subst}
+use Rattle.board_model.specs.Shapes.{Size}
+use Rattle.bench_report.proofs.RunLines.{run_more}
+use Rattle.bench_report.specs.Agree.{Agrees}
+use Rattle.bench_report.specs.Bench.{Bench}
+use Rattle.bench_report.specs.Happens.{says, off, unpowered}
+use Rattle.bench_report.specs.Steps.{Moves, Run}
+use Rattle.bench_report.specs.declared.power.Power.{Power}
+use Rattle.bench_report.specs.declared.power.Power.TheVariants.{Off}
+use Rattle.bench_report.specs.declared.printed.Answer.{Answer}
+use Rattle.bench_report.specs.declared.printed.Printed.TheVariants as printed
+use Rattle.script_lang.specs.declared.line.Line.{Line}
+use Rattle.bench_judge.specs.declared.ledgers.Ledger.{Ledger}
+use Rattle.simdisk.specs.declared.SimDisk.{SimDisk}
+use Rattle.bench_sweep.specs.Lines.{LineMoves}
+use Rattle.bench_sweep.specs.Runs.{Runs, RunsCalm, RanTo, IsLife, StopsOff}
+
+-- the lines so far were run to their end, and no armed cut has struck
+pub record Runs_to (size : Size) (b : Bench) (lines : List Line) (power : Power) (slots : List (List ℕ)) (ledger : Ledger) : Type 0 where
+  pub bench : Bench
+  pub answers : List Answer
+  pub run : Run size b lines answers bench
+  pub runs : RunsCalm size bench power slots ledger
+
+pub ran_none : (size : Size) (b : Bench) (power : Power) (slots : List (List ℕ)) (ledger : Ledger) → RunsCalm size b power slots ledger → Runs_to size b [] power slots ledger
+ran_none size b power slots ledger r = record { bench = b; answers = []; run = refl; runs = r }
+
+module _ (size : Size) (b : Bench) (lines : List Line) (i : ℕ) (line d : Line) (old power : Power) (before slots : List (List ℕ)) (was ledger : Ledger) (less : i < length lines) (is : line ≡ get_or lines i d) (so_far : Runs_to size b (take i lines) old before was)
+    (moves : LineMoves size line so_far.bench power slots ledger) where
+  abbrev mid : Bench
+  mid = so_far.bench
+
+  snoc : (a : Answer) (new : Bench) → Moves size line mid a new → Run size b (take (i + 1) lines) (so_far.answers ++ a ∷ []) new
+  snoc a new moved = let M : Line → Type 0 = λ l. Moves size l mid a new in run_more size lines i d b so_far.answers mid a new less so_far.run (subst M is moved)
+
+  pub ran_more : moves.bench.fault_state.struck ≡ false → Runs_to size b (take (i + 1) lines) power slots ledger
+  ran_more calm = record {
+    bench = moves.bench;
+    answers = so_far.answers ++ moves.does.0 ∷ [];
+    run = snoc moves.does.0 moves.bench (inl (moves.does.1, calm));
+    runs = record { agrees = moves.runs.agrees; same = moves.runs.same; follows = moves.runs.follows; calm = calm };
+  }
+
+  -- a cut struck in the last of them
+  pub ran_struck : moves.bench.fault_state.struck ≡ true → RanTo size b (take (i + 1) lines) power slots ledger
+  ran_struck hit = record {
+    answers = so_far.answers ++ says printed.PowerLost ∷ [];
+    end = unpowered moves.bench;
+    run = snoc (says printed.PowerLost) (unpowered moves.bench) (inr (moves.does.0, moves.bench, moves.does.1, hit, refl, refl));
+    bench = moves.bench;
+    runs = moves.runs;
+    calm = λ calm. absurd (let no : true ≡ false = sym hit ∙ calm in let never : ⊥ = cc in never);
+    struck = λ again. (refl, (so_far.answers, refl));
+  }
+
+-- none did
+pub ran_calm : (size : Size) (b : Bench) (lines : List Line) (power : Power) (slots : List (List ℕ)) (ledger : Ledger) → Runs_to size b lines power slots ledger → RanTo size b lines power slots ledger
+ran_calm size b lines power slots ledger r = record {
+  answers = r.answers;
+  end = r.bench;
+  run = r.run;
+  bench = r.bench;
+  runs = record { agrees = r.runs.agrees; same = r.runs.same; follows = r.runs.follows };
+  calm = λ calm. refl;
+  struck = λ hit. absurd (let no : true ≡ false = sym hit ∙ r.runs.calm in let never : ⊥ = cc in never);
+}
+
+-- the board was turned off behind lines in which nothing was armed
+pub life_of : (size : Size) (b : Bench) (lines : List Line) (count : ℕ) (power : Power) (slots after : List (List ℕ)) (ledger now : Ledger) (disk : SimDisk) → (r : RanTo size (unpowered b) (take count lines) power slots ledger)
+    → (r.bench.fault_state.struck ≡ false) × Runs size (off r.bench) (Off disk) after now → (count < length lines → StopsOff power) → IsLife size b lines count disk after now
+life_of size b lines count power slots after ledger now disk r (calm, left) stops =
+    let P : Bench → Type 0 = λ x. Runs size (off x) (Off disk) after now in
+    let same = r.calm calm in record {
+      answers = r.answers;
+      end = r.end;
+      run = r.run;
+      stops = λ less. ap (λ (x : Bench). x.power) (sym same) ∙ stops less size r.bench r.runs.agrees calm;
+      left = subst P same left;
+    }
+
+-- ---- where a run stops
+pub off_stops : (power : Power) (disk : SimDisk) → power ≡ Off disk → StopsOff power
+off_stops power disk is = λ size b agrees calm. let A : Power → Type 0 = λ p. Agrees size b p in (subst A is agrees).0
+
+pub struck_stops : (power : Power) (struck : Bool) → struck ≡ true → ((size : Size) (b : Bench) → Agrees size b power → struck ≡ b.fault_state.struck) → StopsOff power
+struck_stops power struck hit exact = λ size b agrees calm. absurd (let no : true ≡ false = sym hit ∙ exact size b agrees ∙ calm in let never : ⊥ = cc in never)

@@ -1,0 +1,30 @@
+use Rattle.std.proofs.Common.{◌≡◌, ◌∙◌, arith, sym}
+use Rattle.bench_sweep.proofs.Made.{none_yet, sits_at, went_more, rest_is, plain_run}
+use Rattle.bench_sweep.proofs.Reported.{swept_take, swept_drop, stays_within}
+use Rattle.bench_sweep.proofs.sweeps.run_plain.Goals as goal
+
+pub loop-from-init : goal.loop-from-init
+loop-from-init g c = record { within = omega arith; sits = c.requires.sits; lives = λ b r. none_yet _ b _ _ _ _ r }
+
+pub stretch_of-requires-clause-lines : goal.stretch_of-requires-clause-lines
+stretch_of-requires-clause-lines g c κs within =
+    let shape = c.args.runner.now.setting.shape.now in
+    swept_take shape _ _ (swept_drop shape c.loop-from.from c.args.runner.now.lines.now c.requires.lines)
+
+pub loop-from-preserved : goal.loop-from-preserved
+loop-from-preserved g c =
+    let size = c.args.runner.now.setting.shape.now in
+    let lines = c.args.runner.now.lines.now in
+    let did = c.in_ok-count in
+    let from = c.loop-from.from in
+    let i = c.loop-from.invariant in record {
+      within = stays_within from did.field-0.count _ lines i.within did.ensures.few;
+      sits = did.ensures.sits;
+      lives = λ b r.
+          (let f = sits_at size b lines from _ _ _ c.loop-from-test.true (i.lives b r) in
+          went_more size b lines _ from did.field-0.count c.loop-from.site.disk did.field-0.next.disk _ _ _ _ (rest_is from lines) i.within f (did.ensures.lives f.bench f.site));
+    }
+
+pub returns-clause-plain : goal.returns-clause-plain
+returns-clause-plain g c = λ b r.
+    plain_run c.args.runner.now.setting.shape.now b c.args.runner.now.lines.now c.loop-from.from c.loop-from.site.disk _ _ (omega arith) (sym c.refused.ensures ∙ c.if-refused-ne0.false) (c.loop-from.invariant.lives b r)

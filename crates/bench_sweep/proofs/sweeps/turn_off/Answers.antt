@@ -1,0 +1,5 @@
+use Rattle.std.proofs.Common.{sym, ◌∙◌}
+use Rattle.bench_sweep.proofs.sweeps.turn_off.Goals as goal
+
+pub returns-clause-runs : goal.returns-clause-runs
+returns-clause-runs c = λ size b r. (sym (c.is_struck.ensures.exact size b r.agrees) ∙ c.if-is_struck.false, c.in_ok-site.ensures.runs size b r)

@@ -1,0 +1,84 @@
+-- Which runs of a script a bench makes, and what each row of it tells. Source: docs/SCRIPT.md, "The benches".
+use Rattle.std.specs.Prelude.{◌≡◌, ◌≤◌, ℕ, List, [], ◌∷◌, ◌++◌, None, length, take, drop}
+use Rattle.std.specs.List.{flat_map}
+use Rattle.board_model.specs.Shapes.{Size}
+use Rattle.board.specs.Boots.{payload_at}
+use Rattle.board_model.specs.declared.boot_mode.BootMode.TheVariants as modes
+use Rattle.disk.specs.FaultState.{Armed, FaultArmed, CutArmed}
+use Rattle.script_lang.specs.declared.line.Line.{Line}
+use Rattle.bench_report.specs.declared.printed.Answer.{Answer}
+use Rattle.bench_report.specs.declared.printed.Printed.TheVariants as printed
+use Rattle.bench_report.specs.Bench.{Bench, bench_with, no_payloads}
+use Rattle.bench_report.specs.Happens.{says, off, unpowered, armed_with}
+use Rattle.bench_report.specs.PowerOns.{PowersOn}
+use Rattle.bench_report.specs.Steps.{Run}
+use Rattle.bench_sweep.specs.declared.points.Bench.{Bench as Kind}
+use Rattle.bench_sweep.specs.declared.points.Bench.TheVariants.{Cuts, Fails}
+
+-- ---- the script as it is
+-- The first lines of a script that begins with these payloads, the last of which formatted the disk, come to that bench.
+pub record IsFormatted (size : Size) (start : List (List ℕ)) (lines : List Line) (b : Bench) : Type 0 where
+  pub before : List Answer
+  pub last : Answer
+  pub run : Run size (bench_with start) lines (before ++ last ∷ []) b
+  pub formats : last.line ≡ printed.Formatted
+
+-- lives that are run one after another: power is out before each, and behind each the board is off
+abbrev pub Lives : Size → Bench → List (List Line) → Bench → Type 0
+Lives size b [] new = new ≡ b
+Lives size b (life ∷ more) new =
+    (answers : List Answer) × (end : Bench) × Run size (unpowered b) life answers end × (end.power ≡ None)
+    × Lives size (off end) more new
+
+-- These lines are run as they are, and come to that bench, which is off.
+pub record ComesTo (size : Size) (first : Bench) (lines : List Line) (b : Bench) : Type 0 where
+  pub lives : List (List Line)
+  pub all : flat_map (λ (life : List Line). life) lives ≡ lines
+  pub run : Lives size first lives b
+
+-- All lines are run as they are, and those of the last life to their end. The disk's record was refused no memory.
+pub record IsPlainRun (size : Size) (first : Bench) (lines : List Line) : Type 0 where
+  pub before : ℕ
+  pub bench : Bench
+  pub lives : ComesTo size first (take before lines) bench
+  pub answers : List Answer
+  pub end : Bench
+  pub run : Run size (unpowered bench) (drop before lines) answers end
+  pub refused_none : end.fault_state.own ≡ 0
+
+-- what four slots boot
+abbrev pub four_of : List (List ℕ) → List (List ℕ)
+four_of payloads = payload_at payloads 0 ∷ payload_at payloads 1 ∷ payload_at payloads 2 ∷ payload_at payloads 3 ∷ []
+
+-- ---- a row
+-- a power-on that looks what a run left: its slots are empty, and it keeps the image
+abbrev pub LooksAt : Size → Bench → Answer → Bench → Type 0
+LooksAt size b left after = PowersOn size modes.Keep (record b { payloads = no_payloads }) left after
+
+-- what is armed at a point
+abbrev pub armed_of : Kind → Armed
+armed_of Cuts = CutArmed
+armed_of Fails = FaultArmed
+
+-- a run with a cut ends with the line within which it struck, and one with a failure with the script
+abbrev pub EndsAs : Kind → List Line → ℕ → List Answer → Type 0
+EndsAs Cuts lines count answers = (before : List Answer) × (answers ≡ before ++ says printed.PowerLost ∷ [])
+EndsAs Fails lines count answers = count ≡ length lines
+
+-- Lines are run with that armed on a bench that is off. Then power is cut, and a power-on that keeps the image says that.
+pub record RunsWith (size : Size) (kind : Kind) (b : Bench) (lines : List Line) (left : Answer) : Type 0 where
+  pub count : ℕ
+  pub few : count ≤ length lines
+  pub answers : List Answer
+  pub end : Bench
+  pub run : Run size (armed_with (armed_of kind) b) (take count lines) answers end
+  pub ends : EndsAs kind lines count answers
+  pub after : Bench
+  pub says : LooksAt size (unpowered end) left after
+
+-- A row that says that is such a run: some first lines are run as they are, and those behind them with that armed.
+pub record IsRunOf (size : Size) (kind : Kind) (first : Bench) (lines : List Line) (left : Answer) : Type 0 where
+  pub before : ℕ
+  pub bench : Bench
+  pub plain : ComesTo size first (take before lines) bench
+  pub run : RunsWith size kind (unpowered bench) (drop before lines) left

@@ -1,0 +1,8 @@
+use Rattle.std.proofs.Common.{◌≡◌, All, vec_len, vec_capacity}
+use Rattle.hart_threads.specs.Ends.{IsEnding}
+use Rattle.board_session.proofs.ends.ends_of.Given as goal
+
+abbrev pub invariant-loop-k : goal.invariant-loop-k
+invariant-loop-k g l =
+    (vec_len l.ends ≡ l.k) × (vec_capacity l.ends ≡ vec_capacity l.fn.room)
+    × All (IsEnding g.J.Threaded.turns g.J.Journal.found g.J.Threaded.gated l.parted.token.value) l.ends.items

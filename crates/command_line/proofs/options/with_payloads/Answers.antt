@@ -1,0 +1,11 @@
+use Rattle.std.proofs.Common.{◌∙◌, refl, ap₂}
+use Rattle.std.proofs.lemmas.Result.{IfOk-weaker}
+use Rattle.clap.specs.Words.{with_rule}
+use Rattle.command_line.proofs.options.with_payloads.Goals as goal
+
+pub returns : goal.returns
+returns c =
+    let a1 = c.in_ok-arg.ensures.shape c.path.ensures.local ∙ ap₂ with_rule refl c.path.ensures.rule in
+    let a2 = c.in_ok-arg-2.ensures.shape c.path-2.ensures.local ∙ ap₂ with_rule a1 c.path-2.ensures.rule in
+    let a3 = c.in_ok-arg-3.ensures.shape c.path-3.ensures.local ∙ ap₂ with_rule a2 c.path-3.ensures.rule in
+    IfOk-weaker c.arg-4.result _ _ (λ r h. h.shape c.path-4.ensures.local ∙ ap₂ with_rule a3 c.path-4.ensures.rule) c.arg-4.ensures

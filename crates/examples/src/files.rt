@@ -1,0 +1,23 @@
+//! The folder of the examples, whose files are payload files of a run.
+
+ghost use Rattle.std.specs.Prelude.{None};
+
+use payload_files::PayloadFiles;
+use std::io;
+use std::path::Path;
+
+/// A folder. A path of a payload file begins there.
+#[derive(Clone, Copy)]
+pub struct Folder<'a> {
+    pub rt: &'a HostRuntime,
+    pub path: &'a str,
+}
+
+impl PayloadFiles for Folder<'_> {
+    ghost bytes_at = { λ folder path. None };
+
+    fn read(&self, path: &str, most: u64) -> io::Result<Vec<u8>> {
+        let path = Path::new(self.path).join(self.rt.alloc(), path)?;
+        PayloadFiles::read(self.rt, path.as_str(), most)
+    }
+}

@@ -1,0 +1,13 @@
+use Rattle.std.proofs.Common.{◌≡◌, ◌+◌, [], All, vec_len, vec_capacity}
+use Rattle.std.specs.Vec.Iter.{into_iter_len}
+use Rattle.hart_threads.specs.Seated.{IsSeated}
+use Rattle.hart_threads.proofs.drives.works_of.Given as goal
+
+-- there is room for the harts that are still to come, and each has a part that was told nothing
+abbrev pub invariant-loop-acting : goal.invariant-loop-acting
+invariant-loop-acting g l =
+    (vec_len l.works + into_iter_len l.acting-iterator ≡ vec_len l.fn.all)
+    × (vec_capacity l.works ≡ vec_len l.fn.all)
+    × (vec_len l.parts ≡ into_iter_len l.acting-iterator)
+    × All (λ p. p.told ≡ []) l.parts.items
+    × All (λ w. IsSeated w.board.tables.now w.acting.hart.id w.acting.seats w.acting.doze) l.works.items

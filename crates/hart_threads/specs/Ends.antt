@@ -1,0 +1,64 @@
+-- How a hart's loop ended, and where the hart then stood. Source: docs/THREADS.md, "The end of a loop"; SBI specification
+-- 2.0, chapter HSM.
+use Rattle.std.specs.Prelude.{◌≡◌, ◌≤◌, ℕ, Bool, true, Option, Some, None, is_some}
+use Rattle.board_model.specs.Durable.{DurableState}
+use Rattle.board_model.specs.declared.durable.Entry.{Entry}
+use Rattle.hart.specs.State.{ArchState}
+use Rattle.hsm.specs.declared.state.State.{State}
+use Rattle.susp.specs.declared.buses.Doze.{Doze}
+use Rattle.hart_threads.specs.Threads.{EndsLife}
+use Rattle.hart_threads.specs.declared.closing.AfterConsole.{AfterConsole}
+use Rattle.hart_threads.specs.declared.closing.AfterConsole.TheVariants.{Halt}
+use Rattle.hart_threads.specs.declared.ends.ShutBy.{ShutBy}
+use Rattle.hart_threads.specs.declared.ends.ShutBy.TheVariants.{Life, Console}
+use Rattle.hart_threads.specs.declared.loops.Why.{Why}
+use Rattle.hart_threads.specs.declared.loops.Why.TheVariants as whys
+
+-- a hart whose loop has ended, without its life: its number, its state, whether its board dozes by it, its pc and what
+-- its last trap left, how many turns it made of how often it asked whether it goes on, and why it ended
+pub record Ending : Type 0 where
+  pub number : ℕ
+  pub state : State
+  pub dozing : Bool
+  pub pc : ℕ
+  pub scause : ℕ
+  pub sepc : ℕ
+  pub stval : ℕ
+  pub made : ℕ
+  pub asked : ℕ
+  pub why : Why
+  pub by : Option ShutBy
+
+-- of that hart, with its own copy of its doze
+abbrev pub ending : ArchState → State → Option Doze → ℕ → ℕ → Why → Option ShutBy → Ending
+ending s state doze made asked why by = record {
+  number = s.id;
+  state = state;
+  dozing = is_some doze;
+  pc = s.pc;
+  scause = s.scause;
+  sepc = s.sepc;
+  stval = s.stval;
+  made = made;
+  asked = asked;
+  why = why;
+  by = by;
+}
+
+-- what ended all loops: such a command, or a console that halted the harts when it left
+abbrev pub IsShutBy : DurableState → AfterConsole → Option ShutBy → Type 0
+IsShutBy found parting None = ⊥
+IsShutBy found parting (Some (Life n entry)) = EndsLife found n entry
+IsShutBy found parting (Some Console) = parting ≡ Halt
+
+-- why a loop may end: its hart ended the life; something ended all loops; the gate, where it may; or with the turns that
+-- each hart is given
+abbrev pub EndsBy : ℕ → DurableState → Bool → AfterConsole → ℕ → Option ShutBy → Why → Type 0
+EndsBy turns found gated parting made by whys.Life = (n : ℕ) × (entry : Entry) × EndsLife found n entry
+EndsBy turns found gated parting made by whys.Closed = IsShutBy found parting by
+EndsBy turns found gated parting made by whys.Gate = gated ≡ true
+EndsBy turns found gated parting made by whys.Turns = made ≡ turns
+
+-- and it asked before each turn whether it goes on
+abbrev pub IsEnding : ℕ → DurableState → Bool → AfterConsole → Ending → Type 0
+IsEnding turns found gated parting e = EndsBy turns found gated parting e.made e.by e.why × (e.made ≤ e.asked)

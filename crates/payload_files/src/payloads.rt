@@ -1,0 +1,83 @@
+//! What each slot begins with.
+
+ghost use Rattle.std.specs.Prelude.{◌≡◌, ◌<◌, ℕ, List, None, map, get_or, slice_set, string_bytes, IfOk, IfErr, IsSome, OnOk};
+ghost use Rattle.std.specs.Option.{option_map};
+ghost use Rattle.payload_files.specs.Named.{AreFilesOf, IsFileOf};
+
+use crate::files::PayloadFiles;
+use board::Payloads;
+use board_model::Slot;
+use std::alloc::Global;
+use std::io;
+
+/// One byte more than the largest RAM has: a longer file is refused as one of this length is.
+const MOST_BYTES: u64 = 1_048_577;
+
+/// A payload file that could not be read.
+#[derive(Drop)]
+pub struct PayloadFault {
+    /// Whose payload it is.
+    pub slot: Slot,
+    /// Why it could not be read; `OutOfMemory` where memory was refused.
+    pub error: io::Error,
+}
+
+/// The payload of a slot: the bytes of the file that is named, and none where none is.
+fn read_named<F: PayloadFiles>(
+    alloc: Global,
+    files: &F,
+    path: &Option<String>,
+) -> io::Result<Vec<u8>>
+    ensures read { IfOk result (λ payload. IsFileOf (F.bytes_at files.now) (option_map string_bytes path.now) payload.items) }
+    ensures named { IfErr result (λ e. IsSome path.now) }
+{
+    match path {
+        None => Ok(Vec::new(alloc)),
+        Some(path) => files.read(path, MOST_BYTES),
+    }
+}
+
+/// Reads the payload of one slot into its place.
+fn read_slot<F: PayloadFiles>(
+    alloc: Global,
+    files: &F,
+    paths: &[Option<String>; 4],
+    number: u32,
+    payloads: &mut Payloads,
+) -> Result<(), PayloadFault>
+    requires { number < 4 }
+    ensures read { OnOk result ((payload : List ℕ) × (payloads.new ≡ slice_set payloads.old number payload)
+        × IsFileOf (F.bytes_at files.now) (option_map string_bytes (get_or paths.now number None)) payload) }
+    ensures failed { IfErr result (λ e. (e.slot ≡ number) × IsSome (get_or paths.now number None)) }
+{
+    let slot = Slot::new(number).unwrap();
+    match read_named(alloc, files, &paths[number as usize]) {
+        Ok(payload) => {
+            payloads.set(slot, payload);
+            Ok(())
+        }
+        Err(error) => Err(PayloadFault { slot, error }),
+    }
+}
+
+/// What the four boot slots begin with: each the bytes of the file that is named for it, which may be longer than
+/// any RAM and is then cut to one byte more than the largest, or none. The files are read in the order of their
+/// slots.
+///
+/// Answers the first that could not be read; those after it are not read.
+pub fn payloads_of<F: PayloadFiles>(
+    alloc: Global,
+    files: &F,
+    paths: &[Option<String>; 4],
+) -> Result<Payloads, PayloadFault>
+    ensures read { IfOk result (AreFilesOf (F.bytes_at files.now) (map (option_map string_bytes) paths.now)) }
+    // Where no file is named none is at fault.
+    ensures failed { IfErr result (λ e. IsSome (get_or paths.now e.slot None)) }
+{
+    let mut payloads = Payloads::new(alloc);
+    read_slot(alloc, files, paths, 0, &mut payloads)?;
+    read_slot(alloc, files, paths, 1, &mut payloads)?;
+    read_slot(alloc, files, paths, 2, &mut payloads)?;
+    read_slot(alloc, files, paths, 3, &mut payloads)?;
+    Ok(payloads)
+}

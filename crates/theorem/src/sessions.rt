@@ -1,0 +1,108 @@
+//! The promises of a board on threads, beside an operator's console.
+ghost use Rattle.std.specs.Prelude.{◌≡◌, ℕ, List, false, None, IfOk, []};
+ghost use Rattle.board_model.specs.Durable.{DurableState};
+ghost use Rattle.board_model.specs.Shapes.{Size};
+ghost use Rattle.board_model.specs.declared.durable.Entry.{Entry};
+ghost use Rattle.board.specs.Moments.{commands_by};
+ghost use Rattle.board_console.specs.Commands.{party};
+ghost use Rattle.board_console.specs.Dialogues.{dialogue_ends};
+ghost use Rattle.board_session.specs.Sessions.{IsOfLife, TalksIf, AreDriven};
+ghost use Rattle.shared_store.specs.Heard.{heard_nothing};
+ghost use Rattle.store.specs.Leaves.{IsIdle};
+ghost use Rattle.store.specs.Standing.{StandsFor};
+ghost use Rattle.store.specs.Views.{found_state};
+ghost use Rattle.theorem.specs.Sessions.{FindsSession};
+
+use board::Payloads;
+use board_console::Left;
+use board_model::Refusal;
+use board_options::Options;
+use board_session::{SessionEnd, Streams, session};
+use disk::Disk;
+use hart_threads::HartEnd;
+use shared_store::Heard;
+use simdisk::{Fill, SimDisk};
+use std::alloc::Global;
+use std::io::{Read, Write};
+use std::sync::Wait;
+use std::thread::Threads;
+use store::{Store, one_standing};
+
+/// *Whatever order harts, console and savers run in.* A session whose console was begun, over a disk whose bytes stand
+/// for the state s. It has one journal, whatever the order was: what its boot issued, and then the commands that were
+/// acknowledged to the console and to harts, each at the place of its receipt, and no other. A crash leaves what they make
+/// of s, or with a command in doubt that or the state after it (`IsOfLife`). What was read and answered is of that journal
+/// (`TalksIf`). Each hart made all turns that it was given, or a hart ended the life by a command that was acknowledged, or
+/// the console halted the harts when it left (`AreDriven`).
+pub fn a_session<R: Threads + Wait + Sync, D: Disk + Drop + Send, I: Read + Drop, W: Write + Drop>(
+    rt: &R,
+    alloc: Global,
+    options: &Options,
+    disk: D,
+    payloads: &Payloads,
+    streams: Streams<I, W>,
+) -> SessionEnd<D, I, W>
+    requires { IsIdle (D.facts disk) }
+    ensures { (size : Size) (s : DurableState) → options.now.new ≡ false → StandsFor (D.facts disk).content size s
+        → (result.left ≡ None → ⊥) → (console : List (ℕ × Entry))
+        × IsOfLife size s (commands_by options.now.mode s) console (D.facts result.disk)
+        × TalksIf s (commands_by options.now.mode s) result.left
+        (dialogue_ends (I.remaining streams.input) (W.contents streams.out) (party [] heard_nothing))
+        (dialogue_ends (I.remaining result.streams.input) (W.contents result.streams.out) (party console result.heard))
+        × AreDriven size.harts options.now.turns s result.left result.harts.items }
+{
+    one_standing();
+    session(rt, alloc, options, disk, payloads, streams)
+}
+
+/// What a session gives back but for its disk.
+#[derive(Drop)]
+pub struct Said<I: Read + Drop, W: Write + Drop> {
+    /// Why it was refused, if it was.
+    pub ran: Result<(), Refusal>,
+    /// What the console left of its input, and its output.
+    pub streams: Streams<I, W>,
+    /// Why the console left; `None` where it was not begun.
+    pub left: Option<Left>,
+    /// What the console heard of the store beside its receipts.
+    pub heard: Heard,
+    /// The harts as their loops ended.
+    pub harts: Vec<HartEnd>,
+}
+
+/// The same as one run of a disk in memory: a session has ended, power fails, and the next cold boot finds what the
+/// acknowledged commands make of s, or these and the one in doubt.
+pub fn power_lost_between_sessions<R: Threads + Wait + Sync, I: Read + Drop, W: Write + Drop>(
+    rt: &R,
+    alloc: Global,
+    options: &Options,
+    disk: SimDisk,
+    payloads: &Payloads,
+    streams: Streams<I, W>,
+    fill: Fill,
+) -> (Said<I, W>, Result<Store<SimDisk>, (SimDisk, Refusal)>)
+    requires { IsIdle (⟦<SimDisk as Disk>⟧.facts disk) }
+    ensures { (size : Size) (s : DurableState) → options.now.new ≡ false
+        → StandsFor (⟦<SimDisk as Disk>⟧.facts disk).content size s → (result.0.left ≡ None → ⊥)
+        → IfOk result.1 (λ next. FindsSession size s (commands_by options.now.mode s) result.0.left
+        (dialogue_ends (I.remaining streams.input) (W.contents streams.out) (party [] heard_nothing))
+        (I.remaining result.0.streams.input) (W.contents result.0.streams.out) result.0.heard (found_state next)) }
+{
+    one_standing();
+    let SessionEnd {
+        disk,
+        ran,
+        streams,
+        left,
+        heard,
+        harts,
+    } = session(rt, alloc, options, disk, payloads, streams);
+    let said = Said {
+        ran,
+        streams,
+        left,
+        heard,
+        harts,
+    };
+    (said, Store::open(alloc, disk.after_cut(fill)))
+}
