@@ -34,7 +34,8 @@ fn session_over<R: Threads + Wait + Sync, D: Disk + Drop + Send>(
 ) -> (D, Result<(), FileFault>)
     requires { IsIdle (D.facts disk) }
 {
-    let Ok(input) = BufReader::new(rt.alloc(), EndHint::new(rt, rt.reader())) else {
+    // Not `rt.reader()`: it holds 8 KiB by value, and LLVM does not finish with a session that moves them.
+    let Ok(input) = BufReader::new(rt.alloc(), EndHint::new(rt, rt.stdin())) else {
         return (disk, Err(FileFault::refused(Refusal::Memory)));
     };
     let out = Hints::new(rt, io::writer(rt), options.sync);
