@@ -44,7 +44,7 @@ use Rattle.bench_report.specs.PowerOns.{life_begun, FormatsOn, IsBooted, BootsFr
 use Rattle.bench_report.specs.Steps.{console_reported, FormatStep, OnStep, ConsoleStep, TurnStep, CallReported, GuestCall, CallStep, DeedStep, Moves, Run}
 use Rattle.bench_report.specs.Reports.{IsReportWith}
 use Rattle.bench_report.proofs.Unsaid.{none_made}
-use Rattle.bench_report.specs.Plain.{ShowsNoFailure, ShowNoFailure}
+use Rattle.bench_report.specs.FailureFree.{ShowsNoFailure, ShowNoFailure}
 use Rattle.bench_report.specs.Asides.{Effect, Stays, SetsPayloads, Arms, CutsPower, WakesBoard, WritesPast, aside, affected}
 use Rattle.bench_report.proofs.Questions.{IsAsked, is_asked}
 

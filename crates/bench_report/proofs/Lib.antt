@@ -31,8 +31,6 @@ pub mod PowerOns
 pub mod Prefixed
 pub mod Issues
 pub mod Allowed
-pub mod Fitting
-pub mod PlainRun
 pub mod Started
 pub mod Came
 pub mod Lines

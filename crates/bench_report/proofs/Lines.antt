@@ -96,12 +96,6 @@ lacks : (size : Size) (b : Bench) (board : SimBoard) (h : ℕ) (p : Option Bench
 lacks size b board h None is not step then = absurd is
 lacks size b board h (Some life) is not step then = let P : Machine → Type 0 = λ m. HasHart m h → ⊥ in then life (subst P is.1 not)
 
-pub turns_off : (size : Size) (b : Bench) (board : SimBoard) (h n : ℕ) → OnIs size b board → (HasHart (machine_in board) h → ⊥) → StepsTo size b (On board) (TurnStep b.power h n b (shows shown.Off))
-turns_off size b board h n was not = (b, lacks size b board h b.power was.0 not (λ p. TurnStep p h n b (shows shown.Off) b) (λ life no. inr (no, refl, refl)), was, refl)
-
-pub calls_off : (size : Size) (b : Bench) (board : SimBoard) (h : ℕ) (asked : CallWords) → OnIs size b board → (HasHart (machine_in board) h → ⊥) → StepsTo size b (On board) (CallStep b.power h asked b (shows shown.Off))
-calls_off size b board h asked was not = (b, lacks size b board h b.power was.0 not (λ p. CallStep p h asked b (shows shown.Off) b) (λ life no. inr (no, refl, refl)), was, refl)
-
 -- a line of a call, by what the board did
 reported_as : (size : Size) (h : ℕ) (word : Word) (b : Bench) (n : Machine) (store : SimStore) (line : MachineLine) → Stands size word b n store → line ≡ made_line h (hart_at n h) word → CallReported h word b (shows line)
 reported_as size h (words.Goes did) b n store line (life, on, is, same, device) e = (life, on, ap shows (e ∙ ap (λ m. own_line h (hart_at m h) did) same))

@@ -52,9 +52,6 @@ none_gone Device cs up is = absurd (is refl)
 none_gone Down cs up is = absurd (up refl)
 none_gone e cs up is = refl
 
-as_begun : (store : SimStore) (s : DurableState) → life_of store ≡ started s → IsAs store s 0 None
-as_begun store s e = let P : StoreLife → Type 0 = λ life. IsLife life s 0 None in subst P (sym e) (refl, refl, refl, refl)
-
 as_issued : (store : SimStore) (s : DurableState) (cs : List Change) → life_of store ≡ record (started s) { journal = cs } → IsAs store (fold s cs) (0 + length cs) None
 as_issued store s cs e =
     let P : StoreLife → Type 0 = λ life. IsLife life (fold s cs) (0 + length cs) None in

@@ -26,8 +26,8 @@ pub mod Steps
 pub mod Texts
 -- The reports of a script.
 pub mod Reports
--- The one report where memory was never refused and the disk never failed, computed for plain lines.
-pub mod Plain
+-- A report that shows by its lines that memory was never refused and the disk never failed.
+pub mod FailureFree
 -- Which of some commands in a row took effect.
 pub mod Taken
 -- The prefix law, in the words of the report alone.

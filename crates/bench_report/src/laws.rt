@@ -1,19 +1,18 @@
 //! Laws of the reports, each the contract of a function that does nothing.
 
-ghost use Rattle.std.specs.Prelude.{◌≡◌, ◌≢◌, ◌≤◌, ℕ, suc, List, length, take, drop, Ok, Err, None, Some, codes};
+ghost use Rattle.std.specs.Prelude.{◌≡◌, ◌≢◌, ◌≤◌, ℕ, suc, List, length, take, drop, None, Some};
 ghost use Rattle.board_model.specs.Durable.{DurableState};
 ghost use Rattle.board_model.specs.Kept.{MayFind, found_of};
 ghost use Rattle.board_model.specs.Views.{durable_of};
 ghost use Rattle.board_model.specs.declared.boot_mode.BootMode.{BootMode};
 ghost use Rattle.board_model.specs.declared.boot_mode.BootMode.TheVariants as modes;
 ghost use Rattle.board_model.specs.declared.durable.Durable.{Durable};
-ghost use Rattle.board_model.specs.declared.refusal.Refusal.TheVariants.{BadScript};
 ghost use Rattle.script_lang.specs.Scripts.{Script};
 ghost use Rattle.script_lang.specs.declared.line.Line.TheVariants as lines;
 ghost use Rattle.bench_report.specs.Bench.{Bench, Blank, Formatted, IsFailureFree};
 ghost use Rattle.bench_report.specs.Happens.{says};
 ghost use Rattle.bench_report.specs.Examined.{inspection_of};
-ghost use Rattle.bench_report.specs.Plain.{ArePlain, ShowNoFailure, plain_report_with, plain_text};
+ghost use Rattle.bench_report.specs.FailureFree.{ShowNoFailure};
 ghost use Rattle.bench_report.specs.AllFound.{FindsAll};
 ghost use Rattle.bench_report.specs.Prefix.{KeepsPrefixLaw, MayEndIn};
 ghost use Rattle.bench_report.specs.Reports.{AreByFirmware, IsReportWith};
@@ -23,10 +22,9 @@ ghost use Rattle.bench_report.specs.declared.printed.Answer.{Answer};
 ghost use Rattle.bench_report.specs.declared.printed.Printed.TheVariants as printed;
 
 /// There is one report of a script without `poke` where memory was never refused and no failure of the disk
-/// was answered, so that no armed cut struck: any two such runs of it wrote the same and left the same. For
-/// lines that neither make turns nor show memory or harts it is computed by the plain report. A report shows
-/// that it is one by its lines, where they are failure-free: none says that memory was refused, that the disk
-/// failed or that power was lost, and none of turns or of a call may hide that a hart's command was refused
+/// was answered, so that no armed cut struck: any two such runs of it wrote the same and left the same. A report
+/// shows that it is one by its lines, where they are failure-free: none says that memory was refused, that the
+/// disk failed or that power was lost, and none of turns or of a call may hide that a hart's command was refused
 /// so.
 pub fn one_report()
     ensures one { (payloads : List (List ℕ)) (script : Script) (answers others : List Answer) (end last : Bench)
@@ -35,9 +33,6 @@ pub fn one_report()
         → (answers ≡ others) × (end ≡ last) }
     ensures failure_free { (payloads : List (List ℕ)) (script : Script) (answers : List Answer) (end : Bench)
         → IsReportWith payloads script answers end → ShowNoFailure answers → IsFailureFree end }
-    ensures plain { (payloads : List (List ℕ)) (script : Script) (answers : List Answer) (end : Bench)
-        → IsReportWith payloads script answers end → IsFailureFree end → ArePlain script.lines
-        → answers ≡ plain_report_with payloads script }
 {
     machine::one_turn();
     machine_lines::one_line();
@@ -125,20 +120,4 @@ pub fn power_ons()
         → IsReportWith payloads script answers b → b.disk_state ≡ Formatted → (a : Answer) (new : Bench)
         → Moves script.size (lines.On modes.Resume) b a new
         → a.line ≡ printed.On modes.Resume → IsResumedFrom script.size b a new }
-{}
-
-/// Worked scripts: what is written for a script where memory is ample and nothing fails.
-pub fn worked_scripts()
-    ensures a_slot_outlives_power { plain_text (codes "board 1 1 1\nformat\non fresh\nslot 1\ncut 00\non fresh\n")
-        ≡ Ok (codes "board 1/1/1 sectors 26\nformat ok\nfound slot 0 reason 0 image none next 0\non fresh\nslot ok 1\ncut\nfound slot 1 reason 0 image none next 0\non fresh\n") }
-    ensures a_slot_above_three_is_refused { plain_text (codes "board 1 1 1\nformat\non fresh\nslot 4\nslot 3\n")
-        ≡ Ok (codes "board 1/1/1 sectors 26\nformat ok\nfound slot 0 reason 0 image none next 0\non fresh\nslot refused 9\nslot ok 1\n") }
-    ensures formats_once { plain_text (codes "board 1 1 1\non fresh\nformat\nformat\n")
-        ≡ Ok (codes "board 1/1/1 sectors 26\non refused 1\nformat ok\nformat refused 2\n") }
-    ensures an_inspection_tells_of_the_commands { plain_text (codes "board 1 1 1\ninspect\nformat\ninspect\non fresh\nslot 1\ninspect\ncut 00\ninspect\n")
-        ≡ Ok (codes "board 1/1/1 sectors 26\ninspect refused 1\nformat ok\ninspect gate 0 live ok other bad image none\nfound slot 0 reason 0 image none next 0\non fresh\nslot ok 1\nbusy\ncut\ninspect gate 1 live ok other ok image none\n") }
-    ensures a_trial_falls_back { plain_text (codes "board 1 1 1\nformat\non fresh\ntries 2 1\ncut 00\non fresh\nslot 4\ncut 00\non fresh\ncut 00\non fresh\n")
-        ≡ Ok (codes "board 1/1/1 sectors 26\nformat ok\nfound slot 0 reason 0 image none next 0\non fresh\ntries ok 1\ncut\nfound slot 2 reason 0 image none next 0 trial 0 1\non fresh\nslot refused 9\ncut\nfound slot 2 reason 0 image none next 0 trial 0 0\non fresh\ncut\nfound slot 0 reason 0 image none next 0\non fresh\n") }
-    ensures an_empty_script { plain_text (codes "") ≡ Err (BadScript 1) }
-    ensures a_line_in_no_form { plain_text (codes "board 1 1 1\nslot\n") ≡ Err (BadScript 2) }
 {}

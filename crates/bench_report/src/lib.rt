@@ -11,9 +11,7 @@ mod runs;
 mod setting;
 mod steps;
 
-pub use laws::{
-    all_are_found, inspections, one_report, power_ons, prefix_law, reports_split, worked_scripts,
-};
+pub use laws::{all_are_found, inspections, one_report, power_ons, prefix_law, reports_split};
 pub use power::Power;
 pub use printed::{Answer, Printed};
 pub use runs::{Report, Stopped, run, run_left, run_left_with, run_with, unwritten};

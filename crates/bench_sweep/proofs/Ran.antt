@@ -80,8 +80,6 @@ life_of size b lines count power slots after ledger now disk r (calm, left) stop
     }
 
 -- ---- where a run stops
-pub off_stops : (power : Power) (disk : SimDisk) → power ≡ Off disk → StopsOff power
-off_stops power disk is = λ size b agrees calm. let A : Power → Type 0 = λ p. Agrees size b p in (subst A is agrees).0
 
 pub struck_stops : (power : Power) (struck : Bool) → struck ≡ true → ((size : Size) (b : Bench) → Agrees size b power → struck ≡ b.fault_state.struck) → StopsOff power
 struck_stops power struck hit exact = λ size b agrees calm. absurd (let no : true ≡ false = sym hit ∙ exact size b agrees ∙ calm in let never : ⊥ = cc in never)

@@ -160,9 +160,6 @@ pub next_exact : (bench : Bench) (caller : Caller) (made calls : ℕ) → made +
 next_exact bench caller made zero less = append-nil (runs_from bench caller 1 made) ∙ ap (λ (n : ℕ). runs_from bench caller 1 n) (let same : made ≡ made + 0 = omega arith in same)
 next_exact bench caller made (suc calls) less = next_calls bench caller made made (made + 1) (suc calls) (omega (arith, less)) (omega (arith, less))
 
-pub made_more : (n made calls next : ℕ) → made ≡ counted 0 n → next ≡ counted made calls → next ≡ counted 0 (n + calls)
-made_more n made calls next e f = omega (arith, e, f)
-
 -- one caller more
 pub next_caller : (bench : Bench) (items : List Caller) (i : ℕ) (caller d : Caller) (counts : List ℕ) (n : ℕ) → i < length items → caller ≡ get_or items i d → length counts ≡ i
     → all_runs bench (take i items) counts ++ runs_from bench caller 1 n ≡ all_runs bench (take (i + 1) items) (counts ++ n ∷ [])

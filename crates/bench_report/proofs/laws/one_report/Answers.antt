@@ -1,6 +1,5 @@
 use Rattle.bench_report.proofs.Single.{one_report}
 use Rattle.bench_report.proofs.FailureFree.{failure_free_bench}
-use Rattle.bench_report.proofs.PlainRun.{plain_alone}
 use Rattle.bench_report.proofs.laws.one_report.Goals as goal
 
 pub returns-clause-one : goal.returns-clause-one
@@ -8,6 +7,3 @@ returns-clause-one c = λ payloads script answers others end last by x y u v. on
 
 pub returns-clause-failure_free : goal.returns-clause-failure_free
 returns-clause-failure_free c = failure_free_bench
-
-pub returns-clause-plain : goal.returns-clause-plain
-returns-clause-plain c = λ payloads script answers end h u plain. plain_alone (record { one = c.one_standing.ensures.one; marked = c.one_standing.ensures.marked; inspected = c.one_inspection.ensures; in_order = c.formats_in_order.ensures }) c.one_turn.ensures.turn c.one_turn.ensures.call c.one_line.ensures payloads script answers end h u plain
