@@ -1,15 +1,18 @@
 -- A cache over its device.
 use Rattle.std.proofs.Common.{◌≡◌, ◌⊎◌, ◌∙◌, inl, inr, ⊎_elim, refl, sym, ap, subst, zero, suc, ℕ, ◌+◌, ◌-◌, ◌*◌, ◌<◌, ◌≤◌, List, [], ◌∷◌, ◌++◌, length, get_or, map, take, drop, arith, Result, Ok, Err, OnOk}
 use Rattle.std.proofs.Math.Nat.{zero-mul}
-use Rattle.std.proofs.lemmas.List.{map-append, ext_get_or, take_more, length-take-le}
-use Rattle.std.proofs.lemmas.Bool.{cases_lt}
+use Rattle.std.proofs.lemmas.List.{map-append, ext_get_or, take_more, take_all, length-take-le}
+use Rattle.std.proofs.lemmas.Bool.{cases_lt, cases_eq}
+use Rattle.disk.specs.FaultState.{FaultState, Cause}
+use Rattle.disk.specs.Calls.{MakesCalls}
+use Rattle.disk.specs.Moments.{passes_then}
 use Rattle.disk.specs.Facts.{Content, Facts, Lent, LeavesAfter, Passes, Stays, Torn, Written, Joined, AreSectorsAt, sector, lent_sectors, nothing}
 use Rattle.write_log.specs.WriteLog.{Piece, WriteLog, AgreesOutside, AreWithin, Untouched, laid_over, lent_piece, more_written, more_synced, new_log, range, ranges, replay, sim_facts, synced}
-use Rattle.write_log.proofs.Pieces.{length-put, put_low, put_mid, put_high, replay_push, length_replay, replay_outside, replay_outside_same, fits_push}
+use Rattle.write_log.proofs.Pieces.{length-put, put_low, put_mid, put_high, replay_push, length_replay, replay_outside, replay_outside_same, fits_push, fits_here, fits_rest}
 use Rattle.write_log.proofs.Ranges.{agrees_push, untouched_push}
 use Rattle.cached_disk.specs.declared.waiting.Waiting.{Waiting}
 use Rattle.cached_disk.specs.Laws.{but_then, covered, length_shown}
-use Rattle.cached_disk.specs.Cached.{piece_of, pieces_of, shown, Waits, ButIn, IsCached}
+use Rattle.cached_disk.specs.Cached.{piece_of, pieces_of, shown, Waits, ButIn, IsCached, HandsOn, HandedOn}
 
 pub but_none : (rs : List (ℕ × ℕ)) (x y : Content) → y ≡ x → ButIn rs x y
 but_none rs x y is = record { as_long = ap length is; same = λ k u. ap (λ (c : Content). sector c k) is }
@@ -135,3 +138,118 @@ written_laid first s old new within written =
     at : (k : ℕ) → first ≤ k → k ≡ first + (k - first)
     at k le = omega (arith, le)
 
+-- ---- handing on
+fits_at : (n : ℕ) (ws : List Waiting) (i : ℕ) (w d : Waiting) → i < length ws → w ≡ get_or ws i d → AreWithin n (ranges (pieces_of ws)) → w.number + 1 ≤ n
+fits_at n [] i w d lt is fits = absurd (omega (arith, lt))
+fits_at n (x ∷ ws) zero w d lt is fits = rw is (fits_here n (piece_of x) (pieces_of ws) fits)
+fits_at n (x ∷ ws) (suc i) w d lt is fits = fits_at n ws i w d (omega (arith, lt)) is (fits_rest n (piece_of x) (pieces_of ws) fits)
+
+pub handed_none : (ws : List Waiting) (a : Facts) (f : FaultState) → HandedOn 0 ws a a f f
+handed_none ws a f = record {
+  so_far = refl;
+  but = but_none (ranges (pieces_of ws)) a.content a.content refl;
+  crash = record {
+    later = omega arith;
+    now = λ c may. (c, may, but_none (ranges (pieces_of ws)) c c refl);
+    nothing_else = λ t c le left. inl left;
+    keeps = λ t c le left. left;
+  };
+  lent = refl;
+  failures = refl;
+  cause = refl;
+}
+
+-- a sector that waits is written: all others stay
+torn_waiting : (ws : List Waiting) (i : ℕ) (w d : Waiting) (x y : Content) → i < length ws → w ≡ get_or ws i d → Torn w.number 1 x y → ButIn (ranges (pieces_of ws)) x y
+torn_waiting ws i w d x y lt is torn = record { as_long = torn.as_long; same = λ k u. ⊎_elim (torn.before k) (torn.after k) (at ws i lt is k u) }
+  where
+    at : (ws : List Waiting) (i : ℕ) → i < length ws → w ≡ get_or ws i d → (k : ℕ) → Untouched (ranges (pieces_of ws)) k → (k < w.number) ⊎ (w.number + 1 ≤ k)
+    at [] i lt is k u = absurd (omega (arith, lt))
+    at (x ∷ ws) zero lt is k u = subst (λ (y : Waiting). (k < y.number) ⊎ (y.number + 1 ≤ k)) (sym is) u.0
+    at (x ∷ ws) (suc i) lt is k u = at ws i (omega (arith, lt)) is k u.1
+
+but_crash : (ws : List Waiting) (a b c : Facts) (step : Content → Content → Type 0) → Passes a b (ButIn (ranges (pieces_of ws))) → Passes b c step → ((x y : Content) → step x y → ButIn (ranges (pieces_of ws)) x y)
+    → Passes a c (ButIn (ranges (pieces_of ws)))
+but_crash ws a b c step p q goes =
+    passes_then a b c (ButIn (ranges (pieces_of ws))) step p q (λ x y z first second. but_then (ranges (pieces_of ws)) x y z first (goes y z second))
+
+module _ (ws : List Waiting) (i : ℕ) (w d : Waiting) (a b c : Facts) (f g h : FaultState) (lt : i < length ws) (is : w ≡ get_or ws i d) (so_far : HandedOn i ws a b f g) where
+  pub more_fits : AreWithin (length a.content) (ranges (pieces_of ws)) → w.number + 1 ≤ length b.content
+  more_fits fits = fits_at (length b.content) ws i w d lt is (subst (λ (n : ℕ). AreWithin n (ranges (pieces_of ws))) (sym so_far.but.as_long) fits)
+
+  pub more_apart : (0 < length ws → a.lent.lanes ≡ 0) → b.lent.lanes ≡ 0
+  more_apart alone = ap (λ (l : Lent). l.lanes) so_far.lent ∙ alone (omega (arith, lt))
+
+  handed_but : Torn w.number 1 b.content c.content → ButIn (ranges (pieces_of ws)) a.content c.content
+  handed_but torn = but_then (ranges (pieces_of ws)) a.content b.content c.content so_far.but (torn_waiting ws i w d b.content c.content lt is torn)
+
+  pub handed_more : {T E : Type 0} (v : T) → AreWithin (length a.content) (ranges (pieces_of ws)) → Written w.number (w.sector ∷ []) b.content c.content → MakesCalls {T = T} {E = E} 1 (Torn w.number 1) b c g h (Ok v)
+      → HandedOn (i + 1) ws a c f h
+  handed_more v fits written called = record {
+    so_far = written_laid w.number (w.sector ∷ []) b.content c.content (more_fits fits) written ∙ ap (laid_over (piece_of w)) so_far.so_far ∙ sym (shown_push (take i ws) w a.content)
+        ∙ sym (ap (λ (us : List Waiting). shown us a.content) (take_more ws i d lt ∙ ap (λ (y : Waiting). take i ws ++ y ∷ []) (sym is)));
+    but = handed_but called.content;
+    crash = but_crash ws a b c (Torn w.number 1) so_far.crash called.crash (λ x y torn. torn_waiting ws i w d x y lt is torn);
+    lent = called.lent ∙ so_far.lent;
+    failures = called.failures.ok ∙ so_far.failures;
+    cause = called.cause.ok ∙ so_far.cause;
+  }
+
+  pub handed_failed : {T E U F : Type 0} (e : E) (r : F) → MakesCalls {T = T} {E = E} 1 (Torn w.number 1) b c g h (Err e) → HandsOn {T = U} {E = F} ws a c f h (Err r)
+  handed_failed e r called = record {
+    all = tt;
+    content = handed_but called.content;
+    crash = but_crash ws a b c (Torn w.number 1) so_far.crash called.crash (λ x y torn. torn_waiting ws i w d x y lt is torn);
+    lent = called.lent ∙ so_far.lent;
+    failures = record { ok = tt; err = rw (← so_far.failures) called.failures.err };
+    cause = record { ok = tt; err = subst (λ (x : FaultState). Cause x h) so_far.cause called.cause.err };
+  }
+
+pub handed_all : {T E : Type 0} (v : T) (ws : List Waiting) (i : ℕ) (a b : Facts) (f g : FaultState) → length ws ≤ i → HandedOn i ws a b f g → HandsOn {T = T} {E = E} ws a b f g (Ok v)
+handed_all v ws i a b f g le so_far = record {
+  all = so_far.so_far ∙ ap (λ (us : List Waiting). shown us a.content) (take_all i ws le);
+  content = so_far.but;
+  crash = so_far.crash;
+  lent = so_far.lent;
+  failures = record { ok = so_far.failures; err = tt };
+  cause = record { ok = so_far.cause; err = tt };
+}
+
+-- ---- reading
+-- one sector more is laid over those that were read
+pub read_more : (first i n : ℕ) (w d : Waiting) (ws : List Waiting) (held old new : Content) → i < length ws → w ≡ get_or ws i d → AreWithin (length held) (ranges (pieces_of ws)) → length old ≡ n → length new ≡ n → first + n ≤ length held
+    → AreSectorsAt first (shown (take i ws) held) old
+    → ((k : ℕ) → k < n → (first + k ≡ w.number → sector new k ≡ w.sector) × ((first + k ≡ w.number → ⊥) → sector new k ≡ sector old k)) → AreSectorsAt first (shown (take (i + 1) ws) held) new
+read_more first i n w d ws held old new lt is fits long long' within read put k less =
+    subst (λ (us : List Waiting). sector new k ≡ sector (shown us held) (first + k)) (sym (take_more ws i d lt ∙ ap (λ (y : Waiting). take i ws ++ y ∷ []) (sym is)))
+    (subst (λ (c : Content). sector new k ≡ sector c (first + k)) (sym (shown_push (take i ws) w held)) here)
+  where
+    k_in : k < n
+    k_in = omega (arith, less, long')
+
+    before : Content
+    before = shown (take i ws) held
+
+    as_long : length before ≡ length held
+    as_long = length_replay (pieces_of (take i ws)) held (prefix ws i fits)
+      where
+        prefix : (ws : List Waiting) (i : ℕ) → AreWithin (length held) (ranges (pieces_of ws)) → AreWithin (length held) (ranges (pieces_of (take i ws)))
+        prefix ws zero fits j lt = absurd (omega (arith, lt))
+        prefix [] (suc i) fits j lt = absurd (omega (arith, lt))
+        prefix (x ∷ ws) (suc i) fits zero lt = fits 0 (omega arith)
+        prefix (x ∷ ws) (suc i) fits (suc j) lt = prefix ws i (fits_rest (length held) (piece_of x) (pieces_of ws) fits) j (omega (arith, lt))
+
+    inside : w.number + 1 ≤ length before
+    inside = rw as_long (fits_at (length held) ws i w d lt is fits)
+
+    here : sector new k ≡ sector (laid_over (piece_of w) before) (first + k)
+    here = elim (cases_eq (first + k) w.number) [
+      | inl same ↦ (put k k_in).0 same ∙ sym (put_mid w.number (w.sector ∷ []) before inside (first + k) (omega (arith, same)) (omega (arith, same)) ∙ ap (sector (w.sector ∷ [])) (at same))
+      | inr other ↦ (put k k_in).1 other ∙ read k (omega (arith, k_in, long)) ∙ sym (elim (cases_lt (first + k) w.number) [
+        | inl low ↦ put_low w.number (w.sector ∷ []) before inside (first + k) low
+        | inr le ↦ put_high w.number (w.sector ∷ []) before inside (first + k) (omega (arith, le, other))
+      ])
+    ]
+      where
+        at : first + k ≡ w.number → first + k - w.number ≡ 0
+        at same = omega (arith, same)

@@ -2,7 +2,7 @@
 use Rattle.std.specs.Prelude.{◌≡◌, ◌⊎◌, ℕ, ◌<◌, ◌+◌, ◌≤◌, List, [], ◌∷◌, length, map, take, Result, OnOk}
 use Rattle.disk.specs.Facts.{Content, Facts, Counts, Passes, lent_sectors}
 use Rattle.disk.specs.FaultState.{FaultState, Caused}
-use Rattle.write_log.specs.WriteLog.{Piece, WriteLog, AgreesOutside, AreWithin, Untouched, ranges, replay, synced}
+use Rattle.write_log.specs.WriteLog.{Piece, WriteLog, AgreesOutside, AreWithin, Untouched, ranges, replay, sim_facts, synced}
 use Rattle.cached_disk.specs.declared.waiting.Waiting.{Waiting}
 
 -- a sector that waits, as a piece
@@ -15,6 +15,11 @@ pieces_of ws = map piece_of ws
 -- what a read gives: what the device holds, and over it what waits, the oldest first
 abbrev pub shown : List Waiting → Content → Content
 shown ws held = replay (pieces_of ws) held
+
+-- the facts of the disk: its content, and of a crash what its log says
+abbrev pub facts_of : List Waiting → WriteLog → ℕ → Facts → Facts
+facts_of ws log calls device =
+    sim_facts (shown ws device.content) (synced log) log device.failures calls device.lent
 
 -- that sector waits
 abbrev pub Waits : List Waiting → ℕ → Type 0
@@ -50,6 +55,7 @@ pub record HandsOn {T E : Type 0} (ws : List Waiting) (old new : Facts) (was is 
 -- and so far, where no call has failed
 pub record HandedOn (n : ℕ) (ws : List Waiting) (old new : Facts) (was is : FaultState) : Type 0 where
   pub so_far : new.content ≡ shown (take n ws) old.content
+  pub but : ButIn (ranges (pieces_of ws)) old.content new.content
   pub crash : Passes old new (ButIn (ranges (pieces_of ws)))
   pub lent : new.lent ≡ old.lent
   pub failures : new.failures ≡ old.failures

@@ -1,9 +1,9 @@
 //! The disk over its device.
-ghost use Rattle.std.specs.Prelude.{◌≡◌, ◌<◌, ◌^◌, false, length, vec_capacity, IfOk};
+ghost use Rattle.std.specs.Prelude.{◌≡◌, ◌<◌, ◌^◌, false, length, IfOk};
 ghost use Rattle.disk.specs.Facts.{Content, IsFresh};
 ghost use Rattle.cached_disk.specs.Cached.{IsCached};
 
-use crate::waiting::{Waiting, hand_on, lay_over};
+use crate::waiting::{HandOn, Queue, Waiting, lay_over};
 use disk::{ArmedFault, Disk, Fault, Sector};
 use std::alloc::{AllocError, Global};
 use write_log::Log;
@@ -18,16 +18,14 @@ const MOST: usize = 8;
 /// waits, and while something waits nothing is lent: who lends sectors syncs before.
 #[derive(Drop)]
 pub struct CachedDisk<D: Disk + Drop> {
-    device: D,
-    waiting: Vec<Waiting>,
+    queue: Queue<D>,
     out: bool,
     calls: u64,
     log: Log,
     ghost few_calls: { calls < 2 ^ 64 },
-    ghost room: { vec_capacity waiting ≡ 8 },
-    ghost cached: { IsCached waiting.items log.log (D.facts device) },
-    ghost idle: { out ≡ false → (D.facts device).lent.lanes ≡ 0 },
-    ghost alone: { 0 < length waiting.items → (D.facts device).lent.lanes ≡ 0 },
+    ghost cached: { IsCached queue.waiting.items log.log (D.facts queue.device) },
+    ghost idle: { out ≡ false → (D.facts queue.device).lent.lanes ≡ 0 },
+    ghost alone: { 0 < length queue.waiting.items → (D.facts queue.device).lent.lanes ≡ 0 },
 }
 
 impl<D: Disk + Drop> CachedDisk<D> {
@@ -41,8 +39,7 @@ impl<D: Disk + Drop> CachedDisk<D> {
         let waiting = Vec::with_capacity(alloc, MOST)?;
         let log = Log::picked(&device);
         Ok(CachedDisk {
-            device,
-            waiting,
+            queue: Queue { device, waiting },
             out: false,
             calls: 0,
             log,
@@ -54,7 +51,7 @@ impl<D: Disk + Drop> CachedDisk<D> {
     pub fn into_device(self) -> D
         ensures { (c : Content) → (D.facts result).may_leave c → (⟦<CachedDisk<D> as Disk>⟧.facts self).may_leave c }
     {
-        self.device
+        self.queue.device
     }
 }
 
@@ -62,54 +59,54 @@ impl<D: Disk + Drop> Disk for CachedDisk<D> {
     ghost use Rattle.std.specs.Prelude.{◌≡◌, length, map, take};
     ghost use Rattle.disk.specs.Facts.{Stays, Passes, InRow, Joined, counted, nothing, lane_failures};
     ghost use Rattle.disk.specs.FaultState.{CausedInLanes};
-    ghost use Rattle.write_log.specs.WriteLog.{AgreesOutside, ranges, sim_facts, synced, synced_after};
+    ghost use Rattle.write_log.specs.WriteLog.{AgreesOutside, ranges, synced, synced_after};
     ghost use Rattle.write_log.specs.Laws.{only_the_last, below_most};
-    ghost use Rattle.cached_disk.specs.Cached.{shown};
+    ghost use Rattle.cached_disk.specs.Cached.{facts_of};
     ghost use Rattle.cached_disk.specs.Laws.{keeps};
     ghost use mathlib.Core.Logic.{inl};
 
     type Lane = D::Lane;
 
-    ghost facts = { λ d. sim_facts (shown d.waiting.items (D.facts d.device).content) (synced d.log.log) d.log.log
-        (D.facts d.device).failures d.calls (D.facts d.device).lent };
+    ghost facts = { λ d. facts_of d.queue.waiting.items d.log.log d.calls (D.facts d.queue.device) };
 
-    ghost fault_state = { λ d. D.fault_state d.device };
+    ghost fault_state = { λ d. D.fault_state d.queue.device };
 
-    ghost arms = { λ d f. D.arms d.device f };
+    ghost arms = { λ d f. D.arms d.queue.device f };
 
     fn sectors(&self) -> usize {
-        self.device.sectors()
+        self.queue.device.sectors()
     }
 
     fn read(&mut self, first: usize, sectors: &mut [Sector]) -> Result<(), Fault> {
         self.calls = self.calls.saturating_add(1);
-        self.device.read(first, sectors)?;
-        lay_over(sectors, first, &self.waiting);
+        self.queue.device.read(first, sectors)?;
+        lay_over(sectors, first, &self.queue.waiting);
         Ok(())
     }
 
     fn write(&mut self, first: usize, sectors: &[Sector]) -> Result<(), Fault> {
         self.calls = self.calls.saturating_add(1);
         self.log.note(first, sectors);
-        let waits = sectors.len() == 1 && self.waiting.len() < MOST && !self.out && !self.device.struck();
-        if waits {
-            self.waiting.push_reserved(Waiting {
+        if sectors.len() == 1
+            && self.queue.waiting.len() < MOST
+            && !self.out
+            && !self.queue.device.struck()
+        {
+            self.queue.waiting.push_reserved(Waiting {
                 number: first,
                 sector: sectors[0],
             });
             return Ok(());
         }
-        hand_on(&mut self.device, &self.waiting)?;
-        self.waiting.clear();
-        self.device.write(first, sectors)
+        self.queue.hand_on()?;
+        self.queue.device.write(first, sectors)
     }
 
     fn sync(&mut self) -> Result<(), Fault> {
         self.calls = self.calls.saturating_add(1);
-        hand_on(&mut self.device, &self.waiting)?;
-        self.waiting.clear();
-        self.device.sync()?;
-        self.log = Log::picked(&(&self.log, &self.device));
+        self.queue.hand_on()?;
+        self.queue.device.sync()?;
+        self.log = Log::picked(&(&self.log, &self.queue.device));
         Ok(())
     }
 
@@ -119,11 +116,11 @@ impl<D: Disk + Drop> Disk for CachedDisk<D> {
         lanes: usize,
         each: usize,
     ) -> Result<Vec<D::Lane>, AllocError> {
-        if !self.waiting.is_empty() {
+        if !self.queue.waiting.is_empty() {
             return Err(AllocError);
         }
-        let out = self.device.split(first, lanes, each)?;
-        self.log = Log::picked(&(&self.log, &self.device));
+        let out = self.queue.device.split(first, lanes, each)?;
+        self.log = Log::picked(&(&self.log, &self.queue.device));
         self.out = true;
         Ok(out)
     }
@@ -141,23 +138,23 @@ impl<D: Disk + Drop> Disk for CachedDisk<D> {
         ensures cause { CausedInLanes (⟦<CachedDisk<D> as Disk>⟧.fault_state self.old)
             (⟦<CachedDisk<D> as Disk>⟧.fault_state self.new) (lane_failures (map D.Lane.lane_facts lanes.items)) }
     {
-        self.device.join(lanes);
+        self.queue.device.join(lanes);
         self.out = false;
     }
 
     fn failures(&self) -> u64 {
-        self.device.failures()
+        self.queue.device.failures()
     }
 
     fn arm(&mut self, fault: ArmedFault) {
-        self.device.arm(fault);
+        self.queue.device.arm(fault);
     }
 
     fn struck(&self) -> bool {
-        self.device.struck()
+        self.queue.device.struck()
     }
 
-    ghost may_keep = { λ d. keeps d.waiting.items d.log.log (D.facts d.device) d.cached };
+    ghost may_keep = { λ d. keeps d.queue.waiting.items d.log.log (D.facts d.queue.device) d.cached };
 
     ghost counts_now = { λ d t c le left. inl left };
 
@@ -165,7 +162,7 @@ impl<D: Disk + Drop> Disk for CachedDisk<D> {
         (synced_after (take (length d.log.log.past) d.log.log.past) d.log.log.began) d.log.log.past c
         (AgreesOutside (synced d.log.log) (ranges d.log.log.written) c) left };
 
-    ghost bounded = { λ d. D.bounded d.device };
+    ghost bounded = { λ d. D.bounded d.queue.device };
 
     ghost bounded_calls = { λ d. below_most d.calls d.few_calls };
 }

@@ -1,6 +1,7 @@
 //! Sectors that wait for their device.
-ghost use Rattle.std.specs.Prelude.{◌≡◌, ◌≤◌, ◌<◌, ◌+◌, length};
-ghost use Rattle.disk.specs.Facts.{Content, AreSectorsAt};
+ghost use Rattle.std.specs.Prelude.{◌≡◌, ◌≤◌, ◌<◌, ◌+◌, [], List, length, vec_capacity, OnOk, OnErr};
+ghost use Rattle.disk.specs.Facts.{Content, Facts, AreSectorsAt};
+ghost use Rattle.disk.specs.FaultState.{FaultState};
 ghost use Rattle.write_log.specs.WriteLog.{ranges, AreWithin};
 ghost use Rattle.cached_disk.specs.Cached.{HandsOn, pieces_of, shown};
 
@@ -13,9 +14,53 @@ pub struct Waiting {
     pub sector: Sector,
 }
 
-/// Hands on to the device each sector that waits, the oldest first. At `Err` a call of the device failed; what it holds
-/// in the sectors that wait is then any bytes.
-pub fn hand_on<D: Disk>(device: &mut D, waiting: &[Waiting]) -> Result<(), Fault>
+/// A device, and what waits for it, the oldest first.
+#[derive(Drop)]
+pub struct Queue<D: Disk + Drop> {
+    pub device: D,
+    pub waiting: Vec<Waiting>,
+    ghost room: { vec_capacity waiting ≡ 8 },
+}
+
+/// What hands on to its device what waits for it.
+pub trait HandOn {
+    ghost use Rattle.cached_disk.specs.declared.waiting.Waiting.{Waiting};
+
+    /// The facts of the device.
+    ghost device: { Self → Facts };
+
+    /// Why it failed.
+    ghost faults: { Self → FaultState };
+
+    ghost waiting: { Self → List Waiting };
+
+    /// Hands on each sector that waits, the oldest first. At `Err` a call of the device failed, and all of them wait
+    /// still; what the device holds in these sectors is then any bytes.
+    fn hand_on(&mut self) -> Result<(), Fault>
+        requires fits { AreWithin (length (device self.old).content) (ranges (pieces_of (waiting self.old))) }
+        requires alone { 0 < length (waiting self.old) → (device self.old).lent.lanes ≡ 0 }
+        ensures handed { HandsOn (waiting self.old) (device self.old) (device self.new) (faults self.old)
+            (faults self.new) result }
+        ensures none { OnOk result (waiting self.new ≡ []) }
+        ensures all { OnErr result (waiting self.new ≡ waiting self.old) };
+}
+
+impl<D: Disk + Drop> HandOn for Queue<D> {
+    ghost device = { λ q. D.facts q.device };
+
+    ghost faults = { λ q. D.fault_state q.device };
+
+    ghost waiting = { λ q. q.waiting.items };
+
+    fn hand_on(&mut self) -> Result<(), Fault> {
+        write_all(&mut self.device, &self.waiting)?;
+        self.waiting.clear();
+        Ok(())
+    }
+}
+
+/// Writes each sector that waits, the oldest first.
+fn write_all<D: Disk>(device: &mut D, waiting: &[Waiting]) -> Result<(), Fault>
     requires fits { AreWithin (length (D.facts device.old).content) (ranges (pieces_of waiting.now)) }
     requires alone { 0 < length waiting.now → (D.facts device.old).lent.lanes ≡ 0 }
     ensures { HandsOn waiting.now (D.facts device.old) (D.facts device.new) (D.fault_state device.old)
@@ -29,11 +74,9 @@ pub fn hand_on<D: Disk>(device: &mut D, waiting: &[Waiting]) -> Result<(), Fault
 
 /// Lays the sectors that wait, the oldest first, over those that were read of the device from that one on.
 pub fn lay_over(sectors: &mut [Sector], first: usize, waiting: &[Waiting])
-    ghost held: { Content }
-    requires read { AreSectorsAt first held sectors.old }
-    requires within { first + length sectors.old ≤ length held }
-    requires fits { AreWithin (length held) (ranges (pieces_of waiting.now)) }
-    ensures { AreSectorsAt first (shown waiting.now held) sectors.new }
+    ensures { (held : Content) → first + length sectors.old ≤ length held
+        → AreWithin (length held) (ranges (pieces_of waiting.now)) → AreSectorsAt first held sectors.old
+        → (length sectors.new ≡ length sectors.old) × AreSectorsAt first (shown waiting.now held) sectors.new }
 {
     for wait in waiting {
         if first <= wait.number && wait.number - first < sectors.len() {

@@ -12,9 +12,9 @@ use crate::laid::overwrite;
 use crate::lane::{Bytes, SimLane};
 use crate::lending::{count_calls, failures_of, lay_row};
 use crate::loan::Loan;
+use crate::logged::{Logged, Stateful};
 use crate::sim::SimDisk;
 use crate::striking::failed;
-use crate::logged::{Logged, Stateful};
 use disk::{ArmedFault, Disk, Fault, Lane, Sector};
 use std::alloc::AllocError;
 

@@ -3,8 +3,8 @@ ghost use Rattle.std.specs.Prelude.{◌≡◌, ◌⊎◌, ◌≤◌, ◌<◌, �
 ghost use Rattle.disk.specs.Facts.{Content, lent_sectors};
 ghost use Rattle.write_log.specs.WriteLog.{synced, synced_after, ranges, AgreesOutside, Untouched, Had};
 
-use crate::sim::SimDisk;
 use crate::logged::Logged;
+use crate::sim::SimDisk;
 use disk::Disk;
 
 /// What a crash may leave, to the letter: each content that agrees with the one at the last sync

@@ -7,9 +7,9 @@ ghost use Rattle.simdisk.specs.Views.{last_of, IsAsRead};
 
 use crate::faults::Faults;
 use crate::laid::overwrite;
+use crate::logged::Stateful;
 use crate::remembered::Remembered;
 use crate::striking::failed;
-use crate::logged::Stateful;
 use disk::{Fault, Lane, LaneCall, Sector};
 
 /// A lane of a [`SimDisk`](crate::SimDisk), which owns its sectors until the join.

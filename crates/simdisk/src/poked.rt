@@ -9,10 +9,10 @@ ghost use Rattle.simdisk.specs.Views.{piece, pieces};
 
 use crate::history::History;
 use crate::laid::overwrite;
+use crate::logged::Logged;
 use crate::patch::Patch;
 use crate::remembered::Remembered;
 use crate::sim::SimDisk;
-use crate::logged::Logged;
 use disk::{Disk, Sector};
 use std::alloc::{AllocError, Global};
 
