@@ -1,7 +1,8 @@
 -- A cache over its device.
-use Rattle.std.proofs.Common.{◌≡◌, ◌⊎◌, ◌∙◌, inl, inr, ⊎_elim, refl, sym, ap, subst, zero, suc, ℕ, ◌+◌, ◌-◌, ◌*◌, ◌<◌, ◌≤◌, List, [], ◌∷◌, ◌++◌, length, get_or, map, take, drop, arith, Result, Ok, Err, OnOk}
+use Rattle.std.proofs.Common.{◌≡◌, ◌⊎◌, ◌∙◌, inl, inr, ⊎_elim, refl, sym, ap, subst, zero, suc, ℕ, ◌+◌, ◌-◌, ◌*◌, ◌<◌, ◌≤◌, List, [], ◌∷◌, ◌++◌, length, get_or, set, map, take, drop, arith, Result, Ok, Err, OnOk}
 use Rattle.std.proofs.Math.Nat.{zero-mul}
-use Rattle.std.proofs.lemmas.List.{map-append, ext_get_or, take_more, take_all, length-take-le}
+use Rattle.std.proofs.lemmas.Grind.{get_or-set_at}
+use Rattle.std.proofs.lemmas.List.{get_or-set_other, length-set, map-append, ext_get_or, take_more, take_all, length-take-le}
 use Rattle.std.proofs.lemmas.Bool.{cases_lt, cases_eq}
 use Rattle.disk.specs.FaultState.{FaultState, Cause}
 use Rattle.disk.specs.Calls.{MakesCalls}
@@ -173,37 +174,38 @@ but_crash : (ws : List Waiting) (a b c : Facts) (step : Content → Content → 
 but_crash ws a b c step p q goes =
     passes_then a b c (ButIn (ranges (pieces_of ws))) step p q (λ x y z first second. but_then (ranges (pieces_of ws)) x y z first (goes y z second))
 
-module _ (ws : List Waiting) (i : ℕ) (w d : Waiting) (a b c : Facts) (f g h : FaultState) (lt : i < length ws) (is : w ≡ get_or ws i d) (so_far : HandedOn i ws a b f g) where
+module _ (ws : List Waiting) (i : ℕ) (w d : Waiting) (a b : Facts) (f g : FaultState) (lt : i < length ws) (is : w ≡ get_or ws i d) (so_far : HandedOn i ws a b f g) where
   pub more_fits : AreWithin (length a.content) (ranges (pieces_of ws)) → w.number + 1 ≤ length b.content
   more_fits fits = fits_at (length b.content) ws i w d lt is (subst (λ (n : ℕ). AreWithin n (ranges (pieces_of ws))) (sym so_far.but.as_long) fits)
 
   pub more_apart : (0 < length ws → a.lent.lanes ≡ 0) → b.lent.lanes ≡ 0
   more_apart alone = ap (λ (l : Lent). l.lanes) so_far.lent ∙ alone (omega (arith, lt))
 
-  handed_but : Torn w.number 1 b.content c.content → ButIn (ranges (pieces_of ws)) a.content c.content
-  handed_but torn = but_then (ranges (pieces_of ws)) a.content b.content c.content so_far.but (torn_waiting ws i w d b.content c.content lt is torn)
+  module _ (c : Facts) (h : FaultState) where
+    handed_but : Torn w.number 1 b.content c.content → ButIn (ranges (pieces_of ws)) a.content c.content
+    handed_but torn = but_then (ranges (pieces_of ws)) a.content b.content c.content so_far.but (torn_waiting ws i w d b.content c.content lt is torn)
 
-  pub handed_more : {T E : Type 0} (v : T) → AreWithin (length a.content) (ranges (pieces_of ws)) → Written w.number (w.sector ∷ []) b.content c.content → MakesCalls {T = T} {E = E} 1 (Torn w.number 1) b c g h (Ok v)
-      → HandedOn (i + 1) ws a c f h
-  handed_more v fits written called = record {
-    so_far = written_laid w.number (w.sector ∷ []) b.content c.content (more_fits fits) written ∙ ap (laid_over (piece_of w)) so_far.so_far ∙ sym (shown_push (take i ws) w a.content)
-        ∙ sym (ap (λ (us : List Waiting). shown us a.content) (take_more ws i d lt ∙ ap (λ (y : Waiting). take i ws ++ y ∷ []) (sym is)));
-    but = handed_but called.content;
-    crash = but_crash ws a b c (Torn w.number 1) so_far.crash called.crash (λ x y torn. torn_waiting ws i w d x y lt is torn);
-    lent = called.lent ∙ so_far.lent;
-    failures = called.failures.ok ∙ so_far.failures;
-    cause = called.cause.ok ∙ so_far.cause;
-  }
+    pub handed_more : {T E : Type 0} (v : T) → AreWithin (length a.content) (ranges (pieces_of ws)) → Written w.number (w.sector ∷ []) b.content c.content → MakesCalls {T = T} {E = E} 1 (Torn w.number 1) b c g h (Ok v)
+        → HandedOn (i + 1) ws a c f h
+    handed_more v fits written called = record {
+      so_far = written_laid w.number (w.sector ∷ []) b.content c.content (more_fits fits) written ∙ ap (laid_over (piece_of w)) so_far.so_far ∙ sym (shown_push (take i ws) w a.content)
+          ∙ sym (ap (λ (us : List Waiting). shown us a.content) (take_more ws i d lt ∙ ap (λ (y : Waiting). take i ws ++ y ∷ []) (sym is)));
+      but = handed_but called.content;
+      crash = but_crash ws a b c (Torn w.number 1) so_far.crash called.crash (λ x y torn. torn_waiting ws i w d x y lt is torn);
+      lent = called.lent ∙ so_far.lent;
+      failures = called.failures.ok ∙ so_far.failures;
+      cause = called.cause.ok ∙ so_far.cause;
+    }
 
-  pub handed_failed : {T E U F : Type 0} (e : E) (r : F) → MakesCalls {T = T} {E = E} 1 (Torn w.number 1) b c g h (Err e) → HandsOn {T = U} {E = F} ws a c f h (Err r)
-  handed_failed e r called = record {
-    all = tt;
-    content = handed_but called.content;
-    crash = but_crash ws a b c (Torn w.number 1) so_far.crash called.crash (λ x y torn. torn_waiting ws i w d x y lt is torn);
-    lent = called.lent ∙ so_far.lent;
-    failures = record { ok = tt; err = rw (← so_far.failures) called.failures.err };
-    cause = record { ok = tt; err = subst (λ (x : FaultState). Cause x h) so_far.cause called.cause.err };
-  }
+    pub handed_failed : {T E U F : Type 0} (e : E) (r : F) → MakesCalls {T = T} {E = E} 1 (Torn w.number 1) b c g h (Err e) → HandsOn {T = U} {E = F} ws a c f h (Err r)
+    handed_failed e r called = record {
+      all = tt;
+      content = handed_but called.content;
+      crash = but_crash ws a b c (Torn w.number 1) so_far.crash called.crash (λ x y torn. torn_waiting ws i w d x y lt is torn);
+      lent = called.lent ∙ so_far.lent;
+      failures = record { ok = tt; err = rw (← so_far.failures) called.failures.err };
+      cause = record { ok = tt; err = subst (λ (x : FaultState). Cause x h) so_far.cause called.cause.err };
+    }
 
 pub handed_all : {T E : Type 0} (v : T) (ws : List Waiting) (i : ℕ) (a b : Facts) (f g : FaultState) → length ws ≤ i → HandedOn i ws a b f g → HandsOn {T = T} {E = E} ws a b f g (Ok v)
 handed_all v ws i a b f g le so_far = record {
@@ -253,3 +255,30 @@ read_more first i n w d ws held old new lt is fits long long' within read put k 
       where
         at : first + k ≡ w.number → first + k - w.number ≡ 0
         at same = omega (arith, same)
+
+-- a sector that waits was put in its place, or is none of those that were read
+pub put_there : (first : ℕ) (w : Waiting) (old : Content) → first ≤ w.number → w.number - first < length old → (k : ℕ) → k < length old
+    → (first + k ≡ w.number → sector (set old (w.number - first) w.sector) k ≡ w.sector) × ((first + k ≡ w.number → ⊥) → sector (set old (w.number - first) w.sector) k ≡ sector old k)
+put_there first w old le less k lt = (
+  λ same. get_or-set_at old (w.number - first) k w.sector [] (omega (arith, same, le)) less,
+  λ other. get_or-set_other old (w.number - first) k w.sector [] (λ is. other (omega (arith, is, le))),
+)
+
+pub put_none : (first : ℕ) (w : Waiting) (old : Content) → (w.number < first) ⊎ (length old ≤ w.number - first) → (k : ℕ) → k < length old
+    → (first + k ≡ w.number → sector old k ≡ w.sector) × ((first + k ≡ w.number → ⊥) → sector old k ≡ sector old k)
+put_none first w old out k lt = (λ same. absurd (never same out), λ other. refl)
+  where
+    never : first + k ≡ w.number → (w.number < first) ⊎ (length old ≤ w.number - first) → ⊥
+    never same (inl low) = omega (arith, same, low)
+    never same (inr high) = omega (arith, same, high, lt)
+
+module _ (first i : ℕ) (d : Waiting) (ws : List Waiting) (held old begun : Content) (lt : i < length ws) (fits : AreWithin (length held) (ranges (pieces_of ws))) (long : length old ≡ length begun) (within : first + length begun ≤ length held)
+    (read : AreSectorsAt first (shown (take i ws) held) old) where
+  pub read_put : first ≤ (get_or ws i d).number → (get_or ws i d).number - first < length old
+      → AreSectorsAt first (shown (take (i + 1) ws) held) (set old ((get_or ws i d).number - first) (get_or ws i d).sector)
+  read_put le less =
+      read_more first i (length begun) (get_or ws i d) d ws held old (set old ((get_or ws i d).number - first) (get_or ws i d).sector) lt refl fits long (length-set old ((get_or ws i d).number - first) (get_or ws i d).sector ∙ long) within read
+      (λ k small. put_there first (get_or ws i d) old le less k (omega (arith, small, long)))
+
+  pub read_none : ((get_or ws i d).number < first) ⊎ (length old ≤ (get_or ws i d).number - first) → AreSectorsAt first (shown (take (i + 1) ws) held) old
+  read_none out = read_more first i (length begun) (get_or ws i d) d ws held old old lt refl fits long long within read (λ k small. put_none first (get_or ws i d) old out k (omega (arith, small, long)))

@@ -1,5 +1,5 @@
 -- What a call of the disk does, by the calls of its device.
-use Rattle.std.proofs.Common.{◌≡◌, ◌⊎◌, ◌∙◌, inl, inr, ⊎_elim, refl, sym, ap, subst, zero, suc, ℕ, ◌+◌, ◌*◌, ◌<◌, ◌≤◌, Bool, false, List, [], ◌∷◌, ◌++◌, length, map, take, drop, length-drop, arith, Result, Ok, Err, OnOk}
+use Rattle.std.proofs.Common.{◌≡◌, ◌⊎◌, ◌∙◌, inl, inr, ⊎_elim, refl, sym, ap, subst, zero, suc, ℕ, ◌+◌, ◌*◌, ◌<◌, ◌≤◌, Bool, false, List, [], ◌∷◌, ◌++◌, length, get_or, map, take, drop, length-drop, arith, Result, Ok, Err, OnOk, OnErr}
 use Rattle.std.proofs.Math.Nat.{zero-mul}
 use Rattle.std.proofs.lemmas.List.{ext_get_or, length-take-le}
 use Rattle.std.proofs.lemmas.Bool.{cases_lt}
@@ -14,6 +14,10 @@ use Rattle.cached_disk.specs.declared.waiting.Waiting.{Waiting}
 use Rattle.cached_disk.specs.Cached.{piece_of, pieces_of, shown, facts_of, ButIn, IsCached, HandsOn}
 use Rattle.cached_disk.specs.Laws.{length_shown}
 use Rattle.cached_disk.proofs.Caches.{but_none, but_covered, cached_on, cached_none, cached_more, cached_waits, ranges_more, torn_more, shown_same, shown_push, laid_written}
+
+pub length_nil : (ws : List Waiting) → length ws ≡ 0 → ws ≡ []
+length_nil [] is = refl
+length_nil (w ∷ ws) is = absurd (omega (arith, is))
 
 pub counts_one : {T E : Type 0} (i j : ℕ) (r : Result T E) → j ≡ counted i 1 → CountsCalls 1 i j r
 counts_one i j (Ok v) is = record { ok = is; err = tt }
@@ -71,6 +75,15 @@ noted_cached ws ws' log log' a b f g p r cached more within same handed =
 
 same_shown : {T E : Type 0} (ws ws' : List Waiting) (log : WriteLog) (a b : Facts) (f g : FaultState) (r : Result T E) → IsCached ws log a → ws' ≡ ws → HandsOn ws a b f g r → shown ws' b.content ≡ shown ws a.content
 same_shown ws ws' log a b f g r cached same handed = ap (λ (us : List Waiting). shown us b.content) same ∙ shown_same ws a.content b.content cached.fits handed.content
+
+-- whether or not that failed
+pub any_cached : {T E : Type 0} (ws ws' : List Waiting) (log : WriteLog) (a b : Facts) (f g : FaultState) (r : Result T E) → IsCached ws log a → HandsOn ws a b f g r → OnOk r (ws' ≡ []) → OnErr r (ws' ≡ ws) → IsCached ws' log b
+any_cached ws ws' log a b f g (Ok v) cached handed none all = subst (λ (us : List Waiting). IsCached us log b) (sym none) (cached_none ws log b (handed_cached ws log a b f g (Ok v) cached handed))
+any_cached ws ws' log a b f g (Err e) cached handed none all = subst (λ (us : List Waiting). IsCached us log b) (sym all) (handed_cached ws log a b f g (Err e) cached handed)
+
+pub any_alone : {T E : Type 0} (ws ws' : List Waiting) (a b : Facts) (f g : FaultState) (r : Result T E) → (0 < length ws → a.lent.lanes ≡ 0) → HandsOn ws a b f g r → OnOk r (ws' ≡ []) → OnErr r (ws' ≡ ws) → 0 < length ws' → b.lent.lanes ≡ 0
+any_alone ws ws' a b f g (Ok v) alone handed none all lt = absurd (omega (arith, lt, ap (λ (us : List Waiting). length us) none))
+any_alone ws ws' a b f g (Err e) alone handed none all lt = ap (λ (l : Lent). l.lanes) handed.lent ∙ alone (subst (λ (us : List Waiting). 0 < length us) all lt)
 
 -- ---- a write
 module _ {T E U F : Type 0} (ws ws' : List Waiting) (log log' : WriteLog) (i j : ℕ) (a b : Facts) (f g : FaultState) (first : ℕ) (s : Content) (cached : IsCached ws log a) (more : log' ≡ more_written (first, s) log) (within : first + length s ≤ length a.content) (is : j ≡ counted i 1) where
@@ -175,8 +188,11 @@ module _ {T E : Type 0} (ws ws' : List Waiting) (log : WriteLog) (i j : ℕ) (a 
       gone = subst (λ (x : FaultState). OnOk r (x.struck ≡ false)) handed.cause.ok m.gone;
     }
 
+    pub synced_none : IsCached [] log c
+    synced_none = cached_none ws log c (device_cached ws log b c g h r (handed_cached ws log a b f g (Ok v) cached handed) m)
+
     pub synced_cached : IsCached ws' log c
-    synced_cached = subst (λ (us : List Waiting). IsCached us log c) (sym none) (cached_none ws log c (device_cached ws log b c g h r (handed_cached ws log a b f g (Ok v) cached handed) m))
+    synced_cached = subst (λ (us : List Waiting). IsCached us log c) (sym none) synced_none
 
   -- and it answered Ok: the log too has a sync more
   module _ (log' : WriteLog) (cached_c : IsCached [] log c) (more : log' ≡ more_synced c.content (lent_piece c.lent c.content ∷ []) log) where
@@ -213,7 +229,7 @@ module _ {T E : Type 0} (ws ws' : List Waiting) (log : WriteLog) (i j : ℕ) (a 
     left x but = subst (λ (q : WriteLog). AgreesOutside c.content (ranges q.written) x) more (subst (λ (y : Content). AgreesOutside y (ranges log'.written) x) stands but)
 
     pub sync_durable : a.lent.lanes ≡ 0 → c.lent ≡ a.lent → Only (shown ws' c.content) (λ x. AgreesOutside (synced log') (ranges log'.written) x)
-    sync_durable zero same x but = durable c.lent.first (length (lent_piece c.lent c.content).1) c.content x (lent_long ∙ ap (λ (n : ℕ). n * c.lent.each) (ap (λ (l : Lent). l.lanes) same ∙ zero) ∙ zero-mul c.lent.each) (left x but) ∙ sym (ap (λ (us : List Waiting). shown us c.content) none)
+    sync_durable nil same x but = durable c.lent.first (length (lent_piece c.lent c.content).1) c.content x (lent_long ∙ ap (λ (n : ℕ). n * c.lent.each) (ap (λ (l : Lent). l.lanes) same ∙ nil) ∙ zero-mul c.lent.each) (left x but) ∙ sym (ap (λ (us : List Waiting). shown us c.content) none)
 
     pub sync_but_lent : (x : Content) → AgreesOutside (synced log') (ranges log'.written) x → Torn c.lent.first (lent_sectors c.lent) (shown ws' c.content) x
     sync_but_lent x but = subst (λ (y : Content). Torn c.lent.first (lent_sectors c.lent) y x) (sym (ap (λ (us : List Waiting). shown us c.content) none)) (record {
@@ -243,6 +259,21 @@ module _ {T E : Type 0} (ws ws' : List Waiting) (log : WriteLog) (i j : ℕ) (a 
         out : (k : ℕ) → c.lent.first ≤ k → k < c.lent.first + lent_sectors c.lent → (k < c.lent.first) ⊎ (c.lent.first + length (lent_piece c.lent c.content).1 ≤ k) → ⊥
         out k le lt (inl low) = omega (arith, le, low)
         out k le lt (inr high) = omega (arith, lt, high, lent_long)
+
+-- all of it
+pub sync_ok : {T E U F : Type 0} (ws ws' : List Waiting) (log log' : WriteLog) (i j : ℕ) (a b c : Facts) (f g h : FaultState) (v : T) (u : U) → IsCached ws log a → j ≡ counted i 1 → ws' ≡ [] → HandsOn {T = T} {E = E} ws a b f g (Ok v)
+    → MakesCalls {T = U} {E = F} 1 Stays b c g h (Ok u) → log' ≡ more_synced c.content (lent_piece c.lent c.content ∷ []) log → ((x : Content) → c.may_leave x → Torn b.lent.first (lent_sectors b.lent) c.content x)
+    → MakesCalls {T = U} {E = F} 1 Stays (facts_of ws log i a) (facts_of ws' log' j c) f h (Ok u)
+    × IsCached ws' log' c
+    × (a.lent.lanes ≡ 0 → Only (shown ws' c.content) (λ x. AgreesOutside (synced log') (ranges log'.written) x))
+sync_ok {T = T} {E = E} {U = U} {F = F} ws ws' log log' i j a b c f g h v u cached is none handed m more only =
+    let at = synced_none {T = T} {E = E} ws ws' log i j a b c f g h v cached is none handed {U = U} {F = F} (Ok u) m in
+    (
+      synced_called {T = T} {E = E} ws ws' log i j a b c f g h v cached is none handed {U = U} {F = F} (Ok u) m log' (sync_passes {T = T} {E = E} ws ws' log i j a b c f g h v cached is none handed log' at more),
+      sync_cached {T = T} {E = E} ws ws' log i j a b c f g h v cached is none handed log' at more
+      (λ x may. subst (λ (l : Lent). Torn l.first (lent_sectors l) c.content x) (sym m.lent) (only x may)),
+      λ nil. sync_durable {T = T} {E = E} ws ws' log i j a b c f g h v cached is none handed log' at more nil (m.lent ∙ handed.lent),
+    )
 
 -- ---- lanes
 pub split_cached : (log log' : WriteLog) (a b : Facts) (l : Lent) → IsCached [] log a → b.lent ≡ l → l.first + lent_sectors l ≤ length a.content → b.content ≡ a.content → log' ≡ more_written (lent_piece b.lent b.content) log
@@ -291,6 +322,16 @@ split_passes log log' i a b l cached lent within same more =
     long : length (lent_piece l a.content).1 ≡ lent_sectors l
     long = range_lent l a.content within
 
+-- the same, where nothing waits
+pub split_over : (ws : List Waiting) (log log' : WriteLog) (i : ℕ) (a b : Facts) (l : Lent) → ws ≡ [] → IsCached ws log a → b.lent ≡ l → l.first + lent_sectors l ≤ length (shown ws a.content) → b.content ≡ a.content
+    → log' ≡ more_written (lent_piece b.lent b.content) log → Passes a b (Torn l.first (lent_sectors l))
+    → IsCached ws log' b × Passes (facts_of ws log i a) (facts_of ws log' i b) (Torn l.first (lent_sectors l))
+split_over ws log log' i a b l none cached lent within same more passes =
+    let at : IsCached [] log a = subst (λ (us : List Waiting). IsCached us log a) none cached in
+    let fits : l.first + lent_sectors l ≤ length a.content = subst (λ (us : List Waiting). l.first + lent_sectors l ≤ length (shown us a.content)) none within in
+    subst (λ (us : List Waiting). IsCached us log' b × Passes (facts_of us log i a) (facts_of us log' i b) (Torn l.first (lent_sectors l))) (sym none)
+    (split_cached log log' a b l at lent fits same more passes, split_passes log log' i a b l at lent fits same more)
+
 -- nothing was lent: nothing came back
 none_back : (a b : Facts) (lanes : List LaneFacts) → a.lent.lanes ≡ 0 → Joined a.lent lanes a.content b.content → b.content ≡ a.content
 none_back a b lanes none joined = ext_get_or [] b.content a.content joined.elsewhere.as_long (λ k lt. elim (cases_lt k a.lent.first) [
@@ -332,8 +373,8 @@ join_cached ws log a b lanes cached joined back passes = record {
     ]
 
 -- ---- at first
-pub cached_at_first : (a : Facts) (log : WriteLog) → IsFresh a.content a → log ≡ new_log a.content → IsCached [] log a
-cached_at_first a log fresh begun = subst (λ (q : WriteLog). IsCached [] q a) (sym begun) (record {
+pub cached_at_first : (ws : List Waiting) (a : Facts) (log : WriteLog) → ws ≡ [] → IsFresh a.content a → log ≡ new_log a.content → IsCached ws log a
+cached_at_first ws a log none fresh begun = subst (λ (us : List Waiting). IsCached us log a) (sym none) (subst (λ (q : WriteLog). IsCached [] q a) (sym begun) (record {
   fits = λ i lt. absurd (omega (arith, lt));
   log_fits = λ i lt. absurd (omega (arith, lt));
   holds = but_none [] a.content a.content refl;
@@ -341,11 +382,19 @@ cached_at_first a log fresh begun = subst (λ (q : WriteLog). IsCached [] q a) (
   waits = λ k waits u. waits;
   lent = subst (λ (l : Lent). (k : ℕ) → l.first ≤ k → k < l.first + lent_sectors l → Untouched [] k → ⊥) (sym fresh.none_out) (λ k le lt u. omega (arith, lt));
   lent_fits = subst (λ (l : Lent). l.first + lent_sectors l ≤ length a.content) (sym fresh.none_out) (omega arith);
-})
+}))
 
-pub fresh_at_first : (a : Facts) (log : WriteLog) (i : ℕ) → IsFresh a.content a → log ≡ new_log a.content → IsFresh a.content (facts_of [] log i a)
-fresh_at_first a log i fresh begun = record {
-  reads = refl;
+pub fresh_at_first : (ws : List Waiting) (a : Facts) (log : WriteLog) (i : ℕ) → ws ≡ [] → IsFresh a.content a → log ≡ new_log a.content → IsFresh a.content (facts_of ws log i a)
+fresh_at_first ws a log i none fresh begun = record {
+  reads = ap (λ (us : List Waiting). shown us a.content) none;
   durable = λ c but. agrees_all a.content c (subst (λ (q : WriteLog). AgreesOutside (synced q) (ranges q.written) c) begun but);
   none_out = fresh.none_out;
 }
+
+pub one_item : (xs : Content) (d : List ℕ) → length xs ≡ 1 → xs ≡ get_or xs 0 d ∷ []
+one_item [] d is = absurd (omega (arith, is))
+one_item (x ∷ xs) d is = ap (λ (ys : Content). x ∷ ys) (nil xs (omega (arith, is)))
+  where
+    nil : (ys : Content) → length ys ≡ 0 → ys ≡ []
+    nil [] is = refl
+    nil (y ∷ ys) is = absurd (omega (arith, is))

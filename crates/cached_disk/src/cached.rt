@@ -1,5 +1,5 @@
 //! The disk over its device.
-ghost use Rattle.std.specs.Prelude.{◌≡◌, ◌<◌, ◌^◌, false, length, IfOk};
+ghost use Rattle.std.specs.Prelude.{◌≡◌, ◌<◌, ◌^◌, false, length, IfOk, IsTrue};
 ghost use Rattle.disk.specs.Facts.{Content, IsFresh};
 ghost use Rattle.cached_disk.specs.Cached.{IsCached};
 
@@ -55,6 +55,13 @@ impl<D: Disk + Drop> CachedDisk<D> {
     }
 }
 
+/// Whether so many sectors may wait beside so many: one that finds room, where nothing is lent and power is there.
+fn may_wait(count: usize, beside: usize, out: bool, dark: bool) -> bool
+    ensures { IsTrue result → (count ≡ 1) × (beside < 8) × (out ≡ false) × (dark ≡ false) }
+{
+    count == 1 && beside < MOST && !out && !dark
+}
+
 impl<D: Disk + Drop> Disk for CachedDisk<D> {
     ghost use Rattle.std.specs.Prelude.{◌≡◌, length, map, take};
     ghost use Rattle.disk.specs.Facts.{Stays, Passes, InRow, Joined, counted, nothing, lane_failures};
@@ -87,11 +94,9 @@ impl<D: Disk + Drop> Disk for CachedDisk<D> {
     fn write(&mut self, first: usize, sectors: &[Sector]) -> Result<(), Fault> {
         self.calls = self.calls.saturating_add(1);
         self.log.note(first, sectors);
-        if sectors.len() == 1
-            && self.queue.waiting.len() < MOST
-            && !self.out
-            && !self.queue.device.struck()
-        {
+        let dark = self.queue.device.struck();
+        let waits = may_wait(sectors.len(), self.queue.waiting.len(), self.out, dark);
+        if waits {
             self.queue.waiting.push_reserved(Waiting {
                 number: first,
                 sector: sectors[0],

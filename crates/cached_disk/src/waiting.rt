@@ -53,23 +53,13 @@ impl<D: Disk + Drop> HandOn for Queue<D> {
     ghost waiting = { λ q. q.waiting.items };
 
     fn hand_on(&mut self) -> Result<(), Fault> {
-        write_all(&mut self.device, &self.waiting)?;
+        for i in 0..self.waiting.len() {
+            let Waiting { number, sector } = self.waiting[i];
+            self.device.write(number, &[sector])?;
+        }
         self.waiting.clear();
         Ok(())
     }
-}
-
-/// Writes each sector that waits, the oldest first.
-fn write_all<D: Disk>(device: &mut D, waiting: &[Waiting]) -> Result<(), Fault>
-    requires fits { AreWithin (length (D.facts device.old).content) (ranges (pieces_of waiting.now)) }
-    requires alone { 0 < length waiting.now → (D.facts device.old).lent.lanes ≡ 0 }
-    ensures { HandsOn waiting.now (D.facts device.old) (D.facts device.new) (D.fault_state device.old)
-        (D.fault_state device.new) result }
-{
-    for wait in waiting {
-        device.write(wait.number, &[wait.sector])?;
-    }
-    Ok(())
 }
 
 /// Lays the sectors that wait, the oldest first, over those that were read of the device from that one on.
