@@ -267,11 +267,10 @@ pub sync_ok : {T E U F : Type 0} (ws ws' : List Waiting) (log log' : WriteLog) (
     × IsCached ws' log' c
     × (a.lent.lanes ≡ 0 → Only (shown ws' c.content) (λ x. AgreesOutside (synced log') (ranges log'.written) x))
 sync_ok {T = T} {E = E} {U = U} {F = F} ws ws' log log' i j a b c f g h v u cached is none handed m more only =
-    let at = synced_none {T = T} {E = E} ws ws' log i j a b c f g h v cached is none handed {U = U} {F = F} (Ok u) m in
-    (
+    let at = synced_none {T = T} {E = E} ws ws' log i j a b c f g h v cached is none handed {U = U} {F = F} (Ok u) m in (
       synced_called {T = T} {E = E} ws ws' log i j a b c f g h v cached is none handed {U = U} {F = F} (Ok u) m log' (sync_passes {T = T} {E = E} ws ws' log i j a b c f g h v cached is none handed log' at more),
       sync_cached {T = T} {E = E} ws ws' log i j a b c f g h v cached is none handed log' at more
-      (λ x may. subst (λ (l : Lent). Torn l.first (lent_sectors l) c.content x) (sym m.lent) (only x may)),
+          (λ x may. subst (λ (l : Lent). Torn l.first (lent_sectors l) c.content x) (sym m.lent) (only x may)),
       λ nil. sync_durable {T = T} {E = E} ws ws' log i j a b c f g h v cached is none handed log' at more nil (m.lent ∙ handed.lent),
     )
 

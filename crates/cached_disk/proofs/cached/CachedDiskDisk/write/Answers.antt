@@ -13,14 +13,13 @@ invariant_of-self-then-waits g c =
     let s = c.args.self.now in
     let within : c.args.first + length c.args.sectors.now ≤ length (g.D.Disk.facts s.queue.device).content =
     subst (λ (n : ℕ). c.args.first + length c.args.sectors.now ≤ n) (length_shown _ _ _ s.cached) c.requires.within in
-    let may = c.may_wait-waits.ensures c.if-waits.true in
-    (
+    let may = c.may_wait-waits.ensures c.if-waits.true in (
       (grind (arith, common_steps, c.push_reserved.ensures.capacity, s.queue.room), tt),
       (
         search rules,
         (
           waits_cached s.queue.waiting.items _ _ s.log.log _ s.calls s.calls (g.D.Disk.facts s.queue.device) (g.D.Disk.fault_state s.queue.device) c.args.first c.args.sectors.now s.cached c.note.ensures within c.push_reserved.ensures.items refl
-          (one_item c.args.sectors.now _ may.0),
+              (one_item c.args.sectors.now _ may.0),
           (s.idle, ((λ lt. s.idle may.2), tt)),
         ),
       ),
@@ -69,14 +68,13 @@ pub invariant_of-self-3 : goal.invariant_of-self-3
 invariant_of-self-3 g c =
     let s = c.args.self.now in
     let within : c.args.first + length c.args.sectors.now ≤ length (g.D.Disk.facts s.queue.device).content =
-    subst (λ (n : ℕ). c.args.first + length c.args.sectors.now ≤ n) (length_shown _ _ _ s.cached) c.requires.within in
-    (
+    subst (λ (n : ℕ). c.args.first + length c.args.sectors.now ≤ n) (length_shown _ _ _ s.cached) c.requires.within in (
       (c.hand_on.new.self.room, tt),
       (
         search rules,
         (
           write_cached s.queue.waiting.items _ s.log.log _ s.calls c.saturating_add-self.result (g.D.Disk.facts s.queue.device) (g.D.Disk.facts c.hand_on.new.self.device) _ _ c.args.first c.args.sectors.now s.cached c.note.ensures within (search rules)
-          (g.D.Disk.facts c.write.new.self) _ _ c.write.result c.in_ok-hand_on.ensures.none c.in_ok-hand_on.ensures.handed c.write.ensures.called,
+              (g.D.Disk.facts c.write.new.self) _ _ c.write.result c.in_ok-hand_on.ensures.none c.in_ok-hand_on.ensures.handed c.write.ensures.called,
           (
             λ is. ap (λ (l : Lent). l.lanes) (c.write.ensures.called.lent ∙ c.in_ok-hand_on.ensures.handed.lent) ∙ s.idle is,
             ((λ lt. absurd (omega (arith, lt, ap (λ (us : List Waiting). length us) c.in_ok-hand_on.ensures.none))), tt),
