@@ -9,8 +9,8 @@ use Rattle.simdisk.specs.declared.SimDisk.{SimDisk}
 use Rattle.simdisk.specs.declared.SimLane.{SimLane}
 use Rattle.simdisk.specs.contracts.device.SimDiskDisk.TheImpl as sim_disk
 use Rattle.simdisk.specs.contracts.lane.SimLaneLane.TheImpl as sim_lane
-use Rattle.simdisk.specs.contracts.write_log.SimDiskLogged.TheImpl as sim_logged
-use Rattle.simdisk.specs.WriteLog.{WriteLog}
+use Rattle.simdisk.specs.contracts.logged.SimDiskLogged.TheImpl as sim_logged
+use Rattle.write_log.specs.WriteLog.{WriteLog}
 use Rattle.board.specs.Views as words
 use Rattle.board.specs.declared.Board as boards
 use Rattle.machine.specs.Machine.{Machine}

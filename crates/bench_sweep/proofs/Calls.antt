@@ -2,7 +2,7 @@
 use Rattle.std.proofs.Common.{◌≡◌, ℕ, List, ap, get_or, refl, ◌∙◌}
 use Rattle.disk.specs.FaultState.{armed_by}
 use Rattle.disk.specs.declared.device.ArmedFault.{ArmedFault}
-use Rattle.simdisk.specs.contracts.write_log.SimDiskLogged.TheImpl as sim_logged
+use Rattle.simdisk.specs.contracts.logged.SimDiskLogged.TheImpl as sim_logged
 use Rattle.simdisk.specs.declared.SimDisk.{SimDisk}
 use Rattle.bench_report.specs.Views.{facts}
 use Rattle.bench_sweep.specs.declared.points.Caller.{Caller}

@@ -2,7 +2,7 @@
 use Rattle.std.specs.Prelude.{◌≡◌, ◌+◌, ℕ, List, get_or}
 use Rattle.disk.specs.declared.device.ArmedFault.{ArmedFault}
 use Rattle.disk.specs.declared.device.ArmedFault.TheVariants.{FailAt, CutAt, FailLane, CutLane}
-use Rattle.simdisk.specs.contracts.write_log.SimDiskLogged.TheImpl as sim_logged
+use Rattle.simdisk.specs.contracts.logged.SimDiskLogged.TheImpl as sim_logged
 use Rattle.simdisk.specs.declared.SimDisk.{SimDisk}
 use Rattle.bench_report.specs.Views.{facts}
 use Rattle.bench_sweep.specs.declared.points.Bench.{Bench}

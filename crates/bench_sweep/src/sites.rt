@@ -7,7 +7,7 @@ ghost use Rattle.board_model.specs.declared.refusal.Refusal.TheVariants.{Memory}
 ghost use Rattle.script_lang.specs.Lines.{IsLineInRange};
 ghost use Rattle.script_lang.specs.declared.line.Line.TheVariants as lines;
 ghost use Rattle.simdisk.specs.Views.{left_by_fill};
-ghost use Rattle.simdisk.specs.WriteLog.{synced};
+ghost use Rattle.write_log.specs.WriteLog.{synced};
 ghost use Rattle.store.specs.Leaves.{IsIdle};
 ghost use Rattle.bench_report.specs.declared.power.Power.TheVariants.{Off};
 ghost use Rattle.bench_report.specs.Agree.{Agrees, IsArmed, OffIs, IsResting, IsUnstruck};

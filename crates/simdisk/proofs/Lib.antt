@@ -4,9 +4,6 @@ pub mod Epochs
 pub mod Notes
 pub mod Parted
 pub mod PartedLaid
-pub mod Pieces
-pub mod Ranges
 pub mod Replaced
 pub mod Rows
-pub mod Stretches
 pub mod Walks

@@ -3,34 +3,11 @@ use Rattle.std.proofs.Common.{◌≡◌, ◌⊎◌, ◌∙◌, inl, inr, ⊎_eli
 use Rattle.std.proofs.lemmas.Bool.{cases_lt}
 use Rattle.std.proofs.lemmas.List.{places, map-set, set-get_or, length-map, length-take-le, ext_get_or}
 use Rattle.disk.specs.Facts.{Content, Torn, sector}
-use Rattle.simdisk.specs.WriteLog.{Piece, laid_over, replay, piece_in, range, ranges, Untouched, AreWithin, range_at}
+use Rattle.write_log.specs.WriteLog.{Piece, laid_over, replay, piece_in, range, ranges, Untouched, AreWithin, range_at}
 use Rattle.simdisk.specs.Views.{IsLatest, piece, pieces}
 use Rattle.simdisk.specs.declared.patch.Patch.{Patch}
 use Rattle.simdisk.proofs.Walks.{range_read}
-use Rattle.simdisk.proofs.Pieces.{length-put, put_low, put_mid, put_high, fits_here, fits_rest, length_replay, length-copied, replay_outside}
-
--- two contents with the same in a sector, if it is outside of these pieces, have the same there after them
-replay_outside_same : (ps : List Piece) (c d : Content) (k : ℕ) → length d ≡ length c → AreWithin (length c) (ranges ps) → (Untouched (ranges ps) k → sector d k ≡ sector c k)
-    → sector (replay ps d) k ≡ sector (replay ps c) k
-replay_outside_same [] c d k long fits same = same tt
-replay_outside_same (p ∷ ps) c d k long fits same =
-    replay_outside_same ps (laid_over p c) (laid_over p d) k (length-put p.0 p.1 d inside ∙ long ∙ sym (length-put p.0 p.1 c within))
-    (subst (λ (n : ℕ). AreWithin n (ranges ps)) (sym (length-put p.0 p.1 c within)) (fits_rest (length c) p ps fits)) here
-  where
-    within : p.0 + length p.1 ≤ length c
-    within = fits_here (length c) p ps fits
-
-    inside : p.0 + length p.1 ≤ length d
-    inside = omega (arith, within, long)
-
-    here : Untouched (ranges ps) k → sector (laid_over p d) k ≡ sector (laid_over p c) k
-    here u = elim (cases_lt k p.0) [
-      | inl low ↦ put_low p.0 p.1 d inside k low ∙ same (inl low, u) ∙ sym (put_low p.0 p.1 c within k low)
-      | inr le ↦ elim (cases_lt k (p.0 + length p.1)) [
-        | inl lt ↦ put_mid p.0 p.1 d inside k le lt ∙ sym (put_mid p.0 p.1 c within k le lt)
-        | inr high ↦ put_high p.0 p.1 d inside k high ∙ same (inr high, u) ∙ sym (put_high p.0 p.1 c within k high)
-      ]
-    ]
+use Rattle.write_log.proofs.Pieces.{length-put, put_low, put_mid, put_high, fits_here, fits_rest, length_replay, length-copied, replay_outside, replay_outside_same}
 
 replay_same : (ps : List Piece) (c d : Content) (k : ℕ) → length d ≡ length c → AreWithin (length c) (ranges ps) → sector d k ≡ sector c k → sector (replay ps d) k ≡ sector (replay ps c) k
 replay_same ps c d k long fits same = replay_outside_same ps c d k long fits (λ u. same)

@@ -3,8 +3,6 @@ pub mod History
 pub mod LaneStates
 pub mod Lanes
 pub mod Latest
-pub mod Laws
 pub mod Lendings
 pub mod Pokes
 pub mod Views
-pub mod WriteLog

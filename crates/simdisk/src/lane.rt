@@ -2,14 +2,14 @@
 ghost use Rattle.std.specs.Prelude.{◌≡◌, ◌≤◌, ◌+◌, ◌++◌, ◌∷◌, [], length, None, false, is_ok, OnOk, OnErr};
 ghost use Rattle.disk.specs.Facts.{Torn, Written, AreSectorsAt, Counts};
 ghost use Rattle.simdisk.specs.LaneStates.{LaneCalled};
-ghost use Rattle.simdisk.specs.WriteLog.{laid_over};
+ghost use Rattle.write_log.specs.WriteLog.{laid_over};
 ghost use Rattle.simdisk.specs.Views.{last_of, IsAsRead};
 
 use crate::faults::Faults;
 use crate::laid::overwrite;
+use crate::logged::Stateful;
 use crate::remembered::Remembered;
 use crate::striking::failed;
-use crate::write_log::Stateful;
 use disk::{Fault, Lane, LaneCall, Sector};
 
 /// A lane of a [`SimDisk`](crate::SimDisk), which owns its sectors until the join.

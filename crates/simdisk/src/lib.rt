@@ -1,6 +1,6 @@
 //! A disk in memory, which meets the whole contract of [`disk::Disk`] with nothing assumed. It
-//! keeps a log of all its writes and syncs, from which what a crash may leave is read to the
-//! letter, and it can be cut, with a fill that says what the crash leaves. docs/DISK.md has the model.
+//! keeps a log of all its writes and syncs (`write_log`), from which what a crash may leave is
+//! read to the letter, and it can be cut, with a fill that says what the crash leaves. docs/DISK.md has the model.
 #![tactic(auto)]
 
 mod device;
@@ -13,6 +13,7 @@ mod lane;
 mod latest;
 mod lending;
 mod loan;
+mod logged;
 mod made;
 mod noting;
 mod patch;
@@ -20,10 +21,9 @@ mod poked;
 mod remembered;
 mod sim;
 mod striking;
-mod write_log;
 
 pub use exactness::exactly_the_model;
 pub use fill::Fill;
 pub use lane::SimLane;
+pub use logged::{Logged, Stateful};
 pub use sim::SimDisk;
-pub use write_log::{Logged, Stateful};

@@ -3,7 +3,7 @@ ghost use Rattle.std.specs.Prelude.{◌≡◌, ◌≢◌, ◌⊎◌, ◌/◌, �
 ghost use Rattle.std.specs.Simd.{first_chunks};
 ghost use Rattle.disk.specs.Facts.{IsFresh, IsLeft, Unchanged};
 ghost use Rattle.disk.specs.FaultState.{FaultArmed, CutArmed, no_fault, fault_state_left};
-ghost use Rattle.simdisk.specs.WriteLog.{synced, new_log};
+ghost use Rattle.write_log.specs.WriteLog.{synced, new_log};
 ghost use Rattle.simdisk.specs.Views.{left_by_fill};
 
 use crate::faults::Faults;
@@ -11,9 +11,9 @@ use crate::fill::Fill;
 use crate::history::History;
 use crate::latest::Latest;
 use crate::loan::Loan;
+use crate::logged::Logged;
 use crate::patch::copy_of;
 use crate::sim::SimDisk;
-use crate::write_log::Logged;
 use board_model::Refusal;
 use disk::{ArmedFault, Disk, Sector};
 use std::alloc::{AllocError, Global};

@@ -4,15 +4,15 @@ ghost use Rattle.std.specs.List.{flat_map};
 ghost use Rattle.disk.specs.Calls.{NoCall};
 ghost use Rattle.disk.specs.Facts.{Unchanged};
 ghost use Rattle.simdisk.specs.Pokes.{bytes_put, poked, parted, poked_log, PokeFits, StandsSo, StandsByEach};
-ghost use Rattle.simdisk.specs.WriteLog.{synced};
+ghost use Rattle.write_log.specs.WriteLog.{synced};
 ghost use Rattle.simdisk.specs.Views.{piece, pieces};
 
 use crate::history::History;
 use crate::laid::overwrite;
+use crate::logged::Logged;
 use crate::patch::Patch;
 use crate::remembered::Remembered;
 use crate::sim::SimDisk;
-use crate::write_log::Logged;
 use disk::{Disk, Sector};
 use std::alloc::{AllocError, Global};
 

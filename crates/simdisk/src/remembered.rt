@@ -4,7 +4,7 @@ ghost use Rattle.std.specs.Prelude.{◌≡◌, List, [], ◌∷◌, ◌++◌, ma
 ghost use Rattle.std.specs.Borrow.{ftrue};
 ghost use Rattle.disk.specs.Facts.{Content};
 ghost use Rattle.disk.specs.declared.device.LaneCall.{LaneCall};
-ghost use Rattle.simdisk.specs.WriteLog.{Piece, piece_in};
+ghost use Rattle.write_log.specs.WriteLog.{Piece, piece_in};
 
 use crate::patch::Patch;
 use disk::{LaneCall, Sector};

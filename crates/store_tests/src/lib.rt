@@ -5,6 +5,8 @@
 #[cfg(test)]
 mod areas;
 #[cfg(test)]
+mod cached;
+#[cfg(test)]
 mod commands;
 #[cfg(test)]
 mod crews;

@@ -4,7 +4,7 @@
 //! makes of it (board_model). `StandsFor c size s`: these bytes, as the content of a disk, are the state s, with
 //! the memory of its image (store). Of the facts of a disk, `may_leave` has each content that may be there where
 //! power fails now, and `since` each that might have been there where it failed at a moment since (disk).
-ghost use Rattle.std.specs.Prelude.{◌+◌, ◌≡◌, ◌⊎◌, ◌∷◌, [], ℕ, List, Some, None, Ok, Err, IfOk, IfErr, OnOk, IsErrOf, IsErr};
+ghost use Rattle.std.specs.Prelude.{◌+◌, ◌≤◌, ◌≡◌, ◌⊎◌, ◌∷◌, [], ℕ, List, Some, None, Ok, Err, IfOk, IfErr, OnOk, IsErrOf, IsErr};
 ghost use Rattle.std.specs.Io.KnownBytes.{Appends};
 ghost use Rattle.board_model.specs.Durable.{DurableState, Image, Change, Suspend, Consume, formatted, after, fold};
 ghost use Rattle.board_model.specs.Kept.{MayFind, found_of};
@@ -79,12 +79,13 @@ fn issue<D: Disk + Drop>(store: &mut Store<D>, command: &Command) -> Result<Rece
 
 /// The same of a row of commands of one life, up to the
 /// first that is not acknowledged: a crash at any moment of it leaves what could have been left at its start, or
-/// what some first of the commands make of the state before it; a crash at its end leaves what the acknowledged
-/// ones make, or these and the next one. Answers how many were acknowledged.
+/// what some first of the commands make of the state before it, and so for each moment from which one looks on; a
+/// crash at its end leaves what the acknowledged ones make, or these and the next one. Answers how many were
+/// acknowledged.
 pub fn commands_in_a_row<D: Disk + Drop>(store: &mut Store<D>, commands: &[Command]) -> usize
     requires up { doubt_of store.old ≡ None }
-    ensures wherever_power_fails { (c : Content) → (disk_of store.new).since (disk_of store.old).moment c
-        → (disk_of store.old).since (disk_of store.old).moment c
+    ensures wherever_power_fails { (t : ℕ) (c : Content) → t ≤ (disk_of store.old).moment
+        → (disk_of store.new).since t c → (disk_of store.old).since t c
         ⊎ IsAfterFirst (size_of_store store.old) (now_state store.old) commands.now 0 (result + 1) c }
     ensures holds_every_acknowledged_one { (c : Content) → (disk_of store.new).may_leave c
         → IsAfterFirst (size_of_store store.old) (now_state store.old) commands.now result (result + 1) c }

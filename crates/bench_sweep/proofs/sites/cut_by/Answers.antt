@@ -1,6 +1,6 @@
 use Rattle.std.proofs.Common.{◌≡◌, ℕ, List, ap, get_or}
 use Rattle.simdisk.specs.declared.SimDisk.{SimDisk}
-use Rattle.simdisk.specs.contracts.write_log.SimDiskLogged.TheImpl as sim_logged
+use Rattle.simdisk.specs.contracts.logged.SimDiskLogged.TheImpl as sim_logged
 use Rattle.bench_report.specs.Views.{facts}
 use Rattle.bench_sweep.proofs.Left.{left_off}
 use Rattle.bench_sweep.proofs.Calls.{same_calls}

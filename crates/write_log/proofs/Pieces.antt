@@ -4,7 +4,7 @@ use Rattle.std.proofs.Math.ListN.{get_or-map}
 use Rattle.std.proofs.lemmas.List.{places, get_or_append_left, get_or_push, ext_get_or, length-map, length-replicate, length-take-le}
 use Rattle.std.proofs.lemmas.Bool.{cases_lt}
 use Rattle.disk.specs.Facts.{Content, sector}
-use Rattle.simdisk.specs.WriteLog.{Piece, laid_over, replay, synced_after, range, ranges, Untouched, AgreesOutside, AreWithin, piece_in, filled}
+use Rattle.write_log.specs.WriteLog.{Piece, laid_over, replay, synced_after, range, ranges, Untouched, AgreesOutside, AreWithin, piece_in, filled}
 
 module _ (first : ℕ) (s c : Content) (within : first + length s ≤ length c) where
   pub length-put : length (laid_over (first, s) c) ≡ length c
@@ -62,6 +62,29 @@ replay_outside (p ∷ ps) c k fits u =
     let within = fits_here (length c) p ps fits in
     let here = length-put p.0 p.1 c within in
     replay_outside ps (laid_over p c) k (rw here (fits_rest (length c) p ps fits)) u.1 ∙ elim u.0 [ inl low ↦ put_low p.0 p.1 c within k low | inr high ↦ put_high p.0 p.1 c within k high ]
+
+-- two contents with the same in a sector, if it is outside of these pieces, have the same there after them
+pub replay_outside_same : (ps : List Piece) (c d : Content) (k : ℕ) → length d ≡ length c → AreWithin (length c) (ranges ps) → (Untouched (ranges ps) k → sector d k ≡ sector c k)
+    → sector (replay ps d) k ≡ sector (replay ps c) k
+replay_outside_same [] c d k long fits same = same tt
+replay_outside_same (p ∷ ps) c d k long fits same =
+    replay_outside_same ps (laid_over p c) (laid_over p d) k (length-put p.0 p.1 d inside ∙ long ∙ sym (length-put p.0 p.1 c within))
+    (subst (λ (n : ℕ). AreWithin n (ranges ps)) (sym (length-put p.0 p.1 c within)) (fits_rest (length c) p ps fits)) here
+  where
+    within : p.0 + length p.1 ≤ length c
+    within = fits_here (length c) p ps fits
+
+    inside : p.0 + length p.1 ≤ length d
+    inside = omega (arith, within, long)
+
+    here : Untouched (ranges ps) k → sector (laid_over p d) k ≡ sector (laid_over p c) k
+    here u = elim (cases_lt k p.0) [
+      | inl low ↦ put_low p.0 p.1 d inside k low ∙ same (inl low, u) ∙ sym (put_low p.0 p.1 c within k low)
+      | inr le ↦ elim (cases_lt k (p.0 + length p.1)) [
+        | inl lt ↦ put_mid p.0 p.1 d inside k le lt ∙ sym (put_mid p.0 p.1 c within k le lt)
+        | inr high ↦ put_high p.0 p.1 d inside k high ∙ same (inr high, u) ∙ sym (put_high p.0 p.1 c within k high)
+      ]
+    ]
 
 pub agrees_replay : (ps : List Piece) (stood : Content) → AreWithin (length stood) (ranges ps) → AgreesOutside stood (ranges ps) (replay ps stood)
 agrees_replay ps stood fits = record { as_long = length_replay ps stood fits; same = λ k u. replay_outside ps stood k fits u }

@@ -1,0 +1,284 @@
+-- A cache over its device.
+use Rattle.std.proofs.Common.{◌≡◌, ◌⊎◌, ◌∙◌, inl, inr, ⊎_elim, refl, sym, ap, subst, zero, suc, ℕ, ◌+◌, ◌-◌, ◌*◌, ◌<◌, ◌≤◌, List, [], ◌∷◌, ◌++◌, length, get_or, set, map, take, drop, arith, Result, Ok, Err, OnOk}
+use Rattle.std.proofs.Math.Nat.{zero-mul}
+use Rattle.std.proofs.lemmas.Grind.{get_or-set_at}
+use Rattle.std.proofs.lemmas.List.{get_or-set_other, length-set, map-append, ext_get_or, take_more, take_all, length-take-le}
+use Rattle.std.proofs.lemmas.Bool.{cases_lt, cases_eq}
+use Rattle.disk.specs.FaultState.{FaultState, Cause}
+use Rattle.disk.specs.Calls.{MakesCalls}
+use Rattle.disk.specs.Moments.{passes_then}
+use Rattle.disk.specs.Facts.{Content, Facts, Lent, LeavesAfter, Passes, Stays, Torn, Written, Joined, AreSectorsAt, sector, lent_sectors, nothing}
+use Rattle.write_log.specs.WriteLog.{Piece, WriteLog, AgreesOutside, AreWithin, Untouched, laid_over, lent_piece, more_written, more_synced, new_log, range, ranges, replay, sim_facts, synced}
+use Rattle.write_log.proofs.Pieces.{length-put, put_low, put_mid, put_high, replay_push, length_replay, replay_outside, replay_outside_same, fits_push, fits_here, fits_rest}
+use Rattle.write_log.proofs.Ranges.{agrees_push, untouched_push}
+use Rattle.cached_disk.specs.declared.waiting.Waiting.{Waiting}
+use Rattle.cached_disk.specs.Laws.{but_then, covered, length_shown}
+use Rattle.cached_disk.specs.Cached.{piece_of, pieces_of, shown, Waits, ButIn, IsCached, HandsOn, HandedOn}
+
+pub but_none : (rs : List (ℕ × ℕ)) (x y : Content) → y ≡ x → ButIn rs x y
+but_none rs x y is = record { as_long = ap length is; same = λ k u. ap (λ (c : Content). sector c k) is }
+
+waits_here : (ws : List Waiting) (i : ℕ) (w d : Waiting) → i < length ws → w ≡ get_or ws i d → Waits ws w.number
+waits_here [] i w d lt is = absurd (omega (arith, lt))
+waits_here (x ∷ ws) zero w d lt is = inl (ap (λ (y : Waiting). y.number) (sym is))
+waits_here (x ∷ ws) (suc i) w d lt is = inr (waits_here ws i w d (omega (arith, lt)) is)
+
+waits_push : (ws : List Waiting) (w : Waiting) (k : ℕ) → Waits (ws ++ w ∷ []) k → Waits ws k ⊎ (w.number ≡ k)
+waits_push [] w k (inl here) = inr here
+waits_push [] w k (inr none) = absurd none
+waits_push (x ∷ ws) w k (inl here) = inl (inl here)
+waits_push (x ∷ ws) w k (inr there) = ⊎_elim (λ before. inl (inr before)) (λ last. inr last) (waits_push ws w k there)
+
+pub but_covered : (ws : List Waiting) (log : WriteLog) (a : Facts) (x y : Content) → IsCached ws log a → ButIn (ranges (pieces_of ws)) x y → ButIn (ranges log.written) x y
+but_covered ws log a x y cached but = record { as_long = but.as_long; same = λ k u. but.same k (covered ws log cached.waits k u) }
+
+-- ---- what a call of the device leaves of it
+pub cached_on : (ws : List Waiting) (log : WriteLog) (a b : Facts) (step : Content → Content → Type 0) → IsCached ws log a → Passes a b step
+    → ((x y : Content) → step x y → ButIn (ranges log.written) x y) → ButIn (ranges log.written) a.content b.content → b.lent ≡ a.lent → IsCached ws log b
+cached_on ws log a b step cached passes steps but same = record {
+  fits = subst (λ (n : ℕ). AreWithin n (ranges (pieces_of ws))) (sym but.as_long) cached.fits;
+  log_fits = subst (λ (n : ℕ). AreWithin n (ranges log.written)) (sym but.as_long) cached.log_fits;
+  holds = but_then (ranges log.written) (synced log) a.content b.content cached.holds but;
+  leaves = λ c may. left c (passes.now c may);
+  waits = cached.waits;
+  lent = subst (λ (l : Lent). (k : ℕ) → l.first ≤ k → k < l.first + lent_sectors l → Untouched (ranges log.written) k → ⊥) (sym same) cached.lent;
+  lent_fits = subst (λ (l : Lent). l.first + lent_sectors l ≤ length b.content) (sym same) (subst (λ (n : ℕ). a.lent.first + lent_sectors a.lent ≤ n) (sym but.as_long) cached.lent_fits);
+}
+  where
+    left : (c : Content) → LeavesAfter a step c → ButIn (ranges log.written) (synced log) c
+    left c from = but_then (ranges log.written) (synced log) from.0 c (cached.leaves from.0 from.1) (steps from.0 c from.2)
+
+-- nothing waits any more
+pub cached_none : (ws : List Waiting) (log : WriteLog) (a : Facts) → IsCached ws log a → IsCached [] log a
+cached_none ws log a cached = record {
+  fits = λ i lt. absurd (omega (arith, lt));
+  log_fits = cached.log_fits;
+  holds = cached.holds;
+  leaves = cached.leaves;
+  waits = λ k waits u. waits;
+  lent = cached.lent;
+  lent_fits = cached.lent_fits;
+}
+
+-- a write more is in the log
+pub ranges_more : (log : WriteLog) (p : Piece) → ranges (more_written p log).written ≡ ranges log.written ++ range p ∷ []
+ranges_more log p = map-append range log.written (p ∷ [])
+
+pub torn_more : (log : WriteLog) (p : Piece) (x y : Content) → Torn p.0 (length p.1) x y → ButIn (ranges (more_written p log).written) x y
+torn_more log p x y torn = record {
+  as_long = torn.as_long;
+  same = λ k u. ⊎_elim (torn.before k) (torn.after k) (untouched_push (ranges log.written) (range p) k (subst (λ (rs : List (ℕ × ℕ)). Untouched rs k) (ranges_more log p) u)).1;
+}
+
+pub cached_more : (ws : List Waiting) (log log' : WriteLog) (p : Piece) (a : Facts) → IsCached ws log a → log' ≡ more_written p log → p.0 + length p.1 ≤ length a.content → IsCached ws log' a
+cached_more ws log log' p a cached more within = subst (λ (q : WriteLog). IsCached ws q a) (sym more) (record {
+  fits = cached.fits;
+  log_fits = fits_push (length a.content) log.written p cached.log_fits within;
+  holds = pushed a.content cached.holds;
+  leaves = λ c may. pushed c (cached.leaves c may);
+  waits = λ k waits u. cached.waits k waits (before k u);
+  lent = λ k le lt u. cached.lent k le lt (before k u);
+  lent_fits = cached.lent_fits;
+})
+  where
+    pushed : (c : Content) → ButIn (ranges log.written) (synced log) c → ButIn (ranges (more_written p log).written) (synced log) c
+    pushed c but = subst (λ (rs : List (ℕ × ℕ)). ButIn rs (synced log) c) (sym (ranges_more log p)) (agrees_push (synced log) (ranges log.written) (range p) c but)
+
+    before : (k : ℕ) → Untouched (ranges (more_written p log).written) k → Untouched (ranges log.written) k
+    before k u = (untouched_push (ranges log.written) (range p) k (subst (λ (rs : List (ℕ × ℕ)). Untouched rs k) (ranges_more log p) u)).0
+
+-- a sector more waits, which was just written
+pub cached_waits : (ws : List Waiting) (w : Waiting) (log log' : WriteLog) (a : Facts) → IsCached ws log a → log' ≡ more_written (piece_of w) log → w.number + 1 ≤ length a.content → IsCached (ws ++ w ∷ []) log' a
+cached_waits ws w log log' a cached more within =
+    let noted = cached_more ws log log' (piece_of w) a cached more within in record {
+      fits = subst (λ (ps : List Piece). AreWithin (length a.content) (ranges ps)) (sym (map-append piece_of ws (w ∷ []))) (fits_push (length a.content) (pieces_of ws) (piece_of w) cached.fits within);
+      log_fits = noted.log_fits;
+      holds = noted.holds;
+      leaves = noted.leaves;
+      waits = λ k waits u. ⊎_elim (λ (before : Waits ws k). noted.waits k before u) (λ is. outside k is (last k u)) (waits_push ws w k waits);
+      lent = noted.lent;
+      lent_fits = noted.lent_fits;
+    }
+  where
+    last : (k : ℕ) → Untouched (ranges log'.written) k → (k < w.number) ⊎ (w.number + 1 ≤ k)
+    last k u = (untouched_push (ranges log.written) (w.number, 1) k (subst (λ (rs : List (ℕ × ℕ)). Untouched rs k) (ap (λ (q : WriteLog). ranges q.written) more ∙ ranges_more log (piece_of w)) u)).1
+
+    outside : (k : ℕ) → w.number ≡ k → (k < w.number) ⊎ (w.number + 1 ≤ k) → ⊥
+    outside k is (inl low) = omega (arith, is, low)
+    outside k is (inr high) = omega (arith, is, high)
+
+-- ---- what a read gives
+-- what waits covers whatever the device holds there
+pub shown_same : (ws : List Waiting) (held new : Content) → AreWithin (length held) (ranges (pieces_of ws)) → ButIn (ranges (pieces_of ws)) held new → shown ws new ≡ shown ws held
+shown_same ws held new fits but =
+    ext_get_or [] (shown ws new) (shown ws held) (length_replay (pieces_of ws) new (subst (λ (n : ℕ). AreWithin n (ranges (pieces_of ws))) (sym but.as_long) fits) ∙ but.as_long ∙ sym (length_replay (pieces_of ws) held fits))
+    (λ k lt. replay_outside_same (pieces_of ws) held new k but.as_long fits (but.same k))
+
+pub shown_push : (ws : List Waiting) (w : Waiting) (held : Content) → shown (ws ++ w ∷ []) held ≡ laid_over (piece_of w) (shown ws held)
+shown_push ws w held = ap (λ (ps : List Piece). replay ps held) (map-append piece_of ws (w ∷ [])) ∙ replay_push (pieces_of ws) (piece_of w) held
+
+pub laid_written : (p : Piece) (c : Content) → p.0 + length p.1 ≤ length c → Written p.0 p.1 c (laid_over p c)
+laid_written p c within = record {
+  elsewhere = record { as_long = length-put p.0 p.1 c within; before = put_low p.0 p.1 c within; after = put_high p.0 p.1 c within };
+  there = λ i lt. put_mid p.0 p.1 c within (p.0 + i) (omega arith) (omega (arith, lt)) ∙ ap (sector p.1) (at i);
+}
+  where
+    at : (i : ℕ) → p.0 + i - p.0 ≡ i
+    at i = omega arith
+
+written_laid : (first : ℕ) (s old new : Content) → first + length s ≤ length old → Written first s old new → new ≡ laid_over (first, s) old
+written_laid first s old new within written =
+    ext_get_or [] new (laid_over (first, s) old) (written.elsewhere.as_long ∙ sym (length-put first s old within)) (λ k lt. elim (cases_lt k first) [
+      | inl low ↦ written.elsewhere.before k low ∙ sym (put_low first s old within k low)
+      | inr le ↦ elim (cases_lt k (first + length s)) [
+        | inl less ↦ ap (sector new) (at k le) ∙ written.there (k - first) (omega (arith, le, less)) ∙ sym (put_mid first s old within k le less)
+        | inr high ↦ written.elsewhere.after k high ∙ sym (put_high first s old within k high)
+      ]
+    ])
+  where
+    at : (k : ℕ) → first ≤ k → k ≡ first + (k - first)
+    at k le = omega (arith, le)
+
+-- ---- handing on
+fits_at : (n : ℕ) (ws : List Waiting) (i : ℕ) (w d : Waiting) → i < length ws → w ≡ get_or ws i d → AreWithin n (ranges (pieces_of ws)) → w.number + 1 ≤ n
+fits_at n [] i w d lt is fits = absurd (omega (arith, lt))
+fits_at n (x ∷ ws) zero w d lt is fits = rw is (fits_here n (piece_of x) (pieces_of ws) fits)
+fits_at n (x ∷ ws) (suc i) w d lt is fits = fits_at n ws i w d (omega (arith, lt)) is (fits_rest n (piece_of x) (pieces_of ws) fits)
+
+pub handed_none : (ws : List Waiting) (a : Facts) (f : FaultState) → HandedOn 0 ws a a f f
+handed_none ws a f = record {
+  so_far = refl;
+  but = but_none (ranges (pieces_of ws)) a.content a.content refl;
+  crash = record {
+    later = omega arith;
+    now = λ c may. (c, may, but_none (ranges (pieces_of ws)) c c refl);
+    nothing_else = λ t c le left. inl left;
+    keeps = λ t c le left. left;
+  };
+  lent = refl;
+  failures = refl;
+  cause = refl;
+}
+
+-- a sector that waits is written: all others stay
+torn_waiting : (ws : List Waiting) (i : ℕ) (w d : Waiting) (x y : Content) → i < length ws → w ≡ get_or ws i d → Torn w.number 1 x y → ButIn (ranges (pieces_of ws)) x y
+torn_waiting ws i w d x y lt is torn = record { as_long = torn.as_long; same = λ k u. ⊎_elim (torn.before k) (torn.after k) (at ws i lt is k u) }
+  where
+    at : (ws : List Waiting) (i : ℕ) → i < length ws → w ≡ get_or ws i d → (k : ℕ) → Untouched (ranges (pieces_of ws)) k → (k < w.number) ⊎ (w.number + 1 ≤ k)
+    at [] i lt is k u = absurd (omega (arith, lt))
+    at (x ∷ ws) zero lt is k u = subst (λ (y : Waiting). (k < y.number) ⊎ (y.number + 1 ≤ k)) (sym is) u.0
+    at (x ∷ ws) (suc i) lt is k u = at ws i (omega (arith, lt)) is k u.1
+
+but_crash : (ws : List Waiting) (a b c : Facts) (step : Content → Content → Type 0) → Passes a b (ButIn (ranges (pieces_of ws))) → Passes b c step → ((x y : Content) → step x y → ButIn (ranges (pieces_of ws)) x y)
+    → Passes a c (ButIn (ranges (pieces_of ws)))
+but_crash ws a b c step p q goes =
+    passes_then a b c (ButIn (ranges (pieces_of ws))) step p q (λ x y z first second. but_then (ranges (pieces_of ws)) x y z first (goes y z second))
+
+module _ (ws : List Waiting) (i : ℕ) (w d : Waiting) (a b : Facts) (f g : FaultState) (lt : i < length ws) (is : w ≡ get_or ws i d) (so_far : HandedOn i ws a b f g) where
+  pub more_fits : AreWithin (length a.content) (ranges (pieces_of ws)) → w.number + 1 ≤ length b.content
+  more_fits fits = fits_at (length b.content) ws i w d lt is (subst (λ (n : ℕ). AreWithin n (ranges (pieces_of ws))) (sym so_far.but.as_long) fits)
+
+  pub more_apart : (0 < length ws → a.lent.lanes ≡ 0) → b.lent.lanes ≡ 0
+  more_apart alone = ap (λ (l : Lent). l.lanes) so_far.lent ∙ alone (omega (arith, lt))
+
+  module _ (c : Facts) (h : FaultState) where
+    handed_but : Torn w.number 1 b.content c.content → ButIn (ranges (pieces_of ws)) a.content c.content
+    handed_but torn = but_then (ranges (pieces_of ws)) a.content b.content c.content so_far.but (torn_waiting ws i w d b.content c.content lt is torn)
+
+    pub handed_more : {T E : Type 0} (v : T) → AreWithin (length a.content) (ranges (pieces_of ws)) → Written w.number (w.sector ∷ []) b.content c.content → MakesCalls {T = T} {E = E} 1 (Torn w.number 1) b c g h (Ok v)
+        → HandedOn (i + 1) ws a c f h
+    handed_more v fits written called = record {
+      so_far = written_laid w.number (w.sector ∷ []) b.content c.content (more_fits fits) written ∙ ap (laid_over (piece_of w)) so_far.so_far ∙ sym (shown_push (take i ws) w a.content)
+          ∙ sym (ap (λ (us : List Waiting). shown us a.content) (take_more ws i d lt ∙ ap (λ (y : Waiting). take i ws ++ y ∷ []) (sym is)));
+      but = handed_but called.content;
+      crash = but_crash ws a b c (Torn w.number 1) so_far.crash called.crash (λ x y torn. torn_waiting ws i w d x y lt is torn);
+      lent = called.lent ∙ so_far.lent;
+      failures = called.failures.ok ∙ so_far.failures;
+      cause = called.cause.ok ∙ so_far.cause;
+    }
+
+    pub handed_failed : {T E U F : Type 0} (e : E) (r : F) → MakesCalls {T = T} {E = E} 1 (Torn w.number 1) b c g h (Err e) → HandsOn {T = U} {E = F} ws a c f h (Err r)
+    handed_failed e r called = record {
+      all = tt;
+      content = handed_but called.content;
+      crash = but_crash ws a b c (Torn w.number 1) so_far.crash called.crash (λ x y torn. torn_waiting ws i w d x y lt is torn);
+      lent = called.lent ∙ so_far.lent;
+      failures = record { ok = tt; err = rw (← so_far.failures) called.failures.err };
+      cause = record { ok = tt; err = subst (λ (x : FaultState). Cause x h) so_far.cause called.cause.err };
+    }
+
+pub handed_all : {T E : Type 0} (v : T) (ws : List Waiting) (i : ℕ) (a b : Facts) (f g : FaultState) → length ws ≤ i → HandedOn i ws a b f g → HandsOn {T = T} {E = E} ws a b f g (Ok v)
+handed_all v ws i a b f g le so_far = record {
+  all = so_far.so_far ∙ ap (λ (us : List Waiting). shown us a.content) (take_all i ws le);
+  content = so_far.but;
+  crash = so_far.crash;
+  lent = so_far.lent;
+  failures = record { ok = so_far.failures; err = tt };
+  cause = record { ok = so_far.cause; err = tt };
+}
+
+-- ---- reading
+-- one sector more is laid over those that were read
+pub read_more : (first i n : ℕ) (w d : Waiting) (ws : List Waiting) (held old new : Content) → i < length ws → w ≡ get_or ws i d → AreWithin (length held) (ranges (pieces_of ws)) → length old ≡ n → length new ≡ n → first + n ≤ length held
+    → AreSectorsAt first (shown (take i ws) held) old
+    → ((k : ℕ) → k < n → (first + k ≡ w.number → sector new k ≡ w.sector) × ((first + k ≡ w.number → ⊥) → sector new k ≡ sector old k)) → AreSectorsAt first (shown (take (i + 1) ws) held) new
+read_more first i n w d ws held old new lt is fits long long' within read put k less =
+    subst (λ (us : List Waiting). sector new k ≡ sector (shown us held) (first + k)) (sym (take_more ws i d lt ∙ ap (λ (y : Waiting). take i ws ++ y ∷ []) (sym is)))
+    (subst (λ (c : Content). sector new k ≡ sector c (first + k)) (sym (shown_push (take i ws) w held)) here)
+  where
+    k_in : k < n
+    k_in = omega (arith, less, long')
+
+    before : Content
+    before = shown (take i ws) held
+
+    as_long : length before ≡ length held
+    as_long = length_replay (pieces_of (take i ws)) held (prefix ws i fits)
+      where
+        prefix : (ws : List Waiting) (i : ℕ) → AreWithin (length held) (ranges (pieces_of ws)) → AreWithin (length held) (ranges (pieces_of (take i ws)))
+        prefix ws zero fits j lt = absurd (omega (arith, lt))
+        prefix [] (suc i) fits j lt = absurd (omega (arith, lt))
+        prefix (x ∷ ws) (suc i) fits zero lt = fits 0 (omega arith)
+        prefix (x ∷ ws) (suc i) fits (suc j) lt = prefix ws i (fits_rest (length held) (piece_of x) (pieces_of ws) fits) j (omega (arith, lt))
+
+    inside : w.number + 1 ≤ length before
+    inside = rw as_long (fits_at (length held) ws i w d lt is fits)
+
+    here : sector new k ≡ sector (laid_over (piece_of w) before) (first + k)
+    here = elim (cases_eq (first + k) w.number) [
+      | inl same ↦ (put k k_in).0 same ∙ sym (put_mid w.number (w.sector ∷ []) before inside (first + k) (omega (arith, same)) (omega (arith, same)) ∙ ap (sector (w.sector ∷ [])) (at same))
+      | inr other ↦ (put k k_in).1 other ∙ read k (omega (arith, k_in, long)) ∙ sym (elim (cases_lt (first + k) w.number) [
+        | inl low ↦ put_low w.number (w.sector ∷ []) before inside (first + k) low
+        | inr le ↦ put_high w.number (w.sector ∷ []) before inside (first + k) (omega (arith, le, other))
+      ])
+    ]
+      where
+        at : first + k ≡ w.number → first + k - w.number ≡ 0
+        at same = omega (arith, same)
+
+-- a sector that waits was put in its place, or is none of those that were read
+pub put_there : (first : ℕ) (w : Waiting) (old : Content) → first ≤ w.number → w.number - first < length old → (k : ℕ) → k < length old
+    → (first + k ≡ w.number → sector (set old (w.number - first) w.sector) k ≡ w.sector) × ((first + k ≡ w.number → ⊥) → sector (set old (w.number - first) w.sector) k ≡ sector old k)
+put_there first w old le less k lt = (
+  λ same. get_or-set_at old (w.number - first) k w.sector [] (omega (arith, same, le)) less,
+  λ other. get_or-set_other old (w.number - first) k w.sector [] (λ is. other (omega (arith, is, le))),
+)
+
+pub put_none : (first : ℕ) (w : Waiting) (old : Content) → (w.number < first) ⊎ (length old ≤ w.number - first) → (k : ℕ) → k < length old
+    → (first + k ≡ w.number → sector old k ≡ w.sector) × ((first + k ≡ w.number → ⊥) → sector old k ≡ sector old k)
+put_none first w old out k lt = (λ same. absurd (never same out), λ other. refl)
+  where
+    never : first + k ≡ w.number → (w.number < first) ⊎ (length old ≤ w.number - first) → ⊥
+    never same (inl low) = omega (arith, same, low)
+    never same (inr high) = omega (arith, same, high, lt)
+
+module _ (first i : ℕ) (d : Waiting) (ws : List Waiting) (held old begun : Content) (lt : i < length ws) (fits : AreWithin (length held) (ranges (pieces_of ws))) (long : length old ≡ length begun) (within : first + length begun ≤ length held)
+    (read : AreSectorsAt first (shown (take i ws) held) old) where
+  pub read_put : first ≤ (get_or ws i d).number → (get_or ws i d).number - first < length old
+      → AreSectorsAt first (shown (take (i + 1) ws) held) (set old ((get_or ws i d).number - first) (get_or ws i d).sector)
+  read_put le less =
+      read_more first i (length begun) (get_or ws i d) d ws held old (set old ((get_or ws i d).number - first) (get_or ws i d).sector) lt refl fits long (length-set old ((get_or ws i d).number - first) (get_or ws i d).sector ∙ long) within read
+      (λ k small. put_there first (get_or ws i d) old le less k (omega (arith, small, long)))
+
+  pub read_none : ((get_or ws i d).number < first) ⊎ (length old ≤ (get_or ws i d).number - first) → AreSectorsAt first (shown (take (i + 1) ws) held) old
+  read_none out = read_more first i (length begun) (get_or ws i d) d ws held old old lt refl fits long long within read (λ k small. put_none first (get_or ws i d) old out k (omega (arith, small, long)))

@@ -1,0 +1,63 @@
+//! The promises of a disk that is kept in a file.
+ghost use Rattle.std.specs.Prelude.{◌≡◌, ◌≤◌, ℕ, List, IfOk};
+ghost use Rattle.board_model.specs.Durable.{DurableState};
+ghost use Rattle.board_model.specs.Shapes.{Size};
+ghost use Rattle.board_model.specs.declared.durable.Command.{Command};
+ghost use Rattle.disk.specs.Facts.{IsFresh};
+ghost use Rattle.file_disk.specs.Files.{IfKnown, IsDurable};
+ghost use Rattle.store.specs.Leaves.{IsIdle};
+ghost use Rattle.store.specs.Standing.{StandsFor};
+ghost use Rattle.store.specs.Views.{found_state};
+ghost use Rattle.theorem.specs.Files.{KeepsCommands};
+ghost use Rattle.theorem.specs.Prefixes.{after_first, IsAfterFirst};
+
+use crate::headline::commands_in_a_row;
+use board_model::{Command, Refusal};
+use disk::Disk;
+use file_disk::{FileDisk, SectorFile};
+use simdisk::SimDisk;
+use std::alloc::Global;
+use store::{Store, one_standing};
+
+/// *Wherever the process is killed, or its host crashes.* A disk that was just made is kept in a file, which holds it; it
+/// stands for the state s, is opened, and takes a row of commands up to the first that is not acknowledged. Then each
+/// content that a crash leaves in the file, now or at any moment since the disk was made, is one that the headline
+/// allows (`KeepsCommands`). That is so of any file which does what [`SectorFile`] says of it; of a file of the system
+/// nothing is known (`IfKnown`). Answers how many commands were acknowledged, and the file.
+pub fn commands_kept_in_a_file<F: SectorFile + Drop>(
+    alloc: Global,
+    memory: SimDisk,
+    file: F,
+    commands: &[Command],
+) -> Result<(usize, F), Refusal>
+    requires fresh { IsFresh (⟦<SimDisk as Disk>⟧.facts memory).content (⟦<SimDisk as Disk>⟧.facts memory) }
+    requires first_moment { (⟦<SimDisk as Disk>⟧.facts memory).moment ≡ 0 }
+    requires durable { IfKnown (F.file_facts file) (IsDurable (⟦<SimDisk as Disk>⟧.facts memory).content) }
+    ensures { IfOk result (λ kept. (size : Size) (s : DurableState)
+        → StandsFor (⟦<SimDisk as Disk>⟧.facts memory).content size s
+        → IfKnown (F.file_facts kept.1) (KeepsCommands size s commands.now kept.0)) }
+{
+    one_standing();
+    let disk = FileDisk::new(alloc, memory, file)?;
+    let mut store = match Store::open(alloc, disk) {
+        Ok(store) => store,
+        Err((_, refusal)) => return Err(refusal),
+    };
+    let acknowledged = commands_in_a_row(&mut store, commands);
+    Ok((acknowledged, store.into_disk().into_file()))
+}
+
+/// *So the next boot finds it.* Where the bytes of a disk, as a crash left them in the file, stand for what some first of
+/// these commands make of s, the next open that answers Ok finds that state.
+pub fn the_next_open_finds_them<D: Disk + Drop>(
+    alloc: Global,
+    left: D,
+) -> Result<Store<D>, (D, Refusal)>
+    requires { IsIdle (D.facts left) }
+    ensures { (size : Size) (s : DurableState) (commands : List Command) (least most : ℕ)
+        → IsAfterFirst size s commands least most (D.facts left).content
+        → IfOk result (λ next. (k : ℕ) × (least ≤ k) × (k ≤ most) × (found_state next ≡ after_first k s commands)) }
+{
+    one_standing();
+    Store::open(alloc, left)
+}

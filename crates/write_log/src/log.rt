@@ -1,0 +1,41 @@
+//! A write log that only contracts remember. It takes no memory, and nothing is done for it at run time.
+ghost use Rattle.std.specs.Prelude.{◌≡◌};
+ghost use Rattle.std.specs.Borrow.{ftrue};
+ghost use Rattle.write_log.specs.WriteLog.{WriteLog, more_written};
+
+use disk::Sector;
+use std::marker::{Model, PhantomData};
+
+/// The log of a disk's writes and syncs, for its contracts.
+#[derive(Drop)]
+pub struct Log {
+    marker: PhantomData<u8>,
+    pub ghost log: { WriteLog },
+}
+
+impl Model for Log {
+    ghost also_owns = { λ _. ftrue };
+}
+
+// It holds no data, so it may go to any thread.
+unsafe impl Send for Log {}
+
+impl Log {
+    /// One write more, of these sectors from that one on.
+    pub fn note(&mut self, first: usize, sectors: &[Sector])
+        ensures { self.new.log ≡ more_written (first, sectors.now) self.old.log }
+    {
+        *self = Log::picked(&(&*self, first, sectors));
+    }
+
+    /// The log that the caller's proof picks, from the values that are passed. No other function makes the struct, so
+    /// that one proof by hand is enough.
+    pub fn picked<T>(_values: &T) -> Log
+        ghost picked: { WriteLog }
+        ensures { result.log ≡ picked }
+    {
+        Log {
+            marker: PhantomData,
+        }
+    }
+}
