@@ -5,8 +5,6 @@
 #[cfg(test)]
 mod areas;
 #[cfg(test)]
-mod cached;
-#[cfg(test)]
 mod commands;
 #[cfg(test)]
 mod crews;
