@@ -6,7 +6,8 @@ use Rattle.susp.specs.declared.buses.Doze.{Doze}
 use Rattle.turns.specs.Own.{ResumesOwn}
 use Rattle.sbi_calls.specs.declared.words.Did.TheVariants.{Idle, Resumed}
 use Rattle.sbi.specs.declared.words.Word.TheVariants.{Goes}
-use Rattle.hart_threads.specs.Looks.{Looked, after_look, doze_left}
+use Rattle.shared_store.specs.Dozes.{doze_left}
+use Rattle.hart_threads.specs.Looks.{Looked, after_look}
 use Rattle.hart_threads.specs.Threads.{seated, DozeOnce}
 
 pub one_look : (woken : Bool) (old new : Looked) → new ≡ after_look woken old → new.made ≡ old.made + 1

@@ -12,7 +12,7 @@ ghost use Rattle.hart_threads.specs.Threads.{seated, loop_goes_on, ends_life, Tu
 use crate::closing::{Asked, Shut};
 use crate::dozes::{Looks, doze_turn};
 use crate::gates::{Allowed, Gate, TurnMade, ask, tell};
-use crate::once::{SharedBus, call_locked};
+use crate::once::{BusByHand, call_locked};
 use crate::shared::{HartLocal, SharedBoard};
 use crate::threaded::Threaded;
 use crew::Crew;
@@ -20,7 +20,7 @@ use disk::Disk;
 use hart::Hart;
 use sbi::Word;
 use sbi_calls::Turned;
-use shared_store::Told;
+use shared_store::{Hands, Told};
 use std::sync::Wait;
 use turns::turn_by_bus;
 
@@ -80,6 +80,7 @@ fn goes_on(word: Word) -> bool
 fn whole_turn<R: Wait, D: Disk + Drop, J: Threaded, C: Crew>(
     rt: &R,
     board: SharedBoard<'_, '_, D, J, C>,
+    hands: &mut Hands<'_, D, J>,
     hart: &mut Hart,
     looks: &mut Looks,
     local: HartLocal<J>,
@@ -94,20 +95,20 @@ fn whole_turn<R: Wait, D: Disk + Drop, J: Threaded, C: Crew>(
     ensures id { hart.new.id ≡ hart.old.id }
     ensures noted { result.0.part ≡ part_after result.2 local.part }
     ensures range { looks.new.made ≤ looks.old.made + 1 }
-    ensures once { TurnOnce board.entry.shape.now (seated hart.old (known local.seats) local.doze looks.old)
+    ensures once { TurnOnce board.entry.shape.now J.memory (seated hart.old (known local.seats) local.doze looks.old)
         (seated hart.new (known result.0.seats) result.0.doze looks.new) result.1 result.2 }
 {
     let HartLocal { seats, doze, part } = local;
     if let Some(doze) = doze {
-        let bus = &mut board.bus.lock(rt);
+        let bus = &mut hands.bus(rt);
         let (seats, word, doze) = doze_turn(bus, hart, seats, board.tables, doze, looks);
         return (HartLocal { seats, doze, part }, word, None, allowed.made());
     }
-    let mut shared = SharedBus { rt, bus: board.bus };
-    let (seats, turned) = turn_by_bus(hart, seats, board.tables, &mut shared, board.shape);
+    let mut bus = BusByHand { rt, hands };
+    let (seats, turned) = turn_by_bus(hart, seats, board.tables, &mut bus, board.shape);
     match turned {
         Turned::Durable => {
-            let (local, word, told) = call_locked(rt, board, hart, seats, part);
+            let (local, word, told) = call_locked(rt, board, bus.hands, hart, seats, part);
             (local, word, told, allowed.made())
         }
         Turned::Made(did) => {
@@ -150,12 +151,13 @@ pub fn hart_loop<'c, R: Wait, G: Gate, D: Disk + Drop, J: Threaded, C: Crew>(
     ensures id { result.hart.id ≡ hart.id }
     ensures noted { result.local.part ≡ part_after result.told local.part }
     ensures range { result.made ≤ turns }
-    ensures once { LoopOnce board.entry.shape.now (G.answers gate.now hart.id) (G.hears gate.now hart.id) turns
+    ensures once { LoopOnce board.entry.shape.now J.memory (G.answers gate.now hart.id) (G.hears gate.now hart.id) turns
         result.made (seated hart (known local.seats) local.doze no_looks)
         (seated result.hart (known result.local.seats) result.local.doze result.looks) result.why result.told }
 {
     let (mut hart, mut local) = (hart, local);
     let (mut looks, mut asked) = (Looks::none(), Asked::none());
+    let mut hands = board.locks.hands();
     for made in 0..turns {
         if let Some(shut) = board.closing.look(&mut asked) {
             let (why, shut) = (Why::Closed, Some(shut));
@@ -183,7 +185,9 @@ pub fn hart_loop<'c, R: Wait, G: Gate, D: Disk + Drop, J: Threaded, C: Crew>(
                 told: None,
             };
         };
-        let (next, word, told, turn) = whole_turn(rt, board, &mut hart, &mut looks, local, allowed);
+        let (next, word, told, turn) = whole_turn(
+            rt, board, &mut hands, &mut hart, &mut looks, local, allowed,
+        );
         local = next;
         tell(gate, hart.id(), made, turn);
         if !goes_on(word) {

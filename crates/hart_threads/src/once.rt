@@ -1,12 +1,13 @@
 //! What a turn of a hart on its thread takes a lock for: a step, and a durable call.
 
-ghost use Rattle.std.specs.Prelude.{◌≡◌, ◌<◌, []};
+ghost use Rattle.std.specs.Prelude.{◌≡◌, ◌<◌, refl};
 ghost use Rattle.hsm_steps.specs.declared.view.Stage.TheVariants.{Running};
 ghost use Rattle.sbi_abi.specs.Calls.{call_of};
 ghost use Rattle.sbi_calls.specs.Both.{AreTablesOf, AreSeatsOfBoth, GivesBack, Acts, known};
 ghost use Rattle.sbi.specs.Words.{stage_told};
 ghost use Rattle.shared_store.specs.Called.{IsToldBy};
 ghost use Rattle.shared_store.specs.Noted.{part_after};
+ghost use Rattle.shared_store.specs.Runs.{StepsMake};
 ghost use Rattle.hart_threads.specs.Threads.{HeldOnce, IsDozeBy};
 
 use crate::dozes::doze_by;
@@ -17,36 +18,35 @@ use disk::Disk;
 use hart::{Hart, Outcome};
 use sbi::Word;
 use sbi_calls::Seats;
-use shared_store::{Part, Told};
-use std::sync::{Mutex, Wait};
-use susp::Bus;
+use shared_store::{Hands, Part, Told};
+use std::sync::Wait;
 use turns::MemoryBus;
 
-/// The bus of a board on threads. One step of a hart is one hold of it.
+/// The bus of a board on threads, as the hands of a hart's thread reach it. One step of the hart is one hold of it.
 #[derive(Drop)]
-pub(crate) struct SharedBus<'a, R> {
-    pub(crate) rt: &'a R,
-    pub(crate) bus: &'a Mutex<Bus>,
+pub(crate) struct BusByHand<'r, 'h, 'a, R, D: Disk + Drop, J: Threaded> {
+    pub(crate) rt: &'r R,
+    pub(crate) hands: &'h mut Hands<'a, D, J>,
 }
 
-impl<'a, R: Wait> MemoryBus for SharedBus<'a, R> {
-    ghost may_hold = { λ bus memory. Unit {0} };
+impl<'r, 'h, 'a, R: Wait, D: Disk + Drop, J: Threaded> MemoryBus
+    for BusByHand<'r, 'h, 'a, R, D, J> {
+    ghost may_hold = { λ bus memory. StepsMake J.memory memory };
 
-    ghost holds_one = { λ bus. ([], tt) };
+    ghost holds_one = { λ bus. (J.memory, (0, refl)) };
 
     #[inline(always)]
     fn step(&mut self, hart: &mut Hart, pending: bool) -> Outcome {
-        let mut bus = self.bus.lock(self.rt);
-        hart.step(&mut bus.ram, pending)
+        self.hands.bus(self.rt).step(hart, pending)
     }
 }
 
-/// The durable call at which a hart stands, made in one hold of the bus and of the store. The bus is taken
-/// first: whoever takes both does so, and no thread that holds the store waits for the bus. Where the board then
-/// dozes, the hart has a copy of its doze.
+/// The durable call at which a hart stands, made in one hold of the bus and of the store, which are taken in this order
+/// (`Hands::both`). Where the board then dozes, the hart has a copy of its doze.
 pub(crate) fn call_locked<R: Wait, D: Disk + Drop, J: Threaded, C: Crew>(
     rt: &R,
     board: SharedBoard<'_, '_, D, J, C>,
+    hands: &mut Hands<'_, D, J>,
     hart: &mut Hart,
     seats: Seats,
     part: Part<J>,
@@ -65,10 +65,9 @@ pub(crate) fn call_locked<R: Wait, D: Disk + Drop, J: Threaded, C: Crew>(
         (known result.0.seats) result.1 }
     ensures doze { IsDozeBy board.entry.shape.now (call_of hart.old) hart.old.id result.1 result.0.doze }
 {
-    let mut guard = board.bus.lock(rt);
-    let bus = &mut *guard;
-    let mut store = board.store.lock(rt);
+    let (mut bus, mut store) = hands.both(rt);
+    let bus = &mut *bus;
     let (seats, word, told, part) = store.call(board.saving, hart, seats, board.tables, bus, part);
-    let doze = doze_by(word, bus.doze);
+    let doze = doze_by(word, bus.doze());
     (HartLocal { seats, doze, part }, word, told)
 }
