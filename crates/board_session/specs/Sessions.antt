@@ -21,7 +21,6 @@ use Rattle.board.specs.Moments.{commands_by}
 use Rattle.board.specs.PowersOn.{IsUnpowered}
 use Rattle.board.specs.Unbooted.{LeavesLife}
 use Rattle.machine.specs.Machine.{Machine}
-use Rattle.receipts.specs.Books.{Each}
 use Rattle.receipts.specs.Closed.{AreReceiptsOf}
 use Rattle.shared_store.specs.Noted.{boot_told, entries_in}
 use Rattle.hart_threads.specs.Threads.{ends_life}
@@ -29,7 +28,7 @@ use Rattle.hart_threads.specs.Ends.{Ending, IsEnding}
 use Rattle.hart_threads.specs.declared.closing.AfterConsole.{AfterConsole}
 use Rattle.hart_threads.specs.declared.closing.AfterConsole.TheVariants.{RunOut, Halt}
 use Rattle.shared_store.specs.Heard.{Hearing}
-use Rattle.shared_store.specs.Runs.{CarriesSteps}
+use Rattle.shared_store.specs.Runs.{CarriesSteps, AllCarrySteps}
 use Rattle.board_console.specs.Commands.{party}
 use Rattle.board_console.specs.Dialogues.{DialogueEnds, Talks, dialogue_ends}
 use Rattle.board_console.specs.declared.talks.Left.{Left}
@@ -108,7 +107,7 @@ pub record IsOfLife (size : Size) (found : DurableState) (issued : List Change) 
   pub left : LeavesLife doubt disk size (fold found journal)
   pub allowed : (c : Change) → doubt ≡ Some c → refusal_of (fold found journal) c ≡ None
   pub reads : (s : DurableState) × StandsFor disk.content size s
-  pub carried : Each (CarriesSteps begins) journal
+  pub carried : AllCarrySteps begins journal
   pub doubted : IfSome doubt (CarriesSteps begins)
 
 -- what was read and answered in a life that began in that state, by why the console left: nothing where it was not

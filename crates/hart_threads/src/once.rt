@@ -68,6 +68,7 @@ pub(crate) fn call_locked<R: Wait, D: Disk + Drop, J: Threaded, C: Crew>(
     let (mut bus, mut store) = hands.both(rt);
     let bus = &mut *bus;
     let (seats, word, told, part) = store.call(board.saving, hart, seats, board.tables, bus, part);
-    let doze = doze_by(word, bus.doze());
+    let found = bus.doze();
+    let doze = doze_by(word, found);
     (HartLocal { seats, doze, part }, word, told)
 }

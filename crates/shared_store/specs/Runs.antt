@@ -31,7 +31,11 @@ CarriesSteps begun (Tries n boots) = Unit {0}
 CarriesSteps begun Good = Unit {0}
 CarriesSteps begun Attempt = Unit {0}
 
--- each suspension of a life carries such a memory, those that were acknowledged and the one in doubt
+-- each suspension of these commands does
+abbrev pub AllCarrySteps : List ℕ → List Change → Type 0
+AllCarrySteps begun = Each (CarriesSteps begun)
+
+-- each suspension of a life does, those that were acknowledged and the one in doubt
 pub record IsCarried (begun : List ℕ) (life : Life) : Type 0 where
-  pub journal : Each (CarriesSteps begun) life.journal
+  pub journal : AllCarrySteps begun life.journal
   pub doubt : IfSome life.doubt (CarriesSteps begun)

@@ -1,16 +1,27 @@
 //! The bus of a board on threads, which knows of which life its memory is.
 
-ghost use Rattle.std.specs.Prelude.{◌≡◌, ◌↔◌, true, IsOk, OnOk, IfErr};
+ghost use Rattle.std.specs.Prelude.{◌≡◌, ◌<◌, ◌↔◌, true, IsOk, OnOk, IfErr};
 ghost use Rattle.board_model.specs.declared.refusal.Refusal.{Refusal};
 ghost use Rattle.hart.specs.Means.{Steps};
+ghost use Rattle.hsm_steps.specs.declared.view.Stage.TheVariants.{Running};
+ghost use Rattle.sbi.specs.Helds.{MakesHeld};
+ghost use Rattle.sbi.specs.Words.{stage_told};
+ghost use Rattle.sbi_abi.specs.Calls.{call_of};
+ghost use Rattle.sbi_calls.specs.Both.{AreSeatsOfBoth, GivesBack, Acts, harts_of_both, known};
+ghost use Rattle.store.specs.Views.{life_of};
 ghost use Rattle.susp.specs.Dozes.{can_wake, after_wake};
 ghost use Rattle.shared_store.specs.Dozes.{doze_left, is_woken};
-ghost use Rattle.shared_store.specs.Runs.{StepsMake};
+ghost use Rattle.shared_store.specs.Runs.{IsCarried, StepsMake};
 
 use board_model::{HartId, Refusal};
+use crew::Crew;
+use disk::Disk;
 use hart::{Hart, Outcome};
 use receipts::Journal;
+use sbi::{Word, dispatch_held};
+use sbi_calls::{Seats, Tables};
 use std::marker::PhantomData;
+use store::{Saving, Store};
 use susp::{Bus, Doze, doze_of, wake};
 
 /// The memory of a board on threads, and its doze where it sleeps to RAM, of the life J: its memory is what steps of harts
@@ -93,6 +104,31 @@ impl<J: Journal> SharedBus<J> {
         ensures refused { IfErr result (λ e. (e ≡ Refusal.NotDozing) × (bus_in self.new ≡ bus_in self.old)) }
     {
         wake(&mut self.bus)
+    }
+
+    /// The durable call at which a hart stands, as `dispatch_held` with this bus and that store. The memory stays; and a
+    /// suspension carries it.
+    pub(crate) fn call<D: Disk + Drop, C: Crew>(
+        &mut self,
+        saving: Saving<'_, C>,
+        hart: &mut Hart,
+        seats: Seats,
+        tables: &Tables,
+        store: &mut Store<D>,
+    ) -> (Seats, Word)
+        requires seats { AreSeatsOfBoth tables.now seats }
+        requires acts { Acts hart.old.id Running seats }
+        requires hart { hart.old.id < harts_of_both tables.now }
+        requires carried { IsCarried J.memory (life_of store.old) }
+        ensures gives { GivesBack tables.entry.now hart.old.id seats result.0 }
+        ensures acts { Acts hart.old.id (stage_told result.1) result.0 }
+        ensures id { hart.new.id ≡ hart.old.id }
+        ensures makes { MakesHeld (harts_of_both tables.entry.now) (call_of hart.old) hart.old hart.new
+            (known seats) (known result.0) (bus_in self.old) (bus_in self.new) store.old store.new result.1 }
+        ensures memory { (bus_in self.new).ram ≡ (bus_in self.old).ram }
+        ensures carried { IsCarried J.memory (life_of store.new) }
+    {
+        dispatch_held(saving, hart, seats, tables, &mut self.bus, store)
     }
 
     /// The memory and the doze, no longer shared.

@@ -28,7 +28,7 @@ use crew::Crew;
 use disk::Disk;
 use hart::Hart;
 use receipts::{Book, Journal, Keeper, Part};
-use sbi::{Word, dispatch_held};
+use sbi::Word;
 use sbi_calls::{Seats, Tables};
 use store::{Saving, Store};
 
@@ -143,8 +143,7 @@ impl<D: Disk + Drop, J: Journal> SharedStore<D, J> {
         ensures told { IsToldBy J.size (call_of hart.old) hart.old.id result.1 result.2 }
         ensures noted { result.3 ≡ part_after result.2 part }
     {
-        let bus = &mut bus.bus;
-        let (seats, word) = dispatch_held(saving, hart, seats, tables, bus, &mut self.store);
+        let (seats, word) = bus.call(saving, hart, seats, tables, &mut self.store);
         match word {
             Word::Goes(_) => (seats, word, None, part),
             Word::Over(_) => {
