@@ -30,14 +30,17 @@ use Rattle.sbi.specs.declared.words.Word.{Word}
 use Rattle.sbi.specs.declared.resets.ResetType.{ResetType}
 use Rattle.sbi.specs.Resets.{reset_of}
 use Rattle.sbi.specs.Helds.{MakesReset, MakesHeld}
-use Rattle.shared_store.specs.Runs.{StepsMake, CarriesSteps, IsCarried}
+use Rattle.shared_store.specs.Runs.{IsStep, AreSteps, StepsMake, CarriesSteps, IsCarried}
 
 -- ---- steps
 pub none_yet : (m n : List ℕ) → n ≡ m → StepsMake m n
 none_yet m n is = (0, is)
 
 pub one_step : (begun m n : List ℕ) (pending : Bool) (s t : ArchState) (outcome : Outcome) → StepsMake begun m → Steps pending s m t n outcome → StepsMake begun n
-one_step begun m n pending s t outcome made steps = (suc made.0, m, made.1, pending, s, t, outcome, steps)
+one_step begun m n pending s t outcome made steps =
+    let last : IsStep m n = (pending, s, t, outcome, steps) in
+    let all : AreSteps (suc made.0) begun n = (m, made.1, last) in
+    (suc made.0, all)
 
 -- ---- lives
 command_carries : (begun : List ℕ) (command : Command) → CarriesSteps begun (change_of command)

@@ -50,6 +50,7 @@ impl<J: Journal> SharedBus<J> {
     ghost use Rattle.shared_store.specs.Views.{bus_in};
 
     /// The bus of a life that has just begun, with the memory that its boot left.
+    #[tactic(auto, using(crate::proofs::Carrying::none_yet))]
     pub fn new(bus: Bus) -> SharedBus<J>
         requires { bus.ram ≡ J.memory }
         ensures { bus_in result ≡ bus }
@@ -76,6 +77,8 @@ impl<J: Journal> SharedBus<J> {
     #[inline(always)]
     pub fn step(&mut self, hart: &mut Hart, pending: bool) -> Outcome
         ensures steps { Steps pending hart.old (bus_in self.old).ram hart.new (bus_in self.new).ram result }
+        ensures found { StepsMake J.memory (bus_in self.old).ram }
+        ensures left { StepsMake J.memory (bus_in self.new).ram }
         ensures doze { (bus_in self.new).doze ≡ (bus_in self.old).doze }
     {
         hart.step(&mut self.bus.ram, pending)
