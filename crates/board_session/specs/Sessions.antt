@@ -1,6 +1,6 @@
 -- What a session makes of its disk: over which disks its board runs, why it is refused before any thread, and
 -- what the disk that it gives back stands for. Source: docs/CONSOLE.md, "Statuses and faults".
-use Rattle.std.specs.Prelude.{◌≡◌, ◌⊎◌, ◌≤◌, ℕ, Bool, true, false, List, [], ◌∷◌, ◌++◌, All, Option, Some, None, IfSome, Result, Ok, Err, length}
+use Rattle.std.specs.Prelude.{◌≡◌, ◌⊎◌, ◌≤◌, ℕ, Bool, true, false, List, [], ◌∷◌, ◌++◌, All, Option, Some, None, Result, Ok, Err, length}
 use Rattle.std.specs.Option.{option_to_list}
 use Rattle.board_model.specs.Durable.{DurableState, Change, formatted, fold, refusal_of}
 use Rattle.board_model.specs.Shapes.{Size, sectors_of}
@@ -108,7 +108,7 @@ pub record IsOfLife (size : Size) (found : DurableState) (issued : List Change) 
   pub allowed : (c : Change) → doubt ≡ Some c → refusal_of (fold found journal) c ≡ None
   pub reads : (s : DurableState) × StandsFor disk.content size s
   pub carried : AllCarrySteps begins journal
-  pub doubted : IfSome doubt (CarriesSteps begins)
+  pub doubted : (c : Change) → doubt ≡ Some c → CarriesSteps begins c
 
 -- what was read and answered in a life that began in that state, by why the console left: nothing where it was not
 -- begun

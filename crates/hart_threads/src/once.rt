@@ -1,6 +1,6 @@
 //! What a turn of a hart on its thread takes a lock for: a step, and a durable call.
 
-ghost use Rattle.std.specs.Prelude.{◌≡◌, ◌<◌, refl};
+ghost use Rattle.std.specs.Prelude.{◌≡◌, ◌<◌};
 ghost use Rattle.hsm_steps.specs.declared.view.Stage.TheVariants.{Running};
 ghost use Rattle.sbi_abi.specs.Calls.{call_of};
 ghost use Rattle.sbi_calls.specs.Both.{AreTablesOf, AreSeatsOfBoth, GivesBack, Acts, known};
@@ -33,7 +33,7 @@ impl<'r, 'h, 'a, R: Wait, D: Disk + Drop, J: Threaded> MemoryBus
     for BusByHand<'r, 'h, 'a, R, D, J> {
     ghost may_hold = { λ bus memory. StepsMake J.memory memory };
 
-    ghost holds_one = { λ bus. (J.memory, (0, refl)) };
+    ghost holds_one = { λ bus. (J.memory, λ is keep here. here) };
 
     #[inline(always)]
     fn step(&mut self, hart: &mut Hart, pending: bool) -> Outcome {

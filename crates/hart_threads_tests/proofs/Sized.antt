@@ -1,5 +1,5 @@
 -- Parts of a board, by how many harts they have.
-use Rattle.std.proofs.Common.{◌≡◌, ◌∙◌, ◌<◌, ◌⊎◌, ℕ, zero, suc, List, [], ◌∷◌, Option, Some, None, IfSome, length, arith, sym, refl, subst, inl, inr}
+use Rattle.std.proofs.Common.{◌≡◌, ◌∙◌, ◌<◌, ◌⊎◌, ℕ, zero, suc, List, [], ◌∷◌, Option, Some, None, length, arith, sym, refl, subst, inl, inr}
 use Rattle.board_model.specs.Durable.{Change}
 use Rattle.board_model.specs.Shapes.{Size}
 use Rattle.hart.specs.State.{ArchState}
@@ -7,8 +7,8 @@ use Rattle.sbi_calls.specs.declared.tables.Tables.{Tables}
 use Rattle.sbi_calls.specs.declared.tables.Seats.{Seats}
 use Rattle.susp.specs.declared.buses.Doze.{Doze}
 use Rattle.machine.specs.Held.{AreAllSeats, IsHeld}
-use Rattle.receipts.specs.Books.{Each}
-use Rattle.shared_store.specs.Runs.{CarriesSteps, IsCarried}
+use Rattle.shared_store.specs.Runs.{AllCarrySteps, IsCarried}
+use Rattle.shared_store.proofs.Carrying.{none_carry}
 use Rattle.store.specs.Lives.{Life}
 
 pub held_as : (a b : Size) (harts : List ArchState) (t : Tables) (s : Seats) (doze : Option Doze) → IsHeld a harts t (Some s) doze → length harts ≡ b.harts → IsHeld b harts t (Some s) doze
@@ -30,6 +30,6 @@ none_first (c ∷ cs) (inr few) = absurd (omega (arith, few))
 -- no suspension was asked for yet
 pub none_carried : (begun : List ℕ) (life : Life) → life.journal ≡ [] → life.doubt ≡ None → IsCarried begun life
 none_carried begun life empty up = record {
-  journal = subst (λ (cs : List Change). Each (CarriesSteps begun) cs) (sym empty) tt;
-  doubt = subst (λ (o : Option Change). IfSome o (CarriesSteps begun)) (sym up) tt;
+  journal = subst (λ (cs : List Change). AllCarrySteps begun cs) (sym empty) (none_carry begun);
+  doubt = λ c e. let no : ⊥ = cc in absurd no;
 }

@@ -1,5 +1,6 @@
 -- The suspensions of a life carry memory that steps of harts made: a command keeps that.
-use Rattle.std.proofs.Common.{◌≡◌, ◌⊎◌, ⊎_elim, ℕ, suc, Bool, List, [], ◌∷◌, ◌++◌, Option, Some, None, IfSome, Result, Ok, Err, refl, sym, ap, subst, inl, inr}
+use Rattle.std.proofs.Common.{◌≡◌, ◌⊎◌, ◌∙◌, ⊎_elim, ℕ, zero, suc, Bool, true, List, [], ◌∷◌, ◌++◌, Option, Some, None, Result, Ok, Err, refl, sym, ap, subst, inl, inr}
+use Rattle.std.specs.Prelude.{slice_get}
 use Rattle.board_model.specs.Durable.{DurableState, Change, Reset, Suspend}
 use Rattle.board_model.specs.Views.{change_of}
 use Rattle.board_model.specs.declared.durable.Command.{Command}
@@ -12,7 +13,6 @@ use Rattle.hart.specs.Means.{Steps}
 use Rattle.hart.specs.State.{ArchState}
 use Rattle.hart.specs.declared.Outcome.{Outcome}
 use Rattle.hsm_steps.specs.Words.{HartView}
-use Rattle.receipts.specs.Books.{Each}
 use Rattle.store.specs.Asked.{Asked}
 use Rattle.store.specs.Follows.{FitsBoard}
 use Rattle.store.specs.Lives.{Life, Applied, Refused, Suspended, SuspendRefused}
@@ -30,46 +30,75 @@ use Rattle.sbi.specs.declared.words.Word.{Word}
 use Rattle.sbi.specs.declared.resets.ResetType.{ResetType}
 use Rattle.sbi.specs.Resets.{reset_of}
 use Rattle.sbi.specs.Helds.{MakesReset, MakesHeld}
-use Rattle.shared_store.specs.Runs.{IsStep, AreSteps, StepsMake, CarriesSteps, IsCarried}
+use Rattle.shared_store.specs.Runs.{IsStep, StepsMake, CarriesSteps, AllCarrySteps, IsCarried}
 
 -- ---- steps
 pub none_yet : (m n : List ℕ) → n ≡ m → StepsMake m n
-none_yet m n is = (0, is)
+none_yet m n same = λ is keep here. subst (λ (x : List ℕ). is x ≡ true) (sym same) here
 
 pub one_step : (begun m n : List ℕ) (pending : Bool) (s t : ArchState) (outcome : Outcome) → StepsMake begun m → Steps pending s m t n outcome → StepsMake begun n
 one_step begun m n pending s t outcome made steps =
-    let last : IsStep m n = (pending, s, t, outcome, steps) in
-    let all : AreSteps (suc made.0) begun n = (m, made.1, last) in
-    (suc made.0, all)
+    λ is keep here. let last : IsStep m n = (pending, s, t, outcome, steps) in keep m n last (made is keep here)
+
+-- ---- commands
+command_carries : (begun : List ℕ) (command : Command) → CarriesSteps begun (change_of command)
+command_carries begun (commands.Slot n) = λ hart address opaque memory e. let no : ⊥ = cc in absurd no
+command_carries begun (commands.Reset r) = λ hart address opaque memory e. let no : ⊥ = cc in absurd no
+command_carries begun commands.Consume = λ hart address opaque memory e. let no : ⊥ = cc in absurd no
+command_carries begun commands.Discard = λ hart address opaque memory e. let no : ⊥ = cc in absurd no
+command_carries begun (commands.Tries n boots) = λ hart address opaque memory e. let no : ⊥ = cc in absurd no
+command_carries begun commands.Good = λ hart address opaque memory e. let no : ⊥ = cc in absurd no
+command_carries begun commands.Attempt = λ hart address opaque memory e. let no : ⊥ = cc in absurd no
+
+reset_carries : (begun : List ℕ) (cause : Reason) → CarriesSteps begun (Reset cause)
+reset_carries begun cause = command_carries begun (commands.Reset cause)
+
+memory_of : Change → List ℕ → List ℕ
+memory_of (Suspend hart address opaque memory) other = memory
+memory_of c other = other
+
+sleep_carries : (begun : List ℕ) (hart address opaque : ℕ) (memory : List ℕ) → StepsMake begun memory → CarriesSteps begun (Suspend hart address opaque memory)
+unfolding memory_of
+sleep_carries begun hart address opaque memory made = λ h a o m e. subst (λ (x : List ℕ). StepsMake begun x) (ap (λ (c : Change). memory_of c []) e) made
+
+some_or : Change → Option Change → Change
+some_or c None = c
+some_or c (Some d) = d
+
+pub none_carry : (begun : List ℕ) → AllCarrySteps begun []
+none_carry begun = λ k c e. let no : ⊥ = cc in absurd no
+
+pub more_carry : (begun : List ℕ) (c : Change) (cs : List Change) → CarriesSteps begun c → AllCarrySteps begun cs → AllCarrySteps begun (c ∷ cs)
+unfolding some_or
+more_carry begun c cs one all zero d e = subst (λ (x : Change). CarriesSteps begun x) (ap (λ (o : Option Change). some_or c o) e) one
+more_carry begun c cs one all (suc k) d e = all k d e
+
+pub change_carries : (begun : List ℕ) (command : Command) (c : Change) → c ≡ change_of command → CarriesSteps begun c
+change_carries begun command c is = subst (λ (x : Change). CarriesSteps begun x) (sym is) (command_carries begun command)
+
+each_more : (begun : List ℕ) (cs : List Change) (c : Change) → AllCarrySteps begun cs → CarriesSteps begun c → AllCarrySteps begun (cs ++ c ∷ [])
+each_more begun [] c all one = more_carry begun c [] one (none_carry begun)
+each_more begun (d ∷ cs) c all one = more_carry begun d (cs ++ c ∷ []) (all 0 d refl) (each_more begun cs c (λ k x e. all (suc k) x e) one)
 
 -- ---- lives
-command_carries : (begun : List ℕ) (command : Command) → CarriesSteps begun (change_of command)
-command_carries begun (commands.Slot n) = tt
-command_carries begun (commands.Reset r) = tt
-command_carries begun commands.Consume = tt
-command_carries begun commands.Discard = tt
-command_carries begun (commands.Tries n boots) = tt
-command_carries begun commands.Good = tt
-command_carries begun commands.Attempt = tt
-
-each_more : (P : Change → Type 0) (cs : List Change) (c : Change) → Each P cs → P c → Each P (cs ++ c ∷ [])
-each_more P [] c each one = (one, tt)
-each_more P (d ∷ cs) c each one = (each.0, each_more P cs c each.1 one)
-
 module _ (begun : List ℕ) where
+  in_doubt : (c d : Change) → Some c ≡ Some d → c ≡ d
+  unfolding some_or
+  in_doubt c d e = ap (λ (o : Option Change). some_or c o) e
+
   same_carried : (old new : Life) → IsCarried begun old → new ≡ old → IsCarried begun new
   same_carried old new is same = subst (λ (x : Life). IsCarried begun x) (sym same) is
 
   refused_carried : (old new : Life) (c : Change) (e : Refusal) → IsCarried begun old → CarriesSteps begun c → Refused old c e new → IsCarried begun new
   refused_carried old new c e is one (inl p) = same_carried old new is p.2
-  refused_carried old new c e is one (inr (inl p)) = subst (λ (x : Life). IsCarried begun x) (sym p.2) (record { journal = is.journal; doubt = one })
+  refused_carried old new c e is one (inr (inl p)) = subst (λ (x : Life). IsCarried begun x) (sym p.2) (record { journal = is.journal; doubt = λ d e. subst (λ (x : Change). CarriesSteps begun x) (in_doubt c d e) one })
   refused_carried old new c e is one (inr (inr (inl p))) = same_carried old new is p.2
   refused_carried old new c e is one (inr (inr (inr (inl p)))) = same_carried old new is p.3
   refused_carried old new c e is one (inr (inr (inr (inr p)))) = same_carried old new is p.3
 
   applied_carried : (old new : Life) (c : Change) (r : Result ℕ Refusal) → IsCarried begun old → CarriesSteps begun c → Applied old c r new → IsCarried begun new
   applied_carried old new c (Ok n) is one told =
-      subst (λ (x : Life). IsCarried begun x) (sym told.2) (record { journal = each_more (CarriesSteps begun) old.journal c is.journal one; doubt = is.doubt })
+      subst (λ (x : Life). IsCarried begun x) (sym told.2) (record { journal = each_more begun old.journal c is.journal one; doubt = is.doubt })
   applied_carried old new c (Err e) is one told = refused_carried old new c e is one told
 
   suspend_carried : (Fits : Type 0) (old new : Life) (c : Change) (e : Refusal) → IsCarried begun old → CarriesSteps begun c → SuspendRefused Fits old c e new → IsCarried begun new
@@ -116,12 +145,12 @@ module _ (begun : List ℕ) where
     reset_keeps : (asked : Result (ResetType × Reason) SbiError) (s t : ArchState) (bus bus' : Bus) (old new : Store D L g l) (word : Word) → Carried old → MakesReset asked s t old new word → bus' ≡ bus → Keeps bus bus' new
     reset_keeps (Err e) s t bus bus' old new word is p stays = kept_both bus bus' old new is p.1 stays
     reset_keeps (Ok reset) s t bus bus' old new word is p stays =
-        record { carried = asked_change old new (Reset reset.1) p.0 (doubt_of old) refl is tt p.1; memory = ap (λ (b : Bus). b.ram) stays }
+        record { carried = asked_change old new (Reset reset.1) p.0 (doubt_of old) refl is (reset_carries begun reset.1) p.1; memory = ap (λ (b : Bus). b.ram) stays }
 
     fallen_keeps : (sleep : Sleep) (by site opaque : ℕ) (vs vs' : List HartView) (bus bus' : Bus) (fell : Result Sleep SbiError) (old new : Store D L g l) → Carried old → StepsMake begun bus.ram → FallsAsleep sleep by site opaque vs bus old fell vs' bus' new → Keeps bus bus' new
     fallen_keeps ToRam by site opaque vs vs' bus bus' fell old new is made p = record { carried = store_same old new is p.0.2; memory = ap (λ (b : Bus). b.ram) p.0.1 }
     fallen_keeps ToDisk by site opaque vs vs' bus bus' fell old new is made p =
-        record { carried = slept_carried old new (FitsBoard (size_of_store old) bus.ram by site) (Suspend by site opaque bus.ram) p.0 (doubt_of old) refl is made p.1; memory = ap (λ (b : Bus). b.ram) p.3 }
+        record { carried = slept_carried old new (FitsBoard (size_of_store old) bus.ram by site) (Suspend by site opaque bus.ram) p.0 (doubt_of old) refl is (sleep_carries begun by site opaque bus.ram made) p.1; memory = ap (λ (b : Bus). b.ram) p.3 }
 
     slept_keeps : (harts by : ℕ) (asked : Result (Sleep × ℕ) SbiError) (opaque : ℕ) (vs vs' : List HartView) (bus bus' : Bus) (fell : Result Sleep SbiError) (old new : Store D L g l) → Carried old → StepsMake begun bus.ram → SleepsAt harts by asked opaque vs bus old fell vs' bus' new → Keeps bus bus' new
     slept_keeps harts by (Err e) opaque vs vs' bus bus' fell old new is made p = kept_both bus bus' old new is p.3 p.2

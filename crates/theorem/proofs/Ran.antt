@@ -1,5 +1,5 @@
 -- What a session promises over a disk that stands for one state, and what an open then finds.
-use Rattle.std.proofs.Common.{◌≡◌, ◌≢◌, ◌⊎◌, ◌∙◌, ℕ, List, [], Bool, true, false, Option, Some, None, IfSome, Result, inl, inr, refl, subst}
+use Rattle.std.proofs.Common.{◌≡◌, ◌≢◌, ◌⊎◌, ◌∙◌, ℕ, List, [], Bool, true, false, Option, Some, None, Result, inl, inr, refl, subst}
 use Rattle.board_model.specs.Durable.{DurableState, Change, after, fold, refusal_of}
 use Rattle.board_model.specs.Shapes.{Size}
 use Rattle.board_model.specs.declared.boot_mode.BootMode.{BootMode}
@@ -75,4 +75,4 @@ finds size z s found mode payloads disk given left a input output heard session 
     by : (found ≡ fold s session.3.journal) ⊎ ((c : Change) × (session.3.doubt ≡ Some c) × (found ≡ after (fold s session.3.journal) c))
         → (found ≡ fold s session.3.journal) ⊎ ((c : Change) × (refusal_of (fold s session.3.journal) c ≡ None) × CarriesSteps session.0.memory c × (found ≡ after (fold s session.3.journal) c))
     by (inl is) = inl is
-    by (inr (c, doubt, is)) = inr (c, session.3.allowed c doubt, subst (λ (o : Option Change). IfSome o (CarriesSteps session.0.memory)) doubt session.3.doubted, is)
+    by (inr (c, doubt, is)) = inr (c, session.3.allowed c doubt, session.3.doubted c doubt, is)
