@@ -15,9 +15,9 @@ use crate::words::{Said, line_said};
 use arrayvec::ArrayVec;
 use board_model::Refusal;
 use disk::Disk;
-use shared_store::{Hands, Heard, Journal, Part};
+use shared_store::{Heard, Journal, Part, SharedBus, SharedStore};
 use std::io::{Read, Write};
-use std::sync::Wait;
+use std::sync::{Mutex, Wait};
 
 /// Why the console left.
 #[derive(Clone, Copy, PartialEq, Eq, Drop)]
@@ -94,10 +94,11 @@ fn write_answer<W: Write>(out: &mut W, answer: Reply) -> Result<(), Refusal>
 }
 
 /// Obeys a line: a command or `state` in one hold of the store alone, `wake` in one of the bus alone, and the others
-/// with no lock, so that `quit` waits for no suspension.
+/// with no lock, so that `quit` waits for no suspension. Who holds the store must not wait for the bus.
 fn answer_to<R: Wait, D: Disk + Drop, J: Journal>(
     rt: &R,
-    hands: &mut Hands<'_, D, J>,
+    bus: &Mutex<SharedBus<J>>,
+    store: &Mutex<SharedStore<D, J>>,
     part: Part<J>,
     heard: &mut Heard,
     said: Said,
@@ -105,8 +106,8 @@ fn answer_to<R: Wait, D: Disk + Drop, J: Journal>(
     ensures { IsAnswerTo J.found J.issued said result.1 (party part.told heard.old) (party result.0.told heard.new) }
 {
     match said {
-        Said::Command(_) | Said::State => obey(&mut hands.store(rt), part, heard, said),
-        Said::Wake => (part, rouse(&mut hands.bus(rt))),
+        Said::Command(_) | Said::State => obey(&mut store.lock(rt), part, heard, said),
+        Said::Wake => (part, rouse(&mut bus.lock(rt))),
         Said::Quit => (part, Reply::Quit),
         Said::Other => (part, Reply::Unknown),
     }
@@ -118,7 +119,8 @@ fn answer_to<R: Wait, D: Disk + Drop, J: Journal>(
 /// each refusal and each state that it answers.
 pub fn console<R: Wait, D: Disk + Drop, J: Journal, I: Read, W: Write>(
     rt: &R,
-    hands: &mut Hands<'_, D, J>,
+    bus: &Mutex<SharedBus<J>>,
+    store: &Mutex<SharedStore<D, J>>,
     part: Part<J>,
     heard: &mut Heard,
     input: &mut I,
@@ -137,7 +139,7 @@ pub fn console<R: Wait, D: Disk + Drop, J: Journal, I: Read, W: Write>(
             return (part, left);
         }
         let said = line_said(kept);
-        let (told, answer) = answer_to(rt, hands, part, heard, said);
+        let (told, answer) = answer_to(rt, bus, store, part, heard, said);
         part = told;
         let Ok(()) = write_answer(out, answer) else {
             return (part, Left::Unwritten);

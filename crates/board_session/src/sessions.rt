@@ -35,7 +35,7 @@ use disk::Disk;
 use hart_threads::{
     AfterConsole, Closing, HartEnd, Parted, Rested, SharedBoard, Threaded, Undriven, drive,
 };
-use shared_store::{Heard, Journal, Locked, NewBook, Part, SharedBus, SharedStore, Unshared};
+use shared_store::{Heard, Journal, NewBook, Part, SharedBus, SharedStore, Unshared};
 use std::alloc::Global;
 use std::io::{Read, Write};
 use std::marker::Brand;
@@ -96,7 +96,8 @@ struct Talked<'c, J: Threaded, I: Read + Drop, W: Write + Drop> {
 /// input ends or fails they run out their turns.
 fn attend<'c, R: Wait, D: Disk + Drop, J: Threaded, I: Read + Drop, W: Write + Drop>(
     rt: &R,
-    locks: Locked<'_, D, J>,
+    bus: &Mutex<SharedBus<J>>,
+    store: &Mutex<SharedStore<D, J>>,
     closing: &'c Closing<J>,
     ends: Ends<J, I, W>,
 ) -> Talked<'c, J, I, W>
@@ -111,8 +112,8 @@ fn attend<'c, R: Wait, D: Disk + Drop, J: Threaded, I: Read + Drop, W: Write + D
         heard,
     } = ends;
     let Streams { mut input, mut out } = streams;
-    let (mut heard, mut hands) = (heard, locks.hands());
-    let (part, left) = console(rt, &mut hands, part, &mut heard, &mut input, &mut out);
+    let mut heard = heard;
+    let (part, left) = console(rt, bus, store, part, &mut heard, &mut input, &mut out);
     let parted = closing.part(rt, harts_after(left));
     Talked {
         ends: Ends {
@@ -217,12 +218,13 @@ fn run_board<
     let store: Mutex<SharedStore<D, J>> = Mutex::new(whole.share());
     let closing = Closing::new(lock);
     let crew = crew::Threads::new(rt);
-    let (locks, shut) = (Locked::new(&bus, &store), &closing);
+    let (rung, shared, shut) = (&bus, &store, &closing);
     let board = SharedBoard {
         saving: Saving { alloc, crew: &crew },
         tables: &tables,
         shape: &shape,
-        locks,
+        bus: &bus,
+        store: &store,
         closing: &closing,
     };
     let driven = drive(
@@ -241,7 +243,7 @@ fn run_board<
                 (party ends.part.told ends.heard))
                 (dialogue_ends (I.remaining result.ends.streams.input) (W.contents result.ends.streams.out)
                 (party result.ends.part.told result.ends.heard)) }
-        { attend(rt, locks, shut, ends) },
+        { attend(rt, rung, shared, shut, ends) },
     );
     let whole = store.into_inner().unshare();
     match driven {

@@ -12,7 +12,7 @@ ghost use Rattle.hart_threads.specs.Threads.{seated, loop_goes_on, ends_life, Tu
 use crate::closing::{Asked, Shut};
 use crate::dozes::{Looks, doze_turn};
 use crate::gates::{Allowed, Gate, TurnMade, ask, tell};
-use crate::once::{BusByHand, call_locked};
+use crate::once::{LockedBus, call_locked};
 use crate::shared::{HartLocal, SharedBoard};
 use crate::threaded::Threaded;
 use crew::Crew;
@@ -20,7 +20,7 @@ use disk::Disk;
 use hart::Hart;
 use sbi::Word;
 use sbi_calls::Turned;
-use shared_store::{Hands, Told};
+use shared_store::Told;
 use std::sync::Wait;
 use turns::turn_by_bus;
 
@@ -80,7 +80,6 @@ fn goes_on(word: Word) -> bool
 fn whole_turn<R: Wait, D: Disk + Drop, J: Threaded, C: Crew>(
     rt: &R,
     board: SharedBoard<'_, '_, D, J, C>,
-    hands: &mut Hands<'_, D, J>,
     hart: &mut Hart,
     looks: &mut Looks,
     local: HartLocal<J>,
@@ -100,15 +99,15 @@ fn whole_turn<R: Wait, D: Disk + Drop, J: Threaded, C: Crew>(
 {
     let HartLocal { seats, doze, part } = local;
     if let Some(doze) = doze {
-        let bus = &mut hands.bus(rt);
+        let bus = &mut board.bus.lock(rt);
         let (seats, word, doze) = doze_turn(bus, hart, seats, board.tables, doze, looks);
         return (HartLocal { seats, doze, part }, word, None, allowed.made());
     }
-    let mut bus = BusByHand { rt, hands };
+    let mut bus = LockedBus { rt, bus: board.bus };
     let (seats, turned) = turn_by_bus(hart, seats, board.tables, &mut bus, board.shape);
     match turned {
         Turned::Durable => {
-            let (local, word, told) = call_locked(rt, board, bus.hands, hart, seats, part);
+            let (local, word, told) = call_locked(rt, board, hart, seats, part);
             (local, word, told, allowed.made())
         }
         Turned::Made(did) => {
@@ -157,7 +156,6 @@ pub fn hart_loop<'c, R: Wait, G: Gate, D: Disk + Drop, J: Threaded, C: Crew>(
 {
     let (mut hart, mut local) = (hart, local);
     let (mut looks, mut asked) = (Looks::none(), Asked::none());
-    let mut hands = board.locks.hands();
     for made in 0..turns {
         if let Some(shut) = board.closing.look(&mut asked) {
             let (why, shut) = (Why::Closed, Some(shut));
@@ -185,9 +183,7 @@ pub fn hart_loop<'c, R: Wait, G: Gate, D: Disk + Drop, J: Threaded, C: Crew>(
                 told: None,
             };
         };
-        let (next, word, told, turn) = whole_turn(
-            rt, board, &mut hands, &mut hart, &mut looks, local, allowed,
-        );
+        let (next, word, told, turn) = whole_turn(rt, board, &mut hart, &mut looks, local, allowed);
         local = next;
         tell(gate, hart.id(), made, turn);
         if !goes_on(word) {

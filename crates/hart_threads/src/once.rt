@@ -18,35 +18,35 @@ use disk::Disk;
 use hart::{Hart, Outcome};
 use sbi::Word;
 use sbi_calls::Seats;
-use shared_store::{Hands, Part, Told};
-use std::sync::Wait;
+use shared_store::{Part, SharedBus, Told};
+use std::sync::{Mutex, Wait};
 use turns::MemoryBus;
 
-/// The bus of a board on threads, as the hands of a hart's thread reach it. One step of the hart is one hold of it.
+/// The bus of a board on threads, behind its lock. One step of a hart is one hold of it.
 #[derive(Drop)]
-pub(crate) struct BusByHand<'r, 'h, 'a, R, D: Disk + Drop, J: Threaded> {
-    pub(crate) rt: &'r R,
-    pub(crate) hands: &'h mut Hands<'a, D, J>,
+pub(crate) struct LockedBus<'a, R, J: Threaded> {
+    pub(crate) rt: &'a R,
+    pub(crate) bus: &'a Mutex<SharedBus<J>>,
 }
 
-impl<'r, 'h, 'a, R: Wait, D: Disk + Drop, J: Threaded> MemoryBus
-    for BusByHand<'r, 'h, 'a, R, D, J> {
+impl<'a, R: Wait, J: Threaded> MemoryBus for LockedBus<'a, R, J> {
     ghost may_hold = { λ bus memory. StepsMake J.memory memory };
 
     ghost holds_one = { λ bus. (J.memory, λ is keep here. here) };
 
     #[inline(always)]
     fn step(&mut self, hart: &mut Hart, pending: bool) -> Outcome {
-        self.hands.bus(self.rt).step(hart, pending)
+        let mut bus = self.bus.lock(self.rt);
+        bus.step(hart, pending)
     }
 }
 
-/// The durable call at which a hart stands, made in one hold of the bus and of the store, which are taken in this order
-/// (`Hands::both`). Where the board then dozes, the hart has a copy of its doze.
+/// The durable call at which a hart stands, made in one hold of the bus and of the store. The bus is taken
+/// first: whoever takes both does so, and no thread that holds the store waits for the bus. Where the board then
+/// dozes, the hart has a copy of its doze.
 pub(crate) fn call_locked<R: Wait, D: Disk + Drop, J: Threaded, C: Crew>(
     rt: &R,
     board: SharedBoard<'_, '_, D, J, C>,
-    hands: &mut Hands<'_, D, J>,
     hart: &mut Hart,
     seats: Seats,
     part: Part<J>,
@@ -65,8 +65,9 @@ pub(crate) fn call_locked<R: Wait, D: Disk + Drop, J: Threaded, C: Crew>(
         (known result.0.seats) result.1 }
     ensures doze { IsDozeBy board.entry.shape.now (call_of hart.old) hart.old.id result.1 result.0.doze }
 {
-    let (mut bus, mut store) = hands.both(rt);
-    let bus = &mut *bus;
+    let mut guard = board.bus.lock(rt);
+    let bus = &mut *guard;
+    let mut store = board.store.lock(rt);
     let (seats, word, told, part) = store.call(board.saving, hart, seats, board.tables, bus, part);
     let found = bus.doze();
     let doze = doze_by(word, found);

@@ -16,7 +16,7 @@ use disk::ArmedFault;
 use hart_threads::{AfterConsole, Closing, Ended, Gate, Rested, SharedBoard, Threaded, Why, drive};
 use machine::{Did, Word};
 use rv_decode::Reg;
-use shared_store::{Heard, Locked, NewBook, SharedBus, Unshared};
+use shared_store::{Heard, NewBook, SharedBus, Unshared};
 use simdisk::SimDisk;
 use std::alloc::Global;
 use std::marker::Brand;
@@ -263,13 +263,14 @@ fn driven_as<J: Threaded + Send + Sync, R: Threads + Wait + Clock + Sync>(
     let closing = Closing::new(lock);
     let crew = crew::Threads::new(rt);
     let gate = UntilWoken::new();
-    let (locks, waits) = (Locked::new(&bus, &store), &gate);
+    let (rung, shared, waits) = (&bus, &store, &gate);
     let size = *shape;
     let board = SharedBoard {
         saving: Saving { alloc, crew: &crew },
         tables: &tables,
         shape: &size,
-        locks,
+        bus: &bus,
+        store: &store,
         closing: &closing,
     };
     let done = drive(
@@ -286,8 +287,8 @@ fn driven_as<J: Threaded + Send + Sync, R: Threads + Wait + Clock + Sync>(
             let (part, mut out) = ends;
             let mut input = b"wake\nwake\nslot 2\nquit\n".as_slice();
             waits.wait(rt);
-            let (mut heard, mut hands) = (Heard::nothing(), locks.hands());
-            let (_part, _left) = console(rt, &mut hands, part, &mut heard, &mut input, &mut out);
+            let mut heard = Heard::nothing();
+            let (_part, _left) = console(rt, rung, shared, part, &mut heard, &mut input, &mut out);
             waits.woken.store(true, Ordering::SeqCst);
             out
         },

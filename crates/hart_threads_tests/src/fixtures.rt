@@ -12,7 +12,7 @@ use board::{Board, Parts, Payloads};
 use board_model::{BootMode, HartId, Shape, Slot};
 use disk::Disk;
 use hart_threads::{AfterConsole, Closing, Gate, SharedBoard, Threaded, drive};
-use shared_store::{Journal, Locked, NewBook, Part, SharedBus, Unshared};
+use shared_store::{Journal, NewBook, Part, SharedBus, Unshared};
 use simdisk::SimDisk;
 use std::alloc::Global;
 use std::marker::Brand;
@@ -177,7 +177,8 @@ fn driven_as<J: Threaded + Send + Sync, R: Threads + Wait + Sync>(
         saving: Saving { alloc, crew: &crew },
         tables: &tables,
         shape: &size,
-        locks: Locked::new(&bus, &store),
+        bus: &bus,
+        store: &store,
         closing: &closing,
     };
     let done = drive(

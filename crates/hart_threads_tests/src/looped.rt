@@ -13,7 +13,7 @@ use hart_threads::{
     Acting, AfterConsole, Closing, Gate, HartLocal, SharedBoard, Threaded, Why, hart_loop,
     seat_harts,
 };
-use shared_store::{Heard, Journal, Locked, NewBook, Part, SharedBus, SharedStore, Unshared};
+use shared_store::{Heard, Journal, NewBook, Part, SharedBus, SharedStore, Unshared};
 use simdisk::SimDisk;
 use std::alloc::Global;
 use std::marker::Brand;
@@ -110,7 +110,8 @@ fn looped_as<J: Threaded + Send + Sync, R: Threads + Wait + Sync, G: Gate>(
         saving: Saving { alloc, crew: &crew },
         tables: &tables,
         shape: &size,
-        locks: Locked::new(&bus, &store),
+        bus: &bus,
+        store: &store,
         closing: &closing,
     };
     let mut ends = Vec::new(alloc);

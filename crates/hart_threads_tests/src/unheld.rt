@@ -10,7 +10,7 @@ use crate::fixtures::{parts_of, same};
 use board::Parts;
 use board_console::console;
 use board_model::{Addr, HartId, Shape};
-use shared_store::{Heard, Journal, Locked, NewBook, SharedBus, SharedStore, Unshared};
+use shared_store::{Heard, Journal, NewBook, SharedBus, SharedStore, Unshared};
 use simdisk::SimDisk;
 use std::alloc::Global;
 use std::io::{self, Write};
@@ -60,7 +60,6 @@ fn talked<J: Journal, R: Wait>(rt: &R, bus: Bus, store: Store<SimDisk>, book: Ne
     let (whole, part) = Unshared::<SimDisk, J>::new(store, book);
     let bus: Mutex<SharedBus<J>> = Mutex::new(SharedBus::new(bus));
     let store = Mutex::new(whole.share());
-    let mut hands = Locked::new(&bus, &store).hands();
     let mut input = b"slot 1\ndiscard\nstate\nwake\nhello\nquit\n".as_slice();
     let mut out = Looking {
         bus: &bus,
@@ -69,7 +68,7 @@ fn talked<J: Journal, R: Wait>(rt: &R, bus: Bus, store: Store<SimDisk>, book: Ne
         held: 0,
     };
     let mut heard = Heard::nothing();
-    let (_part, _left) = console(rt, &mut hands, part, &mut heard, &mut input, &mut out);
+    let (_part, _left) = console(rt, &bus, &store, part, &mut heard, &mut input, &mut out);
     (out.lines, out.held)
 }
 
@@ -105,11 +104,10 @@ fn wakes<J: Journal, R: Wait>(
     let (whole, part) = Unshared::<SimDisk, J>::new(store, book);
     let bus: Mutex<SharedBus<J>> = Mutex::new(SharedBus::new(bus));
     let store = Mutex::new(whole.share());
-    let mut hands = Locked::new(&bus, &store).hands();
     let mut input = b"wake\nwake\n".as_slice();
     let mut out = Vec::new(alloc);
     let mut heard = Heard::nothing();
-    let (_part, _left) = console(rt, &mut hands, part, &mut heard, &mut input, &mut out);
+    let (_part, _left) = console(rt, &bus, &store, part, &mut heard, &mut input, &mut out);
     (out, bus.into_inner().unshare())
 }
 

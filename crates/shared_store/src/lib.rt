@@ -6,14 +6,12 @@
 
 mod buses;
 mod heard;
-mod locks;
 mod shared;
 mod told;
 mod unshared;
 
 pub use buses::SharedBus;
 pub use heard::Heard;
-pub use locks::{Hands, Locked};
 pub use receipts::{Journal, NewBook, Part};
 pub use shared::SharedStore;
 pub use told::Told;
