@@ -1,7 +1,7 @@
 //! What the console makes of a line.
 
 ghost use Rattle.std.specs.Prelude.{◌≡◌, true};
-ghost use Rattle.shared_store.specs.Views.{store_in};
+ghost use Rattle.shared_store.specs.Views.{bus_in, store_in};
 ghost use Rattle.board_console.specs.Commands.{AnswersCommand, AnswersSaid, AnswersWake, IsCommandAnswer, IsAnswerTo, IsWakeAnswer, asks_store, party};
 
 use crate::reply::Reply;
@@ -9,8 +9,7 @@ use crate::waking::Waking;
 use crate::words::Said;
 use board_model::ConsoleCommand;
 use disk::Disk;
-use shared_store::{Heard, Journal, Part, SharedStore};
-use susp::Bus;
+use shared_store::{Heard, Journal, Part, SharedBus, SharedStore};
 
 /// Issues a command, which is answered by its word.
 fn issue<D: Disk + Drop, J: Journal>(
@@ -57,8 +56,8 @@ pub fn obey<D: Disk + Drop, J: Journal>(
 
 /// Does what the line `wake` says, with the bus that it is lent for this one moment: on a board of threads, under
 /// the bus's lock. It calls the wake-up device once.
-pub fn rouse(bus: &mut Bus) -> Reply
-    ensures wakes { AnswersWake bus.old bus.new result }
+pub fn rouse<J: Journal>(bus: &mut SharedBus<J>) -> Reply
+    ensures wakes { AnswersWake (bus_in bus.old) (bus_in bus.new) result }
     ensures fits { IsWakeAnswer result }
 {
     Reply::Wake(Waking::call(bus))

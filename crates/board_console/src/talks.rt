@@ -15,10 +15,9 @@ use crate::words::{Said, line_said};
 use arrayvec::ArrayVec;
 use board_model::Refusal;
 use disk::Disk;
-use shared_store::{Heard, Journal, Part, SharedStore};
+use shared_store::{Heard, Journal, Part, SharedBus, SharedStore};
 use std::io::{Read, Write};
 use std::sync::{Mutex, Wait};
-use susp::Bus;
 
 /// Why the console left.
 #[derive(Clone, Copy, PartialEq, Eq, Drop)]
@@ -98,7 +97,7 @@ fn write_answer<W: Write>(out: &mut W, answer: Reply) -> Result<(), Refusal>
 /// with no lock, so that `quit` waits for no suspension. Who holds the store must not wait for the bus.
 fn answer_to<R: Wait, D: Disk + Drop, J: Journal>(
     rt: &R,
-    bus: &Mutex<Bus>,
+    bus: &Mutex<SharedBus<J>>,
     store: &Mutex<SharedStore<D, J>>,
     part: Part<J>,
     heard: &mut Heard,
@@ -120,7 +119,7 @@ fn answer_to<R: Wait, D: Disk + Drop, J: Journal>(
 /// each refusal and each state that it answers.
 pub fn console<R: Wait, D: Disk + Drop, J: Journal, I: Read, W: Write>(
     rt: &R,
-    bus: &Mutex<Bus>,
+    bus: &Mutex<SharedBus<J>>,
     store: &Mutex<SharedStore<D, J>>,
     part: Part<J>,
     heard: &mut Heard,

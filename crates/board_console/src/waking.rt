@@ -2,11 +2,12 @@
 
 ghost use Rattle.std.specs.Prelude.{◌≡◌, Result};
 ghost use Rattle.board_model.specs.declared.refusal.Refusal.{Refusal};
+ghost use Rattle.shared_store.specs.Views.{bus_in};
 ghost use Rattle.board_console.specs.Wakes.{Wakes, MayWake};
 
 use board_model::Refusal;
+use shared_store::{Journal, SharedBus};
 use std::marker::Model;
-use susp::{Bus, wake};
 
 /// What a call of the wake-up device came to. Nothing but a call makes one, so the console answers `wake` only after one.
 #[derive(PartialEq, Eq, Drop)]
@@ -23,13 +24,13 @@ impl Model for Waking {
 }
 
 impl Waking {
-    /// Calls the wake-up device, as `susp::wake`: a board that dozes is woken, once. Refused `NotDozing` where none
+    /// Calls the wake-up device, as `SharedBus::wake`: a board that dozes is woken, once. Refused `NotDozing` where none
     /// dozes or it was woken already; then nothing changes.
-    pub fn call(bus: &mut Bus) -> Waking
-        ensures wakes { Wakes bus.old bus.new result }
+    pub fn call<J: Journal>(bus: &mut SharedBus<J>) -> Waking
+        ensures wakes { Wakes (bus_in bus.old) (bus_in bus.new) result }
         ensures may { MayWake result }
     {
-        let answered = wake(bus);
+        let answered = bus.wake();
         Waking { answered }
     }
 

@@ -3,7 +3,8 @@
 use Rattle.std.proofs.Common.{◌≡◌, ◌⊎◌, ◌≤◌, ◌&&◌, inl, inr, ℕ, Bool, true, false, List, [], ◌++◌, Option, Some, None, length, drop, arith, ap, refl, sym, ◌∙◌, subst, subst₂}
 use Rattle.std.proofs.lemmas.List.{take-append-drop}
 use Rattle.std.specs.Prelude.{is_none, is_some, if◌then◌else◌}
-use Rattle.board_model.specs.Durable.{DurableState, Change, Discard, after, fold, formatted}
+use Rattle.board_model.specs.Durable.{DurableState, Change, Attempt, Consume, Discard, after, fold, formatted}
+use Rattle.board_model.specs.declared.durable.Command.TheVariants as commands
 use Rattle.board_model.specs.Shapes.{Size}
 use Rattle.board_model.specs.declared.boot_mode.BootMode.{BootMode}
 use Rattle.board_model.specs.declared.durable.Durable.{Durable}
@@ -26,6 +27,8 @@ use Rattle.board_model.specs.declared.boot_mode.BootMode.TheVariants as modes
 use Rattle.store.specs.Lives.{Life, now_of}
 use Rattle.store.specs.Taken.{are_taken}
 use Rattle.shared_store.specs.Legal.{BeginsWith}
+use Rattle.shared_store.specs.Runs.{AllCarrySteps, IsCarried}
+use Rattle.shared_store.proofs.Carrying.{none_carry, more_carry, change_carries}
 use Rattle.board.specs.Boots.{boot_refusal, life_after}
 use Rattle.board.specs.Moments.{attempts_of, commands_by}
 use Rattle.board.proofs.Few.{left_at}
@@ -58,8 +61,8 @@ pub kept_reads : (disk : Facts) (size : Size) → IsKept disk size → disk.may_
 unfolding IsKept
 kept_reads disk size kept may_keep = kept disk.content may_keep
 
-pub of_life_kept : (size : Size) (found : DurableState) (issued : List Change) (told : List (ℕ × Entry)) (disk : Facts) → IsOfLife size found issued told disk → (z : Size) × IsKept disk z
-of_life_kept size found issued told disk is = (size, life_kept is.doubt disk size (fold found is.journal) is.left)
+pub of_life_kept : (size : Size) (found : DurableState) (issued : List Change) (begins : List ℕ) (told : List (ℕ × Entry)) (disk : Facts) → IsOfLife size found issued begins told disk → (z : Size) × IsKept disk z
+of_life_kept size found issued begins told disk is = (size, life_kept is.doubt disk size (fold found is.journal) is.left)
 
 -- ---- of a board that is not on
 -- The formatted state has no image: a mode that issues a command is refused 8 there, and nothing is in doubt.
@@ -177,6 +180,20 @@ commands_few modes.Resume s = omega arith
 
 pub life_few : (mode : BootMode) (life : Life) → life ≡ life_after mode life.found → length life.journal ≤ 2
 life_few mode life is = subst (λ (cs : List Change). length cs ≤ 2) (sym (life_issued mode life is)) (commands_few mode life.found)
+
+-- no command of a boot is a suspension
+attempts_carried : (begins : List ℕ) (trial : Option Trial) → AllCarrySteps begins (attempts_of trial)
+attempts_carried begins None = none_carry begins
+attempts_carried begins (Some trial) = more_carry begins Attempt [] (change_carries begins commands.Attempt Attempt refl) (none_carry begins)
+
+commands_carried : (begins : List ℕ) (mode : BootMode) (s : DurableState) → AllCarrySteps begins (commands_by mode s)
+commands_carried begins modes.Fresh s = attempts_carried begins s.trial
+commands_carried begins modes.Keep s = attempts_carried begins s.trial
+commands_carried begins modes.Discard s = more_carry begins Discard (attempts_of s.trial) (change_carries begins commands.Discard Discard refl) (attempts_carried begins s.trial)
+commands_carried begins modes.Resume s = more_carry begins Consume [] (change_carries begins commands.Consume Consume refl) (none_carry begins)
+
+pub life_carried : (mode : BootMode) (life : Life) → life ≡ life_after mode life.found → (begins : List ℕ) → IsCarried begins life
+life_carried mode life is begins = subst (λ (x : Life). IsCarried begins x) (sym is) (record { journal = commands_carried begins mode life.found; doubt = λ c e. let no : ⊥ = cc in absurd no })
 
 -- what the boot's commands make a journal begin with
 pub begins_so : (issued journal : List Change) → BeginsWith issued journal → (later : List Change) × (journal ≡ issued ++ later)

@@ -5,7 +5,9 @@ use Rattle.board_model.specs.Shapes.{Size}
 use Rattle.board_model.specs.declared.boot_mode.BootMode.{BootMode}
 use Rattle.board_model.specs.declared.durable.Entry.{Entry}
 use Rattle.disk.specs.Facts.{Facts}
+use Rattle.board.specs.Begins.{IsBegun}
 use Rattle.board.specs.Moments.{commands_by}
+use Rattle.machine.specs.Machine.{Machine}
 use Rattle.shared_store.specs.Heard.{Hearing}
 use Rattle.board_console.specs.Commands.{party}
 use Rattle.board_console.specs.Dialogues.{DialogueEnds, Talks, dialogue_ends}
@@ -14,19 +16,23 @@ use Rattle.hart_threads.specs.Ends.{Ending}
 use Rattle.board_session.specs.Sessions.{RunsOver, Begins, IsOfLife, TalksIf, AreDriven, RanOver}
 
 -- what is of the life of the store that the board gave up is of the one that it had
-pub ran_over : (new : Bool) (shape : Size) (mode : BootMode) (payloads : List (List ℕ)) (turns : ℕ) (old disk : Facts) (left : Option Left) (a : DialogueEnds) (input output : Option (List ℕ)) (heard : Hearing) (ends : List Ending) (size z : Size) (found s : DurableState) (issued : List Change)
-    → z ≡ size → s ≡ found → issued ≡ commands_by mode found → RunsOver new shape mode payloads old.content → Begins new shape old.content size found → (console : List (ℕ × Entry)) → IsOfLife z s issued console disk
+pub ran_over : (new : Bool) (shape : Size) (mode : BootMode) (payloads : List (List ℕ)) (turns : ℕ) (old disk : Facts) (left : Option Left) (a : DialogueEnds) (input output : Option (List ℕ)) (heard : Hearing) (ends : List Ending) (size z : Size) (found s : DurableState) (issued : List Change) (machine : Machine) (memory : List ℕ)
+    → z ≡ size → s ≡ found → issued ≡ commands_by mode found → memory ≡ machine.memory → RunsOver new shape mode payloads old.content → Begins new shape old.content size found → IsBegun mode size payloads found machine
+    → (console : List (ℕ × Entry)) → IsOfLife z s issued memory console disk
     → TalksIf s issued left a (dialogue_ends input output (party console heard)) → AreDriven z.harts turns s left ends → RanOver new shape mode payloads turns old disk left a input output heard ends
-ran_over new shape mode payloads turns old disk left a input output heard ends size z found s issued sized was made allowed begins console life talks driven =
+ran_over new shape mode payloads turns old disk left a input output heard ends size z found s issued machine memory sized was made left_by allowed begins powered console life talks driven =
     record {
       allowed = allowed;
       size = size;
       found = found;
       begins = begins;
+      machine = machine;
+      powered = powered;
       console = console;
       life =
-          subst (λ (x : Size). IsOfLife x found (commands_by mode found) console disk) sized
-          (subst (λ (x : DurableState). IsOfLife z x (commands_by mode found) console disk) was (subst (λ (x : List Change). IsOfLife z s x console disk) made life));
+          subst (λ (x : Size). IsOfLife x found (commands_by mode found) machine.memory console disk) sized
+          (subst (λ (x : DurableState). IsOfLife z x (commands_by mode found) machine.memory console disk) was
+          (subst (λ (x : List Change). IsOfLife z s x machine.memory console disk) made (subst (λ (x : List ℕ). IsOfLife z s issued x console disk) left_by life)));
       talks =
           subst (λ (x : DurableState). TalksIf x (commands_by mode found) left a (dialogue_ends input output (party console heard))) was
           (subst (λ (x : List Change). TalksIf s x left a (dialogue_ends input output (party console heard))) made talks);

@@ -15,11 +15,12 @@ use Rattle.store.specs.Leaves.{IsMarked, LeavesOnly}
 use Rattle.store.specs.Opens.{FormatRefused}
 use Rattle.store.specs.Standing.{StandsFor}
 use Rattle.store.specs.Taken.{are_taken}
-use Rattle.board.specs.Begins.{RefusesBoot}
+use Rattle.board.specs.Begins.{IsBegun, RefusesBoot}
 use Rattle.board.specs.Boots.{boot_refusal, PayloadsFit}
 use Rattle.board.specs.Moments.{commands_by}
 use Rattle.board.specs.PowersOn.{IsUnpowered}
 use Rattle.board.specs.Unbooted.{LeavesLife}
+use Rattle.machine.specs.Machine.{Machine}
 use Rattle.receipts.specs.Closed.{AreReceiptsOf}
 use Rattle.shared_store.specs.Noted.{boot_told, entries_in}
 use Rattle.hart_threads.specs.Threads.{ends_life}
@@ -27,6 +28,7 @@ use Rattle.hart_threads.specs.Ends.{Ending, IsEnding}
 use Rattle.hart_threads.specs.declared.closing.AfterConsole.{AfterConsole}
 use Rattle.hart_threads.specs.declared.closing.AfterConsole.TheVariants.{RunOut, Halt}
 use Rattle.shared_store.specs.Heard.{Hearing}
+use Rattle.shared_store.specs.Runs.{CarriesSteps, AllCarrySteps}
 use Rattle.board_console.specs.Commands.{party}
 use Rattle.board_console.specs.Dialogues.{DialogueEnds, Talks, dialogue_ends}
 use Rattle.board_console.specs.declared.talks.Left.{Left}
@@ -93,9 +95,10 @@ pub record IsAcknowledged (size : Size) (issued journal : List Change) (console 
 -- journal begins with what the boot issued, and is of commands that the table takes, one after another from there:
 -- just those that were acknowledged, in the order of their receipts. A crash leaves the state that they make of it, or
 -- with a command in doubt, which the table does not refuse, that state or the one after it; and a read gives one of
--- them.
-pub record IsOfLife (size : Size) (found : DurableState) (issued : List Change) (console : List (ℕ × Entry))
-    (disk : Facts) : Type 0 where
+-- them. Each suspension of the life, also one in doubt, carries a memory that steps of harts made of the one that the boot
+-- left.
+pub record IsOfLife (size : Size) (found : DurableState) (issued : List Change) (begins : List ℕ)
+    (console : List (ℕ × Entry)) (disk : Facts) : Type 0 where
   pub journal : List Change
   pub acknowledged : IsAcknowledged size issued journal console
   pub begun : (later : List Change) × (journal ≡ issued ++ later)
@@ -104,6 +107,8 @@ pub record IsOfLife (size : Size) (found : DurableState) (issued : List Change) 
   pub left : LeavesLife doubt disk size (fold found journal)
   pub allowed : (c : Change) → doubt ≡ Some c → refusal_of (fold found journal) c ≡ None
   pub reads : (s : DurableState) × StandsFor disk.content size s
+  pub carried : AllCarrySteps begins journal
+  pub doubted : (c : Change) → doubt ≡ Some c → CarriesSteps begins c
 
 -- what was read and answered in a life that began in that state, by why the console left: nothing where it was not
 -- begun
@@ -134,9 +139,10 @@ AreDriven harts turns found None ends = Unit {0}
 AreDriven harts turns found (Some left) ends =
     (length ends ≡ harts) × All (IsEnding turns found false (harts_after left)) ends
 
--- The board was on, over a disk that allows it. The disk given back is that of the life that it then began, and what
--- was read and answered is of that life, with its receipts, and with the refusals and states that the console heard. Its
--- harts were driven, and ended so.
+-- The board was on, over a disk that allows it, with the memory and harts that the mode begins. The disk given back is
+-- that of the life that it then began, whose suspension carries what steps of harts made of that memory; and what was read
+-- and answered is of that life, with its receipts, and with the refusals and states that the console heard. Its harts were
+-- driven, and ended so.
 pub record RanOver (new : Bool) (shape : Size) (mode : BootMode) (payloads : List (List ℕ)) (turns : ℕ)
     (old disk : Facts) (left : Option Left) (a : DialogueEnds) (input output : Option (List ℕ)) (heard : Hearing)
     (ends : List Ending) : Type 0 where
@@ -144,7 +150,9 @@ pub record RanOver (new : Bool) (shape : Size) (mode : BootMode) (payloads : Lis
   pub size : Size
   pub found : DurableState
   pub begins : Begins new shape old.content size found
+  pub machine : Machine
+  pub powered : IsBegun mode size payloads found machine
   pub console : List (ℕ × Entry)
-  pub life : IsOfLife size found (commands_by mode found) console disk
+  pub life : IsOfLife size found (commands_by mode found) machine.memory console disk
   pub talks : TalksIf found (commands_by mode found) left a (dialogue_ends input output (party console heard))
   pub driven : AreDriven size.harts turns found left ends

@@ -1,10 +1,11 @@
 //! The end of a life: the receipts that were told, and the disk.
 
-ghost use Rattle.std.specs.Prelude.{◌≡◌, ◌≤◌, ◌+◌, [], ◌∷◌, true, All, length, vec_len, vec_capacity};
+ghost use Rattle.std.specs.Prelude.{◌≡◌, ◌≤◌, ◌+◌, ℕ, List, [], ◌∷◌, true, All, length, vec_len, vec_capacity};
 ghost use Rattle.store.specs.Leaves.{IsIdle};
 ghost use Rattle.store.specs.Taken.{are_taken};
-ghost use Rattle.store.specs.Views.{size_of_store, found_state, journal_of};
+ghost use Rattle.store.specs.Views.{size_of_store, found_state, journal_of, life_of};
 ghost use Rattle.shared_store.specs.Noted.{boot_told};
+ghost use Rattle.shared_store.specs.Runs.{IsCarried};
 ghost use Rattle.shared_store.specs.Views.{inside, parts_with};
 ghost use Rattle.hart_threads.specs.Ends.{IsEnding};
 ghost use Rattle.board_session.specs.Backs.{AreBack};
@@ -93,7 +94,7 @@ pub(crate) fn disk_of<D: Disk + Drop, J: Threaded>(
     requires boot { boot.told ≡ boot_told J.issued }
     requires all { J.parts ≡ J.size.harts + 2 }
     ensures none_out { IsIdle (D.facts result) }
-    ensures left { IsOfLife J.size J.found J.issued console.told (D.facts result) }
+    ensures left { IsOfLife J.size J.found J.issued J.memory console.told (D.facts result) }
 {
     let mut whole = whole;
     gather_loops(&mut whole, loops);
@@ -106,8 +107,10 @@ pub(crate) fn disk_of<D: Disk + Drop, J: Threaded>(
 pub(crate) fn disk_at_once<D: Disk + Drop>(store: Store<D>) -> D
     requires taken { are_taken (found_state store) (journal_of store) ≡ true }
     requires few { length (journal_of store) ≤ 2 }
+    requires carried { (begins : List ℕ) → IsCarried begins (life_of store) }
     ensures none_out { IsIdle (D.facts result) }
-    ensures left { IsOfLife (size_of_store store) (found_state store) (journal_of store) [] (D.facts result) }
+    ensures left { (begins : List ℕ)
+        → IsOfLife (size_of_store store) (found_state store) (journal_of store) begins [] (D.facts result) }
 {
     store.into_disk()
 }

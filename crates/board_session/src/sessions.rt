@@ -9,11 +9,12 @@ ghost use Rattle.board_model.specs.declared.refusal.Refusal.TheVariants.{Memory}
 ghost use Rattle.receipts.specs.Views.{id_of, parts_of};
 ghost use Rattle.shared_store.specs.Heard.{heard_nothing};
 ghost use Rattle.shared_store.specs.Noted.{boot_told};
+ghost use Rattle.shared_store.specs.Runs.{IsCarried};
 ghost use Rattle.shared_store.specs.Views.{parts_with};
 ghost use Rattle.store.specs.Formats.{WritesHead};
 ghost use Rattle.store.specs.Leaves.{IsIdle, IsKept, LeavesOnly};
 ghost use Rattle.store.specs.Opens.{FormatRefused};
-ghost use Rattle.store.specs.Views.{size_of_store, found_state, journal_of};
+ghost use Rattle.store.specs.Views.{size_of_store, found_state, journal_of, life_of};
 ghost use Rattle.machine.specs.Held.{IsHeld};
 ghost use Rattle.board.specs.Begins.{IsBegun};
 ghost use Rattle.board.specs.Moments.{commands_by};
@@ -34,14 +35,13 @@ use disk::Disk;
 use hart_threads::{
     AfterConsole, Closing, HartEnd, Parted, Rested, SharedBoard, Threaded, Undriven, drive,
 };
-use shared_store::{Heard, Journal, NewBook, Part, SharedStore, Unshared};
+use shared_store::{Heard, Journal, NewBook, Part, SharedBus, SharedStore, Unshared};
 use std::alloc::Global;
 use std::io::{Read, Write};
 use std::marker::Brand;
 use std::sync::{Mutex, OnceLock, Wait};
 use std::thread::Threads;
 use store::{Saving, format, kept_disks};
-use susp::Bus;
 
 /// What a console reads its lines from, and what it writes its answers to.
 #[derive(Drop)]
@@ -96,7 +96,7 @@ struct Talked<'c, J: Threaded, I: Read + Drop, W: Write + Drop> {
 /// input ends or fails they run out their turns.
 fn attend<'c, R: Wait, D: Disk + Drop, J: Threaded, I: Read + Drop, W: Write + Drop>(
     rt: &R,
-    bus: &Mutex<Bus>,
+    bus: &Mutex<SharedBus<J>>,
     store: &Mutex<SharedStore<D, J>>,
     closing: &'c Closing<J>,
     ends: Ends<J, I, W>,
@@ -161,6 +161,8 @@ fn run_board<
     requires shape { booted.shape ≡ J.size }
     requires store { (size_of_store booted.parts.store ≡ J.size) × (found_state booted.parts.store ≡ J.found)
         × (journal_of booted.parts.store ≡ J.issued) }
+    requires memory { booted.parts.bus.ram ≡ J.memory }
+    requires carried { IsCarried J.memory (life_of booted.parts.store) }
     requires turns { turns ≡ J.turns }
     requires lock { lock.id ≡ J.parting }
     requires ungated { J.gated ≡ false }
@@ -168,7 +170,7 @@ fn run_board<
     requires book { (id_of booted.book ≡ J.book) × (parts_of booted.book ≡ J.parts)
         × (J.parts ≡ J.size.harts + 2) }
     ensures none_out { IsIdle (D.facts result.disk) }
-    ensures left { (console : List (ℕ × Entry)) × IsOfLife J.size J.found J.issued console (D.facts result.disk)
+    ensures left { (console : List (ℕ × Entry)) × IsOfLife J.size J.found J.issued J.memory console (D.facts result.disk)
         × TalksIf J.found J.issued result.left
         (dialogue_ends (I.remaining streams.input) (W.contents streams.out) (party [] heard_nothing))
         (dialogue_ends (I.remaining result.streams.input) (W.contents result.streams.out) (party console result.heard)) }
@@ -212,7 +214,7 @@ fn run_board<
         );
     };
     let doze = bus.doze;
-    let bus = Mutex::new(bus);
+    let bus: Mutex<SharedBus<J>> = Mutex::new(SharedBus::new(bus));
     let store: Mutex<SharedStore<D, J>> = Mutex::new(whole.share());
     let closing = Closing::new(lock);
     let crew = crew::Threads::new(rt);
@@ -316,7 +318,7 @@ fn over<D: Disk + Drop, J: Threaded, I: Read + Drop, W: Write + Drop>(
     requires boot { boot.told ≡ boot_told J.issued }
     requires all { J.parts ≡ J.size.harts + 2 }
     ensures none_out { IsIdle (D.facts result.disk) }
-    ensures life { IsOfLife J.size J.found J.issued ends.part.told (D.facts result.disk) }
+    ensures life { IsOfLife J.size J.found J.issued J.memory ends.part.told (D.facts result.disk) }
     ensures streams { result.streams ≡ ends.streams }
     ensures heard { result.heard ≡ ends.heard }
     ensures left { result.left ≡ led.left }
@@ -382,6 +384,7 @@ fn powered<D: Disk + Drop>(
         ≡ commands_by options.now.mode (found_state (store_of b))) }
     ensures taken { IfOk result (λ b. (are_taken (found_state (store_of b)) (journal_of (store_of b)) ≡ true)
         × (length (journal_of (store_of b)) ≤ 2)) }
+    ensures carried { IfOk result (λ b. (begins : List ℕ) → IsCarried begins (life_of (store_of b))) }
     ensures refused { IfErr result (λ e. RefusesDisk options.now.new options.now.shape options.now.mode payloads.now
         (D.facts disk) e.1 (D.facts e.0)) }
     ensures kept { IfErr result (λ e. (size : Size) → IsKept (D.facts disk) size → (z : Size) × IsKept (D.facts e.0) z) }
@@ -419,7 +422,8 @@ pub fn session<R: Threads + Wait + Sync, D: Disk + Drop + Send, I: Read + Drop, 
     // A refusal is the first of the format's, the open's and the boot's, before any line is read or answered; or
     // the board was on over the disk that was given, and the disk given back is that of its life, to which what
     // was read and answered belongs: each command of its journal was acknowledged to the boot, the console or a
-    // hart, and no other was. Each hart made all its turns, or one of them ended the life, or the console left so that
+    // hart, and no other was; and its suspension carries what steps of harts made of the memory of the board that was on.
+    // Each hart made all its turns, or one of them ended the life, or the console left so that
     // they were halted. It is then refused by why the console left alone.
     ensures ended { (RefusesSession options.now.new options.now.shape options.now.mode payloads.now (D.facts disk)
         result.ran (D.facts result.disk) × (result.left ≡ None))

@@ -1,12 +1,12 @@
 -- A turn of a hart in whose doze its board is, by what its look at the bus found.
-use Rattle.std.proofs.Common.{◌≡◌, ◌+◌, Bool, true, false, Option, Some, None, refl, ap, subst}
+use Rattle.std.proofs.Common.{◌≡◌, ◌+◌, Bool, true, false, Some, None, refl, ap, subst}
 use Rattle.hart.specs.State.{ArchState, started as fresh}
 use Rattle.sbi_calls.specs.Both.{Known}
 use Rattle.susp.specs.declared.buses.Doze.{Doze}
 use Rattle.turns.specs.Own.{ResumesOwn}
 use Rattle.sbi_calls.specs.declared.words.Did.TheVariants.{Idle, Resumed}
 use Rattle.sbi.specs.declared.words.Word.TheVariants.{Goes}
-use Rattle.hart_threads.specs.Looks.{Looked, after_look, doze_left}
+use Rattle.hart_threads.specs.Looks.{Looked, after_look}
 use Rattle.hart_threads.specs.Threads.{seated, DozeOnce}
 
 pub one_look : (woken : Bool) (old new : Looked) → new ≡ after_look woken old → new.made ≡ old.made + 1
@@ -18,14 +18,8 @@ pub idle_once : (woken : Bool) (d : Doze) (s : ArchState) (k : Known) (old new :
 idle_once woken d s k old new asleep is =
     subst (λ (w : Bool). DozeOnce w d (seated s k (Some d) old) (seated s k (Some d) new) (Goes Idle)) asleep (ap (λ (l : Looked). seated s k (Some d) l) is, refl)
 
-pub idle_left : (woken : Bool) (found : Option Doze) → false ≡ woken → found ≡ doze_left woken found
-idle_left woken found asleep = subst (λ (w : Bool). found ≡ doze_left w found) asleep refl
-
 -- it was
 pub woken_once : (woken : Bool) (d : Doze) (s t : ArchState) (k k' : Known) (old new : Looked) → true ≡ woken → t ≡ fresh s.id d.at.address d.at.opaque → ResumesOwn s.id k k' → new ≡ after_look true old
     → DozeOnce woken d (seated s k (Some d) old) (seated t k' None new) (Goes Resumed)
 woken_once woken d s t k k' old new called begins own is =
     subst (λ (w : Bool). DozeOnce w d (seated s k (Some d) old) (seated t k' None new) (Goes Resumed)) called (begins, own, refl, is, refl)
-
-pub woken_left : (woken : Bool) (found : Option Doze) → true ≡ woken → None ≡ doze_left woken found
-woken_left woken found called = subst (λ (w : Bool). None ≡ doze_left w found) called refl

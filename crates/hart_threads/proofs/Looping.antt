@@ -5,6 +5,7 @@ use Rattle.board_model.specs.declared.durable.Entry.{Entry}
 use Rattle.sbi_abi.specs.declared.call.Call.{Call}
 use Rattle.shared_store.specs.Called.{IsToldBy}
 use Rattle.shared_store.specs.Noted.{part_after}
+use Rattle.shared_store.specs.Runs.{StepsMake}
 use Rattle.receipts.specs.declared.views.PartView.{PartView}
 use Rattle.sbi_abi.specs.Calls.{call_of}
 use Rattle.sbi.specs.Words.{stage_told, word_of_sleep}
@@ -97,26 +98,26 @@ between_after by s whys.Turns doze a = rests_between by s doze a
 
 -- ---- one turn
 -- of a hart that does not doze
-undozed : (size : Size) (s : ArchState) (k : Known) (doze : Option Doze) (looks : Looked) (b : Seated) (word : Word) (told : Option (ℕ × Entry)) → doze ≡ None → OwnOnce size (seated s k None looks) b word told → TurnOnce size (seated s k doze looks) b word told
-undozed size s k doze looks b word told none own = subst (λ (o : Option Doze). TurnOnce size (seated s k o looks) b word told) (sym none) own
+undozed : (size : Size) (begun : List ℕ) (s : ArchState) (k : Known) (doze : Option Doze) (looks : Looked) (b : Seated) (word : Word) (told : Option (ℕ × Entry)) → doze ≡ None → OwnOnce size begun (seated s k None looks) b word told → TurnOnce size begun (seated s k doze looks) b word told
+undozed size begun s k doze looks b word told none own = subst (λ (o : Option Doze). TurnOnce size begun (seated s k o looks) b word told) (sym none) own
 
 -- of one that dozes
-pub dozed : (size : Size) (s : ArchState) (k : Known) (doze : Option Doze) (d : Doze) (looks : Looked) (b : Seated) (woken : Bool) (word : Word) → doze ≡ Some d → DozeOnce woken d (seated s k (Some d) looks) b word → TurnOnce size (seated s k doze looks) b word None
-dozed size s k doze d looks b woken word is once = subst (λ (o : Option Doze). TurnOnce size (seated s k o looks) b word None) (sym is) (woken, once, refl)
+pub dozed : (size : Size) (begun : List ℕ) (s : ArchState) (k : Known) (doze : Option Doze) (d : Doze) (looks : Looked) (b : Seated) (woken : Bool) (word : Word) → doze ≡ Some d → DozeOnce woken d (seated s k (Some d) looks) b word → TurnOnce size begun (seated s k doze looks) b word None
+dozed size begun s k doze d looks b woken word is once = subst (λ (o : Option Doze). TurnOnce size begun (seated s k o looks) b word None) (sym is) (woken, once, refl)
 
 -- that asked for no durable call
-pub own_once : (size : Size) (s t : ArchState) (k k' : Known) (doze : Option Doze) (looks : Looked) (found left : List ℕ) (turned : Turned) (did : Did) → doze ≡ None → turned ≡ Made did → TurnOwn size s found t left k k' turned
-    → TurnOnce size (seated s k doze looks) (seated t k' None looks) (Goes did) None
-own_once size s t k k' doze looks found left turned did none is own =
-    undozed size s k doze looks (seated t k' None looks) (Goes did) None none
-    (found, left, Made did, seated t k' None looks, subst (λ (w : Turned). TurnOwn size s found t left k k' w) is own, (refl, refl, refl), refl, refl)
+pub own_once : (size : Size) (begun : List ℕ) (s t : ArchState) (k k' : Known) (doze : Option Doze) (looks : Looked) (found left : List ℕ) (turned : Turned) (did : Did) → StepsMake begun found → StepsMake begun left → doze ≡ None → turned ≡ Made did → TurnOwn size s found t left k k' turned
+    → TurnOnce size begun (seated s k doze looks) (seated t k' None looks) (Goes did) None
+own_once size begun s t k k' doze looks found left turned did before after none is own =
+    undozed size begun s k doze looks (seated t k' None looks) (Goes did) None none
+    (found, left, Made did, seated t k' None looks, subst (λ (w : Turned). TurnOwn size s found t left k k' w) is own, (refl, refl, refl), refl, refl, before, after)
 
 -- that asked for one
-pub held_turn : (size : Size) (s u t : ArchState) (k m k' : Known) (doze after : Option Doze) (looks : Looked) (found left : List ℕ) (turned : Turned) (word : Word) (told : Option (ℕ × Entry)) → doze ≡ None → turned ≡ Durable → TurnOwn size s found u left k m turned
-    → HeldOnce size (call_of u) u t m k' word → IsToldBy size (call_of u) u.id word told → IsDozeBy size (call_of u) u.id word after → TurnOnce size (seated s k doze looks) (seated t k' after looks) word told
-held_turn size s u t k m k' doze after looks found left turned word told none is own once has dozes =
-    undozed size s k doze looks (seated t k' after looks) word told none
-    (found, left, Durable, seated u m None looks, subst (λ (w : Turned). TurnOwn size s found u left k m w) is own, (once, has, dozes, refl), refl, refl)
+pub held_turn : (size : Size) (begun : List ℕ) (s u t : ArchState) (k m k' : Known) (doze after : Option Doze) (looks : Looked) (found left : List ℕ) (turned : Turned) (word : Word) (told : Option (ℕ × Entry)) → StepsMake begun found → StepsMake begun left → doze ≡ None → turned ≡ Durable → TurnOwn size s found u left k m turned
+    → HeldOnce size (call_of u) u t m k' word → IsToldBy size (call_of u) u.id word told → IsDozeBy size (call_of u) u.id word after → TurnOnce size begun (seated s k doze looks) (seated t k' after looks) word told
+held_turn size begun s u t k m k' doze after looks found left turned word told was now none is own once has dozes =
+    undozed size begun s k doze looks (seated t k' after looks) word told none
+    (found, left, Durable, seated u m None looks, subst (λ (w : Turned). TurnOwn size s found u left k m w) is own, (once, has, dozes, refl), refl, refl, was, now)
 
 -- the receipt that a turn has, by whether the life goes on
 held_none : (size : Size) (call : Call) (by : ℕ) (word : Word) (told : Option (ℕ × Entry)) → IsToldBy size call by word told → loop_goes_on word ≡ true → told ≡ None
@@ -127,28 +128,28 @@ comes_none : (size : Size) (turned : Turned) (a b : Seated) (word : Word) (told 
 comes_none size (Made did) a b word told p on = p.2
 comes_none size Durable a b word told p on = held_none size (call_of a.hart) a.hart.id word told p.1 on
 
-none_by : (doze : Option Doze) (size : Size) (a b : Seated) (word : Word) (told : Option (ℕ × Entry)) → TurnOnceBy doze size a b word told → loop_goes_on word ≡ true → told ≡ None
-none_by None size a b word told p on = comes_none size p.2 p.3 b word told p.5 on
-none_by (Some d) size a b word told p on = p.2
+none_by : (doze : Option Doze) (size : Size) (begun : List ℕ) (a b : Seated) (word : Word) (told : Option (ℕ × Entry)) → TurnOnceBy doze size begun a b word told → loop_goes_on word ≡ true → told ≡ None
+none_by None size begun a b word told p on = comes_none size p.2 p.3 b word told p.5 on
+none_by (Some d) size begun a b word told p on = p.2
 
-turn_none : (size : Size) (a b : Seated) (word : Word) (told : Option (ℕ × Entry)) → TurnOnce size a b word told → loop_goes_on word ≡ true → told ≡ None
-turn_none size a b word told p on = none_by a.doze size a b word told p on
+turn_none : (size : Size) (begun : List ℕ) (a b : Seated) (word : Word) (told : Option (ℕ × Entry)) → TurnOnce size begun a b word told → loop_goes_on word ≡ true → told ≡ None
+turn_none size begun a b word told p on = none_by a.doze size begun a b word told p on
 
 -- ---- one turn more
-pub one_more : (size : Size) (answers : ℕ → Bool → Type 0) (hears : ℕ → Type 0) (n : ℕ) (a mid b : Seated) (word : Word) (told : Option (ℕ × Entry)) → TurnsOn size answers hears n a mid → TurnOnce size mid b word told → loop_goes_on word ≡ true
-    → answers n true → hears n → TurnsOn size answers hears (n + 1) a b
-one_more size answers hears n a mid b word told many once on said heard =
+pub one_more : (size : Size) (begun : List ℕ) (answers : ℕ → Bool → Type 0) (hears : ℕ → Type 0) (n : ℕ) (a mid b : Seated) (word : Word) (told : Option (ℕ × Entry)) → TurnsOn size begun answers hears n a mid → TurnOnce size begun mid b word told → loop_goes_on word ≡ true
+    → answers n true → hears n → TurnsOn size begun answers hears (n + 1) a b
+one_more size begun answers hears n a mid b word told many once on said heard =
     let e : suc n ≡ n + 1 = omega arith in
-    let none = turn_none size mid b word told once on in
-    subst (λ (k : ℕ). TurnsOn size answers hears k a b) e (mid, word, many, subst (λ (o : Option (ℕ × Entry)). TurnOnce size mid b word o) none once, on, said, heard)
+    let none = turn_none size begun mid b word told once on in
+    subst (λ (k : ℕ). TurnsOn size begun answers hears k a b) e (mid, word, many, subst (λ (o : Option (ℕ × Entry)). TurnOnce size begun mid b word o) none once, on, said, heard)
 
 -- that ended the life
-pub ended_life : (size : Size) (answers : ℕ → Bool → Type 0) (hears : ℕ → Type 0) (turns n : ℕ) (a mid b : Seated) (word : Word) (told : Option (ℕ × Entry)) → TurnsOn size answers hears n a mid → TurnOnce size mid b word told → loop_goes_on word ≡ false
-    → answers n true → hears n → LoopOnce size answers hears turns (n + 1) a b whys.Life told
-ended_life size answers hears turns n a mid b word told many once off said heard = let e : n + 1 ≡ suc n = omega arith in (n, mid, word, e, many, once, off, said, heard)
+pub ended_life : (size : Size) (begun : List ℕ) (answers : ℕ → Bool → Type 0) (hears : ℕ → Type 0) (turns n : ℕ) (a mid b : Seated) (word : Word) (told : Option (ℕ × Entry)) → TurnsOn size begun answers hears n a mid → TurnOnce size begun mid b word told → loop_goes_on word ≡ false
+    → answers n true → hears n → LoopOnce size begun answers hears turns (n + 1) a b whys.Life told
+ended_life size begun answers hears turns n a mid b word told many once off said heard = let e : n + 1 ≡ suc n = omega arith in (n, mid, word, e, many, once, off, said, heard)
 
 -- ---- a part that a turn was told nothing for
-pub kept_part : (size : Size) (a b : Seated) (word : Word) (told : Option (ℕ × Entry)) (first now next : PartView) → TurnOnce size a b word told → loop_goes_on word ≡ true → now ≡ first → next ≡ part_after told now → next ≡ first
-kept_part size a b word told first now next once on same is =
-    let none = turn_none size a b word told once on in
+pub kept_part : (size : Size) (begun : List ℕ) (a b : Seated) (word : Word) (told : Option (ℕ × Entry)) (first now next : PartView) → TurnOnce size begun a b word told → loop_goes_on word ≡ true → now ≡ first → next ≡ part_after told now → next ≡ first
+kept_part size begun a b word told first now next once on same is =
+    let none = turn_none size begun a b word told once on in
     is ∙ (ap (λ (o : Option (ℕ × Entry)). part_after o now) none ∙ same)

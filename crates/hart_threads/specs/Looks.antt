@@ -4,22 +4,7 @@ use Rattle.std.specs.Prelude.{◌+◌, ℕ, Bool, true, false, Option, Some, Non
 use Rattle.sbi_calls.specs.Words.{is_doze}
 use Rattle.sbi.specs.declared.words.Word.{Word}
 use Rattle.sbi.specs.declared.words.Word.TheVariants.{Goes, Over}
-use Rattle.susp.specs.Dozes.{doze_of}
 use Rattle.susp.specs.declared.buses.Doze.{Doze}
-
--- ---- what one look at the bus tells
-abbrev pub woken_in : Option Doze → Bool
-woken_in None = false
-woken_in (Some d) = d.woken
-
--- the board dozes by this hart, and was woken
-abbrev pub is_woken : ℕ → Option Doze → Bool
-is_woken h found = woken_in (doze_of h found)
-
--- the doze that stays on the bus: one that was woken is over once its hart begins again
-abbrev pub doze_left : Bool → Option Doze → Option Doze
-doze_left false found = found
-doze_left true found = None
 
 -- ---- the looks of a hart
 -- how many there were, and how many of them found its doze woken

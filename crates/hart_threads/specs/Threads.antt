@@ -24,6 +24,7 @@ use Rattle.sbi_calls.specs.declared.words.Turned.{Turned}
 use Rattle.sbi_calls.specs.declared.words.Turned.TheVariants.{Made, Durable}
 use Rattle.shared_store.specs.Called.{AsksDoze, IsToldBy}
 use Rattle.shared_store.specs.Legal.{IsToldOf}
+use Rattle.shared_store.specs.Runs.{StepsMake}
 use Rattle.susp.specs.Checks.{IsChecked}
 use Rattle.susp.specs.Dozes.{dozing}
 use Rattle.susp.specs.Sleeps.{AreUnclaimed}
@@ -112,12 +113,13 @@ ComesOnce size Durable a b word told =
     × IsDozeBy size (call_of a.hart) a.hart.id word b.doze × (b.looks ≡ a.looks)
 ComesOnce size (Made did) a b word told = (b ≡ a) × (word ≡ Goes did) × (told ≡ None)
 
--- a turn of a hart that does not doze, with the memory as its one hold of the bus found it and as it left it
-abbrev pub OwnOnce : Size → Seated → Seated → Word → Option (ℕ × Entry) → Type 0
-OwnOnce size a b word told =
+-- a turn of a hart that does not doze, with the memory as its one hold of the bus found it and as it left it: both are what
+-- steps of harts made of the memory that the boot left
+abbrev pub OwnOnce : Size → List ℕ → Seated → Seated → Word → Option (ℕ × Entry) → Type 0
+OwnOnce size begun a b word told =
     (found : List ℕ) × (left : List ℕ) × (did : Turned) × (mid : Seated)
     × TurnOwn size a.hart found mid.hart left a.known mid.known did × ComesOnce size did mid b word told
-    × (mid.doze ≡ a.doze) × (mid.looks ≡ a.looks)
+    × (mid.doze ≡ a.doze) × (mid.looks ≡ a.looks) × StepsMake begun found × StepsMake begun left
 
 -- A turn of a hart that dozes, by what its one look at the bus found: nothing, until its doze was woken. Then it begins
 -- again at the address of its own copy, with that opaque value; it has taken what was pending for it, and its quiet has
@@ -129,12 +131,12 @@ DozeOnce true d a b word =
     × (b.looks ≡ after_look true a.looks) × (word ≡ Goes Resumed)
 
 -- one turn of the hart, by its copy of its doze: no receipt comes of a turn in a doze
-abbrev pub TurnOnceBy : Option Doze → Size → Seated → Seated → Word → Option (ℕ × Entry) → Type 0
-TurnOnceBy None size a b word told = OwnOnce size a b word told
-TurnOnceBy (Some d) size a b word told = (woken : Bool) × DozeOnce woken d a b word × (told ≡ None)
+abbrev pub TurnOnceBy : Option Doze → Size → List ℕ → Seated → Seated → Word → Option (ℕ × Entry) → Type 0
+TurnOnceBy None size begun a b word told = OwnOnce size begun a b word told
+TurnOnceBy (Some d) size begun a b word told = (woken : Bool) × DozeOnce woken d a b word × (told ≡ None)
 
-abbrev pub TurnOnce : Size → Seated → Seated → Word → Option (ℕ × Entry) → Type 0
-TurnOnce size a b word told = TurnOnceBy a.doze size a b word told
+abbrev pub TurnOnce : Size → List ℕ → Seated → Seated → Word → Option (ℕ × Entry) → Type 0
+TurnOnce size begun a b word told = TurnOnceBy a.doze size begun a b word told
 
 -- ---- the turns of a loop
 -- the life goes on after it
@@ -143,25 +145,26 @@ loop_goes_on (Goes did) = true
 loop_goes_on (Over end) = false
 
 -- so many turns, after each of which the life went on: the gate let each begin, and heard of each
-abbrev pub TurnsOn : Size → (ℕ → Bool → Type 0) → (ℕ → Type 0) → ℕ → Seated → Seated → Type 0
-TurnsOn size answers hears zero a b = b ≡ a
-TurnsOn size answers hears (suc n) a b =
-    (mid : Seated) × (word : Word) × TurnsOn size answers hears n a mid × TurnOnce size mid b word None
+abbrev pub TurnsOn : Size → List ℕ → (ℕ → Bool → Type 0) → (ℕ → Type 0) → ℕ → Seated → Seated → Type 0
+TurnsOn size begun answers hears zero a b = b ≡ a
+TurnsOn size begun answers hears (suc n) a b =
+    (mid : Seated) × (word : Word) × TurnsOn size begun answers hears n a mid × TurnOnce size begun mid b word None
     × (loop_goes_on word ≡ true) × answers n true × hears n
 
 -- A loop of at most so many turns made that many, and ended so: by the life's end, which its last turn told; by what
 -- ended all loops, before it had made all; by the gate, which said so before then; or with the last of them.
-abbrev pub LoopOnce : Size → (ℕ → Bool → Type 0) → (ℕ → Type 0) → ℕ → ℕ → Seated → Seated → Why → Option (ℕ × Entry) → Type 0
-LoopOnce size answers hears turns made a b whys.Life told =
+abbrev pub LoopOnce : Size → List ℕ → (ℕ → Bool → Type 0) → (ℕ → Type 0) → ℕ → ℕ → Seated → Seated → Why
+    → Option (ℕ × Entry) → Type 0
+LoopOnce size begun answers hears turns made a b whys.Life told =
     (n : ℕ) × (mid : Seated) × (word : Word) × (made ≡ suc n)
-    × TurnsOn size answers hears n a mid × TurnOnce size mid b word told × (loop_goes_on word ≡ false)
+    × TurnsOn size begun answers hears n a mid × TurnOnce size begun mid b word told × (loop_goes_on word ≡ false)
     × answers n true × hears n
-LoopOnce size answers hears turns made a b whys.Closed told =
-    TurnsOn size answers hears made a b × (made < turns) × (told ≡ None)
-LoopOnce size answers hears turns made a b whys.Gate told =
-    TurnsOn size answers hears made a b × (made < turns) × (told ≡ None) × answers made false
-LoopOnce size answers hears turns made a b whys.Turns told =
-    TurnsOn size answers hears made a b × (made ≡ turns) × (told ≡ None)
+LoopOnce size begun answers hears turns made a b whys.Closed told =
+    TurnsOn size begun answers hears made a b × (made < turns) × (told ≡ None)
+LoopOnce size begun answers hears turns made a b whys.Gate told =
+    TurnsOn size begun answers hears made a b × (made < turns) × (told ≡ None) × answers made false
+LoopOnce size begun answers hears turns made a b whys.Turns told =
+    TurnsOn size begun answers hears made a b × (made ≡ turns) × (told ≡ None)
 
 -- a command that ends the life
 abbrev pub is_end : Entry → Bool

@@ -3,7 +3,9 @@
 ghost use Rattle.std.specs.Prelude.{◌≡◌, ◌+◌, ◌≤◌, ◌<◌, ◌-◌, ◌^◌, Some};
 ghost use Rattle.hsm_steps.specs.declared.view.Stage.TheVariants.{Quiet};
 ghost use Rattle.sbi_calls.specs.Both.{AreSeatsOfBoth, GivesBack, Acts, harts_of_both, known};
-ghost use Rattle.hart_threads.specs.Looks.{Looked, no_looks, after_look, is_woken, doze_left, doze_by};
+ghost use Rattle.shared_store.specs.Dozes.{is_woken, doze_left};
+ghost use Rattle.shared_store.specs.Views.{bus_in};
+ghost use Rattle.hart_threads.specs.Looks.{Looked, no_looks, after_look, doze_by};
 ghost use Rattle.hart_threads.specs.Seated.{StandsAfterTurn};
 ghost use Rattle.hart_threads.specs.Threads.{seated, DozeOnce};
 
@@ -11,8 +13,9 @@ use board_model::HartId;
 use hart::Hart;
 use sbi::{Did, Word};
 use sbi_calls::{Seats, Tables};
+use shared_store::{Journal, SharedBus};
 use std::marker::Model;
-use susp::{Bus, Doze, doze_of};
+use susp::Doze;
 use turns::resume;
 
 /// How often a hart in whose doze its board was looked at the bus, and how often it found that the board was woken. Only
@@ -53,28 +56,20 @@ impl Looks {
         self.woken
     }
 
-    /// One look at the bus: whether the board dozes by that hart, and was woken.
-    fn look(&mut self, bus: &Bus, by: HartId) -> bool
+    /// One look at the bus: whether the board dozes by that hart, and was woken. Then the doze is over. The memory stays.
+    fn look<J: Journal>(&mut self, bus: &mut SharedBus<J>, by: HartId) -> bool
         requires { self.old.made < 2 ^ 64 - 1 }
-        ensures woken { result ≡ is_woken by bus.now.doze }
+        ensures woken { result ≡ is_woken by (bus_in bus.old).doze }
         ensures counted { self.new ≡ after_look result self.old }
+        ensures memory { (bus_in bus.new).ram ≡ (bus_in bus.old).ram }
+        ensures left { (bus_in bus.new).doze ≡ doze_left result (bus_in bus.old).doze }
     {
         self.made += 1;
-        if !is_woken(&bus.doze, by) {
+        if !bus.end_doze(by) {
             return false;
         }
         self.woken += 1;
         true
-    }
-}
-
-/// Whether it is that hart's, and the board was woken.
-fn is_woken(found: &Option<Doze>, by: HartId) -> bool
-    ensures { result ≡ is_woken by found.now }
-{
-    match doze_of(found, by) {
-        Some(doze) => doze.woken,
-        None => false,
     }
 }
 
@@ -91,8 +86,8 @@ pub(crate) fn doze_by(word: Word, found: Option<Doze>) -> Option<Doze>
 /// A turn of a hart in whose doze the board is, with the bus at hand: nothing, until the board was woken; then the hart
 /// begins again at the address of its own copy of the doze with that opaque value, what is pending for it is taken, its
 /// quiet ends, and the board dozes no more. The memory stays.
-pub(crate) fn doze_turn(
-    bus: &mut Bus,
+pub(crate) fn doze_turn<J: Journal>(
+    bus: &mut SharedBus<J>,
     hart: &mut Hart,
     seats: Seats,
     tables: &Tables,
@@ -107,10 +102,11 @@ pub(crate) fn doze_turn(
     ensures stands { StandsAfterTurn result.1 result.2 hart.old.id result.0 }
     ensures id { hart.new.id ≡ hart.old.id }
     ensures range { looks.new.made ≡ looks.old.made + 1 }
-    ensures once { DozeOnce (is_woken hart.old.id bus.old.doze) doze (seated hart.old (known seats) (Some doze) looks.old)
-        (seated hart.new (known result.0) result.2 looks.new) result.1 }
-    ensures memory { bus.new.ram ≡ bus.old.ram }
-    ensures left { bus.new.doze ≡ doze_left (is_woken hart.old.id bus.old.doze) bus.old.doze }
+    ensures once { DozeOnce (is_woken hart.old.id (bus_in bus.old).doze) doze
+        (seated hart.old (known seats) (Some doze) looks.old) (seated hart.new (known result.0) result.2 looks.new)
+        result.1 }
+    ensures memory { (bus_in bus.new).ram ≡ (bus_in bus.old).ram }
+    ensures left { (bus_in bus.new).doze ≡ doze_left (is_woken hart.old.id (bus_in bus.old).doze) (bus_in bus.old).doze }
 {
     if !looks.look(bus, hart.id()) {
         return (seats, Word::Goes(Did::Idle), Some(doze));
@@ -118,6 +114,5 @@ pub(crate) fn doze_turn(
     let address = doze.at.address;
     let opaque = doze.at.opaque;
     let seats = resume(hart, seats, tables, address, opaque);
-    bus.doze = None;
     (seats, Word::Goes(Did::Resumed), None)
 }

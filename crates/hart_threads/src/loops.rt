@@ -12,7 +12,7 @@ ghost use Rattle.hart_threads.specs.Threads.{seated, loop_goes_on, ends_life, Tu
 use crate::closing::{Asked, Shut};
 use crate::dozes::{Looks, doze_turn};
 use crate::gates::{Allowed, Gate, TurnMade, ask, tell};
-use crate::once::{SharedBus, call_locked};
+use crate::once::{LockedBus, call_locked};
 use crate::shared::{HartLocal, SharedBoard};
 use crate::threaded::Threaded;
 use crew::Crew;
@@ -94,7 +94,7 @@ fn whole_turn<R: Wait, D: Disk + Drop, J: Threaded, C: Crew>(
     ensures id { hart.new.id ≡ hart.old.id }
     ensures noted { result.0.part ≡ part_after result.2 local.part }
     ensures range { looks.new.made ≤ looks.old.made + 1 }
-    ensures once { TurnOnce board.entry.shape.now (seated hart.old (known local.seats) local.doze looks.old)
+    ensures once { TurnOnce board.entry.shape.now J.memory (seated hart.old (known local.seats) local.doze looks.old)
         (seated hart.new (known result.0.seats) result.0.doze looks.new) result.1 result.2 }
 {
     let HartLocal { seats, doze, part } = local;
@@ -103,8 +103,8 @@ fn whole_turn<R: Wait, D: Disk + Drop, J: Threaded, C: Crew>(
         let (seats, word, doze) = doze_turn(bus, hart, seats, board.tables, doze, looks);
         return (HartLocal { seats, doze, part }, word, None, allowed.made());
     }
-    let mut shared = SharedBus { rt, bus: board.bus };
-    let (seats, turned) = turn_by_bus(hart, seats, board.tables, &mut shared, board.shape);
+    let mut bus = LockedBus { rt, bus: board.bus };
+    let (seats, turned) = turn_by_bus(hart, seats, board.tables, &mut bus, board.shape);
     match turned {
         Turned::Durable => {
             let (local, word, told) = call_locked(rt, board, hart, seats, part);
@@ -150,7 +150,7 @@ pub fn hart_loop<'c, R: Wait, G: Gate, D: Disk + Drop, J: Threaded, C: Crew>(
     ensures id { result.hart.id ≡ hart.id }
     ensures noted { result.local.part ≡ part_after result.told local.part }
     ensures range { result.made ≤ turns }
-    ensures once { LoopOnce board.entry.shape.now (G.answers gate.now hart.id) (G.hears gate.now hart.id) turns
+    ensures once { LoopOnce board.entry.shape.now J.memory (G.answers gate.now hart.id) (G.hears gate.now hart.id) turns
         result.made (seated hart (known local.seats) local.doze no_looks)
         (seated result.hart (known result.local.seats) result.local.doze result.looks) result.why result.told }
 {

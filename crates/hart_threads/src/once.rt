@@ -1,12 +1,13 @@
 //! What a turn of a hart on its thread takes a lock for: a step, and a durable call.
 
-ghost use Rattle.std.specs.Prelude.{◌≡◌, ◌<◌, []};
+ghost use Rattle.std.specs.Prelude.{◌≡◌, ◌<◌};
 ghost use Rattle.hsm_steps.specs.declared.view.Stage.TheVariants.{Running};
 ghost use Rattle.sbi_abi.specs.Calls.{call_of};
 ghost use Rattle.sbi_calls.specs.Both.{AreTablesOf, AreSeatsOfBoth, GivesBack, Acts, known};
 ghost use Rattle.sbi.specs.Words.{stage_told};
 ghost use Rattle.shared_store.specs.Called.{IsToldBy};
 ghost use Rattle.shared_store.specs.Noted.{part_after};
+ghost use Rattle.shared_store.specs.Runs.{StepsMake};
 ghost use Rattle.hart_threads.specs.Threads.{HeldOnce, IsDozeBy};
 
 use crate::dozes::doze_by;
@@ -17,27 +18,26 @@ use disk::Disk;
 use hart::{Hart, Outcome};
 use sbi::Word;
 use sbi_calls::Seats;
-use shared_store::{Part, Told};
+use shared_store::{Part, SharedBus, Told};
 use std::sync::{Mutex, Wait};
-use susp::Bus;
 use turns::MemoryBus;
 
-/// The bus of a board on threads. One step of a hart is one hold of it.
+/// The bus of a board on threads, behind its lock. One step of a hart is one hold of it.
 #[derive(Drop)]
-pub(crate) struct SharedBus<'a, R> {
+pub(crate) struct LockedBus<'a, R, J: Threaded> {
     pub(crate) rt: &'a R,
-    pub(crate) bus: &'a Mutex<Bus>,
+    pub(crate) bus: &'a Mutex<SharedBus<J>>,
 }
 
-impl<'a, R: Wait> MemoryBus for SharedBus<'a, R> {
-    ghost may_hold = { λ bus memory. Unit {0} };
+impl<'a, R: Wait, J: Threaded> MemoryBus for LockedBus<'a, R, J> {
+    ghost may_hold = { λ bus memory. StepsMake J.memory memory };
 
-    ghost holds_one = { λ bus. ([], tt) };
+    ghost holds_one = { λ bus. (J.memory, λ is keep here. here) };
 
     #[inline(always)]
     fn step(&mut self, hart: &mut Hart, pending: bool) -> Outcome {
         let mut bus = self.bus.lock(self.rt);
-        hart.step(&mut bus.ram, pending)
+        bus.step(hart, pending)
     }
 }
 
@@ -69,6 +69,7 @@ pub(crate) fn call_locked<R: Wait, D: Disk + Drop, J: Threaded, C: Crew>(
     let bus = &mut *guard;
     let mut store = board.store.lock(rt);
     let (seats, word, told, part) = store.call(board.saving, hart, seats, board.tables, bus, part);
-    let doze = doze_by(word, bus.doze);
+    let found = bus.doze();
+    let doze = doze_by(word, found);
     (HartLocal { seats, doze, part }, word, told)
 }

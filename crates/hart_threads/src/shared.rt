@@ -5,11 +5,11 @@ use crate::threaded::Threaded;
 use board_model::Shape;
 use disk::Disk;
 use sbi_calls::{Seats, Tables};
-use shared_store::{Journal, Part, SharedStore};
+use shared_store::{Journal, Part, SharedBus, SharedStore};
 use std::alloc::AllocError;
 use std::sync::Mutex;
 use store::Saving;
-use susp::{Bus, Doze};
+use susp::Doze;
 
 /// A board as the threads of its harts share it: the two tables, whose words change in single steps, the bus and the
 /// store, each behind its lock, what ends the loops of all harts, and what an image is written with.
@@ -17,7 +17,7 @@ pub struct SharedBoard<'a, 'c, D: Disk + Drop, J: Threaded, C> {
     pub saving: Saving<'a, C>,
     pub tables: &'a Tables,
     pub shape: &'a Shape,
-    pub bus: &'a Mutex<Bus>,
+    pub bus: &'a Mutex<SharedBus<J>>,
     pub store: &'a Mutex<SharedStore<D, J>>,
     pub closing: &'c Closing<J>,
 }

@@ -16,7 +16,7 @@ use disk::ArmedFault;
 use hart_threads::{AfterConsole, Closing, Ended, Gate, Rested, SharedBoard, Threaded, Why, drive};
 use machine::{Did, Word};
 use rv_decode::Reg;
-use shared_store::{Heard, NewBook, Unshared};
+use shared_store::{Heard, NewBook, SharedBus, Unshared};
 use simdisk::SimDisk;
 use std::alloc::Global;
 use std::marker::Brand;
@@ -93,7 +93,8 @@ fn put_to_sleep<R: AllocGlobal + Threads + Sync>(
     call(rt, crew, board, SLEEPER, [SUSP, 0, 0, SITE, 9])
 }
 
-/// The parts of a board and its shape, where it has the harts of that shape and no command was issued in its life.
+/// The parts of a board and its shape, where it has the harts of that shape and no command was issued in its life, nor is in
+/// doubt.
 fn taken_apart(board: Board<SimDisk>) -> Option<(Parts<SimDisk>, Shape)>
     ensures held { IfSome result (λ p. IsHeld p.1 p.0.harts.items p.0.tables (Some p.0.seats) p.0.bus.doze) }
     ensures begun { IfSome result (λ p. IsBegun p.1 p.0.store) }
@@ -104,9 +105,12 @@ fn taken_apart(board: Board<SimDisk>) -> Option<(Parts<SimDisk>, Shape)>
     if made != wanted {
         return None;
     }
-    match parts.store.entry(1) {
+    match parts.store.in_doubt() {
         Some(_) => None,
-        None => Some((parts, shape)),
+        None => match parts.store.entry(1) {
+            Some(_) => None,
+            None => Some((parts, shape)),
+        },
     }
 }
 
@@ -238,7 +242,8 @@ fn driven_as<J: Threaded + Send + Sync, R: Threads + Wait + Clock + Sync>(
 ) -> Result<(Vec<u8>, Option<Woken>), Fail>
     requires held { IsHeld shape.now parts.harts.items parts.tables (Some parts.seats) parts.bus.doze }
     requires begun { IsBegun shape.now parts.store }
-    requires named { (J.size ≡ shape.now) × (J.found ≡ found_state parts.store) × (J.issued ≡ []) }
+    requires named { (J.size ≡ shape.now) × (J.found ≡ found_state parts.store) × (J.issued ≡ [])
+        × (J.memory ≡ parts.bus.ram) }
     requires book { (id_of book ≡ J.book) × (parts_of book ≡ J.parts) × (J.parts ≡ shape.now.harts + 2) }
     requires driven { (lock.id ≡ J.parting) × (turns ≡ J.turns) × (J.gated ≡ true) }
 {
@@ -253,7 +258,7 @@ fn driven_as<J: Threaded + Send + Sync, R: Threads + Wait + Clock + Sync>(
     let part = whole.hand_out();
     let given = whole.hand_out_all(alloc, harts.len())?;
     let doze = bus.doze;
-    let bus = Mutex::new(bus);
+    let bus: Mutex<SharedBus<J>> = Mutex::new(SharedBus::new(bus));
     let store = Mutex::new(whole.share());
     let closing = Closing::new(lock);
     let crew = crew::Threads::new(rt);

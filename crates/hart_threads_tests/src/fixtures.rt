@@ -12,7 +12,7 @@ use board::{Board, Parts, Payloads};
 use board_model::{BootMode, HartId, Shape, Slot};
 use disk::Disk;
 use hart_threads::{AfterConsole, Closing, Gate, SharedBoard, Threaded, drive};
-use shared_store::{Journal, NewBook, Part, Unshared};
+use shared_store::{Journal, NewBook, Part, SharedBus, Unshared};
 use simdisk::SimDisk;
 use std::alloc::Global;
 use std::marker::Brand;
@@ -150,7 +150,8 @@ fn driven_as<J: Threaded + Send + Sync, R: Threads + Wait + Sync>(
 ) -> (bool, SimDisk)
     requires held { IsHeld shape.now parts.harts.items parts.tables (Some parts.seats) parts.bus.doze }
     requires begun { IsBegun shape.now parts.store }
-    requires named { (J.size ≡ shape.now) × (J.found ≡ found_state parts.store) × (J.issued ≡ []) }
+    requires named { (J.size ≡ shape.now) × (J.found ≡ found_state parts.store) × (J.issued ≡ [])
+        × (J.memory ≡ parts.bus.ram) }
     requires book { (id_of book ≡ J.book) × (parts_of book ≡ J.parts) × (J.parts ≡ shape.now.harts + 1) }
     requires driven { (lock.id ≡ J.parting) × (turns ≡ J.turns) × (J.gated ≡ true) }
     ensures { IsIdle (⟦<SimDisk as Disk>⟧.facts result.1) }
@@ -167,7 +168,7 @@ fn driven_as<J: Threaded + Send + Sync, R: Threads + Wait + Sync>(
         return (false, whole.close().into_disk());
     };
     let doze = bus.doze;
-    let bus = Mutex::new(bus);
+    let bus: Mutex<SharedBus<J>> = Mutex::new(SharedBus::new(bus));
     let store = Mutex::new(whole.share());
     let closing = Closing::new(lock);
     let crew = crew::Threads::new(rt);

@@ -13,7 +13,7 @@ use hart_threads::{
     Acting, AfterConsole, Closing, Gate, HartLocal, SharedBoard, Threaded, Why, hart_loop,
     seat_harts,
 };
-use shared_store::{Heard, Journal, NewBook, Part, SharedStore, Unshared};
+use shared_store::{Heard, Journal, NewBook, Part, SharedBus, SharedStore, Unshared};
 use simdisk::SimDisk;
 use std::alloc::Global;
 use std::marker::Brand;
@@ -84,7 +84,8 @@ fn looped_as<J: Threaded + Send + Sync, R: Threads + Wait + Sync, G: Gate>(
 ) -> Result<Vec<End>, Fail>
     requires held { IsHeld shape.now parts.harts.items parts.tables (Some parts.seats) parts.bus.doze }
     requires begun { IsBegun shape.now parts.store }
-    requires named { (J.size ≡ shape.now) × (J.found ≡ found_state parts.store) × (J.issued ≡ []) }
+    requires named { (J.size ≡ shape.now) × (J.found ≡ found_state parts.store) × (J.issued ≡ [])
+        × (J.memory ≡ parts.bus.ram) }
     requires book { (id_of book ≡ J.book) × (parts_of book ≡ J.parts) × (J.parts ≡ shape.now.harts + 1) }
     requires driven { (lock.id ≡ J.parting) × (turns ≡ J.turns) × (J.gated ≡ true) }
 {
@@ -98,7 +99,7 @@ fn looped_as<J: Threaded + Send + Sync, R: Threads + Wait + Sync, G: Gate>(
     let (mut whole, boot) = Unshared::<SimDisk, J>::new(store, book);
     let mut given = whole.hand_out_all(alloc, harts.len())?;
     let doze = bus.doze;
-    let bus = Mutex::new(bus);
+    let bus: Mutex<SharedBus<J>> = Mutex::new(SharedBus::new(bus));
     let mut shared = whole.share();
     issue(&mut shared, boot, commands);
     let store = Mutex::new(shared);

@@ -10,7 +10,7 @@ use crate::fixtures::{parts_of, same};
 use board::Parts;
 use board_console::console;
 use board_model::{Addr, HartId, Shape};
-use shared_store::{Heard, Journal, NewBook, SharedStore, Unshared};
+use shared_store::{Heard, Journal, NewBook, SharedBus, SharedStore, Unshared};
 use simdisk::SimDisk;
 use std::alloc::Global;
 use std::io::{self, Write};
@@ -23,7 +23,7 @@ use susp::{Bus, Doze};
 /// It counts the lines that are written, and the writes that find the bus or the store held.
 #[derive(Drop)]
 struct Looking<'a, J: Journal> {
-    bus: &'a Mutex<Bus>,
+    bus: &'a Mutex<SharedBus<J>>,
     store: &'a Mutex<SharedStore<SimDisk, J>>,
     lines: u64,
     held: u64,
@@ -54,11 +54,11 @@ impl<'a, J: Journal> Write for Looking<'a, J> {
 /// The lines that a console of that bus and store wrote, and how often it held one of them meanwhile.
 fn talked<J: Journal, R: Wait>(rt: &R, bus: Bus, store: Store<SimDisk>, book: NewBook) -> (u64, u64)
     requires begun { IsBegun J.size store }
-    requires named { (J.found ≡ found_state store) × (J.issued ≡ []) }
+    requires named { (J.found ≡ found_state store) × (J.issued ≡ []) × (J.memory ≡ bus.ram) }
     requires book { (id_of book ≡ J.book) × (parts_of book ≡ J.parts) × (J.parts ≡ 1) }
 {
     let (whole, part) = Unshared::<SimDisk, J>::new(store, book);
-    let bus = Mutex::new(bus);
+    let bus: Mutex<SharedBus<J>> = Mutex::new(SharedBus::new(bus));
     let store = Mutex::new(whole.share());
     let mut input = b"slot 1\ndiscard\nstate\nwake\nhello\nquit\n".as_slice();
     let mut out = Looking {
@@ -98,17 +98,17 @@ fn wakes<J: Journal, R: Wait>(
     book: NewBook,
 ) -> (Vec<u8>, Bus)
     requires begun { IsBegun J.size store }
-    requires named { (J.found ≡ found_state store) × (J.issued ≡ []) }
+    requires named { (J.found ≡ found_state store) × (J.issued ≡ []) × (J.memory ≡ bus.ram) }
     requires book { (id_of book ≡ J.book) × (parts_of book ≡ J.parts) × (J.parts ≡ 1) }
 {
     let (whole, part) = Unshared::<SimDisk, J>::new(store, book);
-    let bus = Mutex::new(bus);
+    let bus: Mutex<SharedBus<J>> = Mutex::new(SharedBus::new(bus));
     let store = Mutex::new(whole.share());
     let mut input = b"wake\nwake\n".as_slice();
     let mut out = Vec::new(alloc);
     let mut heard = Heard::nothing();
     let (_part, _left) = console(rt, &bus, &store, part, &mut heard, &mut input, &mut out);
-    (out, bus.into_inner())
+    (out, bus.into_inner().unshare())
 }
 
 #[test]

@@ -9,14 +9,16 @@ ghost use Rattle.receipts.specs.Books.{no_book, one_page};
 use std::marker::Brand;
 
 /// The name of the journal of one life: what the store's open found, the board's size, the commands that the
-/// boot issued, the book of its receipts, and how many parts that has. A type that has it stands for that life
-/// alone; the call that begins to share a store picks it.
+/// boot issued, the memory that it left, the book of its receipts, and how many parts that has. A type that has it
+/// stands for that life alone; the call that begins to share a store picks it.
 pub trait Journal {
     ghost found: { DurableState };
 
     ghost size: { Size };
 
     ghost issued: { List Change };
+
+    ghost memory: { List ℕ };
 
     ghost book: { TableId };
 
@@ -29,6 +31,8 @@ impl Journal for Brand {
     ghost size = { one_page };
 
     ghost issued = { [] };
+
+    ghost memory = { [] };
 
     ghost book = { no_book };
 

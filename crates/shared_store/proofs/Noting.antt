@@ -1,5 +1,5 @@
 -- A command that was acknowledged is noted in the book, and the book stays the journal's.
-use Rattle.std.proofs.Common.{◌≡◌, ◌∙◌, ℕ, suc, ◌+◌, List, [], ◌∷◌, ◌++◌, length, refl, ap, arith}
+use Rattle.std.proofs.Common.{◌≡◌, ◌∙◌, ℕ, suc, ◌+◌, List, [], ◌∷◌, ◌++◌, length, ap, arith}
 use Rattle.std.proofs.lemmas.List.{length-map, map-append}
 use Rattle.board_model.specs.Durable.{Change}
 use Rattle.board_model.specs.Views.{entry_of}

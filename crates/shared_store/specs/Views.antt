@@ -1,10 +1,12 @@
--- What a contract sees of a store that is shared, and of one that is not.
+-- What a contract sees of a store that is shared, of one that is not, and of a bus that is shared.
 use Rattle.disk.specs.declared.device.Disk.{Ghosts}
 use Rattle.disk.specs.declared.device.Lane.{Ghosts as Lanes}
 use Rattle.store.specs.declared.stores.Store.{Store}
 use Rattle.receipts.specs.declared.journal.Journal.{Ghosts as Named}
 use Rattle.std.specs.Prelude.{List}
 use Rattle.receipts.specs.declared.views.PartView.{PartView}
+use Rattle.susp.specs.declared.buses.Bus.{Bus}
+use Rattle.shared_store.specs.declared.buses.SharedBus.{SharedBus}
 use Rattle.shared_store.specs.declared.shared.SharedStore.{SharedStore}
 use Rattle.shared_store.specs.declared.unshared.Unshared.{Unshared}
 
@@ -18,3 +20,7 @@ module _ {D J L : Type 0} {g : Ghosts D L} {j : Named J} {l : Lanes L} where
   -- the parts that were not handed out, or are back
   abbrev pub parts_with : Unshared D J L g l j → List PartView
   parts_with whole = whole.keeper.parts
+
+module _ {J : Type 0} {j : Named J} where
+  abbrev pub bus_in : SharedBus J j → Bus
+  bus_in kept = kept.bus

@@ -1,13 +1,16 @@
-//! A store that the threads of a board share, behind a lock: it knows of which life its journal is, whose type
-//! says what the open found, and each command that it acknowledges comes out of the lock with its receipt, which
-//! the part of its holder notes. docs/THREADS.md has it in plain words.
+//! A store and a bus that the threads of a board share, each behind a lock. The store knows of which life its journal is,
+//! whose type says what the open found, and each command that it acknowledges comes out of the lock with its receipt, which
+//! the part of its holder notes. The bus knows that its memory is what steps of harts made of the one that the boot left.
+//! docs/THREADS.md has it in plain words.
 #![tactic(auto)]
 
+mod buses;
 mod heard;
 mod shared;
 mod told;
 mod unshared;
 
+pub use buses::SharedBus;
 pub use heard::Heard;
 pub use receipts::{Journal, NewBook, Part};
 pub use shared::SharedStore;

@@ -5,7 +5,7 @@ ghost use Rattle.board_model.specs.Durable.{DurableState, Change, fold, refusal_
 ghost use Rattle.board_model.specs.Shapes.{Size};
 ghost use Rattle.board_model.specs.Views.{change_of, durable_of};
 ghost use Rattle.store.specs.Lives.{Applied};
-ghost use Rattle.store.specs.Views.{size_of_store, found_state, journal_of, now_state, receipts};
+ghost use Rattle.store.specs.Views.{size_of_store, found_state, journal_of, life_of, now_state, receipts};
 ghost use Rattle.store.specs.Asked.{Asked};
 ghost use Rattle.hsm_steps.specs.declared.view.Stage.TheVariants.{Running};
 ghost use Rattle.sbi_abi.specs.Calls.{call_of};
@@ -17,7 +17,9 @@ ghost use Rattle.shared_store.specs.Noted.{entries_in, part_after, part_by};
 ghost use Rattle.shared_store.specs.Heard.{after_look, heard_by};
 ghost use Rattle.shared_store.specs.Called.{IsToldBy, IsLastOf};
 ghost use Rattle.shared_store.specs.Legal.{BeginsWith, IsNamed, MayAnswer, MayShow, number_told};
+ghost use Rattle.shared_store.specs.Runs.{IsCarried};
 
+use crate::buses::SharedBus;
 use crate::heard::Heard;
 use crate::told::Told;
 use crate::unshared::Unshared;
@@ -26,14 +28,14 @@ use crew::Crew;
 use disk::Disk;
 use hart::Hart;
 use receipts::{Book, Journal, Keeper, Part};
-use sbi::{Word, dispatch_held};
+use sbi::Word;
 use sbi_calls::{Seats, Tables};
 use store::{Saving, Store};
-use susp::Bus;
 
 /// A store whose journal is J's: its open found what J says, its board has that size, its journal begins with
 /// what the boot issued, and its state now is what the journal makes of what was found. The table of commands
-/// (docs/DURABLE.md) refuses none of them, one after another.
+/// (docs/DURABLE.md) refuses none of them, one after another. Each suspension of it carries a memory that steps of harts made
+/// of the one that the boot left.
 ///
 /// A type keeps that, and a lock keeps its value's type: so it holds of every store that a lock of this type
 /// gives, whatever other threads did.
@@ -45,6 +47,7 @@ pub struct SharedStore<D: Disk + Drop, J: Journal> {
     pub(crate) keeper: Keeper<J>,
     ghost named: { IsNamed J.found J.size store },
     ghost issued: { BeginsWith J.issued (journal_of store) },
+    ghost carried: { IsCarried J.memory (life_of store) },
     ghost counted: { count ≡ receipts store },
     ghost few: { count ≤ 4096 },
     ghost tied: { entries_in (journal_of store) ≡ entries_of keeper.log },
@@ -52,12 +55,13 @@ pub struct SharedStore<D: Disk + Drop, J: Journal> {
 }
 
 impl<D: Disk + Drop, J: Journal> SharedStore<D, J> {
-    ghost use Rattle.shared_store.specs.Views.{store_in, inside, parts_with};
+    ghost use Rattle.shared_store.specs.Views.{bus_in, store_in, inside, parts_with};
 
     /// What is kept from one holder of the lock to the next.
     pub fn stands(&self)
         ensures named { IsNamed J.found J.size (store_in self.now) }
         ensures issued { BeginsWith J.issued (journal_of (store_in self.now)) }
+        ensures carried { IsCarried J.memory (life_of (store_in self.now)) }
     {}
 
     /// The board's shape.
@@ -113,15 +117,16 @@ impl<D: Disk + Drop, J: Journal> SharedStore<D, J> {
         }
     }
 
-    /// The durable call at which a hart stands, as `dispatch_held`, and the receipt of its command, where that was
-    /// acknowledged: then the life is over. A doze adds no command, and has no receipt.
+    /// The durable call at which a hart stands, as `dispatch_held` with that bus, and the receipt of its command, where that
+    /// was acknowledged: then the life is over. A suspension carries the memory of the bus, which stays. A doze adds no
+    /// command, and has no receipt.
     pub fn call<C: Crew>(
         &mut self,
         saving: Saving<'_, C>,
         hart: &mut Hart,
         seats: Seats,
         tables: &Tables,
-        bus: &mut Bus,
+        bus: &mut SharedBus<J>,
         part: Part<J>,
     ) -> (Seats, Word, Option<Told<J>>, Part<J>)
         requires seats { AreSeatsOfBoth tables.now seats }
@@ -131,12 +136,14 @@ impl<D: Disk + Drop, J: Journal> SharedStore<D, J> {
         ensures acts { Acts hart.old.id (stage_told result.1) result.0 }
         ensures id { hart.new.id ≡ hart.old.id }
         ensures makes { MakesHeld (harts_of_both tables.entry.now) (call_of hart.old) hart.old hart.new
-            (known seats) (known result.0) bus.old bus.new (store_in self.old) (store_in self.new) result.1 }
+            (known seats) (known result.0) (bus_in bus.old) (bus_in bus.new) (store_in self.old) (store_in self.new)
+            result.1 }
+        ensures memory { (bus_in bus.new).ram ≡ (bus_in bus.old).ram }
         ensures board { size_of_store (store_in self.old) ≡ J.size }
         ensures told { IsToldBy J.size (call_of hart.old) hart.old.id result.1 result.2 }
         ensures noted { result.3 ≡ part_after result.2 part }
     {
-        let (seats, word) = dispatch_held(saving, hart, seats, tables, bus, &mut self.store);
+        let (seats, word) = bus.call(saving, hart, seats, tables, &mut self.store);
         match word {
             Word::Goes(_) => (seats, word, None, part),
             Word::Over(_) => {

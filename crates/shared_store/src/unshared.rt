@@ -1,13 +1,14 @@
 //! A store with its book, before it is shared and after.
 
 ghost use Rattle.std.specs.Prelude.{◌≡◌, ◌≤◌, ◌<◌, ◌+◌, [], ◌∷◌, true, length, All, IfOk, IfErr, vec_len};
-ghost use Rattle.store.specs.Views.{size_of_store, found_state, journal_of, receipts};
+ghost use Rattle.store.specs.Views.{size_of_store, found_state, journal_of, life_of, receipts};
 ghost use Rattle.receipts.specs.Books.{entries_of};
 ghost use Rattle.receipts.specs.Closed.{AreStanding, AreReceiptsOf, told_in};
 ghost use Rattle.receipts.specs.Views.{id_of, parts_of};
 ghost use Rattle.store.specs.Taken.{are_taken};
 ghost use Rattle.shared_store.specs.Legal.{BeginsWith, IsNamed};
 ghost use Rattle.shared_store.specs.Noted.{boot_told, entries_in};
+ghost use Rattle.shared_store.specs.Runs.{IsCarried};
 
 use crate::shared::SharedStore;
 use disk::Disk;
@@ -25,6 +26,7 @@ pub struct Unshared<D: Disk + Drop, J: Journal> {
     pub(crate) keeper: Keeper<J>,
     pub ghost named: { IsNamed J.found J.size store },
     pub ghost issued: { BeginsWith J.issued (journal_of store) },
+    pub ghost carried: { IsCarried J.memory (life_of store) },
     pub ghost counted: { count ≡ receipts store },
     pub ghost few: { count ≤ 4096 },
     pub ghost tied: { entries_in (journal_of store) ≡ entries_of keeper.log },
@@ -41,6 +43,7 @@ impl<D: Disk + Drop, J: Journal> Unshared<D, J> {
         requires issued { journal_of store ≡ J.issued }
         requires taken { are_taken J.found J.issued ≡ true }
         requires few { length J.issued ≤ 4096 }
+        requires carried { IsCarried J.memory (life_of store) }
         requires book { id_of book ≡ J.book }
         requires parts { parts_of book ≡ J.parts }
         requires some { 0 < J.parts }
@@ -125,6 +128,7 @@ impl<D: Disk + Drop, J: Journal> Unshared<D, J> {
     pub fn close(self) -> Store<D>
         ensures named { IsNamed J.found J.size result }
         ensures issued { BeginsWith J.issued (journal_of result) }
+        ensures carried { IsCarried J.memory (life_of result) }
         ensures same { result ≡ inside self }
         ensures told { AreStanding (entries_in (journal_of result)) (told_in (parts_with self)) }
         ensures all { length (parts_with self) ≡ J.parts

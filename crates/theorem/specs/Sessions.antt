@@ -4,21 +4,32 @@ use Rattle.board_model.specs.Durable.{DurableState, Change, after, fold, refusal
 use Rattle.board_model.specs.Shapes.{Size}
 use Rattle.board_model.specs.declared.durable.Entry.{Entry}
 use Rattle.store.specs.Taken.{are_taken}
+use Rattle.board.specs.Begins.{IsBegun}
+use Rattle.board.specs.Moments.{commands_by}
+use Rattle.board_model.specs.declared.boot_mode.BootMode.{BootMode}
+use Rattle.machine.specs.Machine.{Machine}
 use Rattle.shared_store.specs.Heard.{Hearing}
+use Rattle.shared_store.specs.Runs.{CarriesSteps, AllCarrySteps}
 use Rattle.board_console.specs.Commands.{party}
 use Rattle.board_console.specs.Dialogues.{DialogueEnds, dialogue_ends}
 use Rattle.board_console.specs.declared.talks.Left.{Left}
 use Rattle.board_session.specs.Sessions.{IsAcknowledged, TalksIf}
 
--- What an open finds after a session that began in the state s with these commands of its boot: what the commands of a
--- journal make of s, just those that were acknowledged to the boot, the console and the harts; or these and the one in
--- doubt. What was read and answered is of that journal.
-pub record FindsSession (size : Size) (s : DurableState) (issued : List Change) (left : Option Left) (a : DialogueEnds)
-    (input output : Option (List ℕ)) (heard : Hearing) (found : DurableState) : Type 0 where
+-- What an open finds after a session that began in the state s by that mode: what the commands of a journal make of s,
+-- just those that were acknowledged to the boot, the console and the harts; or these and the one in doubt. A suspension of
+-- them carries a memory that steps of harts made of the one that the boot left. What was read and answered is of that
+-- journal.
+pub record FindsSession (size : Size) (s : DurableState) (mode : BootMode) (payloads : List (List ℕ))
+    (left : Option Left) (a : DialogueEnds) (input output : Option (List ℕ)) (heard : Hearing) (found : DurableState)
+    : Type 0 where
+  pub machine : Machine
+  pub powered : IsBegun mode size payloads s machine
   pub journal : List Change
   pub console : List (ℕ × Entry)
-  pub acknowledged : IsAcknowledged size issued journal console
+  pub acknowledged : IsAcknowledged size (commands_by mode s) journal console
   pub taken : are_taken s journal ≡ true
-  pub talks : TalksIf s issued left a (dialogue_ends input output (party console heard))
+  pub carried : AllCarrySteps machine.memory journal
+  pub talks : TalksIf s (commands_by mode s) left a (dialogue_ends input output (party console heard))
   pub is : (found ≡ fold s journal)
-      ⊎ ((c : Change) × (refusal_of (fold s journal) c ≡ None) × (found ≡ after (fold s journal) c))
+      ⊎ ((c : Change) × (refusal_of (fold s journal) c ≡ None) × CarriesSteps machine.memory c
+      × (found ≡ after (fold s journal) c))

@@ -3,10 +3,12 @@ ghost use Rattle.std.specs.Prelude.{◌≡◌, ℕ, List, false, None, IfOk, []}
 ghost use Rattle.board_model.specs.Durable.{DurableState};
 ghost use Rattle.board_model.specs.Shapes.{Size};
 ghost use Rattle.board_model.specs.declared.durable.Entry.{Entry};
+ghost use Rattle.board.specs.Begins.{IsBegun};
 ghost use Rattle.board.specs.Moments.{commands_by};
 ghost use Rattle.board_console.specs.Commands.{party};
 ghost use Rattle.board_console.specs.Dialogues.{dialogue_ends};
 ghost use Rattle.board_session.specs.Sessions.{IsOfLife, TalksIf, AreDriven};
+ghost use Rattle.machine.specs.Machine.{Machine};
 ghost use Rattle.shared_store.specs.Heard.{heard_nothing};
 ghost use Rattle.store.specs.Leaves.{IsIdle};
 ghost use Rattle.store.specs.Standing.{StandsFor};
@@ -31,8 +33,9 @@ use store::{Store, one_standing};
 /// *Whatever order harts, console and savers run in.* A session whose console was begun, over a disk whose bytes stand
 /// for the state s. It has one journal, whatever the order was: what its boot issued, and then the commands that were
 /// acknowledged to the console and to harts, each at the place of its receipt, and no other. A crash leaves what they make
-/// of s, or with a command in doubt that or the state after it (`IsOfLife`). What was read and answered is of that journal
-/// (`TalksIf`). Each hart made all turns that it was given, or a hart ended the life by a command that was acknowledged, or
+/// of s, or with a command in doubt that or the state after it (`IsOfLife`). Its suspension, if it has one, carries a memory
+/// that steps of harts made of that of the board which its power-on made (`IsBegun`). What was read and answered is of that
+/// journal (`TalksIf`). Each hart made all turns that it was given, or a hart ended the life by a command that was acknowledged, or
 /// the console halted the harts when it left (`AreDriven`).
 pub fn a_session<R: Threads + Wait + Sync, D: Disk + Drop + Send, I: Read + Drop, W: Write + Drop>(
     rt: &R,
@@ -44,8 +47,9 @@ pub fn a_session<R: Threads + Wait + Sync, D: Disk + Drop + Send, I: Read + Drop
 ) -> SessionEnd<D, I, W>
     requires { IsIdle (D.facts disk) }
     ensures { (size : Size) (s : DurableState) → options.now.new ≡ false → StandsFor (D.facts disk).content size s
-        → (result.left ≡ None → ⊥) → (console : List (ℕ × Entry))
-        × IsOfLife size s (commands_by options.now.mode s) console (D.facts result.disk)
+        → (result.left ≡ None → ⊥) → (machine : Machine) × IsBegun options.now.mode size payloads.now s machine
+        × (console : List (ℕ × Entry))
+        × IsOfLife size s (commands_by options.now.mode s) machine.memory console (D.facts result.disk)
         × TalksIf s (commands_by options.now.mode s) result.left
         (dialogue_ends (I.remaining streams.input) (W.contents streams.out) (party [] heard_nothing))
         (dialogue_ends (I.remaining result.streams.input) (W.contents result.streams.out) (party console result.heard))
@@ -84,7 +88,7 @@ pub fn power_lost_between_sessions<R: Threads + Wait + Sync, I: Read + Drop, W: 
     requires { IsIdle (⟦<SimDisk as Disk>⟧.facts disk) }
     ensures { (size : Size) (s : DurableState) → options.now.new ≡ false
         → StandsFor (⟦<SimDisk as Disk>⟧.facts disk).content size s → (result.0.left ≡ None → ⊥)
-        → IfOk result.1 (λ next. FindsSession size s (commands_by options.now.mode s) result.0.left
+        → IfOk result.1 (λ next. FindsSession size s options.now.mode payloads.now result.0.left
         (dialogue_ends (I.remaining streams.input) (W.contents streams.out) (party [] heard_nothing))
         (I.remaining result.0.streams.input) (W.contents result.0.streams.out) result.0.heard (found_state next)) }
 {

@@ -5,7 +5,7 @@ use Rattle.board_session.proofs.Powering.{kept_reads, life_kept, life_leaves}
 use Rattle.board_session.proofs.ends.disk_at_once.Goals as goal
 
 pub returns-clause-left : goal.returns-clause-left
-returns-clause-left g c =
+returns-clause-left g c = λ begins.
     let store = c.args.store in
     let o = c.into_disk.ensures in
     let disk = g.D.Disk.facts c.into_disk.result in
@@ -20,4 +20,6 @@ returns-clause-left g c =
       left = left;
       allowed = o.allowed;
       reads = kept_reads disk size (life_kept (doubt_of store) disk size (now_state store) left) (g.met.D.Disk.may_keep c.into_disk.result);
+      carried = (c.requires.carried begins).journal;
+      doubted = (c.requires.carried begins).doubt;
     }

@@ -40,4 +40,6 @@ returns-clause-left g c =
       left = left';
       allowed = λ x is. subst (λ (s : DurableState). refusal_of s x ≡ None) named.life.now (o.allowed x is);
       reads = kept_reads disk size (life_kept (doubt_of store) disk size now left') (g.met.D.Disk.may_keep c.into_disk.result);
+      carried = c.close.ensures.carried.journal;
+      doubted = c.close.ensures.carried.doubt;
     }

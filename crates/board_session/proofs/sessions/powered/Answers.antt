@@ -3,7 +3,7 @@ use Rattle.store.specs.Leaves.{IsKept}
 use Rattle.store.specs.Views.{view_of, life_of}
 use Rattle.board.specs.Views.{store_of, machine_of}
 use Rattle.board.specs.PowersOn.{IsUnpowered}
-use Rattle.board_session.proofs.Powering.{begins, life_few, life_issued, life_taken, format_refuses, kept_off, refuses_disk, runs_over}
+use Rattle.board_session.proofs.Powering.{begins, life_carried, life_few, life_issued, life_taken, format_refuses, kept_off, refuses_disk, runs_over}
 use Rattle.board_session.proofs.sessions.powered.Goals as goal
 
 pub returns-in-Err-clause-refused : goal.returns-in-Err-clause-refused
@@ -62,3 +62,7 @@ returns-in-Ok-power_on-clause-taken g c =
 pub returns-in-Ok-power_on-clause-issued : goal.returns-in-Ok-power_on-clause-issued
 returns-in-Ok-power_on-clause-issued g c =
     life_issued c.args.options.now.mode (life_of (store_of c.in-Ok-power_on.board)) c.in-Ok-power_on.ensures.on.life
+
+pub returns-in-Ok-power_on-clause-carried : goal.returns-in-Ok-power_on-clause-carried
+returns-in-Ok-power_on-clause-carried g c =
+    life_carried c.args.options.now.mode (life_of (store_of c.in-Ok-power_on.board)) c.in-Ok-power_on.ensures.on.life

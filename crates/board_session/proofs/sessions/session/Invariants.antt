@@ -5,7 +5,7 @@ use Rattle.board_session.proofs.sessions.session.Given as goal
 
 -- the life that the board has just begun
 abbrev pub ghosts-run_board-J-Journal : goal.ghosts-run_board-J-Journal
-ghosts-run_board-J-Journal g a = record { found = found_state a.booted.parts.store; size = size_of_store a.booted.parts.store; issued = journal_of a.booted.parts.store; book = id_of a.booted.book; parts = parts_of a.booted.book }
+ghosts-run_board-J-Journal g a = record { found = found_state a.booted.parts.store; size = size_of_store a.booted.parts.store; issued = journal_of a.booted.parts.store; memory = a.booted.parts.bus.ram; book = id_of a.booted.book; parts = parts_of a.booted.book }
 
 -- and its harts, which no gate may end
 abbrev pub ghosts-run_board-J-Threaded : goal.ghosts-run_board-J-Threaded

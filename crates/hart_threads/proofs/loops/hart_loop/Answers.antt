@@ -30,8 +30,8 @@ loop-made-preserved g c =
       gives = gives_then c.args.board.tables.now by c.args.local.seats c.loop-made.local.seats t.result.0.seats i.gives (subst (λ (k : ℕ). GivesBack c.args.board.tables.now k c.loop-made.local.seats t.result.0.seats) i.id t.ensures.gives);
       rests = rests_on by t.result.0.seats t.result.1 t.result.0.doze on (subst (λ (k : ℕ). StandsAfterTurn t.result.1 t.result.0.doze k t.result.0.seats) i.id t.ensures.stands);
       id = t.ensures.id ∙ i.id;
-      part = kept_part c.args.board.shape.now (seated c.loop-made.hart (known c.loop-made.local.seats) c.loop-made.local.doze c.loop-made.looks) (seated t.new.hart (known t.result.0.seats) t.result.0.doze t.new.looks) t.result.1 t.result.2 c.args.local.part c.loop-made.local.part t.result.0.part t.ensures.once on i.part t.ensures.noted;
-      turns = one_more c.args.board.shape.now (g.G.Gate.answers gate by) (g.G.Gate.hears gate by) c.loop-made.made (seated c.args.hart (known c.args.local.seats) c.args.local.doze no_looks) (seated c.loop-made.hart (known c.loop-made.local.seats) c.loop-made.local.doze c.loop-made.looks) (seated t.new.hart (known t.result.0.seats) t.result.0.doze t.new.looks) t.result.1 t.result.2 i.turns t.ensures.once on said heard;
+      part = kept_part c.args.board.shape.now g.J.Journal.memory (seated c.loop-made.hart (known c.loop-made.local.seats) c.loop-made.local.doze c.loop-made.looks) (seated t.new.hart (known t.result.0.seats) t.result.0.doze t.new.looks) t.result.1 t.result.2 c.args.local.part c.loop-made.local.part t.result.0.part t.ensures.once on i.part t.ensures.noted;
+      turns = one_more c.args.board.shape.now g.J.Journal.memory (g.G.Gate.answers gate by) (g.G.Gate.hears gate by) c.loop-made.made (seated c.args.hart (known c.args.local.seats) c.args.local.doze no_looks) (seated c.loop-made.hart (known c.loop-made.local.seats) c.loop-made.local.doze c.loop-made.looks) (seated t.new.hart (known t.result.0.seats) t.result.0.doze t.new.looks) t.result.1 t.result.2 i.turns t.ensures.once on said heard;
       few = let f = i.few in let r = t.ensures.range in omega (arith, f, r);
       asked = c.look.ensures ∙ ap (λ (n : ℕ). n + 1) i.asked;
     }
@@ -44,7 +44,7 @@ returns-then-not-goes_on-clause-once g c =
     let gate = c.args.gate.now in
     let said = subst (λ (k : ℕ). g.G.Gate.answers gate k c.loop-made.made true) (c.id.ensures ∙ i.id) c.in-Some-ask.ensures in
     let heard = subst (λ (k : ℕ). g.G.Gate.hears gate k c.loop-made.made) (c.id-in-loop-made.ensures ∙ (t.ensures.id ∙ i.id)) c.tell.ensures in
-    ended_life c.args.board.shape.now (g.G.Gate.answers gate by) (g.G.Gate.hears gate by) c.args.turns c.loop-made.made (seated c.args.hart (known c.args.local.seats) c.args.local.doze no_looks) (seated c.loop-made.hart (known c.loop-made.local.seats) c.loop-made.local.doze c.loop-made.looks) (seated t.new.hart (known t.result.0.seats) t.result.0.doze t.new.looks) t.result.1 t.result.2 i.turns t.ensures.once off said heard
+    ended_life c.args.board.shape.now g.J.Journal.memory (g.G.Gate.answers gate by) (g.G.Gate.hears gate by) c.args.turns c.loop-made.made (seated c.args.hart (known c.args.local.seats) c.args.local.doze no_looks) (seated c.loop-made.hart (known c.loop-made.local.seats) c.loop-made.local.doze c.loop-made.looks) (seated t.new.hart (known t.result.0.seats) t.result.0.doze t.new.looks) t.result.1 t.result.2 i.turns t.ensures.once off said heard
 
 pub whole_turn-next-requires-clause-seated : goal.whole_turn-next-requires-clause-seated
 whole_turn-next-requires-clause-seated g c κs within =

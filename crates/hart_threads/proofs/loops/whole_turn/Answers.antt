@@ -32,14 +32,14 @@ pub returns-in-Durable-clause-once : goal.returns-in-Durable-clause-once
 returns-in-Durable-clause-once g c =
     let turn = c.turn_by_bus-seats.ensures.turns in
     let t = c.turn_by_bus-seats in let m = c.call_locked-local in
-    held_turn c.args.board.shape.now c.args.hart.now t.new.hart m.new.hart (known c.args.local.seats) (known t.result.0) (known m.result.0.seats) c.args.local.doze m.result.0.doze c.args.looks.now
-    turn.0 turn.1 t.result.1 m.result.1 m.result.2 c.in_default.is c.in-Durable.is turn.4 m.ensures.once m.ensures.told m.ensures.doze
+    held_turn c.args.board.shape.now g.J.Journal.memory c.args.hart.now t.new.hart m.new.hart (known c.args.local.seats) (known t.result.0) (known m.result.0.seats) c.args.local.doze m.result.0.doze c.args.looks.now
+    turn.0 turn.1 t.result.1 m.result.1 m.result.2 turn.2 turn.3 c.in_default.is c.in-Durable.is turn.4 m.ensures.once m.ensures.told m.ensures.doze
 
 pub returns-in-Made-clause-once : goal.returns-in-Made-clause-once
 returns-in-Made-clause-once g c =
     let turn = c.turn_by_bus-seats.ensures.turns in
     let t = c.turn_by_bus-seats in
-    own_once c.args.board.shape.now c.args.hart.now t.new.hart (known c.args.local.seats) (known t.result.0) c.args.local.doze c.args.looks.now turn.0 turn.1 t.result.1 c.in-Made.did c.in_default.is c.in-Made.is turn.4
+    own_once c.args.board.shape.now g.J.Journal.memory c.args.hart.now t.new.hart (known c.args.local.seats) (known t.result.0) c.args.local.doze c.args.looks.now turn.0 turn.1 t.result.1 c.in-Made.did turn.2 turn.3 c.in_default.is c.in-Made.is turn.4
 
 pub turn_by_bus-seats-requires-clause-hart : goal.turn_by_bus-seats-requires-clause-hart
 turn_by_bus-seats-requires-clause-hart g c = subst (λ (n : ℕ). c.args.hart.now.id < n) c.requires.tables c.requires.seated.1
@@ -57,4 +57,4 @@ doze_turn-seats-requires-clause-quiet g c = subst (λ (o : Option Doze). RestsBy
 pub returns-in-Some-clause-once : goal.returns-in-Some-clause-once
 returns-in-Some-clause-once g c =
     let t = c.doze_turn-seats in
-    dozed c.args.board.shape.now c.args.hart.now (known c.args.local.seats) c.args.local.doze c.in-Some.doze c.args.looks.now (seated t.new.hart (known t.result.0) t.result.2 t.new.looks) _ t.result.1 c.in-Some.is t.ensures.once
+    dozed c.args.board.shape.now g.J.Journal.memory c.args.hart.now (known c.args.local.seats) c.args.local.doze c.in-Some.doze c.args.looks.now (seated t.new.hart (known t.result.0) t.result.2 t.new.looks) _ t.result.1 c.in-Some.is t.ensures.once

@@ -3,4 +3,4 @@ use Rattle.store.specs.Lives.{Life}
 use Rattle.hart_threads_tests.proofs.dozing.armed.Goals as goal
 
 pub returns-clause-begun : goal.returns-clause-begun
-returns-clause-begun c = (c.arm.ensures.board ∙ c.requires.begun.0, ap (λ (l : Life). l.journal) c.arm.ensures.life ∙ c.requires.begun.1)
+returns-clause-begun c = (c.arm.ensures.board ∙ c.requires.begun.0, ap (λ (l : Life). l.journal) c.arm.ensures.life ∙ c.requires.begun.1, ap (λ (l : Life). l.doubt) c.arm.ensures.life ∙ c.requires.begun.2)

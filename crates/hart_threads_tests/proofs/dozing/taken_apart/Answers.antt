@@ -5,13 +5,13 @@ use Rattle.susp.specs.declared.buses.Doze.{Doze}
 use Rattle.hart_threads_tests.proofs.Sized.{held_as, none_first}
 use Rattle.hart_threads_tests.proofs.dozing.taken_apart.Goals as goal
 
-pub returns-in-None-clause-held : goal.returns-in-None-clause-held
-returns-in-None-clause-held c =
+pub returns-in-None-entry-clause-held : goal.returns-in-None-entry-clause-held
+returns-in-None-entry-clause-held c =
     let parts = c.into_parts-parts.result in
     let long : length parts.harts.items ≡ c.shape-shape.result.harts = omega arith in
     subst (λ (o : Option Doze). IsHeld c.shape-shape.result parts.harts.items parts.tables (Some parts.seats) o) (sym c.into_parts-parts.ensures.doze)
     (held_as _ c.shape-shape.result parts.harts.items parts.tables parts.seats _ c.into_parts-parts.ensures.held long)
 
-pub returns-in-None-clause-begun : goal.returns-in-None-clause-begun
-returns-in-None-clause-begun c =
-    (subst (λ x. size_of_store x ≡ c.shape-shape.result) (sym c.into_parts-parts.ensures.store) (sym c.shape-shape.ensures), none_first (journal_of c.into_parts-parts.result.store) (c.in-None.ensures.none refl))
+pub returns-in-None-entry-clause-begun : goal.returns-in-None-entry-clause-begun
+returns-in-None-entry-clause-begun c =
+    (subst (λ x. size_of_store x ≡ c.shape-shape.result) (sym c.into_parts-parts.ensures.store) (sym c.shape-shape.ensures), none_first (journal_of c.into_parts-parts.result.store) (c.in-None-entry.ensures.none refl), c.in-None.ensures)

@@ -5,7 +5,7 @@ use Rattle.hart_threads_tests.proofs.looped.looped.Given as goal
 
 -- the life that the board has just begun
 abbrev pub ghosts-looped_as-J-Journal : goal.ghosts-looped_as-J-Journal
-ghosts-looped_as-J-Journal g a = record { found = found_state a.parts.store; size = a.shape.now; issued = []; book = id_of a.book; parts = parts_of a.book }
+ghosts-looped_as-J-Journal g a = record { found = found_state a.parts.store; size = a.shape.now; issued = []; memory = a.parts.bus.ram; book = id_of a.book; parts = parts_of a.book }
 
 -- and its harts, which the gate may end
 abbrev pub ghosts-looped_as-J-Threaded : goal.ghosts-looped_as-J-Threaded

@@ -5,4 +5,4 @@ use Rattle.hart_threads_tests.proofs.unheld.a_board_is_woken_once_and_its_memory
 
 -- the life that the board has just begun
 abbrev pub ghosts-wakes : goal.ghosts-wakes
-ghosts-wakes g a = record { found = found_state a.store; size = size_of_store a.store; issued = []; book = id_of a.book; parts = parts_of a.book }
+ghosts-wakes g a = record { found = found_state a.store; size = size_of_store a.store; issued = []; memory = a.bus.ram; book = id_of a.book; parts = parts_of a.book }

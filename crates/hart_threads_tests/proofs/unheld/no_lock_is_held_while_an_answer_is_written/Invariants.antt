@@ -5,4 +5,4 @@ use Rattle.hart_threads_tests.proofs.unheld.no_lock_is_held_while_an_answer_is_w
 
 -- the life that the board has just begun
 abbrev pub ghosts-talked : goal.ghosts-talked
-ghosts-talked g a = record { found = found_state a.store; size = size_of_store a.store; issued = []; book = id_of a.book; parts = parts_of a.book }
+ghosts-talked g a = record { found = found_state a.store; size = size_of_store a.store; issued = []; memory = a.bus.ram; book = id_of a.book; parts = parts_of a.book }

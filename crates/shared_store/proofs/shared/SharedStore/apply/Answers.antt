@@ -12,6 +12,7 @@ use Rattle.receipts.specs.declared.views.BookView.{BookView}
 use Rattle.shared_store.specs.Noted.{entries_in}
 use Rattle.board_model.proofs.Steps.{entry_of_command}
 use Rattle.shared_store.proofs.Noting.{number, tied_on}
+use Rattle.shared_store.proofs.Carrying.{asked_carried}
 use Rattle.shared_store.proofs.Lasting.{one_longer}
 use Rattle.shared_store.proofs.shared.SharedStore.apply.Goals as goal
 
@@ -30,7 +31,7 @@ invariant_of-self g c =
     let note = c.note-part.ensures in
     let tied = tied_on (journal_of old.store) (journal_of new) old.keeper.log (change_of c.args.command) (entries.Command c.args.command) c.args.part.who old.tied (entry_of_command c.args.command) did.1.0
     ∙ sym (ap (λ (v : BookView). entries_of v.log) note.keeper) in
-    record { named = did.0; issued = begins_on g.J.Journal.issued (journal_of old.store) (journal_of new) (change_of c.args.command) old.issued did.1.0; counted = omega (arith, is, a, longer); few = omega (arith, is, a, b); tied = tied; none = ap (λ (v : BookView). length v.parts) note.keeper ∙ old.none }
+    record { named = did.0; issued = begins_on g.J.Journal.issued (journal_of old.store) (journal_of new) (change_of c.args.command) old.issued did.1.0; carried = asked_carried g.J.Journal.memory old.store new c.args.command (Ok n) old.carried asked; counted = omega (arith, is, a, longer); few = omega (arith, is, a, b); tied = tied; none = ap (λ (v : BookView). length v.parts) note.keeper ∙ old.none }
 
 pub invariant_of-self-in-Err-1 : goal.invariant_of-self-in-Err-1
 invariant_of-self-in-Err-1 g c =
@@ -42,7 +43,7 @@ invariant_of-self-in-Err-1 g c =
     let did = asked_named g.J.Journal.found g.J.Journal.size old.store new (change_of c.args.command) (Err r) (doubt_of old.store) refl old.named asked in
     let same = ap (λ (cs : List Change). length cs) did.1 in
     let is = old.counted in
-    record { named = did.0; issued = begins_still g.J.Journal.issued (journal_of old.store) (journal_of new) old.issued did.1; counted = omega (arith, is, same); few = old.few; tied = ap entries_in did.1 ∙ old.tied; none = old.none }
+    record { named = did.0; issued = begins_still g.J.Journal.issued (journal_of old.store) (journal_of new) old.issued did.1; carried = asked_carried g.J.Journal.memory old.store new c.args.command (Err r) old.carried asked; counted = omega (arith, is, same); few = old.few; tied = ap entries_in did.1 ∙ old.tied; none = old.none }
 
 pub returns-in-Err-clause-may : goal.returns-in-Err-clause-may
 returns-in-Err-clause-may g c =

@@ -15,24 +15,24 @@ use Rattle.shared_store.proofs.shared.SharedStore.call.Goals as goal
 pub invariant_of-self : goal.invariant_of-self
 invariant_of-self g c =
     let old = c.args.self.now in
-    let d = c.dispatch_held-seats in
+    let d = c.call-seats in
     let size = g.J.Journal.size in
     let call = call_of c.args.hart.now in
     let by = c.args.hart.now.id in
-    let m = made g.J.Journal.found size (harts_of_both c.args.tables.now) call c.args.hart.now d.new.hart (known c.args.seats) (known d.result.0) c.args.bus.now d.new.bus old.store d.new.store d.result.1 old.named d.ensures.makes in
+    let m = made g.J.Journal.found size (harts_of_both c.args.tables.now) call c.args.hart.now d.new.hart (known c.args.seats) (known d.result.0) c.args.bus.now.bus d.new.self.bus old.store d.new.store d.result.1 old.named d.ensures.makes in
     let same = stays size call by c.in-Goes.field-0 d.result.1 (journal_of old.store) (journal_of d.new.store) c.in-Goes.is m.adds in
     let as_long = ap (λ (cs : List Change). length cs) same in
     let before = old.counted in
-    record { named = m.named; issued = begins_still g.J.Journal.issued (journal_of old.store) (journal_of d.new.store) old.issued same; counted = omega (arith, before, as_long); few = old.few; tied = ap entries_in same ∙ old.tied; none = old.none }
+    record { named = m.named; issued = begins_still g.J.Journal.issued (journal_of old.store) (journal_of d.new.store) old.issued same; carried = d.ensures.carried; counted = omega (arith, before, as_long); few = old.few; tied = ap entries_in same ∙ old.tied; none = old.none }
 
 pub last_entry-requires-after_bounds : goal.last_entry-requires-after_bounds
 last_entry-requires-after_bounds g c κs within =
     let old = c.args.self.now in
-    let d = c.dispatch_held-seats in
+    let d = c.call-seats in
     let size = g.J.Journal.size in
     let call = call_of c.args.hart.now in
     let by = c.args.hart.now.id in
-    let m = made g.J.Journal.found size (harts_of_both c.args.tables.now) call c.args.hart.now d.new.hart (known c.args.seats) (known d.result.0) c.args.bus.now d.new.bus old.store d.new.store d.result.1 old.named d.ensures.makes in
+    let m = made g.J.Journal.found size (harts_of_both c.args.tables.now) call c.args.hart.now d.new.hart (known c.args.seats) (known d.result.0) c.args.bus.now.bus d.new.self.bus old.store d.new.store d.result.1 old.named d.ensures.makes in
     let grown = grows size call by c.in-Over.field-0 d.result.1 (journal_of old.store) (journal_of d.new.store) c.in-Over.is m.adds in
     let longer = grown.longer in
     let before = old.counted in
@@ -41,11 +41,11 @@ last_entry-requires-after_bounds g c κs within =
 pub new-told-requires : goal.new-told-requires
 new-told-requires g c =
     let old = c.args.self.now in
-    let d = c.dispatch_held-seats in
+    let d = c.call-seats in
     let size = g.J.Journal.size in
     let call = call_of c.args.hart.now in
     let by = c.args.hart.now.id in
-    let m = made g.J.Journal.found size (harts_of_both c.args.tables.now) call c.args.hart.now d.new.hart (known c.args.seats) (known d.result.0) c.args.bus.now d.new.bus old.store d.new.store d.result.1 old.named d.ensures.makes in
+    let m = made g.J.Journal.found size (harts_of_both c.args.tables.now) call c.args.hart.now d.new.hart (known c.args.seats) (known d.result.0) c.args.bus.now.bus d.new.self.bus old.store d.new.store d.result.1 old.named d.ensures.makes in
     let grown = grows size call by c.in-Over.field-0 d.result.1 (journal_of old.store) (journal_of d.new.store) c.in-Over.is m.adds in
     let few = grown.few in
     let before = old.counted in
@@ -54,11 +54,11 @@ new-told-requires g c =
 pub invariant_of-self-in-Over : goal.invariant_of-self-in-Over
 invariant_of-self-in-Over g c =
     let old = c.args.self.now in
-    let d = c.dispatch_held-seats in
+    let d = c.call-seats in
     let size = g.J.Journal.size in
     let call = call_of c.args.hart.now in
     let by = c.args.hart.now.id in
-    let m = made g.J.Journal.found size (harts_of_both c.args.tables.now) call c.args.hart.now d.new.hart (known c.args.seats) (known d.result.0) c.args.bus.now d.new.bus old.store d.new.store d.result.1 old.named d.ensures.makes in
+    let m = made g.J.Journal.found size (harts_of_both c.args.tables.now) call c.args.hart.now d.new.hart (known c.args.seats) (known d.result.0) c.args.bus.now.bus d.new.self.bus old.store d.new.store d.result.1 old.named d.ensures.makes in
     let end = c.in-Over.field-0 in
     let grown = grows size call by end d.result.1 (journal_of old.store) (journal_of d.new.store) c.in-Over.is m.adds in
     let longer = grown.longer in
@@ -69,16 +69,16 @@ invariant_of-self-in-Over g c =
     let tied = tied_after size call by end (journal_of old.store) (journal_of d.new.store) grown old.keeper.log (old.count + 1) c.in-Some.entry c.args.part.who c.in-Some.ensures.some old.tied
     ∙ ap (λ (e : Entry). entries_of ((c.args.part.who, e) ∷ old.keeper.log)) (sym entry)
     ∙ sym (ap (λ (v : BookView). entries_of v.log) note.keeper) in
-    record { named = m.named; issued = begins_longer size call by end (journal_of old.store) (journal_of d.new.store) grown g.J.Journal.issued old.issued; counted = omega (arith, longer, before); few = omega (arith, few, before); tied = tied; none = ap (λ (v : BookView). length v.parts) note.keeper ∙ old.none }
+    record { named = m.named; issued = begins_longer size call by end (journal_of old.store) (journal_of d.new.store) grown g.J.Journal.issued old.issued; carried = d.ensures.carried; counted = omega (arith, longer, before); few = omega (arith, few, before); tied = tied; none = ap (λ (v : BookView). length v.parts) note.keeper ∙ old.none }
 
 pub returns-in-Some-clause-told : goal.returns-in-Some-clause-told
 returns-in-Some-clause-told g c =
     let old = c.args.self.now in
-    let d = c.dispatch_held-seats in
+    let d = c.call-seats in
     let size = g.J.Journal.size in
     let call = call_of c.args.hart.now in
     let by = c.args.hart.now.id in
-    let m = made g.J.Journal.found size (harts_of_both c.args.tables.now) call c.args.hart.now d.new.hart (known c.args.seats) (known d.result.0) c.args.bus.now d.new.bus old.store d.new.store d.result.1 old.named d.ensures.makes in
+    let m = made g.J.Journal.found size (harts_of_both c.args.tables.now) call c.args.hart.now d.new.hart (known c.args.seats) (known d.result.0) c.args.bus.now.bus d.new.self.bus old.store d.new.store d.result.1 old.named d.ensures.makes in
     let end = c.in-Over.field-0 in
     let grown = grows size call by end d.result.1 (journal_of old.store) (journal_of d.new.store) c.in-Over.is m.adds in
     told_of size call by end (journal_of old.store) (journal_of d.new.store) grown d.result.1 (old.count + 1, c.in-Some.entry) c.new-told.result c.in-Over.is c.new-told.ensures c.in-Some.ensures.some
@@ -86,11 +86,11 @@ returns-in-Some-clause-told g c =
 pub returns-in-Some-clause-noted : goal.returns-in-Some-clause-noted
 returns-in-Some-clause-noted g c =
     let old = c.args.self.now in
-    let d = c.dispatch_held-seats in
+    let d = c.call-seats in
     let size = g.J.Journal.size in
     let call = call_of c.args.hart.now in
     let by = c.args.hart.now.id in
-    let m = made g.J.Journal.found size (harts_of_both c.args.tables.now) call c.args.hart.now d.new.hart (known c.args.seats) (known d.result.0) c.args.bus.now d.new.bus old.store d.new.store d.result.1 old.named d.ensures.makes in
+    let m = made g.J.Journal.found size (harts_of_both c.args.tables.now) call c.args.hart.now d.new.hart (known c.args.seats) (known d.result.0) c.args.bus.now.bus d.new.self.bus old.store d.new.store d.result.1 old.named d.ensures.makes in
     let end = c.in-Over.field-0 in
     let grown = grows size call by end d.result.1 (journal_of old.store) (journal_of d.new.store) c.in-Over.is m.adds in
     let place = place_after size call by end (journal_of old.store) (journal_of d.new.store) grown old.keeper.log (old.count + 1) c.in-Some.ensures.some.1 old.tied in

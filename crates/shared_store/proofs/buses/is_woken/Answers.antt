@@ -1,6 +1,6 @@
 use Rattle.std.proofs.Common.{◌∙◌, sym, ap}
-use Rattle.hart_threads.specs.Looks.{woken_in}
-use Rattle.hart_threads.proofs.dozes.is_woken.Goals as goal
+use Rattle.shared_store.specs.Dozes.{woken_in}
+use Rattle.shared_store.proofs.buses.is_woken.Goals as goal
 
 pub returns-in-Some : goal.returns-in-Some
 returns-in-Some c = sym (ap woken_in (sym c.doze_of.ensures ∙ c.in-Some.is))

@@ -1,0 +1,33 @@
+-- The memory that steps of harts make, one after another, whichever harts make them. Source: docs/THREADS.md, "The bus".
+use Rattle.std.specs.Prelude.{◌≡◌, ℕ, Bool, true, List, Some, slice_get}
+use Rattle.board_model.specs.Durable.{Change, Suspend}
+use Rattle.hart.specs.Means.{Steps}
+use Rattle.hart.specs.State.{ArchState}
+use Rattle.hart.specs.declared.Outcome.{Outcome}
+use Rattle.store.specs.Lives.{Life}
+
+-- one step of a hart, for which an interrupt is pending or not, with the memory before and after it
+abbrev pub IsStep : List ℕ → List ℕ → Type 0
+IsStep m n = (pending : Bool) × (s : ArchState) × (t : ArchState) × (outcome : Outcome) × Steps pending s m t n outcome
+
+-- each step keeps it
+abbrev pub StepsKeep : (List ℕ → Bool) → Type 0
+StepsKeep is = (m : List ℕ) (n : List ℕ) → IsStep m n → is m ≡ true → is n ≡ true
+
+-- Some steps, one after another, make the memory n of m: n is in each set of memories that m is in and that no step leaves.
+abbrev pub StepsMake : List ℕ → List ℕ → Type 0
+StepsMake m n = (is : List ℕ → Bool) → StepsKeep is → is m ≡ true → is n ≡ true
+
+-- a suspension carries a memory that steps of harts made of this one
+abbrev pub CarriesSteps : List ℕ → Change → Type 0
+CarriesSteps begun c =
+    (hart address opaque : ℕ) (memory : List ℕ) → c ≡ Suspend hart address opaque memory → StepsMake begun memory
+
+-- each suspension of these commands does
+abbrev pub AllCarrySteps : List ℕ → List Change → Type 0
+AllCarrySteps begun cs = (k : ℕ) (c : Change) → slice_get cs k ≡ Some c → CarriesSteps begun c
+
+-- each suspension of a life does, those that were acknowledged and the one in doubt
+pub record IsCarried (begun : List ℕ) (life : Life) : Type 0 where
+  pub journal : AllCarrySteps begun life.journal
+  pub doubt : (c : Change) → life.doubt ≡ Some c → CarriesSteps begun c
