@@ -1,0 +1,229 @@
+//! The bench between two lines.
+
+ghost use Rattle.std.specs.Prelude.{◌≡◌, ◌≤◌, IfOk, IfErr, OnOk, length, slice_set};
+ghost use Rattle.board.specs.Boots.{payload_at};
+ghost use Rattle.board_model.specs.Shapes.{Size};
+ghost use Rattle.board_model.specs.declared.refusal.Refusal.TheVariants.{Memory};
+ghost use Rattle.bench_report.specs.Agree.{Agrees, IsResting, IsUnstruck, fill_after};
+ghost use Rattle.bench_report.specs.Bench.{Bench, bench_with};
+ghost use Rattle.bench_report.specs.Happens.{unpowered};
+ghost use Rattle.bench_report.specs.Steps.{Moves};
+ghost use Rattle.debug_session.specs.Lives.{IsSound, Shows, machine_on, pc_in};
+ghost use Rattle.bench_rows.specs.Rows.{IsWithin, RowMoves, row_answer};
+ghost use Rattle.script_lang.specs.Lines.{IsLineInRange};
+ghost use Rattle.script_lang.specs.declared.line.Line.TheVariants as lines;
+ghost use Rattle.simdisk.specs.declared.fill.Fill.TheVariants as fills;
+
+use crate::rows::{row_on, stays_on};
+use bench_report::{Answer, Power, Setting, after, disk_left, line_with_cuts, struck};
+use bench_rows::Row;
+use board::Payloads;
+use board_model::{HartId, Refusal, Shape, Slot};
+use crew::Crew;
+use machine::Word;
+use script_lang::Line;
+use simdisk::{Fill, SimDisk};
+use std::alloc::{AllocError, Global};
+use store::{blank_disks, kept_disks};
+
+/// The board, off or on, what the slots boot, and what an armed cut is to leave.
+#[derive(Drop)]
+pub struct LiveBench {
+    /// Away only while a line runs.
+    pub(crate) power: Option<Power>,
+    payloads: Payloads,
+    fill: Fill,
+    /// What was last said of a turn of each hart in this life.
+    said: [Option<Word>; 8],
+}
+
+/// Copies what a slot boots.
+fn copy_slot(
+    alloc: Global,
+    from: &Payloads,
+    number: u32,
+    to: &mut Payloads,
+) -> Result<(), AllocError>
+    requires { number ≤ 3 }
+    ensures { OnOk result (to.new ≡ slice_set to.old number (payload_at from.now number)) }
+{
+    if let Some(slot) = Slot::new(number) {
+        let bytes = Vec::from_slice(alloc, from.get(slot))?;
+        to.set(slot, bytes);
+    }
+    Ok(())
+}
+
+/// The same payloads, for another bench.
+#[tactic(auto, using(crate::proofs::Copies::four_copied))]
+fn copied(alloc: Global, payloads: &Payloads) -> Result<Payloads, AllocError>
+    requires { length payloads.now ≡ 4 }
+    ensures { IfOk result (λ copy. copy ≡ payloads.now) }
+{
+    let mut copy = Payloads::new(alloc);
+    copy_slot(alloc, payloads, 0, &mut copy)?;
+    copy_slot(alloc, payloads, 1, &mut copy)?;
+    copy_slot(alloc, payloads, 2, &mut copy)?;
+    copy_slot(alloc, payloads, 3, &mut copy)?;
+    Ok(copy)
+}
+
+/// Takes power; each range that was written since the last sync holds what the fill says.
+fn cut(power: Power, fill: Fill) -> Power
+    requires { IsResting power }
+    ensures reported { (size : Size) (b : Bench) → Agrees size b power → Agrees size (unpowered b) result }
+    ensures resting { IsResting result }
+    ensures calm { IsUnstruck result }
+{
+    kept_disks::<SimDisk>();
+    Power::Off(disk_left(power).after_cut(fill))
+}
+
+/// Whether the board is off.
+fn is_off(power: &Power) -> bool {
+    match power {
+        Power::Off(_) => true,
+        Power::On(_) => false,
+    }
+}
+
+impl LiveBench {
+    /// The bench before its first line: a blank disk of the size that the board needs, and these payloads.
+    pub fn blank(alloc: Global, shape: &Shape, begins: &Payloads) -> Result<LiveBench, Refusal>
+        requires four { length begins.now ≡ 4 }
+        ensures shows { IfOk result (Shows shape.now (bench_with begins.now)) }
+        ensures sound { IfOk result IsSound }
+        ensures fill { IfOk result (λ live. live.fill ≡ fills.Old) }
+        ensures refused { IfErr result (λ e. e ≡ Memory) }
+    {
+        blank_disks::<SimDisk>();
+        let disk = SimDisk::blank(alloc, shape.sectors())?;
+        let payloads = copied(alloc, begins)?;
+        Ok(LiveBench {
+            power: Some(Power::Off(disk)),
+            payloads,
+            fill: Fill::Old,
+            said: [None; 8],
+        })
+    }
+
+    /// Runs a line, as `bench_report::line_with_cuts` does. Refused `Memory` alone, where a payload or a poke found
+    /// none.
+    pub fn run<C: Crew>(&mut self, setting: &Setting<'_, C>, line: &Line) -> Result<Answer, Refusal>
+        requires range { IsLineInRange setting.now.shape.now line.now }
+        requires sound { IsSound self.old }
+        ensures reported { IfOk result (λ answer. (b : Bench) → Shows setting.now.shape.now b self.old
+            → (new : Bench) × Moves setting.now.shape.now line.now b answer new × Shows setting.now.shape.now new self.new) }
+        ensures sound { OnOk result (IsSound self.new) }
+        ensures fill { self.new.fill ≡ fill_after line.now self.old.fill }
+        ensures refused { IfErr result (λ e. e ≡ Memory) }
+    {
+        let Some(power) = self.power.take() else {
+            return Err(Refusal::Memory);
+        };
+        let (after, answer) = line_with_cuts(
+            setting,
+            line,
+            power,
+            &mut self.payloads,
+            &mut self.fill,
+        );
+        if is_off(&after) {
+            self.said = [None; 8];
+        }
+        self.power = Some(after);
+        answer
+    }
+
+    /// Up to so many turns of a hart, one after another: what the line `turn` does, and many times as fast, since
+    /// a board that stays on is not moved.
+    pub fn turns<C: Crew>(&mut self, setting: &Setting<'_, C>, hart: HartId, count: u32) -> Row
+        requires some { 1 ≤ count }
+        requires sound { IsSound self.old }
+        ensures reported { (size : Size) (b : Bench) → Shows size b self.old → (new : Bench)
+            × RowMoves size hart result b new × Moves size (lines.Turn hart count) b (row_answer hart result) new
+            × Shows size new self.new }
+        ensures range { IsWithin count result }
+        ensures sound { IsSound self.new }
+        ensures fill { self.new.fill ≡ self.old.fill }
+    {
+        let board = match &mut self.power {
+            Some(Power::On(board)) => board,
+            _ => return Row::Off,
+        };
+        if !board.machine().has(hart) {
+            return Row::Off;
+        }
+        let (made, word) = row_on(setting.alloc, setting.crew, board, hart, count);
+        let stays = stays_on(word) && !board.struck();
+        self.said[hart.index()] = Some(word);
+        if stays {
+            return Row::Made(made, word);
+        }
+        self.said = [None; 8];
+        let Some(Power::On(board)) = self.power.take() else {
+            return Row::Off;
+        };
+        let left = after(board, word);
+        if struck(&left) {
+            self.power = Some(cut(left, self.fill));
+            return Row::Lost(made);
+        }
+        self.power = Some(left);
+        Row::Made(made, word)
+    }
+
+    /// Turns of a hart one by one, `most` of them at most: up to one after which the hart stands at one of these
+    /// addresses, one that ends a row of turns, and one before an idle turn, which changes nothing and is left out.
+    /// What came of them, where any was made; and whether the next turn of the hart is idle.
+    pub fn turns_to<C: Crew>(
+        &mut self,
+        setting: &Setting<'_, C>,
+        hart: HartId,
+        most: u32,
+        points: &[u64],
+    ) -> (Row, bool)
+        requires sound { IsSound self.old }
+        ensures reported { (size : Size) (b : Bench) → Shows size b self.old → (new : Bench)
+            × RowMoves size hart result.0 b new × Shows size new self.new }
+        ensures range { IsWithin most result.0 }
+        ensures sound { IsSound self.new }
+        ensures fill { self.new.fill ≡ self.old.fill }
+    {
+        let mut row = Row::Off;
+        for _ in 0..most {
+            let next = self.turns(setting, hart, 1);
+            if next.is_idle() {
+                return (row, true);
+            }
+            row = row.then(next);
+            if !next.goes_on() || self.stands_at(hart, points) {
+                return (row, false);
+            }
+        }
+        (row, false)
+    }
+
+    /// What was last said of a turn of a hart in this life.
+    pub fn said(&self, hart: HartId) -> Option<Word> {
+        self.said[hart.index()]
+    }
+
+    /// The pc of a hart of a board that is on.
+    pub fn pc(&self, hart: HartId) -> Option<u64>
+        ensures { result ≡ pc_in hart (machine_on self.now.power) }
+    {
+        match &self.power {
+            Some(Power::On(board)) if board.machine().has(hart) => Some(board.hart(hart).pc()),
+            _ => None,
+        }
+    }
+
+    /// Whether a hart stands at one of these addresses.
+    pub fn stands_at(&self, hart: HartId, points: &[u64]) -> bool {
+        match self.pc(hart) {
+            Some(pc) => points.contains(&pc),
+            None => false,
+        }
+    }
+}
