@@ -1,22 +1,22 @@
 -- The state of a debugged board is one that its history may leave.
-use Rattle.std.specs.Prelude.{◌≡◌, ◌≤◌, ◌<◌, ℕ, Bool, true, false, List, [], ◌∷◌, ◌++◌, All, length, take, replicate, ⊤}
+use Rattle.std.specs.Prelude.{◌≡◌, ◌⊎◌, ◌≤◌, ◌<◌, ℕ, Bool, true, false, List, [], ◌∷◌, ◌++◌, All, None, length, take, replicate, ⊤}
 use Rattle.board_model.specs.Shapes.{Size}
 use Rattle.sbi.specs.Words.{ends}
 use Rattle.sbi.specs.declared.words.Word.{Word}
-use Rattle.script_lang.specs.Lines.{IsLineInRange}
 use Rattle.script_lang.specs.declared.line.Line.{Line}
 use Rattle.script_lang.specs.declared.line.Line.TheVariants as lines
 use Rattle.simdisk.specs.declared.fill.Fill.TheVariants as fills
 use Rattle.bench_history.specs.Pasts.{moments}
 use Rattle.bench_report.specs.declared.printed.Answer.{Answer}
 use Rattle.bench_report.specs.Bench.{Bench, bench_with}
-use Rattle.bench_report.specs.Steps.{Run}
 use Rattle.bench_report.specs.Agree.{fills_after}
+use Rattle.bench_report.specs.Steps.{Moves}
+use Rattle.bench_rows.specs.declared.rows.Row.{Row}
 use Rattle.bench_rows.specs.declared.rows.Row.TheVariants as rows
-use Rattle.debug_session.specs.declared.timeline.Timeline.{Timeline}
-use Rattle.debug_session.specs.Lives.{Shows, IsSound}
-use Rattle.bench_rows.specs.Rows.{RowMoves}
+use Rattle.bench_rows.specs.Rows.{IsWithin, RowMoves, is_off, made_in, row_answer}
 use Rattle.bench_rows.specs.Notes.{AreInRange, Joins, Leaves}
+use Rattle.debug_session.specs.declared.timeline.Timeline.{Timeline}
+use Rattle.debug_session.specs.Lives.{IsSound, Rests, Shows, machine_on, pc_in}
 
 -- a line is a row of turns of which all were made, and a further turn of the hart is one row with it
 abbrev pub GoesOnBy : Size → Bool → Line → Bench → Bench → Type 0
@@ -28,7 +28,8 @@ GoesOnBy size true line b new =
 -- a bench that the history may leave
 abbrev pub IsLeft : Size → Timeline → Bench → Type 0
 IsLeft size t b =
-    Leaves size (bench_with t.begins) t.history b × Joins size (bench_with t.begins) t.joins t.history b × Shows size b t.bench
+    Leaves size (bench_with t.begins) t.history b × Joins size (bench_with t.begins) t.joins t.history b
+    × Shows size b t.bench
 
 -- The invariant: the bench is one that the history may leave, and what an armed cut is to leave is what it says.
 pub record IsAt (size : Size) (t : Timeline) : Type 0 where
@@ -38,24 +39,60 @@ pub record IsAt (size : Size) (t : Timeline) : Type 0 where
   pub ranges : AreInRange size t.history
   pub four : length t.begins ≡ 4
 
--- A line became part of the history; a row of turns with as many as were made.
-abbrev pub IsNoted : Line → List Line → List Line → Type 0
-IsNoted (lines.Turn h n) old new = (k : ℕ) × (k ≤ n) × (moments new ≡ moments old ++ replicate k (lines.Turn h 1))
-IsNoted line old new = new ≡ old ++ line ∷ []
+-- A line became part of the history; a row of turns with as many as its answer says.
+abbrev pub IsNoted : Line → Answer → List Line → List Line → Type 0
+IsNoted (lines.Turn h n) answer old new =
+    (row : Row) × IsWithin n row × (answer ≡ row_answer h row)
+    × (moments new ≡ moments old ++ replicate (made_in row) (lines.Turn h 1))
+IsNoted line answer old new = new ≡ old ++ line ∷ []
+
+-- these lines became part of it, one after another
+abbrev pub AreNoted : List Line → List Line → List Line → Type 0
+AreNoted [] old new = new ≡ old
+AreNoted (line ∷ more) old new = (answer : Answer) × (mid : List Line) × IsNoted line answer old mid × AreNoted more mid new
+
+-- A line was run, and noted.
+pub record Ran (size : Size) (line : Line) (answer : Answer) (old new : Timeline) : Type 0 where
+  pub moves : (b : Bench) → IsLeft size old b → (after : Bench) × Moves size line b answer after × IsLeft size new after
+  pub noted : IsNoted line answer old.history new.history
+
+-- A row of turns of hart h became part of the history, and nothing else; behind it the next turn may rest.
+pub record MadeTurns (size : Size) (h : ℕ) (row : Row) (rests : Bool) (old new : Timeline) : Type 0 where
+  pub moves : (b : Bench) → IsLeft size old b
+      → (after : Bench) × RowMoves size h row b after × IsLeft size new after × Rests size h rests after
+  pub grew : moments new.history ≡ moments old.history ++ replicate (made_in row) (lines.Turn h 1)
+
+-- One turn of hart h became part of the history, and nothing else; or none did, since it is idle and changes nothing, or
+-- the board is off or lacks the hart.
+abbrev pub IsStep : Size → ℕ → Timeline → Timeline → Type 0
+IsStep size h old new =
+    (row : Row) × (rests : Bool) × IsWithin 1 row × MadeTurns size h row rests old new
+    × (is_off row ≡ true → (rests ≡ true) ⊎ (pc_in h (machine_on new.bench.power) ≡ None))
+
+-- one turn of a hart that may run
+abbrev pub IsTurnOf : (ℕ → Type 0) → Line → Type 0
+IsTurnOf May (lines.Turn h n) = (n ≡ 1) × May h
+IsTurnOf May line = ⊥
+
+-- So many turns of harts that may run became part of the history, and nothing else.
+pub record Went (May : ℕ → Type 0) (count : ℕ) (size : Size) (old new : Timeline) : Type 0 where
+  pub at : IsAt size new
+  pub begins : new.begins ≡ old.begins
+  pub turns : List Line
+  pub grew : moments new.history ≡ moments old.history ++ turns
+  pub only : All (IsTurnOf May) turns
+  pub as_many : length turns ≡ count
 
 -- line i is a row of hart h that has more turns than so many
 abbrev pub IsPlace : ℕ → ℕ → ℕ → List Line → Type 0
 IsPlace h i k past =
     (n : ℕ) × (after : List Line) × (past ≡ take i past ++ lines.Turn h n ∷ after) × (k < n)
 
--- the history grew by turns of harts alone
-abbrev pub IsTurn : Line → Type 0
-IsTurn (lines.Turn h n) = n ≡ 1
-IsTurn line = ⊥
+-- the history ends before a turn of hart h, which came next; it and what came after are forgotten, and nothing else
+abbrev pub IsBefore : ℕ → List Line → List Line → Type 0
+IsBefore h old new = (after : List Line) × (moments old ≡ moments new ++ lines.Turn h 1 ∷ after)
 
-abbrev pub GrewByTurns : List Line → List Line → Type 0
-GrewByTurns old new = (more : List Line) × (moments new ≡ moments old ++ more) × All IsTurn more
-
--- the history is a beginning of what it was
-abbrev pub IsBeginning : List Line → List Line → Type 0
-IsBeginning new old = (more : List Line) × (moments old ≡ moments new ++ more)
+-- a line that makes no turns
+abbrev pub MakesNone : Line → Type 0
+MakesNone (lines.Turn h n) = ⊥
+MakesNone line = ⊤

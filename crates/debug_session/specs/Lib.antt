@@ -1,2 +1,4 @@
 pub mod Lives
 pub mod Ats
+pub mod Sessions
+pub mod Texts

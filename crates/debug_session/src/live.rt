@@ -1,22 +1,21 @@
 //! The bench between two lines.
 
-ghost use Rattle.std.specs.Prelude.{◌≡◌, ◌≤◌, IfOk, IfErr, OnOk, length, slice_set};
+ghost use Rattle.std.specs.Prelude.{◌≡◌, ◌⊎◌, ◌≤◌, ◌<◌, ◌+◌, ℕ, true, false, None, IfOk, IfErr, OnOk, length, slice_set};
 ghost use Rattle.board.specs.Boots.{payload_at};
 ghost use Rattle.board_model.specs.Shapes.{Size};
 ghost use Rattle.board_model.specs.declared.refusal.Refusal.TheVariants.{Memory};
-ghost use Rattle.bench_report.specs.Agree.{Agrees, IsResting, IsUnstruck, fill_after};
+ghost use Rattle.bench_report.specs.Agree.{fill_after};
 ghost use Rattle.bench_report.specs.Bench.{Bench, bench_with};
-ghost use Rattle.bench_report.specs.Happens.{unpowered};
 ghost use Rattle.bench_report.specs.Steps.{Moves};
-ghost use Rattle.debug_session.specs.Lives.{IsSound, Shows, machine_on, pc_in};
-ghost use Rattle.bench_rows.specs.Rows.{IsWithin, RowMoves, row_answer};
+ghost use Rattle.debug_session.specs.Lives.{HasHalted, IsSound, Rests, Shows, machine_on, pc_in, said_of, stands_in};
+ghost use Rattle.bench_rows.specs.Rows.{IsOpenRow, IsWithin, RowMoves, made_in, row_answer};
 ghost use Rattle.script_lang.specs.Lines.{IsLineInRange};
 ghost use Rattle.script_lang.specs.declared.line.Line.TheVariants as lines;
 ghost use Rattle.simdisk.specs.declared.fill.Fill.TheVariants as fills;
 
-use crate::rows::{row_on, stays_on};
-use bench_report::{Answer, Power, Setting, after, disk_left, line_with_cuts, struck};
-use bench_rows::Row;
+use crate::rows::{in_place, settled, stays_on};
+use bench_report::{Answer, Power, Setting, line_with_cuts, struck};
+use bench_rows::{Row, idle_turns_change_nothing, rows_join};
 use board::Payloads;
 use board_model::{HartId, Refusal, Shape, Slot};
 use crew::Crew;
@@ -24,7 +23,7 @@ use machine::Word;
 use script_lang::Line;
 use simdisk::{Fill, SimDisk};
 use std::alloc::{AllocError, Global};
-use store::{blank_disks, kept_disks};
+use store::blank_disks;
 
 /// The board, off or on, what the slots boot, and what an armed cut is to leave.
 #[derive(Drop)]
@@ -35,6 +34,17 @@ pub struct LiveBench {
     fill: Fill,
     /// What was last said of a turn of each hart in this life.
     said: [Option<Word>; 8],
+}
+
+/// Whether a row of turns goes on.
+#[derive(Clone, Copy, PartialEq, Eq, Drop)]
+enum Next {
+    /// The next turn is idle.
+    Rests,
+    /// It has come to its end, or to an address.
+    Halts,
+    /// Another may follow.
+    Goes,
 }
 
 /// Copies what a slot boots.
@@ -66,17 +76,6 @@ fn copied(alloc: Global, payloads: &Payloads) -> Result<Payloads, AllocError>
     copy_slot(alloc, payloads, 2, &mut copy)?;
     copy_slot(alloc, payloads, 3, &mut copy)?;
     Ok(copy)
-}
-
-/// Takes power; each range that was written since the last sync holds what the fill says.
-fn cut(power: Power, fill: Fill) -> Power
-    requires { IsResting power }
-    ensures reported { (size : Size) (b : Bench) → Agrees size b power → Agrees size (unpowered b) result }
-    ensures resting { IsResting result }
-    ensures calm { IsUnstruck result }
-{
-    kept_disks::<SimDisk>();
-    Power::Off(disk_left(power).after_cut(fill))
 }
 
 /// Whether the board is off.
@@ -144,33 +143,64 @@ impl LiveBench {
             × RowMoves size hart result b new × Moves size (lines.Turn hart count) b (row_answer hart result) new
             × Shows size new self.new }
         ensures range { IsWithin count result }
+        ensures off { result ≡ Row.Off → pc_in hart (machine_on self.new.power) ≡ None }
         ensures sound { IsSound self.new }
         ensures fill { self.new.fill ≡ self.old.fill }
     {
-        let board = match &mut self.power {
-            Some(Power::On(board)) => board,
-            _ => return Row::Off,
-        };
-        if !board.machine().has(hart) {
+        let Some(power) = &mut self.power else {
             return Row::Off;
-        }
-        let (made, word) = row_on(setting.alloc, setting.crew, board, hart, count);
-        let stays = stays_on(word) && !board.struck();
-        self.said[hart.index()] = Some(word);
-        if stays {
+        };
+        let Some((made, word)) = in_place(setting, power, hart, count) else {
+            return Row::Off;
+        };
+        if stays_on(word) && !struck(power) {
+            self.said[hart.index()] = Some(word);
             return Row::Made(made, word);
         }
         self.said = [None; 8];
-        let Some(Power::On(board)) = self.power.take() else {
+        let Some(power) = self.power.take() else {
             return Row::Off;
         };
-        let left = after(board, word);
-        if struck(&left) {
-            self.power = Some(cut(left, self.fill));
-            return Row::Lost(made);
-        }
+        let (left, lost) = settled(power, word, self.fill);
         self.power = Some(left);
-        Row::Made(made, word)
+        if lost {
+            Row::Lost(made)
+        } else {
+            Row::Made(made, word)
+        }
+    }
+
+    /// One turn more of a row that may go on, and how that goes on. An idle turn changes nothing and is left out.
+    fn one_more<C: Crew>(
+        &mut self,
+        setting: &Setting<'_, C>,
+        hart: HartId,
+        row: Row,
+        points: &[u64],
+    ) -> (Row, Next)
+        requires open { IsOpenRow row }
+        requires few { made_in row < 1000000 }
+        requires sound { IsSound self.old }
+        ensures reported { (size : Size) (b mid : Bench) → RowMoves size hart row b mid → Shows size mid self.old
+            → (new : Bench) × RowMoves size hart result.0 b new × Shows size new self.new
+            × (result.1 ≡ Next.Rests → Rests size hart true new) }
+        ensures within { (most : ℕ) → made_in row < most → IsWithin most row → IsWithin most result.0 }
+        ensures goes { result.1 ≡ Next.Goes → IsOpenRow result.0 × (made_in result.0 ≡ made_in row + 1) }
+        ensures halts { result.1 ≡ Next.Halts → HasHalted hart points.now result.0 self.new.power }
+        ensures sound { IsSound self.new }
+        ensures fill { self.new.fill ≡ self.old.fill }
+    {
+        rows_join();
+        idle_turns_change_nothing();
+        let next = self.turns(setting, hart, 1);
+        if next.is_idle() {
+            return (row, Next::Rests);
+        }
+        if next.goes_on() && !self.stands_at(hart, points) {
+            (row.then(next), Next::Goes)
+        } else {
+            (row.then(next), Next::Halts)
+        }
     }
 
     /// Turns of a hart one by one, `most` of them at most: up to one after which the hart stands at one of these
@@ -183,29 +213,33 @@ impl LiveBench {
         most: u32,
         points: &[u64],
     ) -> (Row, bool)
+        requires most { most ≤ 1000000 }
         requires sound { IsSound self.old }
         ensures reported { (size : Size) (b : Bench) → Shows size b self.old → (new : Bench)
-            × RowMoves size hart result.0 b new × Shows size new self.new }
+            × RowMoves size hart result.0 b new × Shows size new self.new × Rests size hart result.1 new }
         ensures range { IsWithin most result.0 }
+        // No fewer are made without a reason.
+        ensures why { result.1 ≡ false → (made_in result.0 ≡ most) ⊎ HasHalted hart points.now result.0 self.new.power }
         ensures sound { IsSound self.new }
         ensures fill { self.new.fill ≡ self.old.fill }
     {
         let mut row = Row::Off;
-        for _ in 0..most {
-            let next = self.turns(setting, hart, 1);
-            if next.is_idle() {
-                return (row, true);
-            }
-            row = row.then(next);
-            if !next.goes_on() || self.stands_at(hart, points) {
-                return (row, false);
+        while row.made() < most {
+            let (longer, next) = self.one_more(setting, hart, row, points);
+            row = longer;
+            match next {
+                Next::Rests => return (row, true),
+                Next::Halts => return (row, false),
+                Next::Goes => {}
             }
         }
         (row, false)
     }
 
     /// What was last said of a turn of a hart in this life.
-    pub fn said(&self, hart: HartId) -> Option<Word> {
+    pub fn said(&self, hart: HartId) -> Option<Word>
+        ensures { result ≡ said_of hart self.now }
+    {
         self.said[hart.index()]
     }
 
@@ -220,7 +254,9 @@ impl LiveBench {
     }
 
     /// Whether a hart stands at one of these addresses.
-    pub fn stands_at(&self, hart: HartId, points: &[u64]) -> bool {
+    pub fn stands_at(&self, hart: HartId, points: &[u64]) -> bool
+        ensures { result ≡ stands_in points.now (pc_in hart (machine_on self.now.power)) }
+    {
         match self.pc(hart) {
             Some(pc) => points.contains(&pc),
             None => false,

@@ -1,14 +1,15 @@
 //! The bench with its history.
 
-ghost use Rattle.std.specs.Prelude.{◌≡◌, ◌≤◌, ◌<◌, ◌++◌, ◌∷◌, [], List, ℕ, take, length, replicate, IfOk, OnOk, IfErr, MatchResult, ⊤};
+ghost use Rattle.std.specs.Prelude.{◌≡◌, ◌⊎◌, ◌≤◌, ◌<◌, ◌++◌, ◌∷◌, [], ℕ, true, false, take, length, replicate, IfOk, OnOk, IfErr, MatchResult, ⊤};
 ghost use Rattle.std.specs.Bool.{MatchBool};
 ghost use Rattle.board_model.specs.declared.refusal.Refusal.TheVariants.{Memory};
 ghost use Rattle.bench_history.specs.Pasts.{IsBack, NoRow, moments, some_turns};
 ghost use Rattle.bench_report.specs.Bench.{Bench};
 ghost use Rattle.bench_report.specs.Steps.{Moves};
 ghost use Rattle.bench_rows.specs.Notes.{AreInRange};
-ghost use Rattle.debug_session.specs.Ats.{IsAt, IsLeft, IsNoted, IsPlace};
-ghost use Rattle.bench_rows.specs.Rows.{IsWithin, RowMoves, made_in, row_answer};
+ghost use Rattle.debug_session.specs.Ats.{IsAt, IsBefore, IsLeft, IsPlace, MadeTurns, Ran};
+ghost use Rattle.debug_session.specs.Lives.{HasHalted};
+ghost use Rattle.bench_rows.specs.Rows.{IsWithin, made_in, row_answer};
 ghost use Rattle.script_lang.specs.Lines.{IsLineInRange};
 ghost use Rattle.script_lang.specs.declared.line.Line.TheVariants as lines;
 
@@ -37,6 +38,8 @@ impl Timeline {
     pub fn blank(alloc: Global, shape: &Shape, begins: Payloads) -> Result<Timeline, Refusal>
         requires four { length begins ≡ 4 }
         ensures at { IfOk result (IsAt shape.now) }
+        ensures history { IfOk result (λ t. t.history ≡ []) }
+        ensures begins { IfOk result (λ t. t.begins ≡ begins) }
         ensures refused { IfErr result (λ e. e ≡ Memory) }
     {
         let bench = LiveBench::blank(alloc, shape, &begins)?;
@@ -64,7 +67,7 @@ impl Timeline {
 
     /// Up to so many turns of a hart, which become part of the history: what came of them. Refused `Memory` alone,
     /// and then the timeline is of no use.
-    pub fn turns<C: Crew>(
+    fn turns<C: Crew>(
         &mut self,
         setting: &Setting<'_, C>,
         hart: HartId,
@@ -74,12 +77,9 @@ impl Timeline {
         requires hart { hart < setting.now.shape.now.harts }
         requires count { (1 ≤ count) × (count ≤ 1000000) }
         ensures at { OnOk result (IsAt setting.now.shape.now self.new) }
-        ensures moves { IfOk result (λ row. (b : Bench) → IsLeft setting.now.shape.now self.old b
-            → (new : Bench) × Moves setting.now.shape.now (lines.Turn hart count) b (row_answer hart row) new
-            × RowMoves setting.now.shape.now hart row b new × IsLeft setting.now.shape.now self.new new) }
-        ensures grew { IfOk result (λ row. moments self.new.history
-            ≡ moments self.old.history ++ replicate (made_in row) (lines.Turn hart 1)) }
-        ensures within { IfOk result (IsWithin count) }
+        ensures ran { IfOk result (λ row. Ran setting.now.shape.now (lines.Turn hart count) (row_answer hart row) self.old
+            self.new) }
+        ensures begins { self.new.begins ≡ self.old.begins }
         ensures refused { IfErr result (λ e. e ≡ Memory) }
     {
         let row = self.bench.turns(setting, hart, count);
@@ -88,7 +88,8 @@ impl Timeline {
     }
 
     /// Turns of a hart up to an address, an end, or an idle turn, as `LiveBench::turns_to` makes them, which become
-    /// part of the history: what came of them, and whether the next turn is idle.
+    /// part of the history: what came of them, and whether the next turn is idle. Refused `Memory` alone, and then
+    /// the timeline is of no use.
     pub fn turns_to<C: Crew>(
         &mut self,
         setting: &Setting<'_, C>,
@@ -100,11 +101,11 @@ impl Timeline {
         requires hart { hart < setting.now.shape.now.harts }
         requires most { most ≤ 1000000 }
         ensures at { OnOk result (IsAt setting.now.shape.now self.new) }
-        ensures moves { IfOk result (λ did. (b : Bench) → IsLeft setting.now.shape.now self.old b
-            → (new : Bench) × RowMoves setting.now.shape.now hart did.0 b new × IsLeft setting.now.shape.now self.new new) }
-        ensures grew { IfOk result (λ did. moments self.new.history
-            ≡ moments self.old.history ++ replicate (made_in did.0) (lines.Turn hart 1)) }
+        ensures made { IfOk result (λ did. MadeTurns setting.now.shape.now hart did.0 did.1 self.old self.new) }
         ensures within { IfOk result (λ did. IsWithin most did.0) }
+        ensures why { IfOk result (λ did. did.1 ≡ false
+            → (made_in did.0 ≡ most) ⊎ HasHalted hart points.now did.0 self.new.bench.power) }
+        ensures begins { self.new.begins ≡ self.old.begins }
         ensures refused { IfErr result (λ e. e ≡ Memory) }
     {
         let (row, rests) = self.bench.turns_to(setting, hart, most, points);
@@ -112,8 +113,8 @@ impl Timeline {
         Ok((row, rests))
     }
 
-    /// Runs a line that makes no turns, and notes it.
-    fn other_line<C: Crew>(
+    /// Runs a line as it is, and notes it.
+    fn whole_line<C: Crew>(
         &mut self,
         setting: &Setting<'_, C>,
         line: Line,
@@ -124,6 +125,7 @@ impl Timeline {
         ensures moves { IfOk result (λ answer. (b : Bench) → IsLeft setting.now.shape.now self.old b
             → (new : Bench) × Moves setting.now.shape.now line b answer new × IsLeft setting.now.shape.now self.new new) }
         ensures grew { OnOk result (self.new.history ≡ self.old.history ++ line ∷ []) }
+        ensures begins { self.new.begins ≡ self.old.begins }
         ensures refused { IfErr result (λ e. e ≡ Memory) }
     {
         let answer = self.bench.run(setting, &line)?;
@@ -138,16 +140,17 @@ impl Timeline {
         requires at { IsAt setting.now.shape.now self.old }
         requires range { IsLineInRange setting.now.shape.now line }
         ensures at { OnOk result (IsAt setting.now.shape.now self.new) }
-        ensures moves { IfOk result (λ answer. (b : Bench) → IsLeft setting.now.shape.now self.old b
-            → (new : Bench) × Moves setting.now.shape.now line b answer new × IsLeft setting.now.shape.now self.new new) }
-        ensures grew { OnOk result (IsNoted line self.old.history self.new.history) }
+        ensures ran { IfOk result (λ answer. Ran setting.now.shape.now line answer self.old self.new) }
+        ensures begins { self.new.begins ≡ self.old.begins }
         ensures refused { IfErr result (λ e. e ≡ Memory) }
     {
-        if let Line::Turn(hart, count) = line {
-            let row = self.turns(setting, hart, count)?;
-            return Ok(row.answer(hart));
+        match line {
+            Line::Turn(hart, count) => {
+                let row = self.turns(setting, hart, count)?;
+                Ok(row.answer(hart))
+            }
+            other => self.whole_line(setting, other),
         }
-        self.other_line(setting, line)
     }
 
     /// Runs the history again from its begin.
@@ -156,6 +159,7 @@ impl Timeline {
         requires four { length self.old.begins ≡ 4 }
         ensures at { OnOk result (IsAt setting.now.shape.now self.new) }
         ensures history { self.new.history ≡ self.old.history }
+        ensures begins { self.new.begins ≡ self.old.begins }
         ensures refused { IfErr result (λ e. e ≡ Memory) }
     {
         let (bench, joins) = replayed(setting, &self.begins, self.history.lines())?;
@@ -175,6 +179,7 @@ impl Timeline {
         ensures at { OnOk result (IsAt setting.now.shape.now self.new) }
         ensures back { MatchResult result (λ found. MatchBool found (IsBack hart self.old.history self.new.history)
             (NoRow hart self.old.history × (self.new ≡ self.old))) (λ e. ⊤) }
+        ensures begins { self.new.begins ≡ self.old.begins }
         ensures refused { IfErr result (λ e. e ≡ Memory) }
     {
         if !self.history.step_back(hart)? {
@@ -197,6 +202,8 @@ impl Timeline {
         requires row { IsPlace hart place turns self.old.history }
         ensures at { OnOk result (IsAt setting.now.shape.now self.new) }
         ensures history { OnOk result (self.new.history ≡ take place self.old.history ++ some_turns hart turns) }
+        ensures back { OnOk result (IsBefore hart self.old.history self.new.history) }
+        ensures begins { self.new.begins ≡ self.old.begins }
         ensures refused { IfErr result (λ e. e ≡ Memory) }
     {
         self.history.cut_to(hart, place, turns)?;
