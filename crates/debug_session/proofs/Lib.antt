@@ -1,1 +1,7 @@
 pub mod Copies
+pub mod InPlace
+pub mod Rests
+pub mod Histories
+pub mod Timelines
+pub mod Wents
+pub mod Scripts

@@ -13,7 +13,7 @@ use Rattle.bench_report.specs.Agree.{fills_after}
 use Rattle.bench_report.specs.Steps.{Moves}
 use Rattle.bench_rows.specs.declared.rows.Row.{Row}
 use Rattle.bench_rows.specs.declared.rows.Row.TheVariants as rows
-use Rattle.bench_rows.specs.Rows.{IsWithin, RowMoves, is_off, made_in, row_answer}
+use Rattle.bench_rows.specs.Rows.{IsWithin, RowMoves, is_idle_row, is_off, made_in, row_answer}
 use Rattle.bench_rows.specs.Notes.{AreInRange, Joins, Leaves}
 use Rattle.debug_session.specs.declared.timeline.Timeline.{Timeline}
 use Rattle.debug_session.specs.Lives.{IsSound, Rests, Shows, machine_on, pc_in}
@@ -56,11 +56,13 @@ pub record Ran (size : Size) (line : Line) (answer : Answer) (old new : Timeline
   pub moves : (b : Bench) → IsLeft size old b → (after : Bench) × Moves size line b answer after × IsLeft size new after
   pub noted : IsNoted line answer old.history new.history
 
--- A row of turns of hart h became part of the history, and nothing else; behind it the next turn may rest.
+-- A row of turns of hart h became part of the history, and nothing else; the last is not idle, and behind it the next
+-- turn may rest.
 pub record MadeTurns (size : Size) (h : ℕ) (row : Row) (rests : Bool) (old new : Timeline) : Type 0 where
   pub moves : (b : Bench) → IsLeft size old b
       → (after : Bench) × RowMoves size h row b after × IsLeft size new after × Rests size h rests after
   pub grew : moments new.history ≡ moments old.history ++ replicate (made_in row) (lines.Turn h 1)
+  pub busy : is_idle_row row ≡ false
 
 -- One turn of hart h became part of the history, and nothing else; or none did, since it is idle and changes nothing, or
 -- the board is off or lacks the hart.

@@ -130,6 +130,26 @@ fn last_halt<C: Crew>(
     Ok(found)
 }
 
+/// Where the way back ends: before the last turn of which the hart stood at a breakpoint, or that changed what is
+/// watched; where there is none, before the first turn.
+fn place_back<C: Crew>(
+    setting: &Setting<'_, C>,
+    stops: &Stops,
+    timeline: &Timeline,
+) -> Result<Option<Place>, Refusal>
+    requires ranges { AreInRange setting.now.shape.now timeline.now.history }
+    requires four { length timeline.now.begins ≡ 4 }
+    ensures place { IfOk result (λ found. IfSome found (λ place. IsPlace place.stop.hart place.line place.turns
+        timeline.now.history)) }
+    ensures none { IfOk result (λ found. IfNone found (All MakesNone timeline.now.history)) }
+    ensures refused { IfErr result (λ e. e ≡ Memory) }
+{
+    match last_halt(setting, stops, timeline)? {
+        Some(place) => Ok(Some(place)),
+        None => Ok(first_turn(setting, timeline.lines())),
+    }
+}
+
 /// Goes back to before the last turn of which the hart stood at a breakpoint, or that changed what is watched; where
 /// there is none, to before the first turn.
 pub(crate) fn go_back<C: Crew>(
@@ -147,16 +167,15 @@ pub(crate) fn go_back<C: Crew>(
     ensures begins { timeline.new.begins ≡ timeline.old.begins }
     ensures refused { IfErr result (λ e. e ≡ Memory) }
 {
-    let place = match last_halt(setting, stops, timeline)? {
-        Some(place) => Some(place),
-        None => first_turn(setting, timeline.lines()),
-    };
-    let Some(place) = place else {
-        return Ok(Stop {
+    match place_back(setting, stops, timeline)? {
+        Some(place) => {
+            let Place { line, turns, stop } = place;
+            timeline.go_back(setting, stop.hart, line, turns)?;
+            Ok(stop)
+        }
+        None => Ok(Stop {
             hart,
             halt: Halt::Begin,
-        });
-    };
-    timeline.go_back(setting, place.stop.hart, place.line, place.turns)?;
-    Ok(place.stop)
+        }),
+    }
 }

@@ -1,6 +1,6 @@
 //! Running forward: turns of one hart, and of harts in turn.
 
-ghost use Rattle.std.specs.Prelude.{◌≡◌, ◌⊎◌, ◌≤◌, ◌<◌, ◌+◌, ℕ, Bool, true, false, slice_index, IfOk, IfErr, IfSome, OnOk};
+ghost use Rattle.std.specs.Prelude.{◌≡◌, ◌⊎◌, ◌≤◌, ◌<◌, ◌+◌, ℕ, Bool, true, false, slice_index_or, IfOk, IfErr, IfSome, OnOk};
 ghost use Rattle.board_model.specs.declared.refusal.Refusal.TheVariants.{Memory};
 ghost use Rattle.bench_rows.specs.declared.rows.Row.{Row};
 ghost use Rattle.bench_rows.specs.Rows.{IsWithin, is_off, made_in};
@@ -33,7 +33,7 @@ pub(crate) struct Part {
 
 /// Addresses within which a hart steps, from the first on and before the end, and how many turns it makes at most.
 #[derive(Clone, Copy, Drop)]
-pub(crate) struct Stretch {
+pub(crate) struct Within {
     pub(crate) first: u64,
     pub(crate) end: u64,
     pub(crate) most: u64,
@@ -58,7 +58,7 @@ impl Round {
     /// The hart whose part is next, where it may run; then comes the one behind it.
     fn next(&mut self, shape: &Shape) -> Option<HartId>
         requires few { self.old.resting < 8 }
-        ensures hart { IfSome result (λ h. (h < shape.now.harts) × (slice_index self.old.harts h ≡ true)) }
+        ensures hart { IfSome result (λ h. (h < shape.now.harts) × (slice_index_or self.old.harts h false ≡ true)) }
         ensures harts { self.new.harts ≡ self.old.harts }
         ensures left { self.new.left ≡ self.old.left }
         ensures resting { self.new.resting ≡ self.old.resting + 1 }
@@ -116,7 +116,13 @@ fn halt_of(row: Row) -> Option<Halt> {
 }
 
 /// Why everything halts behind these turns of a hart, if it does.
-fn halt_behind(timeline: &Timeline, points: &[u64], hart: HartId, row: Row, rests: bool) -> Option<Halt> {
+fn halt_behind(
+    timeline: &Timeline,
+    points: &[u64],
+    hart: HartId,
+    row: Row,
+    rests: bool,
+) -> Option<Halt> {
     if let Some(halt) = halt_of(row) {
         return Some(halt);
     }
@@ -232,7 +238,7 @@ fn watched_part<C: Crew>(
 }
 
 /// A hart's part of a round: up to so many turns.
-fn part<C: Crew>(
+fn run_part<C: Crew>(
     setting: &Setting<'_, C>,
     stops: &Stops,
     timeline: &mut Timeline,
@@ -278,7 +284,7 @@ pub(crate) fn step<C: Crew>(
 }
 
 /// Whether the pc of a hart lies within these addresses.
-fn is_within(timeline: &Timeline, hart: HartId, within: Stretch) -> bool {
+fn is_within(timeline: &Timeline, hart: HartId, within: Within) -> bool {
     match timeline.bench.pc(hart) {
         Some(pc) => within.first <= pc && pc < within.end,
         None => false,
@@ -291,7 +297,7 @@ pub(crate) fn step_within<C: Crew>(
     stops: &Stops,
     timeline: &mut Timeline,
     hart: HartId,
-    within: Stretch,
+    within: Within,
     interrupt: &AtomicBool,
     told: &mut Vec<Answer>,
 ) -> Result<Stop, Refusal>
@@ -344,7 +350,7 @@ fn round_part<C: Crew>(
     ensures resting { OnOk result (round.new.resting ≤ round.old.resting) }
     ensures refused { IfErr result (λ e. e ≡ Memory) }
 {
-    let did = part(setting, stops, timeline, hart, round.turns(), told)?;
+    let did = run_part(setting, stops, timeline, hart, round.turns(), told)?;
     round.made(did.made);
     Ok(did.halt)
 }
@@ -363,12 +369,12 @@ pub(crate) fn go<C: Crew>(
     requires first { first < setting.now.shape.now.harts }
     requires rested { round.resting ≡ 0 }
     ensures went { OnOk result ((n : ℕ) × (n ≤ round.left)
-        × Went (λ h. slice_index round.harts h ≡ true) n setting.now.shape.now timeline.old timeline.new) }
+        × Went (λ h. slice_index_or round.harts h false ≡ true) n setting.now.shape.now timeline.old timeline.new) }
     ensures there { IfOk result (λ stop. stop.hart < setting.now.shape.now.harts) }
     ensures refused { IfErr result (λ e. e ≡ Memory) }
 {
     let mut round = round;
-    for _ in 0..u64::MAX {
+    'parts: for _ in 0..u64::MAX {
         if round.left == 0 {
             break;
         }

@@ -8,7 +8,7 @@ ghost use Rattle.bench_report.specs.Agree.{fill_after};
 ghost use Rattle.bench_report.specs.Bench.{Bench, bench_with};
 ghost use Rattle.bench_report.specs.Steps.{Moves};
 ghost use Rattle.debug_session.specs.Lives.{HasHalted, IsSound, Rests, Shows, machine_on, pc_in, said_of, stands_in};
-ghost use Rattle.bench_rows.specs.Rows.{IsOpenRow, IsWithin, RowMoves, made_in, row_answer};
+ghost use Rattle.bench_rows.specs.Rows.{IsOpenRow, IsWithin, RowMoves, is_idle_row, made_in, row_answer};
 ghost use Rattle.script_lang.specs.Lines.{IsLineInRange};
 ghost use Rattle.script_lang.specs.declared.line.Line.TheVariants as lines;
 ghost use Rattle.simdisk.specs.declared.fill.Fill.TheVariants as fills;
@@ -178,13 +178,15 @@ impl LiveBench {
         row: Row,
         points: &[u64],
     ) -> (Row, Next)
-        requires open { IsOpenRow row }
+        requires goes { IsOpenRow row }
+        requires busy { is_idle_row row ≡ false }
         requires few { made_in row < 1000000 }
         requires sound { IsSound self.old }
         ensures reported { (size : Size) (b mid : Bench) → RowMoves size hart row b mid → Shows size mid self.old
             → (new : Bench) × RowMoves size hart result.0 b new × Shows size new self.new
             × (result.1 ≡ Next.Rests → Rests size hart true new) }
         ensures within { (most : ℕ) → made_in row < most → IsWithin most row → IsWithin most result.0 }
+        ensures busy { is_idle_row result.0 ≡ false }
         ensures goes { result.1 ≡ Next.Goes → IsOpenRow result.0 × (made_in result.0 ≡ made_in row + 1) }
         ensures halts { result.1 ≡ Next.Halts → HasHalted hart points.now result.0 self.new.power }
         ensures sound { IsSound self.new }
@@ -196,11 +198,13 @@ impl LiveBench {
         if next.is_idle() {
             return (row, Next::Rests);
         }
-        if next.goes_on() && !self.stands_at(hart, points) {
-            (row.then(next), Next::Goes)
-        } else {
-            (row.then(next), Next::Halts)
+        if !next.goes_on() {
+            return (row.then(next), Next::Halts);
         }
+        if self.stands_at(hart, points) {
+            return (row.then(next), Next::Halts);
+        }
+        (row.then(next), Next::Goes)
     }
 
     /// Turns of a hart one by one, `most` of them at most: up to one after which the hart stands at one of these
@@ -218,15 +222,18 @@ impl LiveBench {
         ensures reported { (size : Size) (b : Bench) → Shows size b self.old → (new : Bench)
             × RowMoves size hart result.0 b new × Shows size new self.new × Rests size hart result.1 new }
         ensures range { IsWithin most result.0 }
+        ensures busy { is_idle_row result.0 ≡ false }
         // No fewer are made without a reason.
         ensures why { result.1 ≡ false → (made_in result.0 ≡ most) ⊎ HasHalted hart points.now result.0 self.new.power }
         ensures sound { IsSound self.new }
         ensures fill { self.new.fill ≡ self.old.fill }
     {
         let mut row = Row::Off;
-        while row.made() < most {
+        let mut made = 0;
+        while made < most {
             let (longer, next) = self.one_more(setting, hart, row, points);
             row = longer;
+            made = row.made();
             match next {
                 Next::Rests => return (row, true),
                 Next::Halts => return (row, false),

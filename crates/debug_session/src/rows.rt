@@ -1,6 +1,6 @@
 //! Turns of a hart, made in place.
 
-ghost use Rattle.std.specs.Prelude.{◌≡◌, ◌≤◌, IfSome, IfNone, MatchOption};
+ghost use Rattle.std.specs.Prelude.{◌≡◌, ◌≤◌, true, false, None, Some, IfSome, IfNone, MatchOption};
 ghost use Rattle.board_model.specs.Shapes.{Size};
 ghost use Rattle.bench_report.specs.Agree.{Agrees, IsResting, IsUnstruck};
 ghost use Rattle.bench_report.specs.Bench.{Bench};

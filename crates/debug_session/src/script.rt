@@ -1,11 +1,11 @@
 //! A history as a script.
 
-ghost use Rattle.std.specs.Prelude.{◌≡◌, ◌≤◌, ◌++◌, IfOk, IfErr, OnOk, Ok};
+ghost use Rattle.std.specs.Prelude.{◌≡◌, ◌≤◌, ◌++◌, IfOk, IfErr, OnOk, Ok, string_bytes};
 ghost use Rattle.board.specs.Boots.{payload_at};
 ghost use Rattle.board_model.specs.declared.refusal.Refusal.TheVariants.{Memory};
 ghost use Rattle.bench_report.specs.Bench.{no_payloads};
 ghost use Rattle.debug_session.specs.Texts.{begin_text, begins_text, history_text, lines_text};
-ghost use Rattle.script_lang.specs.Scripts.{Script as Said, script_of};
+ghost use Rattle.script_lang.specs.Scripts.{script_of};
 ghost use Rattle.script_lang.specs.Spellings.{IsWritable, board_text};
 
 use board::Payloads;

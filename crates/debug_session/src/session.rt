@@ -1,6 +1,6 @@
 //! A board under a debugger.
 
-ghost use Rattle.std.specs.Prelude.{◌≡◌, ◌⊎◌, ◌≤◌, ◌<◌, ℕ, [], All, length, slice_index, true, Ok, IfOk, IfErr, OnOk};
+ghost use Rattle.std.specs.Prelude.{◌≡◌, ◌⊎◌, ◌≤◌, ◌<◌, ℕ, [], All, length, slice_index_or, true, false, string_bytes, Ok, IfOk, IfErr, OnOk};
 ghost use Rattle.board_model.specs.declared.refusal.Refusal.TheVariants.{Memory};
 ghost use Rattle.bench_history.specs.Pasts.{IsBack, NoRow};
 ghost use Rattle.bench_report.specs.Bench.{no_payloads};
@@ -13,13 +13,12 @@ ghost use Rattle.script_lang.specs.Lines.{IsLineInRange};
 ghost use Rattle.script_lang.specs.Scripts.{script_of};
 ghost use Rattle.script_lang.specs.Spellings.{IsWritable};
 
-use crate::back;
-use crate::forth::{self, Round, Stretch};
+use crate::forth::{self, Round, Within};
 use crate::halts::{Halt, Stop};
 use crate::live::LiveBench;
-use crate::script;
 use crate::stops::{Stops, Watch};
 use crate::timeline::Timeline;
+use crate::{back, script};
 use bench_report::{Answer, Setting};
 use board::Payloads;
 use board_model::{HartId, Refusal};
@@ -77,7 +76,7 @@ impl<'a, C: Crew> Session<'a, C> {
         requires four { length begins ≡ 4 }
         requires ranges { AreInRange setting.shape.now lines.items }
         ensures at { IfOk result (λ s. IsAt (size_of s) (timeline_of s)) }
-        ensures size { IfOk result (λ s. size_of s ≡ setting.shape.now) }
+        ensures size { IfOk result (λ s. size_of s ≡ setting.entry.shape.now) }
         ensures noted { IfOk result (λ s. AreNoted lines.items [] (history_of s)) }
         ensures begins { IfOk result (λ s. begins_of s ≡ begins) }
         ensures refused { IfErr result (λ e. e ≡ Memory) }
@@ -237,7 +236,7 @@ impl<'a, C: Crew> Session<'a, C> {
         ensures size { size_of self.new ≡ size_of self.old }
         ensures refused { IfErr result (λ e. e ≡ Memory) }
     {
-        let within = Stretch {
+        let within = Within {
             first,
             end,
             most: self.plan.most,
@@ -265,14 +264,14 @@ impl<'a, C: Crew> Session<'a, C> {
         requires at { IsAt (size_of self.old) (timeline_of self.old) }
         requires first { first < (size_of self.old).harts }
         ensures went { OnOk result ((n : ℕ) × (n ≤ self.old.plan.most)
-            × Went (λ h. slice_index harts.now h ≡ true) n (size_of self.old) (timeline_of self.old) (timeline_of self.new)) }
+            × Went (λ h. slice_index_or harts.now h false ≡ true) n (size_of self.old) (timeline_of self.old) (timeline_of self.new)) }
         ensures there { IfOk result (λ stop. stop.hart < (size_of self.old).harts) }
         ensures size { size_of self.new ≡ size_of self.old }
         ensures refused { IfErr result (λ e. e ≡ Memory) }
     {
         let round = Round {
             harts: *harts,
-            place: first.number(),
+            place: u64::from(first.number()),
             quantum: self.plan.quantum,
             left: self.plan.most,
             resting: 0,
