@@ -1,7 +1,0 @@
-pub mod Copies
-pub mod InPlace
-pub mod Rests
-pub mod Histories
-pub mod Timelines
-pub mod Wents
-pub mod Scripts

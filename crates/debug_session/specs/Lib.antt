@@ -1,4 +1,0 @@
-pub mod Lives
-pub mod Ats
-pub mod Sessions
-pub mod Texts
