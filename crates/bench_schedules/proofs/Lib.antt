@@ -1,0 +1,4 @@
+pub mod Ledgers
+pub mod Lines
+pub mod Places
+pub mod Texts
