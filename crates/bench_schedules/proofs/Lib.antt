@@ -1,3 +1,4 @@
+pub mod Alike
 pub mod Ledgers
 pub mod Lines
 pub mod Places

@@ -3,7 +3,7 @@ use Rattle.bench_schedules.proofs.Lines.{ran_of}
 use Rattle.bench_schedules.proofs.benches.run_drawn.Goals as goal
 
 pub run_confirmed-requires-clause-ranges : goal.run_confirmed-requires-clause-ranges
-run_confirmed-requires-clause-ranges g c = c.requires.order.ranges c.args.runner.now.setting.shape.now c.requires.ranges
+run_confirmed-requires-clause-ranges g c = λ lives within. c.requires.order.ranges c.args.runner.now.setting.shape.now c.requires.ranges
 
 pub returns-clause-ran : goal.returns-clause-ran
 returns-clause-ran g c =
