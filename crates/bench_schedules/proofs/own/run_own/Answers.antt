@@ -26,7 +26,7 @@ loop-line-preserved g c =
     let size = c.args.setting.now.shape.now in
     let more = one_told (is_other c.line-item.result) c.in_ok-answer.answer in
     let goes = goes_more size c.args.begins.now c.args.lines.now c.loop-line.line-index c.loop-line.answers.items c.loop-line.live c.step.new.live c.line-item.result c.in_ok-answer.answer
-        c.loop-line-test.true c.line-item.is c.loop-line.invariant.goes c.in_ok-answer.ensures.stepped c.in_ok-answer.ensures.well in
+    c.loop-line-test.true c.line-item.is c.loop-line.invariant.goes c.in_ok-answer.ensures.stepped c.in_ok-answer.ensures.well in
     let kept : c.match-told_of.answers.items ≡ c.loop-line.answers.items ++ more = elim c.match-told_of.branch [
       | in-Some+in_ok-push w ↦ ap items w.answers-is ∙ w.in_ok-push.ensures.items ∙ ap (λ x. c.loop-line.answers.items ++ x) w.in-Some.ensures
       | in_default w ↦ ap items w.answers-is ∙ sym (append-nil c.loop-line.answers.items) ∙ ap (λ x. c.loop-line.answers.items ++ x) w.in_default.ensures
