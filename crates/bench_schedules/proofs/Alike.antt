@@ -1,5 +1,5 @@
 -- What the derived comparisons of an answer find equal is the same.
-use Rattle.std.proofs.Common.{◌≡◌, ◌∙◌, ◌&&◌, ℕ, Bool, Option, Some, None, true, false, ap, refl, sym, subst, rules, IsTrue}
+use Rattle.std.proofs.Common.{◌≡◌, ◌∙◌, ◌&&◌, Bool, Option, Some, None, true, false, ap, refl, rules}
 use Rattle.board_model.specs.declared.console_command.ConsoleCommand.{ConsoleCommand}
 use Rattle.board_model.specs.declared.console_command.ConsoleCommand.TheVariants as commands
 use Rattle.board_model.specs.contracts.console_command.ConsoleCommandPartialEq.TheImpl as command

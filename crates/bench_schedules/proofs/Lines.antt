@@ -1,5 +1,5 @@
 -- The lines of a run, one after another.
-use Rattle.std.proofs.Common.{◌≡◌, ◌≢◌, ◌⊎◌, inl, inr, ◌∙◌, ℕ, zero, suc, ◌+◌, ◌<◌, ◌≤◌, Bool, true, false, List, [], ◌∷◌, ◌++◌, length, take, drop, get_or, All, Option, Some, None, if◌then◌else◌, refl, sym, ap, subst, arith, length-append}
+use Rattle.std.proofs.Common.{◌≡◌, ◌≢◌, inl, inr, ◌∙◌, ℕ, zero, suc, ◌+◌, ◌<◌, ◌≤◌, Bool, true, false, List, [], ◌∷◌, ◌++◌, length, take, drop, get_or, All, Option, Some, None, if◌then◌else◌, refl, sym, ap, subst, arith}
 use Rattle.std.proofs.lemmas.List.{take_more, length-take-le, append-nil, take-append-drop}
 use Rattle.std.proofs.lemmas.List.Elements.{All-append, All-cons, All-nil}
 use Rattle.board_model.specs.Shapes.{Size, IsSize}
@@ -13,7 +13,7 @@ use Rattle.bench_orders.specs.Orders.{IsOrderFor, is_other, other_count}
 use Rattle.bench_live.specs.Lives.{Shows}
 use Rattle.bench_live.specs.declared.live.LiveBench.{LiveBench}
 use Rattle.bench_schedules.specs.declared.runs.Difference.{Difference}
-use Rattle.bench_schedules.specs.Schedules.{IsWant, one_told, told, Ran, RanWell, RanLike, RanOwn}
+use Rattle.bench_schedules.specs.Schedules.{IsWant, one_told, told, Ran, RanLike, RanOwn}
 use Rattle.bench_schedules.specs.Behind.{IsApart, IsBehind}
 use Rattle.bench_schedules.specs.Goes.{Goes}
 

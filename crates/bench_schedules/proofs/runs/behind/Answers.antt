@@ -1,4 +1,4 @@
-use Rattle.std.proofs.Common.{◌≡◌, Bool, true, inr, refl, sym, subst, rules, get_or}
+use Rattle.std.proofs.Common.{◌≡◌, inr, refl, sym, subst, rules, get_or}
 use Rattle.bench_report.specs.declared.printed.Answer.{Answer}
 use Rattle.bench_schedules.proofs.Alike.{answer_same}
 use Rattle.bench_schedules.proofs.runs.behind.Goals as goal
