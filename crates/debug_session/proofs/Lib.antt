@@ -1,0 +1,2 @@
+pub mod Wents
+pub mod Scripts
