@@ -1,5 +1,5 @@
 -- Four payloads, one after another.
-use Rattle.std.proofs.Common.{◌≡◌, ℕ, List, [], ◌∷◌, length, refl, ap, arith, set, get_or}
+use Rattle.std.proofs.Common.{◌≡◌, ℕ, List, [], ◌∷◌, length, refl, arith}
 use Rattle.board.specs.Boots.{payload_at}
 
 abbrev pub filled : List (List ℕ) → List (List ℕ)

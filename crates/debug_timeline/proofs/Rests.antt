@@ -1,5 +1,5 @@
 -- One turn more of a row.
-use Rattle.std.proofs.Common.{◌≡◌, ◌≤◌, ◌<◌, ◌+◌, ◌⊎◌, inl, inr, ℕ, Bool, true, false, not, List, Option, None, refl, sym, ap, ◌∙◌, subst, arith}
+use Rattle.std.proofs.Common.{◌≡◌, ◌<◌, ◌+◌, ◌⊎◌, inl, inr, ℕ, Bool, true, false, not, List, Option, None, refl, ap, subst, arith}
 use Rattle.board_model.specs.Shapes.{Size}
 use Rattle.machine_lines.specs.declared.line.MachineLine.TheVariants as shown
 use Rattle.sbi.specs.Words.{ends}
@@ -10,7 +10,7 @@ use Rattle.bench_report.specs.Happens.{shows}
 use Rattle.bench_report.specs.Steps.{Moves}
 use Rattle.bench_rows.specs.declared.rows.Row.{Row}
 use Rattle.bench_rows.specs.declared.rows.Row.TheVariants as rows
-use Rattle.bench_rows.specs.Rows.{IdleTurnStays, IsOpenRow, IsWithin, RowMoves, goes_on, is_idle, is_idle_row, made_in, row_then}
+use Rattle.bench_rows.specs.Rows.{IdleTurnStays, IsOpenRow, IsWithin, RowMoves, goes_on, is_idle_row, made_in, row_then}
 use Rattle.debug_timeline.specs.Lives.{HasHalted, Rests, machine_on, pc_in, stands_in}
 
 -- an idle turn left the bench as it was

@@ -1,4 +1,4 @@
-use Rattle.std.proofs.Common.{false, List, [], ◌∷◌, ◌++◌, sym, ap, ◌∙◌, subst}
+use Rattle.std.proofs.Common.{false, List, sym, ap, ◌∙◌, subst}
 use Rattle.bench_report.specs.Agree.{fill_after, fills_after}
 use Rattle.bench_rows.specs.Notes.{AreInRange}
 use Rattle.bench_rows.proofs.Noted.{fills_snoc, ranges_more}
