@@ -1,2 +1,3 @@
 pub mod Wents
 pub mod Scripts
+pub mod Places

@@ -1,5 +1,5 @@
 -- Turns that became part of a history, one command after another.
-use Rattle.std.proofs.Common.{◌≡◌, ◌≤◌, ◌+◌, ◌⊎◌, inl, inr, ℕ, Bool, true, false, List, [], ◌∷◌, ◌++◌, Option, None, length, refl, sym, ap, ◌∙◌, append_assoc, arith}
+use Rattle.std.proofs.Common.{◌≡◌, ◌≤◌, ◌+◌, ◌⊎◌, inl, inr, ℕ, Bool, true, false, List, [], ◌∷◌, ◌++◌, Option, None, length, refl, sym, ap, ◌∙◌, subst, append_assoc, arith}
 use Rattle.std.specs.Prelude.{All, replicate}
 use Rattle.std.proofs.lemmas.List.{append-nil, length-append, length-replicate}
 use Rattle.std.proofs.lemmas.List.Elements.{All-append, All-cons, All-head, All-nil, All-replicate, All-tail}
@@ -77,12 +77,12 @@ off_why h most points rows.Off power off (inr (inr none)) = inr none
 off_why h most points (rows.Made n word) power off why = absurd (let never : ⊥ = cc in never)
 off_why h most points (rows.Lost n) power off why = absurd (let never : ⊥ = cc in never)
 
-rests_or : (rests : Bool) (P : Type 0) → (rests ≡ false → (1 ≡ 0) ⊎ P) → (rests ≡ true) ⊎ P
+rests_or : (rests : Bool) (P : Type 0) → (rests ≡ false → (◌≡◌ {A = ℕ} 1 0) ⊎ P) → (rests ≡ true) ⊎ P
 rests_or true P why = inl refl
 rests_or false P why = elim (why refl) [ inl never ↦ absurd (omega (arith, never)) | inr p ↦ inr p ]
 
 -- one turn, as a step
-pub step_of : (size : Size) (h made : ℕ) (rests : Bool) (old new : Timeline) → (row : Row) × MadeTurns size h row rests old new × (made ≡ made_in row) × IsWithin 1 row × (is_off row ≡ true → rests ≡ false → (1 ≡ 0) ⊎ (pc_in h (machine_on new.bench.power) ≡ None))
+pub step_of : (size : Size) (h made : ℕ) (rests : Bool) (old new : Timeline) → (row : Row) × MadeTurns size h row rests old new × (made ≡ made_in row) × IsWithin 1 row × (is_off row ≡ true → rests ≡ false → (◌≡◌ {A = ℕ} 1 0) ⊎ (pc_in h (machine_on new.bench.power) ≡ None))
     → IsStep size h old new
 step_of size h made rests old new (row, turns, e, within, why) = (row, rests, within, turns, λ off. rests_or rests _ (why off))
 
@@ -99,3 +99,21 @@ few_of size h most made rests old new (row, turns, e, within, why) = few row e w
     few rows.Off e within = omega (arith, e)
     few (rows.Made n word) e within = omega (arith, e, within)
     few (rows.Lost n) e within = omega (arith, e, within)
+
+-- one turn more at most
+pub step_more : (h done made : ℕ) (size : Size) (first mid last : Timeline) → (n : ℕ) × (n ≤ done) × Went (λ x. x ≡ h) n size first mid → made ≤ 1 → Went (λ x. x ≡ h) made size mid last
+    → (n : ℕ) × (n ≤ done + 1) × Went (λ x. x ≡ h) n size first last
+step_more h done made size first mid last (n, few, one) more two =
+    (n + made, omega (arith, few, more), went_more (λ x. x ≡ h) (λ x. x ≡ h) n made size first mid last (λ x e. e) one two)
+
+pub few_went : (May : ℕ → Type 0) (k most : ℕ) (size : Size) (first last : Timeline) → k ≤ most → (n : ℕ) × (n ≤ k) × Went May n size first last → (n : ℕ) × (n ≤ most) × Went May n size first last
+few_went May k most size first last less (n, few, went) = (n, omega (arith, less, few), went)
+
+-- ---- parts of a round
+pub left_went : (May : ℕ → Type 0) (left whole : ℕ) (size : Size) (first last : Timeline) → (n : ℕ) × (left + n ≡ whole) × Went May n size first last → (n : ℕ) × (n ≤ whole) × Went May n size first last
+left_went May left whole size first last (n, e, went) = (n, omega (arith, e), went)
+
+pub part_more : (May : ℕ → Type 0) (h was before left whole : ℕ) (size : Size) (first mid last : Timeline) → May h → before ≡ was → (n : ℕ) × (was + n ≡ whole) × Went May n size first mid
+    → (k : ℕ) × (left + k ≡ before) × Went (λ x. x ≡ h) k size mid last → (n : ℕ) × (left + n ≡ whole) × Went May n size first last
+part_more May h was before left whole size first mid last may same (n, e, one) (k, f, two) =
+    (n + k, omega (arith, same, e, f), went_more May (λ x. x ≡ h) n k size first mid last (λ x is. subst May (sym is) may) one two)
