@@ -1,0 +1,5 @@
+pub mod Copies
+pub mod InPlace
+pub mod Rests
+pub mod Histories
+pub mod Timelines

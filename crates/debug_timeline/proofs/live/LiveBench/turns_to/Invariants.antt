@@ -1,0 +1,20 @@
+use Rattle.std.proofs.Common.{◌≡◌, ◌-◌, false}
+use Rattle.board_model.specs.Shapes.{Size}
+use Rattle.bench_report.specs.Bench.{Bench}
+use Rattle.bench_rows.specs.Rows.{IsOpenRow, IsWithin, RowMoves, is_idle_row, made_in}
+use Rattle.debug_timeline.specs.Lives.{IsSound, Shows}
+use Rattle.debug_timeline.proofs.live.LiveBench.turns_to.Given as goal
+
+abbrev pub invariant-loop-made : goal.invariant-loop-made
+invariant-loop-made g l = record {
+  reported : (size : Size) (b : Bench) → Shows size b l.fn.self → (new : Bench) × RowMoves size l.hart l.row b new × Shows size new l.self;
+  goes : IsOpenRow l.row;
+  busy : is_idle_row l.row ≡ false;
+  made : l.made ≡ made_in l.row;
+  within : IsWithin l.most l.row;
+  sound : IsSound l.self;
+  fill : l.self.fill ≡ l.fn.self.fill;
+}
+
+abbrev pub decreases-loop-made : goal.decreases-loop-made
+decreases-loop-made g l = l.most - l.made

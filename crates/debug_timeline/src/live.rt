@@ -1,0 +1,270 @@
+//! The bench between two lines.
+
+ghost use Rattle.std.specs.Prelude.{◌≡◌, ◌⊎◌, ◌≤◌, ◌<◌, ◌+◌, ℕ, true, false, None, IfOk, IfErr, OnOk, length, slice_set};
+ghost use Rattle.board.specs.Boots.{payload_at};
+ghost use Rattle.board_model.specs.Shapes.{Size};
+ghost use Rattle.board_model.specs.declared.refusal.Refusal.TheVariants.{Memory};
+ghost use Rattle.bench_report.specs.Agree.{fill_after};
+ghost use Rattle.bench_report.specs.Bench.{Bench, bench_with};
+ghost use Rattle.bench_report.specs.Steps.{Moves};
+ghost use Rattle.debug_timeline.specs.Lives.{HasHalted, IsSound, Rests, Shows, machine_on, pc_in, said_of, stands_in};
+ghost use Rattle.bench_rows.specs.Rows.{IsOpenRow, IsWithin, RowMoves, is_idle_row, made_in, row_answer};
+ghost use Rattle.script_lang.specs.Lines.{IsLineInRange};
+ghost use Rattle.script_lang.specs.declared.line.Line.TheVariants as lines;
+ghost use Rattle.simdisk.specs.declared.fill.Fill.TheVariants as fills;
+
+use crate::rows::{in_place, settled, stays_on};
+use bench_report::{Answer, Power, Setting, line_with_cuts, struck};
+use bench_rows::{Row, idle_turns_change_nothing, rows_join};
+use board::Payloads;
+use board_model::{HartId, Refusal, Shape, Slot};
+use crew::Crew;
+use machine::Word;
+use script_lang::Line;
+use simdisk::{Fill, SimDisk};
+use std::alloc::{AllocError, Global};
+use store::blank_disks;
+
+/// The board, off or on, what the slots boot, and what an armed cut is to leave.
+#[derive(Drop)]
+pub struct LiveBench {
+    /// Away only while a line runs.
+    pub(crate) power: Option<Power>,
+    payloads: Payloads,
+    fill: Fill,
+    /// What was last said of a turn of each hart in this life.
+    said: [Option<Word>; 8],
+}
+
+/// Whether a row of turns goes on.
+#[derive(Clone, Copy, PartialEq, Eq, Drop)]
+enum Next {
+    /// The next turn is idle.
+    Rests,
+    /// It has come to its end, or to an address.
+    Halts,
+    /// Another may follow.
+    Goes,
+}
+
+/// Copies what a slot boots.
+fn copy_slot(
+    alloc: Global,
+    from: &Payloads,
+    number: u32,
+    to: &mut Payloads,
+) -> Result<(), AllocError>
+    requires { number ≤ 3 }
+    ensures { OnOk result (to.new ≡ slice_set to.old number (payload_at from.now number)) }
+{
+    if let Some(slot) = Slot::new(number) {
+        let bytes = Vec::from_slice(alloc, from.get(slot))?;
+        to.set(slot, bytes);
+    }
+    Ok(())
+}
+
+/// The same payloads, for another bench.
+#[tactic(auto, using(crate::proofs::Copies::four_copied))]
+fn copied(alloc: Global, payloads: &Payloads) -> Result<Payloads, AllocError>
+    requires { length payloads.now ≡ 4 }
+    ensures { IfOk result (λ copy. copy ≡ payloads.now) }
+{
+    let mut copy = Payloads::new(alloc);
+    copy_slot(alloc, payloads, 0, &mut copy)?;
+    copy_slot(alloc, payloads, 1, &mut copy)?;
+    copy_slot(alloc, payloads, 2, &mut copy)?;
+    copy_slot(alloc, payloads, 3, &mut copy)?;
+    Ok(copy)
+}
+
+/// What was last said of a turn of each hart, behind a line: nothing where the board is off.
+fn said_behind(power: &Power, said: [Option<Word>; 8]) -> [Option<Word>; 8] {
+    match power {
+        Power::Off(_) => [None; 8],
+        Power::On(_) => said,
+    }
+}
+
+impl LiveBench {
+    /// The bench before its first line: a blank disk of the size that the board needs, and these payloads.
+    pub fn blank(alloc: Global, shape: &Shape, begins: &Payloads) -> Result<LiveBench, Refusal>
+        requires four { length begins.now ≡ 4 }
+        ensures shows { IfOk result (Shows shape.now (bench_with begins.now)) }
+        ensures sound { IfOk result IsSound }
+        ensures fill { IfOk result (λ live. live.fill ≡ fills.Old) }
+        ensures refused { IfErr result (λ e. e ≡ Memory) }
+    {
+        blank_disks::<SimDisk>();
+        let disk = SimDisk::blank(alloc, shape.sectors())?;
+        let payloads = copied(alloc, begins)?;
+        Ok(LiveBench {
+            power: Some(Power::Off(disk)),
+            payloads,
+            fill: Fill::Old,
+            said: [None; 8],
+        })
+    }
+
+    /// Runs a line, as `bench_report::line_with_cuts` does. Refused `Memory` alone, where a payload or a poke found
+    /// none.
+    pub fn run<C: Crew>(&mut self, setting: &Setting<'_, C>, line: &Line) -> Result<Answer, Refusal>
+        requires range { IsLineInRange setting.now.shape.now line.now }
+        requires sound { IsSound self.old }
+        ensures reported { IfOk result (λ answer. (b : Bench) → Shows setting.now.shape.now b self.old
+            → (new : Bench) × Moves setting.now.shape.now line.now b answer new × Shows setting.now.shape.now new self.new) }
+        ensures sound { OnOk result (IsSound self.new) }
+        ensures fill { self.new.fill ≡ fill_after line.now self.old.fill }
+        ensures refused { IfErr result (λ e. e ≡ Memory) }
+    {
+        let Some(power) = self.power.take() else {
+            return Err(Refusal::Memory);
+        };
+        let (after, answer) = line_with_cuts(
+            setting,
+            line,
+            power,
+            &mut self.payloads,
+            &mut self.fill,
+        );
+        self.said = said_behind(&after, self.said);
+        self.power = Some(after);
+        answer
+    }
+
+    /// Up to so many turns of a hart, one after another: what the line `turn` does, and many times as fast, since
+    /// a board that stays on is not moved.
+    pub fn turns<C: Crew>(&mut self, setting: &Setting<'_, C>, hart: HartId, count: u32) -> Row
+        requires some { 1 ≤ count }
+        requires sound { IsSound self.old }
+        ensures reported { (size : Size) (b : Bench) → Shows size b self.old → (new : Bench)
+            × RowMoves size hart result b new × Moves size (lines.Turn hart count) b (row_answer hart result) new
+            × Shows size new self.new }
+        ensures range { IsWithin count result }
+        ensures off { result ≡ Row.Off → pc_in hart (machine_on self.new.power) ≡ None }
+        ensures sound { IsSound self.new }
+        ensures fill { self.new.fill ≡ self.old.fill }
+    {
+        let Some(power) = &mut self.power else {
+            return Row::Off;
+        };
+        let Some((made, word)) = in_place(setting, power, hart, count) else {
+            return Row::Off;
+        };
+        if stays_on(word) && !struck(power) {
+            self.said[hart.index()] = Some(word);
+            return Row::Made(made, word);
+        }
+        self.said = [None; 8];
+        let Some(power) = self.power.take() else {
+            return Row::Off;
+        };
+        let (left, lost) = settled(power, word, self.fill);
+        self.power = Some(left);
+        if lost {
+            Row::Lost(made)
+        } else {
+            Row::Made(made, word)
+        }
+    }
+
+    /// One turn more of a row that may go on, and how that goes on. An idle turn changes nothing and is left out.
+    fn one_more<C: Crew>(
+        &mut self,
+        setting: &Setting<'_, C>,
+        hart: HartId,
+        row: Row,
+        points: &[u64],
+    ) -> (Row, Next)
+        requires goes { IsOpenRow row }
+        requires busy { is_idle_row row ≡ false }
+        requires few { made_in row < 1000000 }
+        requires sound { IsSound self.old }
+        ensures reported { (size : Size) (b mid : Bench) → RowMoves size hart row b mid → Shows size mid self.old
+            → (new : Bench) × RowMoves size hart result.0 b new × Shows size new self.new
+            × (result.1 ≡ Next.Rests → Rests size hart true new) }
+        ensures within { (most : ℕ) → made_in row < most → IsWithin most row → IsWithin most result.0 }
+        ensures busy { is_idle_row result.0 ≡ false }
+        ensures goes { result.1 ≡ Next.Goes → IsOpenRow result.0 × (made_in result.0 ≡ made_in row + 1) }
+        ensures halts { result.1 ≡ Next.Halts → HasHalted hart points.now result.0 self.new.power }
+        ensures sound { IsSound self.new }
+        ensures fill { self.new.fill ≡ self.old.fill }
+    {
+        rows_join();
+        idle_turns_change_nothing();
+        let next = self.turns(setting, hart, 1);
+        if next.is_idle() {
+            return (row, Next::Rests);
+        }
+        if !next.goes_on() {
+            return (row.then(next), Next::Halts);
+        }
+        if self.stands_at(hart, points) {
+            return (row.then(next), Next::Halts);
+        }
+        (row.then(next), Next::Goes)
+    }
+
+    /// Turns of a hart one by one, `most` of them at most: up to one after which the hart stands at one of these
+    /// addresses, one that ends a row of turns, and one before an idle turn, which changes nothing and is left out.
+    /// What came of them, where any was made; and whether the next turn of the hart is idle.
+    pub fn turns_to<C: Crew>(
+        &mut self,
+        setting: &Setting<'_, C>,
+        hart: HartId,
+        most: u32,
+        points: &[u64],
+    ) -> (Row, bool)
+        requires most { most ≤ 1000000 }
+        requires sound { IsSound self.old }
+        ensures reported { (size : Size) (b : Bench) → Shows size b self.old → (new : Bench)
+            × RowMoves size hart result.0 b new × Shows size new self.new × Rests size hart result.1 new }
+        ensures range { IsWithin most result.0 }
+        ensures busy { is_idle_row result.0 ≡ false }
+        // No fewer are made without a reason.
+        ensures why { result.1 ≡ false → (made_in result.0 ≡ most) ⊎ HasHalted hart points.now result.0 self.new.power }
+        ensures sound { IsSound self.new }
+        ensures fill { self.new.fill ≡ self.old.fill }
+    {
+        let mut row = Row::Off;
+        let mut made = 0;
+        while made < most {
+            let (longer, next) = self.one_more(setting, hart, row, points);
+            row = longer;
+            made = row.made();
+            match next {
+                Next::Rests => return (row, true),
+                Next::Halts => return (row, false),
+                Next::Goes => {}
+            }
+        }
+        (row, false)
+    }
+
+    /// What was last said of a turn of a hart in this life.
+    pub fn said(&self, hart: HartId) -> Option<Word>
+        ensures { result ≡ said_of hart self.now }
+    {
+        self.said[hart.index()]
+    }
+
+    /// The pc of a hart of a board that is on.
+    pub fn pc(&self, hart: HartId) -> Option<u64>
+        ensures { result ≡ pc_in hart (machine_on self.now.power) }
+    {
+        match &self.power {
+            Some(Power::On(board)) if board.machine().has(hart) => Some(board.hart(hart).pc()),
+            _ => None,
+        }
+    }
+
+    /// Whether a hart stands at one of these addresses.
+    pub fn stands_at(&self, hart: HartId, points: &[u64]) -> bool
+        ensures { result ≡ stands_in points.now (pc_in hart (machine_on self.now.power)) }
+    {
+        match self.pc(hart) {
+            Some(pc) => points.contains(&pc),
+            None => false,
+        }
+    }
+}
