@@ -224,7 +224,7 @@ fn a_file_holds_the_disk_either_way(rt: HostRuntime) -> Result<(), Fail> {
     let again = Run { words: &OLD, ..set };
     let longer = after(&rt, longer, &again)?;
     same(&rt, longer.disk.len(), 13824);
-    same(&rt, &longer.disk[13312..], [7; 512].as_slice());
+    same(&rt, longer.disk.get(13312..), Some([7; 512].as_slice()));
     Ok(())
 }
 
