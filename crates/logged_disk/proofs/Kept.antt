@@ -5,7 +5,7 @@ use Rattle.std.proofs.lemmas.List.{map-append, ext_get_or, length-take-le}
 use Rattle.std.proofs.lemmas.Bool.{cases_lt}
 use Rattle.disk.specs.FaultState.{FaultState}
 use Rattle.disk.specs.Calls.{CountsCalls, MakesCalls}
-use Rattle.disk.specs.Facts.{Content, Facts, Lent, IsFresh, LeavesAfter, Only, Passes, Stays, Torn, Written, counted, nothing, sector, lent_sectors}
+use Rattle.disk.specs.Facts.{Content, Facts, Lent, IsFresh, LeavesAfter, Only, Passes, Stays, Torn, Written, counted, sector, lent_sectors}
 use Rattle.write_log.specs.WriteLog.{Piece, WriteLog, AgreesOutside, AreWithin, Untouched, laid_over, lent_piece, more_written, more_synced, new_log, piece_in, range, ranges, sim_facts, synced}
 use Rattle.write_log.proofs.Pieces.{length-put, put_low, put_mid, put_high, synced_push, replay_copied, fits_push}
 use Rattle.write_log.proofs.Ranges.{agrees_all, agrees_push, durable, untouched_push}
@@ -75,34 +75,29 @@ kept_called log a b f g r kept m = kept_on log a b Stays kept m.crash (λ x y is
 pub ranges_more : (log : WriteLog) (p : Piece) → ranges (more_written p log).written ≡ ranges log.written ++ range p ∷ []
 ranges_more log p = map-append range log.written (p ∷ [])
 
-pub torn_more : (log : WriteLog) (p : Piece) (x y : Content) → Torn p.0 (length p.1) x y → AgreesOutside x (ranges (more_written p log).written) y
-torn_more log p x y torn = record {
-  as_long = torn.as_long;
-  same = λ k u. ⊎_elim (torn.before k) (torn.after k) (untouched_push (ranges log.written) (range p) k (subst (λ (rs : List (ℕ × ℕ)). Untouched rs k) (ranges_more log p) u)).1;
-}
+pub untouched_more : (log log' : WriteLog) (p : Piece) (k : ℕ) → log' ≡ more_written p log → Untouched (ranges log'.written) k → Untouched (ranges log.written) k × ((k < p.0) ⊎ (p.0 + length p.1 ≤ k))
+untouched_more log log' p k more u = untouched_push (ranges log.written) (range p) k (subst (λ (rs : List (ℕ × ℕ)). Untouched rs k) (ap (λ (q : WriteLog). ranges q.written) more ∙ ranges_more log p) u)
+
+pub torn_more : (log log' : WriteLog) (p : Piece) (x y : Content) → log' ≡ more_written p log → Torn p.0 (length p.1) x y → AgreesOutside x (ranges log'.written) y
+torn_more log log' p x y more torn = record { as_long = torn.as_long; same = λ k u. ⊎_elim (torn.before k) (torn.after k) (untouched_more log log' p k more u).1 }
 
 pub kept_more : (log log' : WriteLog) (p : Piece) (a : Facts) → IsKept log a → log' ≡ more_written p log → p.0 + length p.1 ≤ length a.content → IsKept log' a
 kept_more log log' p a kept more within = subst (λ (q : WriteLog). IsKept q a) (sym more) (record {
   fits = fits_push (length a.content) log.written p kept.fits within;
   holds = pushed a.content kept.holds;
   leaves = λ c may. pushed c (kept.leaves c may);
-  lent = λ k le lt u. kept.lent k le lt (before k u);
+  lent = λ k le lt u. kept.lent k le lt (untouched_more log (more_written p log) p k refl u).0;
   lent_fits = kept.lent_fits;
 })
   where
     pushed : (c : Content) → AgreesOutside (synced log) (ranges log.written) c → AgreesOutside (synced log) (ranges (more_written p log).written) c
     pushed c but = subst (λ (rs : List (ℕ × ℕ)). AgreesOutside (synced log) rs c) (sym (ranges_more log p)) (agrees_push (synced log) (ranges log.written) (range p) c but)
 
-    before : (k : ℕ) → Untouched (ranges (more_written p log).written) k → Untouched (ranges log.written) k
-    before k u = (untouched_push (ranges log.written) (range p) k (subst (λ (rs : List (ℕ × ℕ)). Untouched rs k) (ranges_more log p) u)).0
-
 -- which the device was then asked for
 pub kept_written : {T E : Type 0} (log log' : WriteLog) (p : Piece) (a b : Facts) (f g : FaultState) (r : Result T E) → IsKept log a → log' ≡ more_written p log → p.0 + length p.1 ≤ length a.content → MakesCalls 1 (Torn p.0 (length p.1)) a b f g r
     → IsKept log' b
-kept_written log log' p a b f g r kept more within m = kept_on log' a b (Torn p.0 (length p.1)) (kept_more log log' p a kept more within) m.crash torn (torn a.content b.content m.content) m.lent
-  where
-    torn : (x y : Content) → Torn p.0 (length p.1) x y → AgreesOutside x (ranges log'.written) y
-    torn x y t = subst (λ (q : WriteLog). AgreesOutside x (ranges q.written) y) (sym more) (torn_more log p x y t)
+kept_written log log' p a b f g r kept more within m =
+    kept_on log' a b (Torn p.0 (length p.1)) (kept_more log log' p a kept more within) m.crash (λ x y torn. torn_more log log' p x y more torn) (torn_more log log' p a.content b.content more m.content) m.lent
 
 -- ---- what it does to the facts of the disk, which read x before and y after it
 -- the log stays: a crash leaves what it might have left before
@@ -209,8 +204,8 @@ kept_at_first a log fresh begun = subst (λ (q : WriteLog). IsKept q a) (sym beg
   lent_fits = subst (λ (l : Lent). l.first + lent_sectors l ≤ length a.content) (sym fresh.none_out) (omega arith);
 })
 
-pub fresh_at_first : (x : Content) (a : Facts) (log : WriteLog) (i : ℕ) → x ≡ a.content → IsFresh a.content a → log ≡ new_log a.content → IsFresh a.content (facts_over x log i a)
-fresh_at_first x a log i reads fresh begun = record {
+pub fresh_over : (x : Content) (a : Facts) (log : WriteLog) (i : ℕ) → x ≡ a.content → IsFresh a.content a → log ≡ new_log a.content → IsFresh a.content (facts_over x log i a)
+fresh_over x a log i reads fresh begun = record {
   reads = reads;
   durable = λ c but. agrees_all a.content c (subst (λ (q : WriteLog). AgreesOutside (synced q) (ranges q.written) c) begun but);
   none_out = fresh.none_out;

@@ -4,10 +4,9 @@ use Rattle.std.proofs.Math.Nat.{zero-mul}
 use Rattle.std.proofs.lemmas.List.{ext_get_or}
 use Rattle.std.proofs.lemmas.Bool.{cases_lt}
 use Rattle.disk.specs.Facts.{Content, Facts, LaneFacts, Lent, Joined, Passes, Stays, Torn, nothing, sector, lent_sectors}
-use Rattle.write_log.specs.WriteLog.{Piece, WriteLog, AgreesOutside, AreWithin, Untouched, lent_piece, more_written, range, ranges, synced}
-use Rattle.write_log.proofs.Ranges.{untouched_push}
+use Rattle.write_log.specs.WriteLog.{WriteLog, AgreesOutside, AreWithin, Untouched, lent_piece, more_written, ranges, synced}
 use Rattle.logged_disk.specs.Kept.{IsKept, facts_over}
-use Rattle.logged_disk.proofs.Kept.{kept_more, ranges_more, range_lent, tears_over}
+use Rattle.logged_disk.proofs.Kept.{kept_more, untouched_more, range_lent, tears_over}
 
 -- what was lent counts as written
 module _ (log log' : WriteLog) (a b : Facts) (l : Lent) (kept : IsKept log a) (lent : b.lent ≡ l) (within : l.first + lent_sectors l ≤ length a.content) (same : b.content ≡ a.content) (more : log' ≡ more_written (lent_piece b.lent b.content) log) where
@@ -36,8 +35,7 @@ module _ (log log' : WriteLog) (a b : Facts) (l : Lent) (kept : IsKept log a) (l
       noted = kept_more log log' (lent_piece l a.content) a kept more_l (rw long within)
 
       outside : (k : ℕ) → Untouched (ranges log'.written) k → (k < l.first) ⊎ (l.first + lent_sectors l ≤ k)
-      outside k u = subst (λ (n : ℕ). (k < l.first) ⊎ (l.first + n ≤ k)) long
-          (untouched_push (ranges log.written) (range (lent_piece l a.content)) k (subst (λ (rs : List (ℕ × ℕ)). Untouched rs k) (ap (λ (q : WriteLog). ranges q.written) more_l ∙ ranges_more log (lent_piece l a.content)) u)).1
+      outside k u = subst (λ (n : ℕ). (k < l.first) ⊎ (l.first + n ≤ k)) long (untouched_more log log' (lent_piece l a.content) k more_l u).1
 
       out : (k : ℕ) → l.first ≤ k → k < l.first + lent_sectors l → (k < l.first) ⊎ (l.first + lent_sectors l ≤ k) → ⊥
       out k le lt (inl low) = omega (arith, le, low)

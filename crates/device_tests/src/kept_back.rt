@@ -9,29 +9,32 @@ use std::process::Abort;
 use std::test::*;
 
 /// Writes so many sectors, the k-th full of k + 1, with no sync.
-fn write_each(rt: &impl Abort, disk: &mut CachedDisk<SimDisk>, count: usize)
+fn write_each(rt: &impl Abort, disk: &mut CachedDisk<SimDisk>, count: u8)
     requires { (⟦<CachedDisk<SimDisk> as Disk>⟧.facts disk.old).lent.lanes ≡ 0 }
     ensures { (⟦<CachedDisk<SimDisk> as Disk>⟧.facts disk.new).lent.lanes ≡ 0 }
 {
-    for at in 0..count {
-        same(rt, write_byte(rt, disk, at, (at as u8).wrapping_add(1)), Ok(()));
+    for k in 0..count {
+        let wrote = write_byte(rt, disk, usize::from(k), k.wrapping_add(1));
+        same(rt, wrote, Ok(()));
     }
 }
 
 /// Each of so many sectors reads so.
-fn read_each(rt: &impl Abort, disk: &mut CachedDisk<SimDisk>, count: usize)
+fn read_each(rt: &impl Abort, disk: &mut CachedDisk<SimDisk>, count: u8)
     requires { (⟦<CachedDisk<SimDisk> as Disk>⟧.facts disk.old).lent.lanes ≡ 0 }
     ensures { (⟦<CachedDisk<SimDisk> as Disk>⟧.facts disk.new).lent.lanes ≡ 0 }
 {
-    for at in 0..count {
-        same(rt, read_byte(rt, disk, at), Ok((at as u8).wrapping_add(1)));
+    for k in 0..count {
+        let found = read_byte(rt, disk, usize::from(k));
+        same(rt, found, Ok(k.wrapping_add(1)));
     }
 }
 
 /// Each of so many sectors was left so by a power cut.
-fn left_each(rt: &impl Abort, device: &SimDisk, count: usize) {
-    for at in 0..count {
-        same(rt, left_byte(rt, device, at), (at as u8).wrapping_add(1));
+fn left_each(rt: &impl Abort, device: &SimDisk, count: u8) {
+    for k in 0..count {
+        let left = left_byte(rt, device, usize::from(k));
+        same(rt, left, k.wrapping_add(1));
     }
 }
 

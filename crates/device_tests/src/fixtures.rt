@@ -36,11 +36,7 @@ pub fn write_byte(
 }
 
 /// The last byte of a sector, as a read gives it.
-pub fn read_byte(
-    rt: &impl Abort,
-    disk: &mut CachedDisk<SimDisk>,
-    at: usize,
-) -> Result<u8, Fault>
+pub fn read_byte(rt: &impl Abort, disk: &mut CachedDisk<SimDisk>, at: usize) -> Result<u8, Fault>
     requires { (⟦<CachedDisk<SimDisk> as Disk>⟧.facts disk.old).lent.lanes ≡ 0 }
     ensures { (⟦<CachedDisk<SimDisk> as Disk>⟧.facts disk.new).lent.lanes ≡ 0 }
 {
@@ -58,6 +54,8 @@ pub fn left_byte(rt: &impl Abort, device: &SimDisk, at: usize) -> u8 {
 }
 
 /// The device that a power cut leaves of a cache: each of its writes that no sync followed reads as 9 throughout.
-pub fn cut(disk: CachedDisk<SimDisk>) -> SimDisk {
+pub fn cut(disk: CachedDisk<SimDisk>) -> SimDisk
+    ensures { (⟦<SimDisk as Disk>⟧.facts result).lent.lanes ≡ 0 }
+{
     disk.into_device().after_cut(Fill::Byte(9))
 }
