@@ -1,4 +1,4 @@
--- The disk of a file. Source: docs/STORE.md, "The head"; docs/CONSOLE.md, "Statuses and faults".
+-- The disk of a file. Source: docs/STORE.md, "Superblock"; docs/CONSOLE.md, "Statuses and faults".
 use Rattle.std.specs.Prelude.{◌≡◌, ◌≢◌, ◌⊎◌, ◌≤◌, ◌*◌, ◌%◌, ◌/◌, ◌++◌, ℕ, Bool, true, false, List, Option, IfSome, length, take, drop}
 use Rattle.std.specs.List.{concat}
 use Rattle.std.specs.Simd.{first_chunks}
