@@ -3,3 +3,4 @@ pub mod InPlace
 pub mod Rests
 pub mod Histories
 pub mod Timelines
+pub mod Passed

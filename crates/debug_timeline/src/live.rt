@@ -8,7 +8,8 @@ ghost use Rattle.bench_report.specs.Agree.{fill_after};
 ghost use Rattle.bench_report.specs.Bench.{Bench, bench_with};
 ghost use Rattle.bench_report.specs.Steps.{Moves};
 ghost use Rattle.debug_timeline.specs.Lives.{HasHalted, IsSound, Rests, Shows, machine_on, pc_in, said_of, stands_in};
-ghost use Rattle.bench_rows.specs.Rows.{IsOpenRow, IsWithin, RowMoves, is_idle_row, made_in, row_answer};
+ghost use Rattle.debug_timeline.specs.Passes.{GoesTo, machine_left};
+ghost use Rattle.bench_rows.specs.Rows.{IsOpenRow, IsWithin, RowMoves, is_idle_row, is_off, made_in, row_answer};
 ghost use Rattle.script_lang.specs.Lines.{IsLineInRange};
 ghost use Rattle.script_lang.specs.declared.line.Line.TheVariants as lines;
 ghost use Rattle.simdisk.specs.declared.fill.Fill.TheVariants as fills;
@@ -179,10 +180,14 @@ impl LiveBench {
         requires goes { IsOpenRow row }
         requires busy { is_idle_row row ≡ false }
         requires few { made_in row < 1000000 }
+        requires some { IsWithin 1000000 row }
         requires sound { IsSound self.old }
         ensures reported { (size : Size) (b mid : Bench) → RowMoves size hart row b mid → Shows size mid self.old
+            → GoesTo size hart points.now row b mid
+            → (is_off row ≡ false → stands_in points.now (pc_in hart (machine_left mid.power)) ≡ false)
             → (new : Bench) × RowMoves size hart result.0 b new × Shows size new self.new
-            × (result.1 ≡ Next.Rests → Rests size hart true new) }
+            × (result.1 ≡ Next.Rests → Rests size hart true new) × GoesTo size hart points.now result.0 b new
+            × (result.1 ≡ Next.Goes → stands_in points.now (pc_in hart (machine_left new.power)) ≡ false) }
         ensures within { (most : ℕ) → made_in row < most → IsWithin most row → IsWithin most result.0 }
         ensures busy { is_idle_row result.0 ≡ false }
         ensures goes { result.1 ≡ Next.Goes → IsOpenRow result.0 × (made_in result.0 ≡ made_in row + 1) }
@@ -218,7 +223,8 @@ impl LiveBench {
         requires most { most ≤ 1000000 }
         requires sound { IsSound self.old }
         ensures reported { (size : Size) (b : Bench) → Shows size b self.old → (new : Bench)
-            × RowMoves size hart result.0 b new × Shows size new self.new × Rests size hart result.1 new }
+            × RowMoves size hart result.0 b new × Shows size new self.new × Rests size hart result.1 new
+            × GoesTo size hart points.now result.0 b new }
         ensures range { IsWithin most result.0 }
         ensures busy { is_idle_row result.0 ≡ false }
         // No fewer are made without a reason.

@@ -116,7 +116,7 @@ impl Timeline {
         requires hart { hart < setting.now.shape.now.harts }
         requires most { most ≤ 1000000 }
         ensures at { OnOk result (IsAt setting.now.shape.now self.new) }
-        ensures made { IfOk result (λ did. MadeTurns setting.now.shape.now hart did.0 did.1 self.old self.new) }
+        ensures made { IfOk result (λ did. MadeTurns setting.now.shape.now hart points.now did.0 did.1 self.old self.new) }
         ensures within { IfOk result (λ did. IsWithin most did.0) }
         ensures why { IfOk result (λ did. did.1 ≡ false
             → (made_in did.0 ≡ most) ⊎ HasHalted hart points.now did.0 self.new.bench.power) }
