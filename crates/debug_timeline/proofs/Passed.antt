@@ -1,17 +1,28 @@
 -- Turns that are made one by one.
-use Rattle.std.proofs.Common.{◌≡◌, ◌≤◌, ◌+◌, ◌-◌, ℕ, suc, true, false, List, Option, None, Some, refl, sym, ap, subst, arith}
+use Rattle.std.proofs.Common.{◌≡◌, ◌≤◌, ◌+◌, ◌-◌, inl, inr, ◌∙◌, ℕ, suc, Bool, false, nat_lt, length, List, Option, None, Some, refl, sym, ap, subst, arith}
+use Rattle.std.specs.Prelude.{if◌then◌else◌}
+use Rattle.std.proofs.lemmas.Bool.Decides.{nat_tests}
 use Rattle.board_model.specs.Shapes.{Size}
 use Rattle.board_model.specs.Kept.{Kept}
-use Rattle.machine.specs.Machine.{Machine}
+use Rattle.machine.specs.Machine.{Machine, hart_at}
+use Rattle.machine_lines.specs.Shows.{HasHart}
+use Rattle.script_lang.specs.declared.line.Line.TheVariants as lines
+use Rattle.machine_lines.specs.declared.line.MachineLine.TheVariants as shown
+use Rattle.bench_report.specs.declared.printed.Printed.TheVariants as printed
+use Rattle.bench_report.specs.declared.printed.Answer.{Answer}
+use Rattle.bench_report.specs.Steps.{Moves, TurnStep}
 use Rattle.bench_report.specs.Agree.{BoardIs}
 use Rattle.bench_report.specs.Bench.{Bench, BenchLife, DiskState}
-use Rattle.bench_report.specs.Views.{SimBoard, machine_in}
+use Rattle.bench_report.specs.Views.{SimBoard}
 use Rattle.bench_report.specs.declared.power.Power.{Power}
 use Rattle.bench_report.specs.declared.power.Power.TheVariants.{Off, On}
 use Rattle.bench_rows.specs.declared.rows.Row.{Row}
 use Rattle.bench_rows.specs.declared.rows.Row.TheVariants as rows
-use Rattle.bench_rows.specs.Rows.{IsOpenRow, IsWithin, RowMoves, RowsJoin, is_off, made_in, row_then}
-use Rattle.debug_timeline.specs.Lives.{PowerShows, machine_on, pc_in, stands_in}
+use Rattle.bench_rows.specs.Rows.{IsOpenRow, IsWithin, RowMoves, RowsJoin, is_off, made_in, row_answer, row_then}
+use Rattle.bench_live.specs.Lives.{PowerShows}
+use Rattle.bench_live.specs.declared.live.LiveBench.{LiveBench}
+use Rattle.bench_live.specs.Lives as live
+use Rattle.debug_timeline.specs.Lives.{machine_on, pc_in, stands_in}
 use Rattle.debug_timeline.specs.Passes.{GoesTo, Passes, machine_left}
 
 -- ---- the machine that a bench shows
@@ -23,6 +34,29 @@ pub shown_machine : (size : Size) (b : Bench) (power : Option Power) (payloads :
 shown_machine size b None payloads shows = absurd shows
 shown_machine size b (Some (Off disk)) payloads shows = sym (ap machine_left shows.0.0)
 shown_machine size b (Some (On board)) payloads shows = on_machine size b.disk_state b.kept b.power board shows.0.0
+
+-- ---- where no turn is made
+none_at : (h : ℕ) (m : Machine) → (HasHart m h → ⊥) → pc_in h (Some m) ≡ None
+none_at h m lacks = let test : nat_lt h (length m.harts) ≡ false = grind (arith, nat_tests, lacks) in ap (λ (t : Bool). if t then Some (hart_at m h).pc else None) test
+
+-- the board is off, or lacks the hart
+off_lacks : (size : Size) (h n : ℕ) (b new : Bench) → Moves size (lines.Turn h n) b (row_answer h rows.Off) new → pc_in h (machine_left b.power) ≡ None
+off_lacks size h n b new (inr (would, mid, step, struck, e, is)) =
+    let no : printed.Shown shown.Off ≡ printed.PowerLost = ap (λ (a : Answer). a.line) e in absurd (let never : ⊥ = cc in never)
+off_lacks size h n b new (inl (step, calm)) = at b.power step
+  where
+    at : (p : Option BenchLife) → TurnStep p h n b (row_answer h rows.Off) new → pc_in h (machine_left p) ≡ None
+    at None step = refl
+    at (Some life) (inl (has, made, word, guest, e)) =
+        let no : printed.Shown shown.Off ≡ printed.Shown (shown.Turn h made word) = ap (λ (a : Answer). a.line) e in absurd (let never : ⊥ = cc in never)
+    at (Some life) (inr (lacks, e, same)) = none_at h life.machine lacks
+
+pub off_row : (size : Size) (h n : ℕ) (row : Row) (b : Bench) (after : LiveBench) → row ≡ rows.Off
+    → (new : Bench) × RowMoves size h row b new × Moves size (lines.Turn h n) b (row_answer h row) new × live.Shows size new after → pc_in h (machine_on after.power) ≡ None
+off_row size h n row b after is (new, moves, line, shows) =
+    let P : Row → Type 0 = λ r. RowMoves size h r b new × Moves size (lines.Turn h n) b (row_answer h r) new in
+    let off = subst P is (moves, line) in
+    ap (pc_in h) (shown_machine size new after.power after.payloads shows) ∙ ap (λ (x : Bench). pc_in h (machine_left x.power)) off.0 ∙ off_lacks size h n b new off.1
 
 -- ---- one turn more
 pub within_less : (most k : ℕ) (row : Row) → most ≤ k → IsWithin most row → IsWithin k row

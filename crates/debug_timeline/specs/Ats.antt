@@ -36,7 +36,7 @@ IsLeft size t b =
 pub record IsAt (size : Size) (t : Timeline) : Type 0 where
   pub left : (b : Bench) × IsLeft size t b
   pub sound : IsSound t.bench
-  pub fill : t.bench.fill ≡ fills_after t.history fills.Old
+  pub fill : t.bench.live.fill ≡ fills_after t.history fills.Old
   pub ranges : AreInRange size t.history
   pub four : length t.begins ≡ 4
 
