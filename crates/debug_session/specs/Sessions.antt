@@ -3,7 +3,7 @@ use Rattle.std.specs.Prelude.{ℕ, List, Option}
 use Rattle.board_model.specs.Shapes.{Size}
 use Rattle.machine.specs.Machine.{Machine}
 use Rattle.script_lang.specs.declared.line.Line.{Line}
-use Rattle.debug_timeline.specs.declared.live.LiveBench.{LiveBench}
+use Rattle.debug_timeline.specs.declared.debugged.DebuggedBench.{DebuggedBench}
 use Rattle.debug_session.specs.declared.session.Session.{Session}
 use Rattle.debug_timeline.specs.declared.timeline.Timeline.{Timeline}
 use Rattle.debug_timeline.specs.Lives.{machine_on}
@@ -26,7 +26,7 @@ module _ {C : Type 0} where
   begins_of s = s.timeline.begins
 
   -- the bench as it stands
-  abbrev pub bench_of : Session C → LiveBench
+  abbrev pub bench_of : Session C → DebuggedBench
   bench_of s = s.timeline.bench
 
   -- the memory and harts of a board that is on

@@ -11,7 +11,7 @@ use Rattle.sbi.specs.declared.words.Word.{Word}
 use Rattle.sbi.specs.declared.words.Word.TheVariants as words
 use Rattle.sbi_calls.specs.declared.words.Did.{Did}
 use Rattle.sbi_calls.specs.declared.words.Did.TheVariants as dids
-use Rattle.debug_timeline.specs.declared.live.LiveBench.{LiveBench}
+use Rattle.debug_timeline.specs.declared.debugged.DebuggedBench.{DebuggedBench}
 use Rattle.debug_timeline.specs.Lives.{is_there, machine_on, said_of}
 use lib.Chars.{codes}
 
@@ -50,5 +50,5 @@ word_text None = codes "no turn yet"
 word_text (Some (words.Over end)) = codes "power off"
 word_text (Some (words.Goes did)) = did_text did
 
-abbrev pub state_text : ℕ → LiveBench → List ℕ
+abbrev pub state_text : ℕ → DebuggedBench → List ℕ
 state_text h live = if is_there (machine_on live.power) then word_text (said_of h live) else codes "power off"

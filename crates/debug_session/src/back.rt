@@ -12,7 +12,7 @@ use crate::stops::Stops;
 use bench_report::Setting;
 use board_model::{HartId, Refusal};
 use crew::Crew;
-use debug_timeline::{LiveBench, Timeline, replay};
+use debug_timeline::{DebuggedBench, Timeline, replay};
 use script_lang::Line;
 
 /// A place in a history: a line, and how many of its turns stand before it.
@@ -50,7 +50,7 @@ fn first_turn<C: Crew>(setting: &Setting<'_, C>, lines: &[Line]) -> Option<Place
 fn last_halt_in<C: Crew>(
     setting: &Setting<'_, C>,
     stops: &Stops,
-    bench: &mut LiveBench,
+    bench: &mut DebuggedBench,
     hart: HartId,
     turns: u32,
 ) -> Result<Option<(u32, Halt)>, Refusal>
@@ -78,7 +78,7 @@ fn last_halt_in<C: Crew>(
 fn last_halt_of<C: Crew>(
     setting: &Setting<'_, C>,
     stops: &Stops,
-    bench: &mut LiveBench,
+    bench: &mut DebuggedBench,
     lines: &[Line],
     number: usize,
 ) -> Result<Option<Place>, Refusal>
@@ -121,7 +121,7 @@ fn last_halt<C: Crew>(
     ensures refused { IfErr result (λ e. e ≡ Memory) }
 {
     let mut found = None;
-    let mut bench = LiveBench::blank(setting.alloc, setting.shape, timeline.begins())?;
+    let mut bench = DebuggedBench::blank(setting.alloc, setting.shape, timeline.begins())?;
     let lines = timeline.lines();
     for number in 0..lines.len() {
         if let Some(place) = last_halt_of(setting, stops, &mut bench, lines, number)? {

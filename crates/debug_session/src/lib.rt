@@ -9,7 +9,7 @@ mod script;
 mod session;
 mod stops;
 
-pub use debug_timeline::{LiveBench, PC, REGISTERS, Row, Timeline};
+pub use debug_timeline::{DebuggedBench, PC, REGISTERS, Row, Timeline};
 pub use halts::{Halt, Stop};
 pub use session::{Plan, Session};
 pub use stops::Watch;

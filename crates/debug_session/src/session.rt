@@ -23,7 +23,7 @@ use bench_report::{Answer, Setting};
 use board::Payloads;
 use board_model::{HartId, Refusal};
 use crew::Crew;
-use debug_timeline::{LiveBench, Timeline};
+use debug_timeline::{DebuggedBench, Timeline};
 use machine::{Did, Word};
 use script_lang::Line;
 use std::sync::atomic::AtomicBool;
@@ -106,7 +106,7 @@ impl<'a, C: Crew> Session<'a, C> {
     }
 
     /// The bench as it stands.
-    pub fn bench(&self) -> &LiveBench
+    pub fn bench(&self) -> &DebuggedBench
         ensures { result.now ≡ bench_of self.now }
     {
         self.timeline.bench()
@@ -131,7 +131,7 @@ impl<'a, C: Crew> Session<'a, C> {
         )
     }
 
-    /// A register of a hart, as `LiveBench::register` shows it.
+    /// A register of a hart, as `DebuggedBench::register` shows it.
     pub fn register(&mut self, hart: HartId, number: u64) -> Option<u64>
         ensures same { self.new ≡ self.old }
         ensures shown { result ≡ register_in hart number (machine_of_session self.old) }

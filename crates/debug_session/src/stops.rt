@@ -5,7 +5,7 @@ ghost use Rattle.std.specs.List.{list_any};
 ghost use Rattle.board_model.specs.declared.refusal.Refusal.TheVariants.{Memory};
 
 use board_model::Refusal;
-use debug_timeline::LiveBench;
+use debug_timeline::DebuggedBench;
 use std::alloc::Global;
 
 /// Bytes of memory that a turn is not to change unseen.
@@ -76,7 +76,7 @@ impl Stops {
     }
 
     /// The bytes that are watched, one after another, as far as the board has them.
-    pub(crate) fn watched(&self, alloc: Global, bench: &LiveBench) -> Result<Vec<u8>, Refusal>
+    pub(crate) fn watched(&self, alloc: Global, bench: &DebuggedBench) -> Result<Vec<u8>, Refusal>
         ensures refused { IfErr result (λ e. e ≡ Memory) }
     {
         let mut bytes = Vec::new(alloc);
@@ -92,7 +92,7 @@ impl Stops {
     pub(crate) fn changed(
         &self,
         alloc: Global,
-        bench: &LiveBench,
+        bench: &DebuggedBench,
         before: &Vec<u8>,
     ) -> Result<Option<u64>, Refusal>
         ensures refused { IfErr result (λ e. e ≡ Memory) }

@@ -1,5 +1,4 @@
-pub mod Copies
-pub mod InPlace
 pub mod Rests
 pub mod Histories
 pub mod Timelines
+pub mod Passed

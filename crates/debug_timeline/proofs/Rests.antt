@@ -4,14 +4,14 @@ use Rattle.board_model.specs.Shapes.{Size}
 use Rattle.machine_lines.specs.declared.line.MachineLine.TheVariants as shown
 use Rattle.sbi.specs.Words.{ends}
 use Rattle.script_lang.specs.declared.line.Line.TheVariants as lines
-use Rattle.bench_report.specs.declared.power.Power.{Power}
+use Rattle.machine.specs.Machine.{Machine}
 use Rattle.bench_report.specs.Bench.{Bench}
 use Rattle.bench_report.specs.Happens.{shows}
 use Rattle.bench_report.specs.Steps.{Moves}
 use Rattle.bench_rows.specs.declared.rows.Row.{Row}
 use Rattle.bench_rows.specs.declared.rows.Row.TheVariants as rows
 use Rattle.bench_rows.specs.Rows.{IdleTurnStays, IsOpenRow, IsWithin, RowMoves, goes_on, is_idle_row, made_in, row_then}
-use Rattle.debug_timeline.specs.Lives.{HasHalted, Rests, machine_on, pc_in, stands_in}
+use Rattle.debug_timeline.specs.Lives.{HasHalted, Rests, pc_in, stands_in}
 
 -- an idle turn left the bench as it was
 pub idle_stays : (stays : IdleTurnStays) (size : Size) (h : ℕ) (next : Row) (mid new : Bench) → is_idle_row next ≡ true → IsWithin 1 next → RowMoves size h next mid new → (new ≡ mid) × Rests size h true mid
@@ -43,11 +43,11 @@ goes_then row (rows.Made n word) one goes =
     (not_true (ends word) goes, ap (λ (k : ℕ). made_in row + k) single)
 
 -- why no other follows
-pub halted : (h : ℕ) (points : List ℕ) (row next : Row) (power : Option Power) → (next ≡ rows.Off → pc_in h (machine_on power) ≡ None)
-    → (goes_on next ≡ false) ⊎ (stands_in points (pc_in h (machine_on power)) ≡ true) → HasHalted h points (row_then row next) power
-halted h points row rows.Off power off why = inr (off refl)
-halted h points row (rows.Made n word) power off why = inl (refl, why)
-halted h points row (rows.Lost n) power off why = inl (refl, inl refl)
+pub halted : (h : ℕ) (points : List ℕ) (row next : Row) (machine : Option Machine) → (next ≡ rows.Off → pc_in h machine ≡ None)
+    → (goes_on next ≡ false) ⊎ (stands_in points (pc_in h machine) ≡ true) → HasHalted h points (row_then row next) machine
+halted h points row rows.Off machine off why = inr (off refl)
+halted h points row (rows.Made n word) machine off why = inl (refl, why)
+halted h points row (rows.Lost n) machine off why = inl (refl, inl refl)
 
 -- and the last is not idle
 pub busy_then : (row next : Row) → is_idle_row row ≡ false → is_idle_row next ≡ false → is_idle_row (row_then row next) ≡ false

@@ -15,7 +15,7 @@ use Rattle.bench_rows.specs.declared.rows.Row.TheVariants as rows
 use Rattle.bench_rows.specs.Rows.{RowMoves, goes_on, made_in}
 use Rattle.bench_rows.specs.Notes.{Joins, Leaves, NotesRow}
 use Rattle.bench_rows.proofs.Noted.{leaves_more}
-use Rattle.debug_timeline.specs.declared.live.LiveBench.{LiveBench}
+use Rattle.debug_timeline.specs.declared.debugged.DebuggedBench.{DebuggedBench}
 use Rattle.debug_timeline.specs.declared.timeline.Timeline.{Timeline}
 use Rattle.debug_timeline.specs.Ats.{GoesOnBy, IsLeft, IsNoted, Ran}
 use Rattle.debug_timeline.specs.Lives.{Shows}
@@ -26,11 +26,11 @@ always_ok (Ok x) P h = h
 always_ok (Err e) P h = tt
 
 -- what a history and a bench together are
-abbrev pub Left : Size → List (List ℕ) → List Line → Bool → LiveBench → Bench → Type 0
+abbrev pub Left : Size → List (List ℕ) → List Line → Bool → DebuggedBench → Bench → Type 0
 Left size begins past joins live b = Leaves size (bench_with begins) past b × Joins size (bench_with begins) joins past b × Shows size b live
 
 -- a row of turns was made and noted
-pub row_left : (size : Size) (h : ℕ) (row : Row) (begins : List (List ℕ)) (was now : List Line) (joined joins : Bool) (before after : LiveBench) (Also : Bench → Bench → Type 0)
+pub row_left : (size : Size) (h : ℕ) (row : Row) (begins : List (List ℕ)) (was now : List Line) (joined joins : Bool) (before after : DebuggedBench) (Also : Bench → Bench → Type 0)
     → NotesRow size h row joined joins was now
     → ((b : Bench) → Shows size b before → (x : Bench) × RowMoves size h row b x × Also b x × Shows size x after)
     → (b : Bench) → Left size begins was joined before b → (x : Bench) × RowMoves size h row b x × Also b x × Left size begins now joins after x
@@ -40,7 +40,7 @@ row_left size h row begins was now joined joins before after Also notes moves b 
     (did.0, did.1, did.2, (noted.0, noted.1, did.3))
 
 -- a line was run and noted
-pub line_left : (size : Size) (line : Line) (answer : Answer) (begins : List (List ℕ)) (was : List Line) (joined : Bool) (before after : LiveBench)
+pub line_left : (size : Size) (line : Line) (answer : Answer) (begins : List (List ℕ)) (was : List Line) (joined : Bool) (before after : DebuggedBench)
     → ((b : Bench) → Shows size b before → (x : Bench) × Moves size line b answer x × Shows size x after)
     → (b : Bench) → Left size begins was joined before b → (x : Bench) × Moves size line b answer x × Left size begins (was ++ line ∷ []) false after x
 line_left size line answer begins was joined before after moves b left =
@@ -89,7 +89,7 @@ joins_more size start mid new false past line leaves goes = tt
 joins_more size start mid new true past line leaves (h, n, word, is, moves, runs) =
     (past, h, n, mid, word, ap (λ (l : Line). past ++ l ∷ []) is, leaves, moves, runs)
 
-pub again_more : (size : Size) (begins : List (List ℕ)) (lines : List Line) (i : ℕ) (d : Line) (joined joins : Bool) (before after : LiveBench) → i < length lines
+pub again_more : (size : Size) (begins : List (List ℕ)) (lines : List Line) (i : ℕ) (d : Line) (joined joins : Bool) (before after : DebuggedBench) → i < length lines
     → ((b : Bench) → Shows size b before → (answer : Answer) × (new : Bench) × Moves size (get_or lines i d) b answer new × Shows size new after × GoesOnBy size joins (get_or lines i d) b new)
     → (b : Bench) × Left size begins (take i lines) joined before b → (b : Bench) × Left size begins (take (i + 1) lines) joins after b
 again_more size begins lines i d joined joins before after less moves (b, left) =

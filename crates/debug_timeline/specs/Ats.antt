@@ -17,6 +17,7 @@ use Rattle.bench_rows.specs.Rows.{IsWithin, RowMoves, is_idle_row, made_in, row_
 use Rattle.bench_rows.specs.Notes.{AreInRange, Joins, Leaves}
 use Rattle.debug_timeline.specs.declared.timeline.Timeline.{Timeline}
 use Rattle.debug_timeline.specs.Lives.{IsSound, Rests, Shows}
+use Rattle.debug_timeline.specs.Passes.{GoesTo}
 
 -- a line is a row of turns of which all were made, and a further turn of the hart is one row with it
 abbrev pub GoesOnBy : Size → Bool → Line → Bench → Bench → Type 0
@@ -35,7 +36,7 @@ IsLeft size t b =
 pub record IsAt (size : Size) (t : Timeline) : Type 0 where
   pub left : (b : Bench) × IsLeft size t b
   pub sound : IsSound t.bench
-  pub fill : t.bench.fill ≡ fills_after t.history fills.Old
+  pub fill : t.bench.live.fill ≡ fills_after t.history fills.Old
   pub ranges : AreInRange size t.history
   pub four : length t.begins ≡ 4
 
@@ -51,11 +52,11 @@ pub record Ran (size : Size) (line : Line) (answer : Answer) (old new : Timeline
   pub moves : (b : Bench) → IsLeft size old b → (after : Bench) × Moves size line b answer after × IsLeft size new after
   pub noted : IsNoted line answer old.history new.history
 
--- A row of turns of hart h became part of the history, and nothing else; the last is not idle, and behind it the next
--- turn may rest.
-pub record MadeTurns (size : Size) (h : ℕ) (row : Row) (rests : Bool) (old new : Timeline) : Type 0 where
-  pub moves : (b : Bench) → IsLeft size old b
-      → (after : Bench) × RowMoves size h row b after × IsLeft size new after × Rests size h rests after
+-- A row of turns of hart h became part of the history, and nothing else; none before the last ended the row, or left the
+-- hart at one of these addresses. The last is not idle, and behind it the next turn may rest.
+pub record MadeTurns (size : Size) (h : ℕ) (points : List ℕ) (row : Row) (rests : Bool) (old new : Timeline) : Type 0 where
+  pub moves : (b : Bench) → IsLeft size old b → (after : Bench) × RowMoves size h row b after × IsLeft size new after
+      × Rests size h rests after × GoesTo size h points row b after
   pub grew : moments new.history ≡ moments old.history ++ replicate (made_in row) (lines.Turn h 1)
   pub busy : is_idle_row row ≡ false
 

@@ -7,58 +7,28 @@ use Rattle.hart.specs.Csrs.{csr_read}
 use Rattle.hart.specs.declared.csr.Csr.{Csr}
 use Rattle.hart.specs.declared.csr.Csr.TheVariants as csrs
 use Rattle.machine.specs.Machine.{Machine, hart_at}
-use Rattle.machine_lines.specs.Shows.{HasHart}
 use Rattle.machine_lines.specs.declared.line.MachineLine.TheVariants as shown
 use Rattle.sbi.specs.declared.words.Word.{Word}
-use Rattle.sbi.specs.declared.words.Word.TheVariants as words
 use Rattle.script_lang.specs.declared.line.Line.TheVariants as lines
 use Rattle.turns.specs.Turns.{has_pending}
 use Rattle.bench_report.specs.declared.power.Power.{Power}
 use Rattle.bench_report.specs.declared.power.Power.TheVariants.{Off, On}
-use Rattle.bench_report.specs.Bench.{Bench, BenchLife}
-use Rattle.bench_report.specs.Agree.{BoardAfter, IsBench, IsResting, IsUnstruck}
+use Rattle.bench_report.specs.Bench.{Bench}
 use Rattle.bench_report.specs.Happens.{shows}
 use Rattle.bench_report.specs.Steps.{Moves}
-use Rattle.bench_report.specs.Turns.{GuestTurns}
 use Rattle.bench_report.specs.Views.{machine_in}
 use Rattle.bench_rows.specs.declared.rows.Row.{Row}
 use Rattle.bench_rows.specs.Rows.{goes_on, is_idle, is_off}
-use Rattle.debug_timeline.specs.declared.live.LiveBench.{LiveBench}
-
--- a power that is there stands for the bench
-abbrev pub PowerShows : Size → Bench → Option Power → List (List ℕ) → Type 0
-PowerShows size b None payloads = ⊥
-PowerShows size b (Some power) payloads = IsBench size b power payloads
+use Rattle.bench_live.specs.Lives as live
+use Rattle.debug_timeline.specs.declared.debugged.DebuggedBench.{DebuggedBench}
 
 -- it stands for the bench, between two lines
-abbrev pub Shows : Size → Bench → LiveBench → Type 0
-Shows size b live = PowerShows size b live.power live.payloads
+abbrev pub Shows : Size → Bench → DebuggedBench → Type 0
+Shows size b bench = live.Shows size b bench.live
 
--- what the next line needs: nothing of the disk is lent, and no cut that struck is untold
-abbrev pub IsReady : Option Power → Type 0
-IsReady None = ⊥
-IsReady (Some power) = IsResting power × IsUnstruck power
-
-abbrev pub IsSound : LiveBench → Type 0
-IsSound live = IsReady live.power
-
--- ---- turns in place
-
--- the board is on
-abbrev pub IsOn : Power → Type 0
-IsOn (Off disk) = ⊥
-IsOn (On board) = ⊤
-
--- a board that is on, after what is said of a turn
-abbrev pub IsAfter : Size → Word → Bench → Power → Type 0
-IsAfter size word b (Off disk) = ⊥
-IsAfter size word b (On board) = BoardAfter size word b board
-
--- a hart made so many turns of at most n, the last of which is said to be so, and the board is as they left it
-abbrev pub WentInPlace : Size → ℕ → ℕ → Bench → ℕ → Word → Power → Type 0
-WentInPlace size h n b made word after =
-    (new : Bench) × (life : BenchLife) × (b.power ≡ Some life) × HasHart life.machine h × GuestTurns h n b made word new
-    × IsAfter size word new after × (new.payloads ≡ b.payloads)
+-- what the next line needs
+abbrev pub IsSound : DebuggedBench → Type 0
+IsSound bench = live.IsSound bench.live
 
 -- ---- what is shown
 
@@ -67,6 +37,10 @@ abbrev pub machine_on : Option Power → Option Machine
 machine_on None = None
 machine_on (Some (Off disk)) = None
 machine_on (Some (On board)) = Some (machine_in board)
+
+-- the machine of a bench whose board is on
+abbrev pub machine_of : DebuggedBench → Option Machine
+machine_of bench = machine_on bench.live.power
 
 -- the board is on
 abbrev pub is_there : Option Machine → Bool
@@ -122,16 +96,11 @@ Rests size h true b = (word : Word) × (is_idle word ≡ true) × Moves size (li
 
 -- Why a hart makes no more turns: some were made, and the last ended the row or left the hart at one of the addresses;
 -- or the board is off, or lacks the hart.
-abbrev pub HasHalted : ℕ → List ℕ → Row → Option Power → Type 0
-HasHalted h points row power =
-    ((is_off row ≡ false) × ((goes_on row ≡ false) ⊎ (stands_in points (pc_in h (machine_on power)) ≡ true)))
-    ⊎ (pc_in h (machine_on power) ≡ None)
-
--- the board is on after what is said of a turn
-abbrev pub stays_on : Word → Bool
-stays_on (words.Goes did) = true
-stays_on (words.Over end) = false
+abbrev pub HasHalted : ℕ → List ℕ → Row → Option Machine → Type 0
+HasHalted h points row machine =
+    ((is_off row ≡ false) × ((goes_on row ≡ false) ⊎ (stands_in points (pc_in h machine) ≡ true)))
+    ⊎ (pc_in h machine ≡ None)
 
 -- what was last said of a turn of hart h in this life
-abbrev pub said_of : ℕ → LiveBench → Option Word
-said_of h live = slice_index_or live.said h None
+abbrev pub said_of : ℕ → DebuggedBench → Option Word
+said_of h bench = slice_index_or bench.said h None

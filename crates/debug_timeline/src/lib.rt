@@ -2,14 +2,13 @@
 //! that its history may leave.
 #![tactic(auto)]
 
-mod live;
+mod debugged;
 mod looks;
 mod replays;
-mod rows;
 mod timeline;
 
 pub use bench_rows::Row;
-pub use live::LiveBench;
+pub use debugged::DebuggedBench;
 pub use looks::{PC, REGISTERS};
 pub use replays::replay;
 pub use timeline::Timeline;

@@ -2,10 +2,10 @@
 
 ghost use Rattle.std.specs.Prelude.{◌≡◌, ◌<◌, None, Some, length, MatchOption};
 ghost use Rattle.bench_report.specs.Views.{machine_in};
-ghost use Rattle.debug_timeline.specs.Lives.{csr_shown, is_there, machine_on, memory_in, register_at, register_in};
+ghost use Rattle.debug_timeline.specs.Lives.{csr_shown, is_there, machine_of, machine_on, memory_in, register_at, register_in};
 ghost use Rattle.hart.specs.Csrs.{csr_number};
 
-use crate::live::LiveBench;
+use crate::debugged::DebuggedBench;
 use bench_report::Power;
 use board::Board;
 use board_model::{HartId, RAM_BASE};
@@ -76,14 +76,14 @@ fn register_on(power: &mut Power, hart: HartId, number: u64) -> Option<u64>
     }
 }
 
-impl LiveBench {
+impl DebuggedBench {
     /// A register of a hart of a board that is on: 0 to 31 its own, 32 the pc, 33 to 41 `sstatus`, `sie`, `stvec`,
     /// `sscratch`, `sepc`, `scause`, `stval`, `sip` and `satp`.
     pub fn register(&mut self, hart: HartId, number: u64) -> Option<u64>
         ensures same { self.new ≡ self.old }
-        ensures shown { result ≡ register_in hart number (machine_on self.old.power) }
+        ensures shown { result ≡ register_in hart number (machine_of self.old) }
     {
-        match &mut self.power {
+        match &mut self.live.power {
             Some(power) => register_on(power, hart, number),
             None => None,
         }
@@ -91,10 +91,10 @@ impl LiveBench {
 
     /// Bytes of RAM of a board that is on, where it has all of them.
     pub fn memory(&self, address: u64, count: u64) -> Option<&[u8]>
-        ensures { MatchOption result (memory_in address count (machine_on self.now.power) ≡ None)
-            (λ bytes. memory_in address count (machine_on self.now.power) ≡ Some bytes.now) }
+        ensures { MatchOption result (memory_in address count (machine_of self.now) ≡ None)
+            (λ bytes. memory_in address count (machine_of self.now) ≡ Some bytes.now) }
     {
-        let board = match &self.power {
+        let board = match &self.live.power {
             Some(Power::On(board)) => board,
             _ => return None,
         };
@@ -113,9 +113,9 @@ impl LiveBench {
 
     /// Whether the board is on.
     pub fn is_on(&self) -> bool
-        ensures { result ≡ is_there (machine_on self.now.power) }
+        ensures { result ≡ is_there (machine_of self.now) }
     {
-        match &self.power {
+        match &self.live.power {
             Some(Power::On(_)) => true,
             _ => false,
         }

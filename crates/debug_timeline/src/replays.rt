@@ -12,7 +12,7 @@ ghost use Rattle.debug_timeline.specs.Lives.{IsSound, Shows};
 ghost use Rattle.script_lang.specs.Lines.{IsLineInRange};
 ghost use Rattle.simdisk.specs.declared.fill.Fill.TheVariants as fills;
 
-use crate::live::LiveBench;
+use crate::debugged::DebuggedBench;
 use bench_report::Setting;
 use board::Payloads;
 use board_model::Refusal;
@@ -23,7 +23,7 @@ use script_lang::Line;
 pub fn replay<C: Crew>(
     setting: &Setting<'_, C>,
     line: &Line,
-    bench: &mut LiveBench,
+    bench: &mut DebuggedBench,
 ) -> Result<bool, Refusal>
     requires range { IsLineInRange setting.now.shape.now line.now }
     requires sound { IsSound bench.old }
@@ -31,7 +31,7 @@ pub fn replay<C: Crew>(
         → (answer : Answer) × (new : Bench) × Moves setting.now.shape.now line.now b answer new
         × Shows setting.now.shape.now new bench.new × GoesOnBy setting.now.shape.now joins line.now b new) }
     ensures sound { OnOk result (IsSound bench.new) }
-    ensures fill { OnOk result (bench.new.fill ≡ fill_after line.now bench.old.fill) }
+    ensures fill { OnOk result (bench.new.live.fill ≡ fill_after line.now bench.old.live.fill) }
     ensures refused { IfErr result (λ e. e ≡ Memory) }
 {
     match line {
@@ -52,16 +52,16 @@ pub(crate) fn replayed<C: Crew>(
     setting: &Setting<'_, C>,
     begins: &Payloads,
     lines: &[Line],
-) -> Result<(LiveBench, bool), Refusal>
+) -> Result<(DebuggedBench, bool), Refusal>
     requires ranges { AreInRange setting.now.shape.now lines.now }
     requires four { length begins.now ≡ 4 }
     ensures left { IfOk result (λ did. (b : Bench) × Leaves setting.now.shape.now (bench_with begins.now) lines.now b
         × Joins setting.now.shape.now (bench_with begins.now) did.1 lines.now b × Shows setting.now.shape.now b did.0) }
     ensures sound { IfOk result (λ did. IsSound did.0) }
-    ensures fill { IfOk result (λ did. did.0.fill ≡ fills_after lines.now fills.Old) }
+    ensures fill { IfOk result (λ did. did.0.live.fill ≡ fills_after lines.now fills.Old) }
     ensures refused { IfErr result (λ e. e ≡ Memory) }
 {
-    let mut bench = LiveBench::blank(setting.alloc, setting.shape, begins)?;
+    let mut bench = DebuggedBench::blank(setting.alloc, setting.shape, begins)?;
     let mut joins = false;
     for line in lines {
         joins = replay(setting, line, &mut bench)?;

@@ -8,12 +8,12 @@ ghost use Rattle.bench_report.specs.Bench.{Bench};
 ghost use Rattle.bench_report.specs.Steps.{Moves};
 ghost use Rattle.bench_rows.specs.Notes.{AreInRange};
 ghost use Rattle.debug_timeline.specs.Ats.{IsAt, IsBefore, IsLeft, IsPlace, MadeTurns, Ran};
-ghost use Rattle.debug_timeline.specs.Lives.{HasHalted, machine_on, register_in};
+ghost use Rattle.debug_timeline.specs.Lives.{HasHalted, machine_of, register_in};
 ghost use Rattle.bench_rows.specs.Rows.{IsWithin, made_in, row_answer};
 ghost use Rattle.script_lang.specs.Lines.{IsLineInRange};
 ghost use Rattle.script_lang.specs.declared.line.Line.TheVariants as lines;
 
-use crate::live::LiveBench;
+use crate::debugged::DebuggedBench;
 use crate::replays::replayed;
 use bench_history::History;
 use bench_report::{Answer, Setting};
@@ -30,7 +30,7 @@ pub struct Timeline {
     begins: Payloads,
     history: History,
     joins: bool,
-    bench: LiveBench,
+    bench: DebuggedBench,
 }
 
 impl Timeline {
@@ -42,7 +42,7 @@ impl Timeline {
         ensures begins { IfOk result (λ t. t.begins ≡ begins) }
         ensures refused { IfErr result (λ e. e ≡ Memory) }
     {
-        let bench = LiveBench::blank(alloc, shape, &begins)?;
+        let bench = DebuggedBench::blank(alloc, shape, &begins)?;
         Ok(Timeline {
             begins,
             history: History::new(alloc),
@@ -66,16 +66,16 @@ impl Timeline {
     }
 
     /// The bench as it stands.
-    pub fn bench(&self) -> &LiveBench
+    pub fn bench(&self) -> &DebuggedBench
         ensures { result.now ≡ self.now.bench }
     {
         &self.bench
     }
 
-    /// A register of a hart, as `LiveBench::register` shows it.
+    /// A register of a hart, as `DebuggedBench::register` shows it.
     pub fn register(&mut self, hart: HartId, number: u64) -> Option<u64>
         ensures same { self.new ≡ self.old }
-        ensures shown { result ≡ register_in hart number (machine_on self.old.bench.power) }
+        ensures shown { result ≡ register_in hart number (machine_of self.old.bench) }
     {
         self.bench.register(hart, number)
     }
@@ -102,7 +102,7 @@ impl Timeline {
         Ok(row)
     }
 
-    /// Turns of a hart up to an address, an end, or an idle turn, as `LiveBench::turns_to` makes them, which become
+    /// Turns of a hart up to an address, an end, or an idle turn, as `DebuggedBench::turns_to` makes them, which become
     /// part of the history: what came of them, and whether the next turn is idle. Refused `Memory` alone, and then
     /// the timeline is of no use.
     pub fn turns_to<C: Crew>(
@@ -116,10 +116,10 @@ impl Timeline {
         requires hart { hart < setting.now.shape.now.harts }
         requires most { most ≤ 1000000 }
         ensures at { OnOk result (IsAt setting.now.shape.now self.new) }
-        ensures made { IfOk result (λ did. MadeTurns setting.now.shape.now hart did.0 did.1 self.old self.new) }
+        ensures made { IfOk result (λ did. MadeTurns setting.now.shape.now hart points.now did.0 did.1 self.old self.new) }
         ensures within { IfOk result (λ did. IsWithin most did.0) }
         ensures why { IfOk result (λ did. did.1 ≡ false
-            → (made_in did.0 ≡ most) ⊎ HasHalted hart points.now did.0 self.new.bench.power) }
+            → (made_in did.0 ≡ most) ⊎ HasHalted hart points.now did.0 (machine_of self.new.bench)) }
         ensures begins { self.new.begins ≡ self.old.begins }
         ensures refused { IfErr result (λ e. e ≡ Memory) }
     {

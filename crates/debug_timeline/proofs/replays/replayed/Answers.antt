@@ -22,5 +22,5 @@ loop-line-preserved g c =
     record {
       left = again_more size c.args.begins.now lines i d c.loop-line.joins did.joins c.loop-line.bench c.replay.new.bench c.loop-line-test.true (subst P c.line-item.is did.ensures.moves) c.loop-line.invariant.left;
       sound = did.ensures.sound;
-      fill = did.ensures.fill ∙ ap (λ (line : Line). fill_after line c.loop-line.bench.fill) c.line-item.is ∙ ap (fill_after (get_or lines i d)) c.loop-line.invariant.fill ∙ sym (fills_more lines i d fills.Old c.loop-line-test.true);
+      fill = did.ensures.fill ∙ ap (λ (line : Line). fill_after line c.loop-line.bench.live.fill) c.line-item.is ∙ ap (fill_after (get_or lines i d)) c.loop-line.invariant.fill ∙ sym (fills_more lines i d fills.Old c.loop-line-test.true);
     }

@@ -10,5 +10,5 @@ abbrev pub invariant-loop-line : goal.invariant-loop-line
 invariant-loop-line g l = record {
   left : (b : Bench) × Left l.setting.shape.now l.begins (take l.line-index l.lines) l.joins l.bench b;
   sound : IsSound l.bench;
-  fill : l.bench.fill ≡ fills_after (take l.line-index l.lines) fills.Old;
+  fill : l.bench.live.fill ≡ fills_after (take l.line-index l.lines) fills.Old;
 }
