@@ -1,5 +1,5 @@
 -- Turns that became part of a history, one command after another.
-use Rattle.std.proofs.Common.{◌≡◌, ◌≤◌, ◌+◌, ◌⊎◌, inl, inr, ℕ, Bool, true, false, List, [], ◌∷◌, ◌++◌, Option, None, length, refl, sym, ap, ◌∙◌, subst, append_assoc, arith}
+use Rattle.std.proofs.Common.{◌≡◌, ◌≤◌, ◌+◌, ◌-◌, ◌⊎◌, inl, inr, ℕ, Bool, true, false, List, [], ◌∷◌, ◌++◌, Option, None, length, refl, sym, ap, ◌∙◌, subst, append_assoc, arith}
 use Rattle.std.specs.Prelude.{All, replicate}
 use Rattle.std.proofs.lemmas.List.{append-nil, length-append, length-replicate}
 use Rattle.std.proofs.lemmas.List.Elements.{All-append, All-cons, All-head, All-nil, All-replicate, All-tail}
@@ -8,13 +8,15 @@ use Rattle.script_lang.specs.declared.line.Line.{Line}
 use Rattle.script_lang.specs.declared.line.Line.TheVariants as lines
 use Rattle.bench_history.specs.Pasts.{moments}
 use Rattle.bench_rows.specs.declared.rows.Row.{Row}
-use Rattle.bench_report.specs.declared.power.Power.{Power}
+use Rattle.machine.specs.Machine.{Machine}
 use Rattle.bench_rows.specs.declared.rows.Row.TheVariants as rows
 use Rattle.bench_rows.specs.Rows.{IsWithin, is_off, made_in}
 use Rattle.debug_timeline.specs.declared.timeline.Timeline.{Timeline}
+use Rattle.bench_report.specs.Bench.{Bench}
+use Rattle.debug_timeline.specs.Passes.{GoesTo, Passes}
 use Rattle.debug_timeline.specs.Ats.{IsAt, MadeTurns}
 use Rattle.debug_session.specs.Steps.{IsStep, IsTurnOf, Went}
-use Rattle.debug_timeline.specs.Lives.{HasHalted, machine_on, pc_in}
+use Rattle.debug_timeline.specs.Lives.{HasHalted, machine_of, pc_in}
 
 -- none
 pub went_none : (May : ℕ → Type 0) (size : Size) (t : Timeline) → IsAt size t → Went May 0 size t t
@@ -28,8 +30,8 @@ went_none May size t at = record {
 }
 
 -- those of one row
-pub went_row : (size : Size) (h n : ℕ) (row : Row) (rests : Bool) (old new : Timeline) → IsAt size new → new.begins ≡ old.begins → MadeTurns size h row rests old new → n ≡ made_in row → Went (λ x. x ≡ h) n size old new
-went_row size h n row rests old new at begins made e = record {
+pub went_row : (size : Size) (h n : ℕ) (points : List ℕ) (row : Row) (rests : Bool) (old new : Timeline) → IsAt size new → new.begins ≡ old.begins → MadeTurns size h points row rests old new → n ≡ made_in row → Went (λ x. x ≡ h) n size old new
+went_row size h n points row rests old new at begins made e = record {
   at = at;
   begins = begins;
   turns = replicate (made_in row) (lines.Turn h 1);
@@ -70,30 +72,44 @@ went_more May Next n k size first mid last may one two = record {
 
 -- ---- turns of one hart
 -- why none was made
-pub off_why : (h most : ℕ) (points : List ℕ) (row : Row) (power : Option Power) → is_off row ≡ true → (made_in row ≡ most) ⊎ HasHalted h points row power → (most ≡ 0) ⊎ (pc_in h (machine_on power) ≡ None)
-off_why h most points rows.Off power off (inl e) = inl (sym e)
-off_why h most points rows.Off power off (inr (inl (made, why))) = absurd (let never : ⊥ = cc in never)
-off_why h most points rows.Off power off (inr (inr none)) = inr none
-off_why h most points (rows.Made n word) power off why = absurd (let never : ⊥ = cc in never)
-off_why h most points (rows.Lost n) power off why = absurd (let never : ⊥ = cc in never)
+pub off_why : (h most : ℕ) (points : List ℕ) (row : Row) (machine : Option Machine) → is_off row ≡ true → (made_in row ≡ most) ⊎ HasHalted h points row machine → (most ≡ 0) ⊎ (pc_in h machine ≡ None)
+off_why h most points rows.Off machine off (inl e) = inl (sym e)
+off_why h most points rows.Off machine off (inr (inl (made, why))) = absurd (let never : ⊥ = cc in never)
+off_why h most points rows.Off machine off (inr (inr none)) = inr none
+off_why h most points (rows.Made n word) machine off why = absurd (let never : ⊥ = cc in never)
+off_why h most points (rows.Lost n) machine off why = absurd (let never : ⊥ = cc in never)
 
 rests_or : (rests : Bool) (P : Type 0) → (rests ≡ false → (◌≡◌ {A = ℕ} 1 0) ⊎ P) → (rests ≡ true) ⊎ P
 rests_or true P why = inl refl
 rests_or false P why = elim (why refl) [ inl never ↦ absurd (omega (arith, never)) | inr p ↦ inr p ]
 
+-- one turn comes to any address
+one_turn : (size : Size) (h : ℕ) (points : List ℕ) (row : Row) (b new : Bench) → IsWithin 1 row → GoesTo size h points row b new → GoesTo size h [] row b new
+one_turn size h points rows.Off b new within goes = goes
+one_turn size h points (rows.Made n word) b new within (mid, passed, last) =
+    let none : n - 1 ≡ 0 = omega (arith, within) in
+    let P : ℕ → Type 0 = λ k. Passes size h points k b mid in
+    let Q : ℕ → Type 0 = λ k. Passes size h [] k b mid in
+    (mid, subst Q (sym none) (subst P none passed), last)
+one_turn size h points (rows.Lost n) b new within (mid, passed, last) =
+    let none : n - 1 ≡ 0 = omega (arith, within) in
+    let P : ℕ → Type 0 = λ k. Passes size h points k b mid in
+    let Q : ℕ → Type 0 = λ k. Passes size h [] k b mid in
+    (mid, subst Q (sym none) (subst P none passed), last)
+
 -- one turn, as a step
-pub step_of : (size : Size) (h made : ℕ) (rests : Bool) (old new : Timeline) → (row : Row) × MadeTurns size h row rests old new × (made ≡ made_in row) × IsWithin 1 row × (is_off row ≡ true → rests ≡ false → (◌≡◌ {A = ℕ} 1 0) ⊎ (pc_in h (machine_on new.bench.power) ≡ None))
+pub step_of : (size : Size) (h made : ℕ) (points : List ℕ) (rests : Bool) (old new : Timeline) → (row : Row) × MadeTurns size h points row rests old new × (made ≡ made_in row) × IsWithin 1 row × (is_off row ≡ true → rests ≡ false → (◌≡◌ {A = ℕ} 1 0) ⊎ (pc_in h (machine_of new.bench) ≡ None))
     → IsStep size h old new
-step_of size h made rests old new (row, turns, e, within, why) = (row, rests, within, turns, λ off. rests_or rests _ (why off))
+step_of size h made points rests old new (row, turns, e, within, why) = (row, rests, within, record { moves = λ b left. (let did = turns.moves b left in (did.0, did.1, did.2, did.3, one_turn size h points row b did.0 within did.4)); grew = turns.grew; busy = turns.busy }, λ off. rests_or rests _ (why off))
 
 -- so many turns
-pub went_of : (size : Size) (h most made : ℕ) (rests : Bool) (old new : Timeline) → IsAt size new → new.begins ≡ old.begins → (row : Row) × MadeTurns size h row rests old new × (made ≡ made_in row) × IsWithin most row × (is_off row ≡ true → rests ≡ false → (most ≡ 0) ⊎ (pc_in h (machine_on new.bench.power) ≡ None))
+pub went_of : (size : Size) (h most made : ℕ) (points : List ℕ) (rests : Bool) (old new : Timeline) → IsAt size new → new.begins ≡ old.begins → (row : Row) × MadeTurns size h points row rests old new × (made ≡ made_in row) × IsWithin most row × (is_off row ≡ true → rests ≡ false → (most ≡ 0) ⊎ (pc_in h (machine_of new.bench) ≡ None))
     → Went (λ x. x ≡ h) made size old new
-went_of size h most made rests old new at begins (row, turns, e, within, why) = went_row size h made row rests old new at begins turns e
+went_of size h most made points rests old new at begins (row, turns, e, within, why) = went_row size h made points row rests old new at begins turns e
 
-pub few_of : (size : Size) (h most made : ℕ) (rests : Bool) (old new : Timeline) → (row : Row) × MadeTurns size h row rests old new × (made ≡ made_in row) × IsWithin most row × (is_off row ≡ true → rests ≡ false → (most ≡ 0) ⊎ (pc_in h (machine_on new.bench.power) ≡ None))
+pub few_of : (size : Size) (h most made : ℕ) (points : List ℕ) (rests : Bool) (old new : Timeline) → (row : Row) × MadeTurns size h points row rests old new × (made ≡ made_in row) × IsWithin most row × (is_off row ≡ true → rests ≡ false → (most ≡ 0) ⊎ (pc_in h (machine_of new.bench) ≡ None))
     → made ≤ most
-few_of size h most made rests old new (row, turns, e, within, why) = few row e within
+few_of size h most made points rests old new (row, turns, e, within, why) = few row e within
   where
     few : (r : Row) → made ≡ made_in r → IsWithin most r → made ≤ most
     few rows.Off e within = omega (arith, e)

@@ -6,7 +6,7 @@ use Rattle.script_lang.specs.declared.line.Line.{Line}
 use Rattle.debug_timeline.specs.declared.debugged.DebuggedBench.{DebuggedBench}
 use Rattle.debug_session.specs.declared.session.Session.{Session}
 use Rattle.debug_timeline.specs.declared.timeline.Timeline.{Timeline}
-use Rattle.debug_timeline.specs.Lives.{machine_on}
+use Rattle.debug_timeline.specs.Lives.{machine_of}
 
 module _ {C : Type 0} where
   -- its bench, with its history
@@ -31,4 +31,4 @@ module _ {C : Type 0} where
 
   -- the memory and harts of a board that is on
   abbrev pub machine_of_session : Session C → Option Machine
-  machine_of_session s = machine_on s.timeline.bench.power
+  machine_of_session s = machine_of s.timeline.bench

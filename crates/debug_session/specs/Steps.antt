@@ -9,7 +9,7 @@ use Rattle.bench_rows.specs.declared.rows.Row.{Row}
 use Rattle.bench_rows.specs.Rows.{IsWithin, is_off}
 use Rattle.debug_timeline.specs.declared.timeline.Timeline.{Timeline}
 use Rattle.debug_timeline.specs.Ats.{IsAt, IsNoted, MadeTurns}
-use Rattle.debug_timeline.specs.Lives.{machine_on, pc_in}
+use Rattle.debug_timeline.specs.Lives.{machine_of, pc_in}
 
 -- these lines became part of it, one after another
 abbrev pub AreNoted : List Line → List Line → List Line → Type 0
@@ -20,8 +20,8 @@ AreNoted (line ∷ more) old new = (answer : Answer) × (mid : List Line) × IsN
 -- the board is off or lacks the hart.
 abbrev pub IsStep : Size → ℕ → Timeline → Timeline → Type 0
 IsStep size h old new =
-    (row : Row) × (rests : Bool) × IsWithin 1 row × MadeTurns size h row rests old new
-    × (is_off row ≡ true → (rests ≡ true) ⊎ (pc_in h (machine_on new.bench.power) ≡ None))
+    (row : Row) × (rests : Bool) × IsWithin 1 row × MadeTurns size h [] row rests old new
+    × (is_off row ≡ true → (rests ≡ true) ⊎ (pc_in h (machine_of new.bench) ≡ None))
 
 -- one turn of a hart that may run
 abbrev pub IsTurnOf : (ℕ → Type 0) → Line → Type 0

@@ -12,7 +12,7 @@ use Rattle.sbi.specs.declared.words.Word.TheVariants as words
 use Rattle.sbi_calls.specs.declared.words.Did.{Did}
 use Rattle.sbi_calls.specs.declared.words.Did.TheVariants as dids
 use Rattle.debug_timeline.specs.declared.debugged.DebuggedBench.{DebuggedBench}
-use Rattle.debug_timeline.specs.Lives.{is_there, machine_on, said_of}
+use Rattle.debug_timeline.specs.Lives.{is_there, machine_of, said_of}
 use lib.Chars.{codes}
 
 -- a comment that names the payload with which a slot begins, which no line has room for; none where there is none
@@ -51,4 +51,4 @@ word_text (Some (words.Over end)) = codes "power off"
 word_text (Some (words.Goes did)) = did_text did
 
 abbrev pub state_text : ℕ → DebuggedBench → List ℕ
-state_text h live = if is_there (machine_on live.power) then word_text (said_of h live) else codes "power off"
+state_text h bench = if is_there (machine_of bench) then word_text (said_of h bench) else codes "power off"

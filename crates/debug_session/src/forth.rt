@@ -6,7 +6,7 @@ ghost use Rattle.bench_rows.specs.declared.rows.Row.{Row};
 ghost use Rattle.bench_rows.specs.Rows.{IsWithin, is_off, made_in};
 ghost use Rattle.debug_timeline.specs.Ats.{IsAt, MadeTurns};
 ghost use Rattle.debug_session.specs.Steps.{IsStep, Went};
-ghost use Rattle.debug_timeline.specs.Lives.{machine_on, pc_in};
+ghost use Rattle.debug_timeline.specs.Lives.{machine_of, pc_in};
 
 use crate::halts::{Halt, Stop};
 use crate::stops::Stops;
@@ -151,9 +151,9 @@ fn stretch<C: Crew>(
     requires hart { hart < setting.now.shape.now.harts }
     requires most { most ≤ 1000000 }
     ensures at { OnOk result (IsAt setting.now.shape.now timeline.new) }
-    ensures made { IfOk result (λ part. (row : Row) × MadeTurns setting.now.shape.now hart row part.rests timeline.old timeline.new
+    ensures made { IfOk result (λ part. (row : Row) × MadeTurns setting.now.shape.now hart points.now row part.rests timeline.old timeline.new
         × (part.made ≡ made_in row) × IsWithin most row
-        × (is_off row ≡ true → part.rests ≡ false → (most ≡ 0) ⊎ (pc_in hart (machine_on timeline.new.bench.power) ≡ None))) }
+        × (is_off row ≡ true → part.rests ≡ false → (most ≡ 0) ⊎ (pc_in hart (machine_of timeline.new.bench) ≡ None))) }
     ensures begins { timeline.new.begins ≡ timeline.old.begins }
     ensures refused { IfErr result (λ e. e ≡ Memory) }
 {
