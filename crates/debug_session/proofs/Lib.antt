@@ -1,0 +1,3 @@
+pub mod Wents
+pub mod Scripts
+pub mod Places
