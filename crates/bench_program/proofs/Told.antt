@@ -1,8 +1,7 @@
 -- Which faults a work may have.
 use Rattle.std.proofs.Common.{◌≡◌, ◌∙◌, ◌⊎◌, inl, inr, ℕ, suc, List, [], ◌∷◌, length, ap, Option, None, Some, Result, Ok, Err, IfErr, refl, sym, subst}
-use Rattle.std.specs.Prelude.{IfSome}
 use Rattle.board_model.specs.declared.refusal.Refusal.{Refusal}
-use Rattle.board_model.specs.declared.refusal.Refusal.TheVariants.{Memory, Output, NotPlain}
+use Rattle.board_model.specs.declared.refusal.Refusal.TheVariants.{Memory, Output}
 use Rattle.script_lang.specs.Scripts.{script_of}
 use Rattle.bench_program.specs.Written.{IsNotTaken, MayTellWrong, IsFaultIn, IsFaultOf, IsUnread, IsFault}
 use Rattle.command_line.specs.declared.NoWork.{NoWork}

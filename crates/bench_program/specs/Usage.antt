@@ -1,5 +1,5 @@
 -- The command as its parser reads it, and what its words ask for. Source: docs/SCRIPT.md, "The program".
-use Rattle.std.specs.Prelude.{◌≡◌, ◌≤◌, ⊤, ℕ, Bool, true, false, List, [], ◌∷◌, Option, Some, None, ◌==◌, if◌then◌else◌, nat_lt, bytes_eq, map, string_bytes}
+use Rattle.std.specs.Prelude.{◌≡◌, ◌≤◌, ⊤, ℕ, Bool, true, false, List, [], ◌∷◌, Option, Some, None, if◌then◌else◌, nat_lt, bytes_eq, map, string_bytes}
 use Rattle.std.specs.Option.{option_map}
 use Rattle.clap.specs.Words.{App, Rule, Text, first_value, matches_of, new_app, new_rule, one_text, rows_of, takes, with_rule}
 use Rattle.clap.specs.declared.builder.action.ArgAction.TheVariants.{Set}

@@ -225,7 +225,7 @@ fn bounded(most: u64, word: &str) -> Option<u64>
 
 /// What the schedules are drawn from: 1 if no word says it.
 fn seed_of(word: Option<&str>) -> Option<u64>
-    ensures { result ≡ seed_named (option_map (λ s. s.now) word) }
+    ensures { result ≡ seed_named (option_map (λ s. s.now) word.entry) }
 {
     match word {
         None => Some(1),
@@ -237,7 +237,7 @@ fn seed_of(word: Option<&str>) -> Option<u64>
 /// such one.
 fn shown_of(runs: u64, seed: u64, word: Option<&str>) -> Option<Work>
     requires { runs ≤ 1000000 }
-    ensures value { result ≡ shown_named runs seed (option_map (λ s. s.now) word) }
+    ensures value { result ≡ shown_named runs seed (option_map (λ s. s.now) word.entry) }
     ensures most { IfSome result (λ work. IsBounded work) }
 {
     match word {
@@ -251,7 +251,7 @@ fn shown_of(runs: u64, seed: u64, word: Option<&str>) -> Option<Work>
 
 /// What is to be done with schedules, by the words of their options: none where one of them is out of its range.
 fn orders(runs: &str, seed: Option<&str>, show: Option<&str>) -> Option<Work>
-    ensures value { result ≡ orders_named runs.now (option_map (λ s. s.now) seed) (option_map (λ s. s.now) show) }
+    ensures value { result ≡ orders_named runs.now (option_map (λ s. s.now) seed.entry) (option_map (λ s. s.now) show.entry) }
     ensures most { IfSome result (λ work. IsBounded work) }
 {
     let runs = bounded(MOST_SCHEDULES, runs)?;
@@ -280,8 +280,8 @@ fn orders_by(
     seed: Option<&str>,
     show: Option<&str>,
 ) -> Option<Work>
-    ensures value { result ≡ unflagged sweep faults (orders_named runs.now (option_map (λ s. s.now) seed)
-        (option_map (λ s. s.now) show)) }
+    ensures value { result ≡ unflagged sweep faults (orders_named runs.now (option_map (λ s. s.now) seed.entry)
+        (option_map (λ s. s.now) show.entry)) }
     ensures most { IfSome result (λ work. IsBounded work) }
 {
     if sweep || faults {

@@ -5,8 +5,9 @@ use Rattle.board_files.specs.Disks.{HoldsDisk, IsDiskFile, RefusesFile, first_se
 use Rattle.board_files.specs.Faults.{IsFileFault}
 use Rattle.board_model.specs.Shapes.{Size, sectors_of}
 use Rattle.board_model.specs.declared.refusal.Refusal.{Refusal}
-use Rattle.board_help.specs.Lines.{sbiboard}
+use Rattle.board_help.specs.Lines.{TakesModes, sbiboard}
 use Rattle.board_options.specs.Reads.{ReadsOptions}
+use Rattle.board_options.specs.Refused.{AreNoOptions, AreNotTaken}
 use Rattle.board_options.specs.declared.given.Options.{Options}
 use Rattle.board_program.specs.Ran.{HasRun, told_of}
 use Rattle.board_program.specs.declared.runs.FileLeft.{FileLeft}
@@ -15,9 +16,12 @@ use Rattle.clap.specs.Words.{matches_of, rows_of}
 use Rattle.clap.specs.declared.builder.value_parser.ValueParser.{ValueParser}
 use Rattle.clap.specs.declared.parser.matches.Found.{Found}
 use Rattle.command_line.specs.Faults.{first_fault}
+use Rattle.command_line.specs.declared.NoWork.{NoWork}
+use Rattle.command_line.specs.declared.NoWork.TheVariants.{Memory}
 use Rattle.command_line.specs.declared.fault.ProgramFault.{ProgramFault}
 use Rattle.command_line.specs.declared.fault.ProgramFault.TheVariants.{Refused}
 use Rattle.disk.specs.Facts.{Facts, IsFresh, Unchanged}
+use Rattle.file_disk.specs.Files.{FileKnown, IfKnown, LeavesNoMore}
 use Rattle.payload_files.specs.Named.{AreFilesOf}
 use Rattle.simdisk.specs.declared.sim.SimDisk.{SimDisk}
 
@@ -59,43 +63,50 @@ abbrev pub known : Option (List ℕ) → Option (List ℕ) → Option (List ℕ)
 known disk input out written = record { disk = disk; input = input; out = out; written = written }
 
 -- it is written into its file at the end
-abbrev pub EndsInFile : {H D : Type 0} → (H → Option (List ℕ)) → (SimDisk → Facts) → Options → List (List ℕ) → Facts → Known
-    → FileLeft H D → Result (Unit {0}) ProgramFault → Type 0
+abbrev pub EndsInFile : {H K : Type 0} → (H → Option (List ℕ)) → (SimDisk → Facts) → Options → List (List ℕ) → Facts → Known
+    → FileLeft H K → Result (Unit {0}) ProgramFault → Type 0
 EndsInFile bytes facts o payloads begun s None done = ⊥
 EndsInFile bytes facts o payloads begun s (AtEnd held now) done = (ran : Result (Unit {0}) Refusal)
     × HasRun o payloads begun (facts now) s.input s.out s.written ran × IsWritten o.new (facts now) ran s.disk (bytes held) done
 EndsInFile bytes facts o payloads begun s (AllAlong now) done = ⊥
 
--- it is kept in its file all along
-abbrev pub StaysInFile : {H D : Type 0} → (D → Facts) → Options → List (List ℕ) → Facts → Known → FileLeft H D
-    → Result (Unit {0}) ProgramFault → Type 0
-StaysInFile facts o payloads begun s None done = ⊥
-StaysInFile facts o payloads begun s (AtEnd held now) done = ⊥
-StaysInFile facts o payloads begun s (AllAlong now) done = (ran : Result (Unit {0}) Refusal)
-    × HasRun o payloads begun (facts now) s.input s.out s.written ran × (done ≡ told_of ran)
+-- It is kept in its file all along. Each content that a crash may then leave in the file is one that the disk may leave.
+abbrev pub StaysInFile : {H D K : Type 0} → (D → Facts) → (K → FileKnown) → Options → List (List ℕ) → Facts → Known
+    → FileLeft H K → Result (Unit {0}) ProgramFault → Type 0
+StaysInFile {D = D} facts in_file o payloads begun s None done = ⊥
+StaysInFile {D = D} facts in_file o payloads begun s (AtEnd held now) done = ⊥
+StaysInFile {D = D} facts in_file o payloads begun s (AllAlong kept) done = (now : D) × (ran : Result (Unit {0}) Refusal)
+    × HasRun o payloads begun (facts now) s.input s.out s.written ran × IfKnown (in_file kept) (LeavesNoMore (facts now))
+    × (done ≡ told_of ran)
 
 -- None was begun, since the file could not be kept; or it is over the disk in memory, or over that disk in its file.
-abbrev pub RunsOver : {H D : Type 0} → (H → Option (List ℕ)) → (SimDisk → Facts) → (D → Facts) → Options → List (List ℕ)
-    → SimDisk → Known → FileLeft H D → Result (Unit {0}) ProgramFault → Type 0
-RunsOver {H} {D} bytes facts file_facts o payloads memory s left done =
+abbrev pub RunsOver : {H D K : Type 0} → (H → Option (List ℕ)) → (SimDisk → Facts) → (D → Facts) → (K → FileKnown) → Options
+    → List (List ℕ) → SimDisk → Known → FileLeft H K → Result (Unit {0}) ProgramFault → Type 0
+RunsOver {H} {D} {K} bytes facts file_facts in_file o payloads memory s left done =
     ((left ≡ None) × OnOk done ⊥ × IfErr done IsFileFault × (s.written ≡ s.out))
     ⊎ ((o.sync ≡ false) × EndsInFile bytes facts o payloads (facts memory) s left done)
     ⊎ ((o.sync ≡ true) × (begun : D) × Unchanged (facts memory) (file_facts begun)
-    × StaysInFile file_facts o payloads (file_facts begun) s left done)
+    × StaysInFile file_facts in_file o payloads (file_facts begun) s left done)
 
 -- ---- from the files to the file
 -- Each slot boots what stands in the file that is named for it. A session began with the disk of the file or a blank one,
 -- and it was written into the file at the end, or kept there all along, as was asked for; or none was begun.
-abbrev pub HasLeft : {H D : Type 0} → (H → Option (List ℕ)) → (SimDisk → Facts) → (D → Facts) → Options
-    → (List ℕ → Option (List ℕ)) → Known → FileLeft H D → Result (Unit {0}) ProgramFault → Type 0
-HasLeft {H} {D} bytes facts file_facts o bytes_at s left done =
+abbrev pub HasLeft : {H D K : Type 0} → (H → Option (List ℕ)) → (SimDisk → Facts) → (D → Facts) → (K → FileKnown) → Options
+    → (List ℕ → Option (List ℕ)) → Known → FileLeft H K → Result (Unit {0}) ProgramFault → Type 0
+HasLeft {H} {D} {K} bytes facts file_facts in_file o bytes_at s left done =
     ((left ≡ None) × IsNotBegun o.new s.disk done × (s.written ≡ s.out))
     ⊎ ((payloads : List (List ℕ)) × AreFilesOf bytes_at (map (option_map string_bytes) o.payloads) payloads
     × (((o.sync ≡ false) × (begun : SimDisk) × Begins o.new o.shape s.disk (facts begun)
     × EndsInFile bytes facts o payloads (facts begun) s left done)
     ⊎ ((o.sync ≡ true) × (begun : D) × Begins o.new o.shape s.disk (file_facts begun)
-    × StaysInFile file_facts o payloads (file_facts begun) s left done)))
+    × StaysInFile file_facts in_file o payloads (file_facts begun) s left done)))
 
 -- the options that the words of a command line give, as the command's parser reads them
 abbrev pub IsReadFrom : List (List ℕ) → Options → Type 0
-IsReadFrom words o = (modes : ValueParser) × (f : Found) × (rows_of f ≡ matches_of (sbiboard modes) words) × ReadsOptions f o
+IsReadFrom words o =
+    (modes : ValueParser) × (f : Found) × TakesModes modes × (rows_of f ≡ matches_of (sbiboard modes) words) × ReadsOptions f o
+
+-- They ask for no session: they are no command line, as they are not where they ask for the help, or their values give no
+-- options; or memory was refused.
+abbrev pub AskForNone : List (List ℕ) → NoWork → Type 0
+AskForNone words why = (why ≡ Memory) ⊎ AreNotTaken words ⊎ AreNoOptions words

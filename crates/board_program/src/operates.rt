@@ -6,7 +6,7 @@ ghost use Rattle.command_line.specs.Faults.{status_after, without_work};
 ghost use Rattle.command_line.specs.Told.{fault_of};
 ghost use Rattle.command_line.specs.declared.NoWork.{NoWork};
 ghost use Rattle.command_line.specs.declared.fault.ProgramFault.{ProgramFault};
-ghost use Rattle.board_program.specs.Operated.{HasLeft, IsReadFrom, known};
+ghost use Rattle.board_program.specs.Operated.{AskForNone, HasLeft, IsReadFrom, known};
 
 use crate::over::Answers;
 use crate::runs::{FileLeft, run_session};
@@ -26,11 +26,11 @@ use std::thread::Threads;
 
 /// How the program has ended.
 #[derive(Drop)]
-pub struct Operated<H: Drop, D: Drop, O: Write + Drop> {
+pub struct Operated<H: Drop, K: Drop, O: Write + Drop> {
     /// Its status.
     pub status: u8,
     /// What stands of the file of its disk.
-    pub left: FileLeft<H, D>,
+    pub left: FileLeft<H, K>,
     /// What the answers were written to.
     pub out: O,
 }
@@ -63,18 +63,19 @@ pub fn operate_on<
     words: &[S],
     streams: Streams<I, O>,
     faults: &mut F,
-) -> Operated<B::Held, FileDisk<B::Kept>, O>
+) -> Operated<B::Held, B::Kept, O>
     ensures range { result.status ≤ 2 }
     // The status is the one of what was done; and what was done is what the words ask for, over the files and the streams,
     // where they ask for a session. Else no file is touched.
     ensures status { (done : Result (Unit {0}) ProgramFault) × (result.status ≡ status_after done)
         × (((options : Options) × IsReadFrom (map S.text words.now) options
-        × HasLeft B.Held.bytes ⟦<SimDisk as Disk>⟧.facts ⟦<FileDisk<B::Kept> as Disk>⟧.facts options
+        × HasLeft B.Held.bytes ⟦<SimDisk as Disk>⟧.facts ⟦<FileDisk<B::Kept> as Disk>⟧.facts B.Kept.file_facts options
         (B.bytes_at files.now)
         (known (B.disk_at files.now (string_bytes options.disk)) (I.remaining streams.input) (O.contents streams.out)
         (O.contents result.out))
         result.left done)
-        ⊎ ((why : NoWork) × (done ≡ without_work why) × (result.left ≡ FileLeft.None))) }
+        ⊎ ((why : NoWork) × AskForNone (map S.text words.now) why × (done ≡ without_work why)
+        × (result.left ≡ FileLeft.None))) }
 {
     match options(alloc, words) {
         Ok(options) => {

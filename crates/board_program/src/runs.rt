@@ -18,7 +18,7 @@ use board_options::Options;
 use board_session::Streams;
 use command_line::{FileFault, first_of};
 use disk::Disk;
-use file_disk::FileDisk;
+use file_disk::{FileDisk, SectorFile};
 use payload_files::PayloadFiles;
 use simdisk::SimDisk;
 use std::alloc::Global;
@@ -29,19 +29,19 @@ use store::format;
 
 /// The file of a session's disk, once the session has ended.
 #[derive(Drop)]
-pub enum FileLeft<H: Drop, D: Drop> {
+pub enum FileLeft<H: Drop, K: Drop> {
     /// No session was begun.
     None,
     /// The disk was to be written into the file at the end.
     AtEnd(H, SimDisk),
-    /// The disk was kept in its file all along.
-    AllAlong(D),
+    /// The disk was kept in this file all along.
+    AllAlong(K),
 }
 
 /// What was done: what stands of the file, what the answers were written to, and the fault, where there is one.
 #[derive(Drop)]
-pub struct Done<H: Drop, D: Drop, O: Write + Drop> {
-    pub left: FileLeft<H, D>,
+pub struct Done<H: Drop, K: Drop, O: Write + Drop> {
+    pub left: FileLeft<H, K>,
     pub out: O,
     pub ended: Result<(), FileFault>,
 }
@@ -125,7 +125,7 @@ fn kept_disk<B: BoardFiles>(
 }
 
 /// No session was begun, for that fault.
-fn not_begun<H: Drop, D: Drop, O: Write + Drop>(out: O, fault: FileFault) -> Done<H, D, O>
+fn not_begun<H: Drop, K: Drop, O: Write + Drop>(out: O, fault: FileFault) -> Done<H, K, O>
     ensures left { result.left ≡ FileLeft.None }
     ensures out { result.out ≡ out }
     ensures ended { result.ended ≡ Err fault }
@@ -142,7 +142,7 @@ fn not_begun<H: Drop, D: Drop, O: Write + Drop>(out: O, fault: FileFault) -> Don
 fn run_to_the_end<
     R: Threads + Wait + Sync,
     H: HeldFile + Drop,
-    D: Drop,
+    K: Drop,
     I: Read + Drop,
     O: Answers + Drop,
     F: Write + IsTerminal,
@@ -154,7 +154,7 @@ fn run_to_the_end<
     disk: SimDisk,
     streams: Streams<I, O>,
     faults: &mut F,
-) -> Done<H, D, O>
+) -> Done<H, K, O>
     requires { IsIdle (⟦<SimDisk as Disk>⟧.facts disk) }
     ensures { EndsInFile H.bytes ⟦<SimDisk as Disk>⟧.facts asked.now.options.now asked.now.payloads.now
         (⟦<SimDisk as Disk>⟧.facts disk)
@@ -178,12 +178,12 @@ fn run_to_the_end<
     }
 }
 
-/// The session over a disk that is kept in its file all along.
+/// The session over a disk that is kept in its file all along. The file is given back.
 #[tactic(auto, using(crate::proofs::FilesLeft::stays_in_file))]
 fn run_in_file<
     R: Threads + Wait + Sync,
     H: Drop,
-    D: Disk + Drop + Send,
+    K: SectorFile + Drop + Send,
     I: Read + Drop,
     O: Answers + Drop,
     F: Write + IsTerminal,
@@ -191,21 +191,28 @@ fn run_in_file<
     alloc: Global,
     threads: &R,
     asked: &Asked<'_>,
-    disk: D,
+    disk: FileDisk<K>,
     streams: Streams<I, O>,
     faults: &mut F,
-) -> Done<H, D, O>
-    requires { IsIdle (D.facts disk) }
-    ensures { (bytes : Option (List ℕ)) → StaysInFile D.facts asked.now.options.now asked.now.payloads.now (D.facts disk)
+) -> Done<H, K, O>
+    requires { IsIdle (⟦<FileDisk<K> as Disk>⟧.facts disk) }
+    ensures { (bytes : Option (List ℕ)) → StaysInFile ⟦<FileDisk<K> as Disk>⟧.facts K.file_facts asked.now.options.now
+        asked.now.payloads.now (⟦<FileDisk<K> as Disk>⟧.facts disk)
         (known bytes (I.remaining streams.input) (O.contents streams.out) (O.contents result.out))
         result.left (fault_of result.ended) }
 {
     let over = session_over(alloc, threads, asked, disk, streams);
     tell_harts(faults, asked.options, &over.harts);
+    let Over {
+        disk,
+        ran,
+        out,
+        harts: _,
+    } = over;
     Done {
-        left: FileLeft::AllAlong(over.disk),
-        out: over.out,
-        ended: told(over.ran),
+        left: FileLeft::AllAlong(disk.into_file()),
+        out,
+        ended: told(ran),
     }
 }
 
@@ -225,10 +232,10 @@ fn run_over<
     begun: Begun<B::Held>,
     streams: Streams<I, O>,
     faults: &mut F,
-) -> Done<B::Held, FileDisk<B::Kept>, O>
+) -> Done<B::Held, B::Kept, O>
     requires { IsIdle (⟦<SimDisk as Disk>⟧.facts begun.disk) }
     ensures { RunsOver B.Held.bytes ⟦<SimDisk as Disk>⟧.facts ⟦<FileDisk<B::Kept> as Disk>⟧.facts
-        asked.now.options.now asked.now.payloads.now begun.disk
+        B.Kept.file_facts asked.now.options.now asked.now.payloads.now begun.disk
         (known (B.Held.bytes begun.held) (I.remaining streams.input) (O.contents streams.out) (O.contents result.out))
         result.left (fault_of result.ended) }
 {
@@ -259,9 +266,9 @@ pub fn run_session<
     options: &Options,
     streams: Streams<I, O>,
     faults: &mut F,
-) -> Done<B::Held, FileDisk<B::Kept>, O>
-    ensures { HasLeft B.Held.bytes ⟦<SimDisk as Disk>⟧.facts ⟦<FileDisk<B::Kept> as Disk>⟧.facts options.now
-        (B.bytes_at files.now)
+) -> Done<B::Held, B::Kept, O>
+    ensures { HasLeft B.Held.bytes ⟦<SimDisk as Disk>⟧.facts ⟦<FileDisk<B::Kept> as Disk>⟧.facts B.Kept.file_facts
+        options.now (B.bytes_at files.now)
         (known (B.disk_at files.now (string_bytes options.now.disk)) (I.remaining streams.input)
         (O.contents streams.out) (O.contents result.out))
         result.left (fault_of result.ended) }

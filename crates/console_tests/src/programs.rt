@@ -6,7 +6,7 @@ use crate::memory_files::{Broken, MemoryFiles, Page, Told};
 use board_files::{Failing, MemoryDisk};
 use board_program::{FileLeft, operate_on};
 use board_session::Streams;
-use file_disk::{FileDisk, MemoryFile};
+use file_disk::MemoryFile;
 use std::alloc::{AllocError, Global};
 use std::process::Abort;
 use std::sync::Wait;
@@ -47,13 +47,13 @@ const PLAIN: Run = Run {
 /// What stands in the file of the disk, if a session was begun.
 fn bytes_left(
     alloc: Global,
-    left: FileLeft<MemoryDisk, FileDisk<MemoryFile>>,
+    left: FileLeft<MemoryDisk, MemoryFile>,
 ) -> Result<Vec<u8>, AllocError> {
     match left {
         FileLeft::None => Ok(Vec::new(alloc)),
         FileLeft::AtEnd(held, _disk) => Ok(held.found()),
-        FileLeft::AllAlong(disk) => {
-            let sectors = disk.into_file().found();
+        FileLeft::AllAlong(kept) => {
+            let sectors = kept.found();
             Vec::from_slice(alloc, sectors.as_flattened())
         }
     }
