@@ -25,10 +25,13 @@ pub struct Told {
 }
 
 /// Tells the payload of one slot: in a line, where it has 1 to 1,024 bytes, else as one with which the script begins.
+#[tactic(auto, using(crate::proofs::Ranges::payload_ranged))]
 fn tell(alloc: Global, payloads: &Payloads, number: u32, told: &mut Told) -> Result<(), AllocError>
     requires { number ≤ 3 }
     ensures line { OnOk result (told.new.lines.items ≡ told.old.lines.items ++ line_for number (payload_at payloads.now number)) }
     ensures begin { OnOk result (told.new.begins ≡ slice_set told.old.begins number (begin_for (payload_at payloads.now number))) }
+    ensures ranges { (size : Size) → All (IsLineInRange size) told.old.lines.items
+        → OnOk result (All (IsLineInRange size) told.new.lines.items) }
 {
     let Some(slot) = Slot::new(number) else {
         return Ok(());
@@ -44,6 +47,7 @@ fn tell(alloc: Global, payloads: &Payloads, number: u32, told: &mut Told) -> Res
 }
 
 /// The payloads of all slots told, and then these lines.
+#[tactic(auto, using(crate::proofs::Ranges::both_ranged, crate::proofs::Ranges::none_ranged))]
 pub fn told_payloads(
     alloc: Global,
     lines: Vec<Line>,
