@@ -1,8 +1,8 @@
 -- The command as its parser reads it. Source: docs/CONSOLE.md, "The command line".
-use Rattle.std.specs.Prelude.{ℕ, [], ◌∷◌, true}
+use Rattle.std.specs.Prelude.{◌≡◌, ℕ, List, [], ◌∷◌, map, true}
 use Rattle.clap.specs.Words.{App, Rule, Text, new_app, with_rule}
 use Rattle.clap.specs.declared.builder.value_parser.ValueParser.{ValueParser}
-use Rattle.clap.specs.declared.builder.value_parser.ValueParser.TheVariants.{Unsigned}
+use Rattle.clap.specs.declared.builder.value_parser.ValueParser.TheVariants.{Names, Unsigned}
 use Rattle.command_line.specs.Flags.{flag_rule}
 use Rattle.command_line.specs.Options.{path_rule, value_rule, with_payloads}
 use lib.Chars.{codes}
@@ -16,6 +16,15 @@ required r = record r { required = true }
 -- the command by its name alone, with a version
 abbrev pub named_app : App
 named_app = record (new_app (codes "sbiboard")) { top = record (new_app (codes "sbiboard")).top { has_version = true } }
+
+-- the words of the boot modes
+abbrev pub mode_words : List Text
+mode_words = codes "fresh" ∷ codes "keep" ∷ codes "discard" ∷ codes "resume" ∷ []
+
+-- a parser that takes just these
+abbrev pub TakesModes : ValueParser → Type 0
+TakesModes (Names names) = map (λ name. name.now) names.now ≡ mode_words
+TakesModes parser = ⊥
 
 abbrev pub mode_rule : ValueParser → Rule
 mode_rule modes = required (value_rule (codes "mode") modes)

@@ -3,7 +3,7 @@
 ghost use Rattle.std.specs.Prelude.{◌≡◌, false, IfOk};
 ghost use Rattle.clap.specs.Words.{app_of, rule_of};
 ghost use Rattle.clap.specs.declared.builder.value_parser.ValueParser.{ValueParser as Parser};
-ghost use Rattle.board_help.specs.Lines.{number_rule, mode_rule, named_app, board_line, with_shape, sbiboard};
+ghost use Rattle.board_help.specs.Lines.{TakesModes, number_rule, mode_rule, named_app, board_line, with_shape, sbiboard};
 
 use board_model::refusal_lines;
 use clap::builder::ValueParser;
@@ -116,7 +116,7 @@ fn number<'a>(alloc: Global, id: &'a str, most: u64, default: &'a str, help: &'a
 
 /// How the board is powered on.
 fn mode<'a>(alloc: Global) -> Arg<'a>
-    ensures rule { (modes : Parser) × (rule_of result ≡ mode_rule modes) }
+    ensures rule { (modes : Parser) × TakesModes modes × (rule_of result ≡ mode_rule modes) }
     ensures local { result.global ≡ false }
 {
     option(alloc, MODE, "MODE", "How the board is powered on")
@@ -137,7 +137,7 @@ fn named<'a>(alloc: Global) -> Command<'a>
 
 /// The command with the disk's options.
 fn board<'a>(alloc: Global) -> Result<Command<'a>, AllocError>
-    ensures { IfOk result (λ c. (modes : Parser) × (app_of c ≡ board_line modes)) }
+    ensures { IfOk result (λ c. (modes : Parser) × TakesModes modes × (app_of c ≡ board_line modes)) }
 {
     named(alloc)
         .arg(path(alloc, DISK, "The disk's file").required(true))?
@@ -166,7 +166,7 @@ fn shaped<'a>(alloc: Global, command: Command<'a>) -> Result<Command<'a>, AllocE
 
 /// The command.
 pub fn command<'a>(alloc: Global) -> Result<Command<'a>, AllocError>
-    ensures { IfOk result (λ c. (modes : Parser) × (app_of c ≡ sbiboard modes)) }
+    ensures { IfOk result (λ c. (modes : Parser) × TakesModes modes × (app_of c ≡ sbiboard modes)) }
 {
     let board = board(alloc)?;
     let shaped = shaped(alloc, board)?;

@@ -1,15 +1,16 @@
 //! From words to options.
 
-ghost use Rattle.std.specs.Prelude.{◌≡◌, ◌<◌, map, string_len, codes, Some, IfOk, IfSome};
-ghost use Rattle.board_model.specs.Shapes.{IsSize};
+ghost use Rattle.std.specs.Prelude.{◌≡◌, ◌<◌, ◌⊎◌, map, ℕ, string_len, codes, None, Some, IfErr, IfOk, IfSome};
+ghost use Rattle.board_model.specs.Shapes.{IsSize, Size};
 ghost use Rattle.clap.specs.Facts.{is_present};
-ghost use Rattle.clap.specs.Words.{first_value, found_of, rows_of, matches_of};
+ghost use Rattle.clap.specs.Words.{first_value, found_of, kind_of, rows_of, matches_of};
 ghost use Rattle.clap.specs.declared.builder.value_parser.ValueParser.{ValueParser};
 ghost use Rattle.clap.specs.declared.parser.matches.Found.{Found};
 ghost use Rattle.board_options.specs.Limits.{AreTurns};
-ghost use Rattle.board_help.specs.Lines.{sbiboard};
+ghost use Rattle.board_help.specs.Lines.{TakesModes, sbiboard};
 ghost use Rattle.board_options.specs.Modes.{mode_named};
 ghost use Rattle.board_options.specs.Reads.{ReadsOptions, number_named};
+ghost use Rattle.board_options.specs.Refused.{AreNoOptions, AreNotTaken, GivesNone};
 
 use crate::given::{Options, ShapeGiven};
 use board_help::{DISK, HARTS, LANES, MODE, MOST_TURNS, NEW, PAGES, SYNC, TELL, TURNS, command};
@@ -44,6 +45,10 @@ fn shape(matches: &ArgMatches<'_>) -> Option<Shape>
         ≡ Some size.pages) }
     ensures lanes { IfSome result (λ size. number_named (first_value (found_of matches.now) (codes "lanes"))
         ≡ Some size.lanes) }
+    ensures none { result ≡ None → (size : Size) → IsSize size
+        → number_named (first_value (found_of matches.now) (codes "harts")) ≡ Some size.harts
+        → number_named (first_value (found_of matches.now) (codes "pages")) ≡ Some size.pages
+        → number_named (first_value (found_of matches.now) (codes "lanes")) ≡ Some size.lanes → ⊥ }
 {
     let harts = number(matches, HARTS)?;
     let pages = number(matches, PAGES)?;
@@ -76,6 +81,8 @@ fn turns(matches: &ArgMatches<'_>) -> Option<u64>
     ensures range { IfSome result AreTurns }
     ensures named { IfSome result (λ turns. number_named (first_value (found_of matches.now) (codes "turns"))
         ≡ Some turns) }
+    ensures none { result ≡ None → (turns : ℕ) → AreTurns turns
+        → number_named (first_value (found_of matches.now) (codes "turns")) ≡ Some turns → ⊥ }
 {
     let turns = number(matches, TURNS)?;
     if turns < 1 || MOST_TURNS < turns {
@@ -87,7 +94,8 @@ fn turns(matches: &ArgMatches<'_>) -> Option<u64>
 /// The options of a command line that was parsed. None where something that the command asks for is not
 /// there, which its own checks rule out.
 fn options_of(alloc: Global, matches: &ArgMatches<'_>) -> Result<Option<Options>, AllocError>
-    ensures { IfOk result (λ found. IfSome found (ReadsOptions (found_of matches.now))) }
+    ensures reads { IfOk result (λ found. IfSome found (ReadsOptions (found_of matches.now))) }
+    ensures none { IfOk result (λ found. found ≡ None → GivesNone (found_of matches.now)) }
 {
     let Some(disk) = path_given(alloc, matches, DISK)? else {
         return Ok(None);
@@ -116,9 +124,21 @@ fn options_of(alloc: Global, matches: &ArgMatches<'_>) -> Result<Option<Options>
 }
 
 /// The fault of a value that no check of the command's own refused.
-fn out_of_range(alloc: Global) -> Result<Error, AllocError> {
+fn out_of_range(alloc: Global) -> Result<Error, AllocError>
+    ensures { IfOk result (λ e. (kind_of e ≡ ErrorKind.ValueValidation) ⊎ (kind_of e ≡ ErrorKind.OutOfMemory)) }
+{
     let mut again = command(alloc)?;
     again.error(ErrorKind::ValueValidation, "a value is out of its range")
+}
+
+/// The words as the command's parser reads them, the program's name first.
+fn parsed<'a, S: AsStr>(alloc: Global, words: &'a [S]) -> Result<ArgMatches<'a>, Error>
+    ensures matches { IfOk result (λ m. (modes : ValueParser) × TakesModes modes
+        × (rows_of (found_of m) ≡ matches_of (sbiboard modes) (map S.text words.entry.now))) }
+    // It fails for memory, or since the words are no command line.
+    ensures refused { IfErr result (λ e. (kind_of e ≡ ErrorKind.OutOfMemory) ⊎ AreNotTaken (map S.text words.entry.now)) }
+{
+    command(alloc)?.try_get_matches_from(words)
 }
 
 /// Reads a command line, the program's name first. Where it answers `Ok` there is a path, one of the four
@@ -128,9 +148,12 @@ pub fn read_options<'a, S: AsStr>(alloc: Global, words: &'a [S]) -> Result<Optio
     ensures limits { IfOk result (λ o. (0 < string_len o.disk) × IsSize o.shape × AreTurns o.turns) }
     // And each option is what the words say, as the command line's parser reads them.
     ensures reads { IfOk result (λ o. (modes : ValueParser) × (f : Found)
-        × (rows_of f ≡ matches_of (sbiboard modes) (map S.text words.now)) × ReadsOptions f o) }
+        × TakesModes modes × (rows_of f ≡ matches_of (sbiboard modes) (map S.text words.now)) × ReadsOptions f o) }
+    // Else memory was refused, or the parser does not take the words, or their values give no options.
+    ensures refused { IfErr result (λ e. (kind_of e ≡ ErrorKind.OutOfMemory)
+        ⊎ AreNotTaken (map S.text words.now) ⊎ AreNoOptions (map S.text words.now)) }
 {
-    let matches = command(alloc)?.try_get_matches_from(words)?;
+    let matches = parsed(alloc, words)?;
     match options_of(alloc, &matches)? {
         Some(options) => Ok(options),
         None => Err(out_of_range(alloc)?),

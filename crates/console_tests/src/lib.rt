@@ -10,6 +10,10 @@ mod guest;
 #[cfg(test)]
 mod inputs;
 #[cfg(test)]
+mod memory_files;
+#[cfg(test)]
+mod programs;
+#[cfg(test)]
 mod runs;
 #[cfg(test)]
 mod said;

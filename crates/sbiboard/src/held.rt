@@ -1,8 +1,11 @@
 //! The disk's file, which one session has at a time.
 
+ghost use Rattle.std.specs.Prelude.{IfErr};
+ghost use Rattle.board_files.specs.Faults.{IsFileFault};
+
 use crate::written::{make_beside, path_beside};
+use board_files::unreached;
 use board_model::Refusal;
-use board_options::Options;
 use command_line::{FileFault, not_regular};
 use std::fs::{self, File, OpenOptions, TryLockError};
 use std::io::{self, ErrorKind};
@@ -10,7 +13,9 @@ use std::os::unix::fs::MetadataExt;
 
 /// Where the disk's file is, and the file itself, which is this session's as long as this stands.
 #[derive(Drop)]
-pub struct Held {
+pub struct Held<'a> {
+    /// Whose file it is.
+    pub rt: &'a HostRuntime,
     /// The path of the file, behind what symbolic links lead there.
     pub path: String,
     /// Open for reading and writing.
@@ -18,13 +23,15 @@ pub struct Held {
 }
 
 /// The path to which symbolic links lead, or the path as it is where nothing stands there.
-fn real_path(rt: &HostRuntime, path: &str) -> Result<String, FileFault> {
-    match fs::canonicalize(rt, path) {
-        Ok(found) => Ok(found.into_string()),
-        Err(_) => {
-            path.to_string(rt.alloc())
-                .map_err(|_| FileFault::refused(Refusal::Memory))
-        }
+fn real_path(rt: &HostRuntime, path: &str) -> Result<String, FileFault>
+    ensures failed { IfErr result (λ e. IsFileFault e.fault) }
+{
+    if let Ok(found) = fs::canonicalize(rt, path) {
+        return Ok(found.into_string());
+    }
+    match path.to_string(rt.alloc()) {
+        Ok(path) => Ok(path),
+        Err(_) => Err(FileFault::refused(Refusal::Memory)),
     }
 }
 
@@ -71,26 +78,38 @@ fn opened(rt: &HostRuntime, path: &str, is_new: bool) -> io::Result<File> {
 
 /// Tries whether the folder takes the file that is to be put into the place of the disk's, so that nobody is told so
 /// only when commands were made. What it makes it removes.
-fn try_beside(rt: &HostRuntime, held: &Held) -> Result<(), FileFault> {
-    let beside = path_beside(rt, held)?;
-    let tried = match make_beside(rt, held, &beside) {
-        Ok(_file) => fs::remove_file(rt, beside.as_str()),
+fn try_beside(held: &Held<'_>) -> Result<(), FileFault>
+    ensures failed { IfErr result (λ e. IsFileFault e.fault) }
+{
+    let beside = path_beside(held)?;
+    let tried = match make_beside(held, &beside) {
+        Ok(_file) => fs::remove_file(held.rt, beside.as_str()),
         Err(e) => Err(e),
     };
-    tried.map_err(|e| FileFault::new(rt.alloc(), &beside, e))
+    match tried {
+        Ok(()) => Ok(()),
+        Err(e) => Err(unreached(held.rt.alloc(), &beside, e)),
+    }
 }
 
 /// Takes the disk's file for this session. What is there and no regular file, as a device or a folder, is a
 /// fault, and so is a file that another session has, and one that could not be written or replaced at the end.
-pub fn hold(rt: &HostRuntime, options: &Options) -> Result<Held, FileFault> {
-    let path = real_path(rt, &options.disk)?;
-    let file = match opened(rt, &path, options.new) {
+pub fn hold<'a>(
+    rt: &'a HostRuntime,
+    path: &str,
+    is_new: bool,
+    is_synced: bool,
+) -> Result<Held<'a>, FileFault>
+    ensures failed { IfErr result (λ e. IsFileFault e.fault) }
+{
+    let path = real_path(rt, path)?;
+    let file = match opened(rt, &path, is_new) {
         Ok(file) => file,
-        Err(e) => return Err(FileFault::new(rt.alloc(), &path, e)),
+        Err(e) => return Err(unreached(rt.alloc(), &path, e)),
     };
-    let held = Held { path, file };
-    if !options.sync {
-        try_beside(rt, &held)?;
+    let held = Held { rt, path, file };
+    if !is_synced {
+        try_beside(&held)?;
     }
     Ok(held)
 }

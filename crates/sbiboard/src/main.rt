@@ -3,10 +3,9 @@
 //! the command line.
 #![tactic(auto)]
 
-mod disk_file;
 mod held;
 mod operates;
-mod told;
+mod system;
 mod written;
 
 use crate::operates::operate;

@@ -1,10 +1,13 @@
 //! The disk's file, written beside and renamed.
 
+ghost use Rattle.std.specs.Prelude.{IfErr};
+ghost use Rattle.board_files.specs.Faults.{IsFileFault};
+
 use crate::held::{Held, locked};
+use board_files::unreached;
 use board_model::Refusal;
 use command_line::FileFault;
 use disk::Sector;
-use simdisk::SimDisk;
 use std::fs::{self, File};
 use std::io::{self, BufWriter, Seek, SeekFrom, Write};
 use std::os::unix::fs::{FileExt, MetadataExt, fchown};
@@ -42,7 +45,8 @@ fn holds(file: &File, sectors: &[Sector], is_new: bool) -> io::Result<bool> {
 
 /// Makes an empty file at that path, in the place of a file that was left there, with the mode of the disk's, and
 /// its owner where the system lets it be given.
-pub fn make_beside(rt: &HostRuntime, held: &Held, beside: &str) -> io::Result<File> {
+pub fn make_beside(held: &Held<'_>, beside: &str) -> io::Result<File> {
+    let rt = held.rt;
     if let Ok(left) = fs::symlink_metadata(rt, beside) {
         if left.is_file() {
             fs::remove_file(rt, beside)?;
@@ -91,29 +95,26 @@ fn sync_folder(rt: &HostRuntime, path: &str) -> io::Result<()> {
 }
 
 /// Puts the file beside into the place of the disk's, and makes that durable.
-fn replace(rt: &HostRuntime, held: &Held, beside: &str) -> io::Result<()> {
-    fs::rename(rt, beside, held.path.as_str())?;
-    sync_folder(rt, &held.path)
+fn replace(held: &Held<'_>, beside: &str) -> io::Result<()> {
+    fs::rename(held.rt, beside, held.path.as_str())?;
+    sync_folder(held.rt, &held.path)
 }
 
 /// The path of the file beside.
-pub fn path_beside(rt: &HostRuntime, held: &Held) -> Result<String, FileFault> {
+pub fn path_beside(held: &Held<'_>) -> Result<String, FileFault>
+    ensures failed { IfErr result (λ e. IsFileFault e.fault) }
+{
     let path = &held.path;
-    match format!(in rt.alloc(); "{path}.new") {
+    match format!(in held.rt.alloc(); "{path}.new") {
         Ok(beside) => Ok(beside),
         Err(_) => Err(FileFault::refused(Refusal::Memory)),
     }
 }
 
 /// Writes the disk into the file beside. Where it cannot be written whole it is removed.
-fn write_beside(
-    rt: &HostRuntime,
-    held: &Held,
-    beside: &str,
-    sectors: &[Sector],
-    is_new: bool,
-) -> io::Result<()> {
-    let file = make_beside(rt, held, beside)?;
+fn write_beside(held: &Held<'_>, beside: &str, sectors: &[Sector], is_new: bool) -> io::Result<()> {
+    let rt = held.rt;
+    let file = make_beside(held, beside)?;
     let behind = if is_new {
         Ok(None)
     } else {
@@ -133,44 +134,60 @@ fn write_beside(
 /// Writes the disk's file, where it doesn't hold the disk: into a file beside it, named `.new`, which is then
 /// renamed over it. So a host that crashes meanwhile leaves the file as it was or as it is written, and perhaps
 /// the other one. Where the other one cannot be written whole it is removed. Answers whether it was written.
-pub fn write_disk(
-    rt: &HostRuntime,
-    held: &Held,
-    disk: &SimDisk,
-    is_new: bool,
-) -> Result<(), FileFault> {
-    if let Ok(true) = holds(&held.file, disk.content(), is_new) {
+pub fn write_disk(held: &Held<'_>, sectors: &[Sector], is_new: bool) -> Result<(), FileFault>
+    ensures failed { IfErr result (λ e. IsFileFault e.fault) }
+{
+    if let Ok(true) = holds(&held.file, sectors, is_new) {
         return Ok(());
     }
-    let beside = path_beside(rt, held)?;
-    if let Err(e) = write_beside(rt, held, &beside, disk.content(), is_new) {
-        return Err(FileFault::new(rt.alloc(), &beside, e));
+    let beside = path_beside(held)?;
+    if let Err(e) = write_beside(held, &beside, sectors, is_new) {
+        return Err(unreached(held.rt.alloc(), &beside, e));
     }
-    replace(rt, held, &beside).map_err(|e| FileFault::new(rt.alloc(), &held.path, e))
+    match replace(held, &beside) {
+        Ok(()) => Ok(()),
+        Err(e) => Err(unreached(held.rt.alloc(), &held.path, e)),
+    }
 }
 
 /// A file of so many zero sectors at that path, which is this session's before it stands in the disk's place.
-fn blank_beside(rt: &HostRuntime, held: &Held, beside: &str, sectors: usize) -> io::Result<File> {
-    let file = locked(rt, beside, make_beside(rt, held, beside)?)?;
+fn blank_beside(held: &Held<'_>, beside: &str, sectors: usize) -> io::Result<File> {
+    let file = locked(held.rt, beside, make_beside(held, beside)?)?;
     let made = file
         .set_len(bytes_of(sectors))
         .and_then(|()| file.sync_all());
     if let Err(e) = made {
-        let _gone = fs::remove_file(rt, beside);
+        let _gone = fs::remove_file(held.rt, beside);
         return Err(e);
     }
     Ok(file)
 }
 
 /// Puts a blank file of so many sectors into the place of the disk's, and gives it.
-pub fn blank_file(rt: &HostRuntime, held: &Held, sectors: usize) -> Result<File, FileFault> {
-    let beside = path_beside(rt, held)?;
-    let file = match blank_beside(rt, held, &beside, sectors) {
+fn blank_file(held: &Held<'_>, sectors: usize) -> Result<File, FileFault>
+    ensures failed { IfErr result (λ e. IsFileFault e.fault) }
+{
+    let beside = path_beside(held)?;
+    let file = match blank_beside(held, &beside, sectors) {
         Ok(file) => file,
-        Err(e) => return Err(FileFault::new(rt.alloc(), &beside, e)),
+        Err(e) => return Err(unreached(held.rt.alloc(), &beside, e)),
     };
-    match replace(rt, held, &beside) {
+    match replace(held, &beside) {
         Ok(()) => Ok(file),
-        Err(e) => Err(FileFault::new(rt.alloc(), &held.path, e)),
+        Err(e) => Err(unreached(held.rt.alloc(), &held.path, e)),
+    }
+}
+
+/// The file that a session keeps its disk in: of a new disk a blank one of so many sectors, in the place of what was there;
+/// else the one that was read, which is made durable as it was read.
+pub fn kept_file(held: Held<'_>, sectors: usize, is_new: bool) -> Result<File, FileFault>
+    ensures failed { IfErr result (λ e. IsFileFault e.fault) }
+{
+    if is_new {
+        return blank_file(&held, sectors);
+    }
+    match held.file.sync_all() {
+        Ok(()) => Ok(held.file),
+        Err(e) => Err(unreached(held.rt.alloc(), &held.path, e)),
     }
 }

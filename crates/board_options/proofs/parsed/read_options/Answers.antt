@@ -1,15 +1,14 @@
-use Rattle.std.proofs.Common.{◌≡◌, ◌∙◌, map, true, ap}
-use Rattle.clap.specs.Words.{App, app_of, found_of, is_simple, matches_of}
-use Rattle.board_help.specs.Lines.{sbiboard}
-use Rattle.board_help.proofs.Simple.{sbiboard_simple}
+use Rattle.std.proofs.Common.{inr}
+use Rattle.clap.specs.Words.{found_of}
 use Rattle.board_options.proofs.parsed.read_options.Goals as goal
 
 pub returns-in-Some-clause-reads : goal.returns-in-Some-clause-reads
 returns-in-Some-clause-reads g c =
-    let modes = c.in_ok-command.ensures.0 in
-    let is : app_of c.in_ok-command.field-0 ≡ sbiboard modes = c.in_ok-command.ensures.1 in
-    let simple : is_simple (app_of c.in_ok-command.field-0) ≡ true = ap is_simple is ∙ sbiboard_simple modes in
-    let words = map g.S.AsStr.text c.args.words.now in
-    let rows = (c.in_ok-matches.ensures.matches simple).0 ∙ ap (λ (a : App). matches_of a words) is in
-    let reads = rw c.in-Some.is at c.in_ok-options.ensures in
-    (modes, found_of c.in_ok-matches.matches, rows, reads)
+    let parsed = c.in_ok-matches.ensures.matches in
+    let reads = rw c.in-Some.is at c.in_ok-options.ensures.reads in
+    (parsed.0, found_of c.in_ok-matches.matches, parsed.1, parsed.2, reads)
+
+pub returns-clause-refused : goal.returns-clause-refused
+returns-clause-refused g c =
+    let parsed = c.in_ok-matches.ensures.matches in
+    inr (inr (parsed.0, parsed.1, found_of c.in_ok-matches.matches, parsed.2, c.in_ok-options.ensures.none c.in-None.is))

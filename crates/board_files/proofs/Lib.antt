@@ -1,0 +1,3 @@
+pub mod FaultKinds
+pub mod FileSectors
+pub mod FileBytes

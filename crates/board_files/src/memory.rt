@@ -1,0 +1,120 @@
+//! The file of a disk in memory.
+
+ghost use Rattle.std.specs.Prelude.{◌≡◌, Some, IfOk, drop};
+ghost use Rattle.board_files.specs.Disks.{HoldsDisk};
+ghost use Rattle.board_files.specs.Faults.{IsFileFault};
+
+use crate::files::{DiskFile, HeldFile, unreached};
+use board_model::Refusal;
+use command_line::FileFault;
+use disk::Sector;
+use std::alloc::{AllocError, Global};
+use std::io;
+
+/// Which call of a file fails, each time.
+#[derive(Clone, Copy, Drop, PartialEq, Eq)]
+pub enum Failing {
+    Never,
+    Length,
+    Read,
+    Write,
+}
+
+/// The file of a disk in memory, for trials. Its name is `D`.
+#[derive(Drop)]
+pub struct MemoryDisk {
+    alloc: Global,
+    bytes: Vec<u8>,
+    failing: Failing,
+}
+
+impl MemoryDisk {
+    /// A file of these bytes, of which those calls fail.
+    pub fn of(alloc: Global, bytes: &[u8], failing: Failing) -> Result<MemoryDisk, AllocError>
+        ensures { IfOk result (λ disk. ⟦<MemoryDisk as DiskFile>⟧.bytes disk ≡ Some bytes.now) }
+    {
+        Ok(MemoryDisk {
+            alloc,
+            bytes: Vec::from_slice(alloc, bytes)?,
+            failing,
+        })
+    }
+
+    /// The bytes that it holds.
+    pub fn found(self) -> Vec<u8>
+        ensures { ⟦<MemoryDisk as DiskFile>⟧.bytes self ≡ Some result.items }
+    {
+        self.bytes
+    }
+
+    /// The fault of its calls.
+    fn fault(&self) -> FileFault
+        ensures { IsFileFault result.fault }
+    {
+        unreached(self.alloc, "D", io::Error::other("it fails"))
+    }
+}
+
+impl DiskFile for MemoryDisk {
+    ghost bytes = { λ disk. Some disk.bytes.items };
+
+    fn length(&self) -> Result<u64, FileFault> {
+        if self.failing == Failing::Length {
+            return Err(self.fault());
+        }
+        Ok(self.bytes.len() as u64)
+    }
+
+    fn read(&self, into: &mut [u8]) -> Result<(), FileFault> {
+        match self.bytes.get(..into.len()) {
+            Some(first) if self.failing != Failing::Read => {
+                into.copy_from_slice(first);
+                Ok(())
+            }
+            _ => Err(self.fault()),
+        }
+    }
+}
+
+/// What stands from that byte on.
+fn behind(held: &[u8], at: usize) -> &[u8]
+    ensures { result.now ≡ drop at held.now }
+{
+    match held.get(at..) {
+        Some(rest) => rest,
+        None => &[],
+    }
+}
+
+/// The bytes of a file that held those, once these sectors were written into it.
+#[tactic(auto, using(crate::proofs::FileBytes::holds_new, crate::proofs::FileBytes::holds_old))]
+fn with_disk(
+    alloc: Global,
+    sectors: &[Sector],
+    is_new: bool,
+    held: &[u8],
+) -> Result<Vec<u8>, AllocError>
+    ensures { IfOk result (λ all. HoldsDisk is_new sectors.now (Some held.now) all.items) }
+{
+    let mut all = Vec::from_slice(alloc, sectors.as_flattened())?;
+    if is_new {
+        return Ok(all);
+    }
+    all.extend_from_slice(behind(held, all.len()))?;
+    Ok(all)
+}
+
+impl HeldFile for MemoryDisk {
+    fn write(&mut self, sectors: &[Sector], is_new: bool) -> Result<(), FileFault> {
+        if self.failing == Failing::Write {
+            return Err(self.fault());
+        }
+        match with_disk(self.alloc, sectors, is_new, &self.bytes) {
+            Ok(all) => {
+                self.bytes = all;
+                Ok(())
+            }
+            Err(_) => Err(FileFault::refused(Refusal::Memory)),
+        }
+    }
+}

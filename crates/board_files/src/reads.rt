@@ -1,0 +1,142 @@
+//! The disk of a file.
+
+ghost use Rattle.std.specs.Prelude.{◌≡◌, ◌≢◌, ◌⊎◌, ◌≤◌, ◌*◌, ℕ, ◌%◌, ◌/◌, IfOk, IfErr, IfSome, MatchResult, length, take};
+ghost use Rattle.disk.specs.Facts.{IsFresh};
+ghost use Rattle.board_model.specs.Shapes.{Size, sectors_of};
+ghost use Rattle.layout.specs.Superblocks.{HasMagic, IsSuperblock};
+ghost use Rattle.command_line.specs.declared.fault.ProgramFault.TheVariants.{Refused};
+ghost use Rattle.board_files.specs.Disks.{IsDiskFile, IsLookedAt, RefusesFile, first_sectors};
+ghost use Rattle.board_files.specs.Faults.{IsFileFault};
+
+use crate::files::DiskFile;
+use board_model::{Refusal, SECTOR_BYTES, Shape};
+use command_line::FileFault;
+use disk::{Disk, Sector};
+use layout::parse_superblock;
+use simdisk::SimDisk;
+use std::alloc::Global;
+
+/// The first sector of a file.
+fn first_sector<F: DiskFile>(file: &F) -> Result<Sector, FileFault>
+    ensures first { IfOk result (λ first. IfSome (F.bytes file.now) (λ all. first ≡ take 512 all)) }
+    ensures failed { IfErr result (λ e. IsFileFault e.fault) }
+{
+    let mut first: Sector = [0; 512];
+    file.read(&mut first)?;
+    Ok(first)
+}
+
+/// How many bytes the file has, and its first sector, where it has one.
+#[tactic(auto, using(crate::proofs::FileSectors::long_begin, crate::proofs::FileSectors::short_begin))]
+fn begin_of<F: DiskFile>(file: &F) -> Result<(u64, Sector), FileFault>
+    ensures begin { IfOk result (λ begin. IfSome (F.bytes file.now)
+        (λ all. (begin.0 ≡ length all) × (512 ≤ length all → begin.1 ≡ take 512 all))) }
+    ensures failed { IfErr result (λ e. IsFileFault e.fault) }
+{
+    let bytes = file.length()?;
+    if bytes < 512 {
+        return Ok((bytes, [0; 512]));
+    }
+    let first = first_sector(file)?;
+    Ok((bytes, first))
+}
+
+/// The shape of the board whose disk a file of so many bytes begins with. Refused `BadShape` where they are not whole
+/// sectors, or none, and else as `parse_superblock` refuses.
+fn shape_of(bytes: u64, first: &Sector) -> Result<Shape, Refusal>
+    ensures whole { IfOk result (λ shape. (bytes % 512 ≡ 0) × IsSuperblock shape first.now
+        × (sectors_of shape ≤ bytes / 512)) }
+    ensures exact { (size : Size) → IsSuperblock size first.now → bytes % 512 ≡ 0 → sectors_of size ≤ bytes / 512
+        → result ≡ Ok size }
+    ensures refused { IfErr result (λ e. ((e ≡ Refusal.BadShape) × ((bytes % 512 ≢ 0) ⊎ (bytes ≡ 0)))
+        ⊎ ((bytes % 512 ≡ 0) × (512 ≤ bytes) × (((e ≡ Refusal.NotFormatted) × (HasMagic first.now → ⊥))
+        ⊎ ((e ≡ Refusal.BadShape) × HasMagic first.now)))) }
+{
+    if bytes == 0 || bytes % 512 != 0 {
+        return Err(Refusal::BadShape);
+    }
+    parse_superblock(first, (bytes / 512) as usize)
+}
+
+/// The shape of the board whose disk the file holds. No more than the first sector is read of it. Refused where it is no
+/// board's.
+#[tactic(auto, using(crate::proofs::FileSectors::is_board, crate::proofs::FileSectors::exact_ok, crate::proofs::FileSectors::exact_err, crate::proofs::FileSectors::is_refused))]
+pub fn shape_in<F: DiskFile>(file: &F) -> Result<Shape, FileFault>
+    ensures board { IfOk result (λ shape. IfSome (F.bytes file.now) (IsDiskFile shape)) }
+    ensures exact { IfSome (F.bytes file.now) (λ all. (size : Size) → IsDiskFile size all
+        → MatchResult result (λ shape. shape ≡ size) (λ e. IsFileFault e.fault)) }
+    ensures refused { IfErr result (λ e. IsFileFault e.fault ⊎ ((why : Refusal) × (e.fault ≡ Refused why)
+        × IfSome (F.bytes file.now) (λ all. RefusesFile all why))) }
+{
+    let (bytes, first) = begin_of(file)?;
+    match shape_of(bytes, &first) {
+        Ok(shape) => Ok(shape),
+        Err(e) => Err(FileFault::refused(e)),
+    }
+}
+
+/// The first sectors of the file, as a disk.
+#[tactic(auto, using(crate::proofs::FileSectors::is_fresh))]
+fn sectors_in<F: DiskFile>(alloc: Global, file: &F, sectors: usize) -> Result<SimDisk, FileFault>
+    requires { sectors ≤ 18440 }
+    ensures none_out { IfOk result (λ d. (⟦<SimDisk as Disk>⟧.facts d).lent.lanes ≡ 0) }
+    ensures disk { IfOk result (λ d. IfSome (F.bytes file.now)
+        (λ all. IsFresh (first_sectors sectors all) (⟦<SimDisk as Disk>⟧.facts d))) }
+    ensures failed { IfErr result (λ e. IsFileFault e.fault) }
+{
+    let Ok(mut bytes) = vec![in alloc; 0; sectors * SECTOR_BYTES] else {
+        return Err(FileFault::refused(Refusal::Memory));
+    };
+    file.read(&mut bytes)?;
+    match SimDisk::new(alloc, &bytes) {
+        Ok(disk) => Ok(disk),
+        Err(e) => Err(FileFault::refused(e)),
+    }
+}
+
+/// The disk of a board of that shape, from its file. What stands behind its sectors is no part of it, and is not read.
+pub fn disk_in<F: DiskFile>(alloc: Global, file: &F, shape: &Shape) -> Result<SimDisk, FileFault>
+    ensures none_out { IfOk result (λ d. (⟦<SimDisk as Disk>⟧.facts d).lent.lanes ≡ 0) }
+    ensures disk { IfOk result (λ d. IfSome (F.bytes file.now)
+        (λ all. IsFresh (first_sectors (sectors_of shape.now) all) (⟦<SimDisk as Disk>⟧.facts d))) }
+    ensures failed { IfErr result (λ e. IsFileFault e.fault) }
+{
+    sectors_in(alloc, file, shape.sectors())
+}
+
+/// How many sectors of a file an examiner looks at: those of the board whose superblock it begins with, and of another file
+/// the first alone. Refused `BadShape` where it is not whole sectors.
+#[tactic(auto, using(crate::proofs::FileSectors::looks_at_none, crate::proofs::FileSectors::looks_at_board, crate::proofs::FileSectors::looks_at_first, crate::proofs::FileSectors::is_broken))]
+fn looked_at<F: DiskFile>(file: &F) -> Result<usize, FileFault>
+    ensures few { IfOk result (λ n. n ≤ 18440) }
+    ensures looked { IfOk result (λ n. IfSome (F.bytes file.now) (IsLookedAt n)) }
+    ensures refused { IfErr result (λ e. IsFileFault e.fault ⊎ ((e.fault ≡ Refused Refusal.BadShape)
+        × IfSome (F.bytes file.now) (λ all. length all % 512 ≢ 0))) }
+{
+    let bytes = file.length()?;
+    if bytes % 512 != 0 {
+        return Err(FileFault::refused(Refusal::BadShape));
+    }
+    if bytes == 0 {
+        return Ok(0);
+    }
+    let first = first_sector(file)?;
+    match parse_superblock(&first, (bytes / 512) as usize) {
+        Ok(shape) => Ok(shape.sectors()),
+        Err(_) => Ok(1),
+    }
+}
+
+/// The disk of a file, as far as it is looked at: what stands behind the board's sectors is not read, nor
+/// what stands behind the first sector of a file that is no board's.
+#[tactic(auto, using(crate::proofs::FileSectors::is_seen))]
+pub fn seen_in<F: DiskFile>(alloc: Global, file: &F) -> Result<SimDisk, FileFault>
+    ensures none_out { IfOk result (λ d. (⟦<SimDisk as Disk>⟧.facts d).lent.lanes ≡ 0) }
+    ensures disk { IfOk result (λ d. IfSome (F.bytes file.now) (λ all. (n : ℕ) × IsLookedAt n all
+        × IsFresh (first_sectors n all) (⟦<SimDisk as Disk>⟧.facts d))) }
+    ensures refused { IfErr result (λ e. IsFileFault e.fault ⊎ ((e.fault ≡ Refused Refusal.BadShape)
+        × IfSome (F.bytes file.now) (λ all. length all % 512 ≢ 0))) }
+{
+    let sectors = looked_at(file)?;
+    sectors_in(alloc, file, sectors)
+}

@@ -1,0 +1,3 @@
+pub mod DiskBegun
+pub mod FaultsEnded
+pub mod FilesLeft

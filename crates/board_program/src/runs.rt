@@ -1,0 +1,291 @@
+//! A session from its files to its disk's file.
+
+ghost use Rattle.std.specs.Prelude.{◌≡◌, ℕ, List, Option, IfErr, IfOk, IfSome, OnOk, string_bytes};
+ghost use Rattle.store.specs.Leaves.{IsIdle};
+ghost use Rattle.command_line.specs.Told.{fault_of};
+ghost use Rattle.board_files.specs.Disks.{HoldsDisk};
+ghost use Rattle.board_files.specs.Faults.{IsFileFault};
+ghost use Rattle.disk.specs.Facts.{Unchanged};
+ghost use Rattle.board_program.specs.Operated.{EndsInFile, HasLeft, IsWritten, RunsOver, StaysInFile, known};
+ghost use Rattle.board_program.specs.Ran.{told_of};
+
+use crate::begins::{Begun, payloads_read, take_disk};
+use crate::over::{Answers, Asked, Over, session_over};
+use crate::told::{tell_elf, tell_harts};
+use board_files::{BoardFiles, DiskFile, HeldFile};
+use board_model::Refusal;
+use board_options::Options;
+use board_session::Streams;
+use command_line::{FileFault, first_of};
+use disk::Disk;
+use file_disk::{FileDisk, SectorFile};
+use payload_files::PayloadFiles;
+use simdisk::SimDisk;
+use std::alloc::Global;
+use std::io::{IsTerminal, Read, Write};
+use std::sync::Wait;
+use std::thread::Threads;
+use store::format;
+
+/// The file of a session's disk, once the session has ended.
+#[derive(Drop)]
+pub enum FileLeft<H: Drop, K: Drop> {
+    /// No session was begun.
+    None,
+    /// The disk was to be written into the file at the end.
+    AtEnd(H, SimDisk),
+    /// The disk was kept in this file all along.
+    AllAlong(K),
+}
+
+/// What was done: what stands of the file, what the answers were written to, and the fault, where there is one.
+#[derive(Drop)]
+pub struct Done<H: Drop, K: Drop, O: Write + Drop> {
+    pub left: FileLeft<H, K>,
+    pub out: O,
+    pub ended: Result<(), FileFault>,
+}
+
+/// Whether commands were made of a disk that could not be written: of a new one where it is no longer as the format
+/// leaves one.
+fn has_commands(alloc: Global, options: &Options, disk: &SimDisk) -> bool {
+    if !options.new {
+        return true;
+    }
+    let Ok(mut fresh) = SimDisk::blank(alloc, options.shape.sectors()) else {
+        return false;
+    };
+    format(&mut fresh, &options.shape).is_ok() && fresh.content() != disk.content()
+}
+
+/// Writes the disk into its file.
+#[tactic(auto, using(crate::proofs::FaultsEnded::same_fault))]
+fn write_back<H: HeldFile>(
+    alloc: Global,
+    options: &Options,
+    held: &mut H,
+    disk: &SimDisk,
+) -> Result<(), FileFault>
+    ensures written { OnOk result (IfSome (H.bytes held.new)
+        (HoldsDisk options.now.new (⟦<SimDisk as Disk>⟧.facts disk.now).content (H.bytes held.old))) }
+    ensures failed { IfErr result (λ e. IsFileFault e.fault) }
+{
+    match held.write(disk.content(), options.new) {
+        Ok(()) => Ok(()),
+        Err(fault) => Err(fault.losing(has_commands(alloc, options, disk))),
+    }
+}
+
+/// The session's disk is written into its file wherever its bytes have changed, also after a refusal. Of two faults the
+/// first is told.
+#[tactic(auto, using(crate::proofs::FaultsEnded::is_written))]
+fn end_with_file<H: HeldFile>(
+    alloc: Global,
+    options: &Options,
+    held: &mut H,
+    disk: &SimDisk,
+    ran: Result<(), Refusal>,
+) -> Result<(), FileFault>
+    ensures { IsWritten options.now.new (⟦<SimDisk as Disk>⟧.facts disk.now) ran (H.bytes held.old) (H.bytes held.new)
+        (fault_of result) }
+{
+    let written = write_back(alloc, options, held, disk);
+    first_of(told(ran), written)
+}
+
+/// The fault of a session.
+fn told(ran: Result<(), Refusal>) -> Result<(), FileFault>
+    ensures { fault_of result ≡ told_of ran }
+{
+    match ran {
+        Ok(()) => Ok(()),
+        Err(e) => Err(FileFault::refused(e)),
+    }
+}
+
+/// The disk in memory, kept in its file: each sync of the disk waits for the file.
+fn kept_disk<B: BoardFiles>(
+    alloc: Global,
+    files: &B,
+    options: &Options,
+    held: B::Held,
+    memory: SimDisk,
+) -> Result<FileDisk<B::Kept>, FileFault>
+    requires { IsIdle (⟦<SimDisk as Disk>⟧.facts memory) }
+    ensures none_out { IfOk result (λ d. IsIdle (⟦<FileDisk<B::Kept> as Disk>⟧.facts d)) }
+    ensures same { IfOk result (λ d. Unchanged (⟦<SimDisk as Disk>⟧.facts memory)
+        (⟦<FileDisk<B::Kept> as Disk>⟧.facts d)) }
+    ensures failed { IfErr result (λ e. IsFileFault e.fault) }
+{
+    let file = files.keep(held, memory.content(), options.new)?;
+    match FileDisk::new(alloc, memory, file) {
+        Ok(disk) => Ok(disk),
+        Err(_) => Err(FileFault::refused(Refusal::Memory)),
+    }
+}
+
+/// No session was begun, for that fault.
+fn not_begun<H: Drop, K: Drop, O: Write + Drop>(out: O, fault: FileFault) -> Done<H, K, O>
+    ensures left { result.left ≡ FileLeft.None }
+    ensures out { result.out ≡ out }
+    ensures ended { result.ended ≡ Err fault }
+{
+    Done {
+        left: FileLeft::None,
+        out,
+        ended: Err(fault),
+    }
+}
+
+/// The session over the disk in memory, which is written into its file at the end.
+#[tactic(auto, using(crate::proofs::FilesLeft::ends_in_file))]
+fn run_to_the_end<
+    R: Threads + Wait + Sync,
+    H: HeldFile + Drop,
+    K: Drop,
+    I: Read + Drop,
+    O: Answers + Drop,
+    F: Write + IsTerminal,
+>(
+    alloc: Global,
+    threads: &R,
+    asked: &Asked<'_>,
+    held: H,
+    disk: SimDisk,
+    streams: Streams<I, O>,
+    faults: &mut F,
+) -> Done<H, K, O>
+    requires { IsIdle (⟦<SimDisk as Disk>⟧.facts disk) }
+    ensures { EndsInFile H.bytes ⟦<SimDisk as Disk>⟧.facts asked.now.options.now asked.now.payloads.now
+        (⟦<SimDisk as Disk>⟧.facts disk)
+        (known (H.bytes held) (I.remaining streams.input) (O.contents streams.out) (O.contents result.out))
+        result.left (fault_of result.ended) }
+{
+    let mut held = held;
+    let over = session_over(alloc, threads, asked, disk, streams);
+    tell_harts(faults, asked.options, &over.harts);
+    let Over {
+        disk,
+        ran,
+        out,
+        harts: _,
+    } = over;
+    let ended = end_with_file(alloc, asked.options, &mut held, &disk, ran);
+    Done {
+        left: FileLeft::AtEnd(held, disk),
+        out,
+        ended,
+    }
+}
+
+/// The session over a disk that is kept in its file all along. The file is given back.
+#[tactic(auto, using(crate::proofs::FilesLeft::stays_in_file))]
+fn run_in_file<
+    R: Threads + Wait + Sync,
+    H: Drop,
+    K: SectorFile + Drop + Send,
+    I: Read + Drop,
+    O: Answers + Drop,
+    F: Write + IsTerminal,
+>(
+    alloc: Global,
+    threads: &R,
+    asked: &Asked<'_>,
+    disk: FileDisk<K>,
+    streams: Streams<I, O>,
+    faults: &mut F,
+) -> Done<H, K, O>
+    requires { IsIdle (⟦<FileDisk<K> as Disk>⟧.facts disk) }
+    ensures { (bytes : Option (List ℕ)) → StaysInFile ⟦<FileDisk<K> as Disk>⟧.facts K.file_facts asked.now.options.now
+        asked.now.payloads.now (⟦<FileDisk<K> as Disk>⟧.facts disk)
+        (known bytes (I.remaining streams.input) (O.contents streams.out) (O.contents result.out))
+        result.left (fault_of result.ended) }
+{
+    let over = session_over(alloc, threads, asked, disk, streams);
+    tell_harts(faults, asked.options, &over.harts);
+    let Over {
+        disk,
+        ran,
+        out,
+        harts: _,
+    } = over;
+    Done {
+        left: FileLeft::AllAlong(disk.into_file()),
+        out,
+        ended: told(ran),
+    }
+}
+
+/// The session over the disk that was taken for it: kept in its file all along where that is asked for, else written
+/// into it at the end.
+fn run_over<
+    R: Threads + Wait + Sync,
+    B: BoardFiles,
+    I: Read + Drop,
+    O: Answers + Drop,
+    F: Write + IsTerminal,
+>(
+    alloc: Global,
+    threads: &R,
+    files: &B,
+    asked: &Asked<'_>,
+    begun: Begun<B::Held>,
+    streams: Streams<I, O>,
+    faults: &mut F,
+) -> Done<B::Held, B::Kept, O>
+    requires { IsIdle (⟦<SimDisk as Disk>⟧.facts begun.disk) }
+    ensures { RunsOver B.Held.bytes ⟦<SimDisk as Disk>⟧.facts ⟦<FileDisk<B::Kept> as Disk>⟧.facts
+        B.Kept.file_facts asked.now.options.now asked.now.payloads.now begun.disk
+        (known (B.Held.bytes begun.held) (I.remaining streams.input) (O.contents streams.out) (O.contents result.out))
+        result.left (fault_of result.ended) }
+{
+    let Begun { held, disk } = begun;
+    if !asked.options.sync {
+        return run_to_the_end(alloc, threads, asked, held, disk, streams, faults);
+    }
+    match kept_disk(alloc, files, asked.options, held, disk) {
+        Ok(disk) => run_in_file(alloc, threads, asked, disk, streams, faults),
+        Err(fault) => not_begun(streams.out, fault),
+    }
+}
+
+/// Runs the board that the options ask for, from its files to its disk's file. The disk is kept in its file all
+/// along, where that is asked for; else the file is written wherever a disk was made or read and its bytes have
+/// changed, also after a refusal. Of two faults the first is told.
+#[tactic(auto, using(crate::proofs::FilesLeft::has_left, crate::proofs::FilesLeft::none_left, crate::proofs::DiskBegun::unread_file))]
+pub fn run_session<
+    R: Threads + Wait + Sync,
+    B: PayloadFiles + BoardFiles,
+    I: Read + Drop,
+    O: Answers + Drop,
+    F: Write + IsTerminal,
+>(
+    alloc: Global,
+    threads: &R,
+    files: &B,
+    options: &Options,
+    streams: Streams<I, O>,
+    faults: &mut F,
+) -> Done<B::Held, B::Kept, O>
+    ensures { HasLeft B.Held.bytes ⟦<SimDisk as Disk>⟧.facts ⟦<FileDisk<B::Kept> as Disk>⟧.facts B.Kept.file_facts
+        options.now (B.bytes_at files.now)
+        (known (B.disk_at files.now (string_bytes options.now.disk)) (I.remaining streams.input)
+        (O.contents streams.out) (O.contents result.out))
+        result.left (fault_of result.ended) }
+{
+    let payloads = match payloads_read(alloc, files, options) {
+        Ok(payloads) => payloads,
+        Err(fault) => return not_begun(streams.out, fault),
+    };
+    tell_elf(faults, &payloads);
+    match take_disk(alloc, files, options, faults) {
+        Ok(begun) => {
+            let asked = Asked {
+                options,
+                payloads: &payloads,
+            };
+            run_over(alloc, threads, files, &asked, begun, streams, faults)
+        }
+        Err(fault) => not_begun(streams.out, fault),
+    }
+}

@@ -1,0 +1,147 @@
+//! The files and the streams of the program in memory.
+
+ghost use Rattle.std.specs.Prelude.{◌≡◌, None, Some, IfErr, IfOk};
+ghost use Rattle.board_files.specs.Faults.{IsFileFault};
+
+use board_files::{BoardFiles, DiskFile, Failing, MemoryDisk, unreached};
+use board_model::Refusal;
+use board_program::Answers;
+use command_line::FileFault;
+use disk::Sector;
+use file_disk::{FileFate, MemoryFile};
+use payload_files::PayloadFiles;
+use std::alloc::Global;
+use std::io::{self, ErrorKind, IsTerminal, Write};
+
+/// What fails of the files.
+#[derive(Clone, Copy, Drop, PartialEq, Eq)]
+pub enum Broken {
+    Nothing,
+    /// The payload file of that slot is not there.
+    Payload(u8),
+    /// The disk's file can't be held.
+    Hold,
+    /// A call of the disk's file.
+    Disk(Failing),
+    /// The disk can't be kept in its file.
+    Keep,
+}
+
+/// Four payload files, `p0` to `p3`, and the file of a disk.
+#[derive(Drop)]
+pub struct MemoryFiles {
+    pub alloc: Global,
+    pub payloads: [&'static [u8]; 4],
+    pub disk: Vec<u8>,
+    pub broken: Broken,
+}
+
+impl PayloadFiles for MemoryFiles {
+    ghost bytes_at = { λ files path. None };
+
+    fn read(&self, path: &str, _most: u64) -> io::Result<Vec<u8>> {
+        for (slot, digit) in b"0123".iter().enumerate() {
+            if path.as_bytes().get(1) == Some(digit) && self.broken != Broken::Payload(*digit) {
+                return Ok(Vec::from_slice(self.alloc, self.payloads[slot])?);
+            }
+        }
+        Err(io::Error::other("it is not there"))
+    }
+}
+
+impl MemoryFiles {
+    /// The disk's file.
+    fn disk_file(&self, path: &str) -> Result<MemoryDisk, FileFault>
+        ensures opened { IfOk result (λ file. ⟦<MemoryDisk as DiskFile>⟧.bytes file ≡ Some self.now.disk.items) }
+        ensures failed { IfErr result (λ e. IsFileFault e.fault) }
+    {
+        let failing = match self.broken {
+            Broken::Disk(failing) => failing,
+            Broken::Hold => {
+                return Err(unreached(self.alloc, path, io::Error::other("another has it")));
+            }
+            _ => Failing::Never,
+        };
+        match MemoryDisk::of(self.alloc, &self.disk, failing) {
+            Ok(held) => Ok(held),
+            Err(_) => Err(FileFault::refused(Refusal::Memory)),
+        }
+    }
+}
+
+impl BoardFiles for MemoryFiles {
+    type Held = MemoryDisk;
+
+    type Kept = MemoryFile;
+
+    ghost disk_at = { λ files path. Some files.disk.items };
+
+    fn hold(&self, path: &str, _is_new: bool, _is_synced: bool) -> Result<MemoryDisk, FileFault> {
+        self.disk_file(path)
+    }
+
+    fn keep(
+        &self,
+        _held: MemoryDisk,
+        sectors: &[Sector],
+        _is_new: bool,
+    ) -> Result<MemoryFile, FileFault> {
+        if self.broken == Broken::Keep {
+            return Err(unreached(self.alloc, "D.new", io::Error::other("no room")));
+        }
+        match MemoryFile::of(self.alloc, sectors, u64::MAX, FileFate::Fails) {
+            Ok(file) => Ok(file),
+            Err(_) => Err(FileFault::refused(Refusal::Memory)),
+        }
+    }
+}
+
+/// An output that takes so many bytes.
+#[derive(Drop)]
+pub struct Page {
+    pub text: Vec<u8>,
+    pub room: usize,
+}
+
+impl Write for Page {
+    ghost contents = { λ page. Some page.text.items };
+
+    fn write(&mut self, buf: &[u8]) -> io::Result<usize> {
+        if self.room < self.text.len() || self.room - self.text.len() < buf.len() {
+            return Err(io::Error::from(ErrorKind::StorageFull));
+        }
+        self.text.extend_from_slice(buf)?;
+        Ok(buf.len())
+    }
+
+    fn flush(&mut self) -> io::Result<()> {
+        Ok(())
+    }
+}
+
+impl Answers for Page {
+    fn begin(&mut self, _is_synced: bool) {}
+}
+
+/// Where faults are told, which is no terminal.
+#[derive(Drop)]
+pub struct Told(pub Vec<u8>);
+
+impl Write for Told {
+    ghost contents = { λ told. Some told.0.items };
+
+    fn write(&mut self, buf: &[u8]) -> io::Result<usize> {
+        self.0.extend_from_slice(buf)?;
+        Ok(buf.len())
+    }
+
+    fn flush(&mut self) -> io::Result<()> {
+        Ok(())
+    }
+}
+
+impl IsTerminal for Told {
+    fn is_terminal(&self) -> bool {
+        false
+    }
+}
