@@ -20,7 +20,7 @@ use std::convert::AsStr;
 const VERSION: &str = "1";
 
 /// How the program is called.
-pub const USAGE: &str = "sbibench [--crew CREW] [--sweep | --faults] < SCRIPT";
+pub const USAGE: &str = "sbibench [--crew CREW] [--sweep | --faults | --schedules N] < SCRIPT";
 
 const ABOUT: &str = "\
 Runs a script of programs, commands and power cuts on a modelled RISC-V board.

@@ -15,8 +15,10 @@ use Rattle.debug_timeline.specs.declared.timeline.Timeline.{Timeline}
 use Rattle.bench_report.specs.Bench.{Bench}
 use Rattle.debug_timeline.specs.Passes.{GoesTo, Passes}
 use Rattle.debug_timeline.specs.Ats.{IsAt, MadeTurns}
+use Rattle.debug_session.specs.declared.halts.Halt.{Halt}
+use Rattle.debug_session.specs.Firsts.{Stretched}
 use Rattle.debug_session.specs.Steps.{IsStep, IsTurnOf, Went}
-use Rattle.debug_timeline.specs.Lives.{HasHalted, machine_of, pc_in}
+use Rattle.debug_timeline.specs.Lives.{HasHalted, pc_in}
 
 -- none
 pub went_none : (May : ℕ → Type 0) (size : Size) (t : Timeline) → IsAt size t → Went May 0 size t t
@@ -98,18 +100,18 @@ one_turn size h points (rows.Lost n) b new within (mid, passed, last) =
     (mid, subst Q (sym none) (subst P none passed), last)
 
 -- one turn, as a step
-pub step_of : (size : Size) (h made : ℕ) (points : List ℕ) (rests : Bool) (old new : Timeline) → (row : Row) × MadeTurns size h points row rests old new × (made ≡ made_in row) × IsWithin 1 row × (is_off row ≡ true → rests ≡ false → (◌≡◌ {A = ℕ} 1 0) ⊎ (pc_in h (machine_of new.bench) ≡ None))
+pub step_of : (size : Size) (h made : ℕ) (points : List ℕ) (rests : Bool) (halt : Option Halt) (old new : Timeline) → Stretched size h 1 points made rests halt old new
     → IsStep size h old new
-step_of size h made points rests old new (row, turns, e, within, why) = (row, rests, within, record { moves = λ b left. (let did = turns.moves b left in (did.0, did.1, did.2, did.3, one_turn size h points row b did.0 within did.4)); grew = turns.grew; busy = turns.busy }, λ off. rests_or rests _ (why off))
+step_of size h made points rests halt old new (row, turns, e, within, why, is) = (row, rests, within, record { moves = λ b left. (let did = turns.moves b left in (did.0, did.1, did.2, did.3, one_turn size h points row b did.0 within did.4)); grew = turns.grew; busy = turns.busy }, λ off. rests_or rests _ (why off))
 
 -- so many turns
-pub went_of : (size : Size) (h most made : ℕ) (points : List ℕ) (rests : Bool) (old new : Timeline) → IsAt size new → new.begins ≡ old.begins → (row : Row) × MadeTurns size h points row rests old new × (made ≡ made_in row) × IsWithin most row × (is_off row ≡ true → rests ≡ false → (most ≡ 0) ⊎ (pc_in h (machine_of new.bench) ≡ None))
+pub went_of : (size : Size) (h most made : ℕ) (points : List ℕ) (rests : Bool) (halt : Option Halt) (old new : Timeline) → IsAt size new → new.begins ≡ old.begins → Stretched size h most points made rests halt old new
     → Went (λ x. x ≡ h) made size old new
-went_of size h most made points rests old new at begins (row, turns, e, within, why) = went_row size h made points row rests old new at begins turns e
+went_of size h most made points rests halt old new at begins (row, turns, e, within, why, is) = went_row size h made points row rests old new at begins turns e
 
-pub few_of : (size : Size) (h most made : ℕ) (points : List ℕ) (rests : Bool) (old new : Timeline) → (row : Row) × MadeTurns size h points row rests old new × (made ≡ made_in row) × IsWithin most row × (is_off row ≡ true → rests ≡ false → (most ≡ 0) ⊎ (pc_in h (machine_of new.bench) ≡ None))
+pub few_of : (size : Size) (h most made : ℕ) (points : List ℕ) (rests : Bool) (halt : Option Halt) (old new : Timeline) → Stretched size h most points made rests halt old new
     → made ≤ most
-few_of size h most made points rests old new (row, turns, e, within, why) = few row e within
+few_of size h most made points rests halt old new (row, turns, e, within, why, is) = few row e within
   where
     few : (r : Row) → made ≡ made_in r → IsWithin most r → made ≤ most
     few rows.Off e within = omega (arith, e)

@@ -4,6 +4,7 @@ use Rattle.board_model.specs.Shapes.{Size}
 use Rattle.machine.specs.Machine.{Machine}
 use Rattle.script_lang.specs.declared.line.Line.{Line}
 use Rattle.debug_timeline.specs.declared.debugged.DebuggedBench.{DebuggedBench}
+use Rattle.debug_session.specs.declared.stops.Stops.{Stops}
 use Rattle.debug_session.specs.declared.session.Session.{Session}
 use Rattle.debug_timeline.specs.declared.timeline.Timeline.{Timeline}
 use Rattle.debug_timeline.specs.Lives.{machine_of}
@@ -32,3 +33,7 @@ module _ {C : Type 0} where
   -- the memory and harts of a board that is on
   abbrev pub machine_of_session : Session C → Option Machine
   machine_of_session s = machine_of s.timeline.bench
+
+  -- its breakpoints and watchpoints
+  abbrev pub stops_of : Session C → Stops
+  stops_of s = s.stops

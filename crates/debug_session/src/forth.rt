@@ -1,12 +1,13 @@
 //! Running forward: turns of one hart, and of harts in turn.
 
-ghost use Rattle.std.specs.Prelude.{◌≡◌, ◌⊎◌, ◌≤◌, ◌<◌, ◌+◌, ℕ, Bool, true, false, slice_index_or, IfOk, IfErr, IfSome, OnOk};
+ghost use Rattle.std.specs.Prelude.{◌≡◌, ◌⊎◌, ◌≤◌, ◌<◌, ◌+◌, ℕ, Bool, true, false, slice_index_or, None, Some, IfOk, IfErr, IfSome, OnOk};
 ghost use Rattle.board_model.specs.declared.refusal.Refusal.TheVariants.{Memory};
 ghost use Rattle.bench_rows.specs.declared.rows.Row.{Row};
 ghost use Rattle.bench_rows.specs.Rows.{IsWithin, is_off, made_in};
 ghost use Rattle.debug_timeline.specs.Ats.{IsAt, MadeTurns};
 ghost use Rattle.debug_session.specs.Steps.{IsStep, Went};
-ghost use Rattle.debug_timeline.specs.Lives.{machine_of, pc_in};
+ghost use Rattle.debug_session.specs.Firsts.{Stretched, Tells, ToHalt, halt_after, halt_seen, halts_all, watched_in};
+ghost use Rattle.debug_timeline.specs.Lives.{machine_of, pc_in, stands_in};
 
 use crate::halts::{Halt, Stop};
 use crate::stops::Stops;
@@ -16,6 +17,7 @@ use board_model::{HartId, Refusal, Shape};
 use crew::Crew;
 use debug_timeline::Timeline;
 use machine::{Did, Word};
+use std::alloc::Global;
 use std::sync::atomic::{AtomicBool, Ordering};
 
 /// The most turns of a hart before the next one's.
@@ -106,13 +108,14 @@ impl Round {
     }
 }
 
-/// Why turns halt everything, if they do.
-fn halt_of(row: Row) -> Option<Halt> {
-    match row {
-        Row::Lost(_) => Some(Halt::Ended),
-        Row::Made(_, Word::Over(_)) => Some(Halt::Ended),
-        Row::Made(_, Word::Goes(did)) if did == Did::Dozing => Some(Halt::Ended),
-        Row::Made(_, _) | Row::Off => None,
+/// Whether everything halts behind a turn of which this is said: the board dozes, or its life is over.
+fn halts_all(word: Word) -> bool
+    ensures { result ≡ halts_all word }
+{
+    match word {
+        Word::Over(_) => true,
+        Word::Goes(Did::Dozing) => true,
+        Word::Goes(_) => false,
     }
 }
 
@@ -123,18 +126,53 @@ fn halt_behind(
     hart: HartId,
     row: Row,
     rests: bool,
-) -> Option<Halt> {
-    if let Some(halt) = halt_of(row) {
-        return Some(halt);
+) -> Option<Halt>
+    ensures { result ≡ halt_after row rests (stands_in points.now (pc_in hart (machine_of timeline.now.bench))) }
+{
+    match row {
+        Row::Off if rests => None,
+        Row::Off => Some(Halt::Off),
+        Row::Lost(_) => Some(Halt::Ended),
+        Row::Made(_, word) => {
+            if halts_all(word) {
+                Some(Halt::Ended)
+            } else if timeline.bench().stands_at(hart, points) {
+                Some(Halt::Point)
+            } else {
+                None
+            }
+        }
     }
-    if row.is_off() {
-        return if rests { None } else { Some(Halt::Off) };
+}
+
+/// The same, where what is watched has changed.
+fn halt_seen(halt: Option<Halt>, changed: Option<u64>) -> Option<Halt>
+    ensures { result ≡ halt_seen halt changed }
+{
+    match (halt, changed) {
+        (None, Some(address)) => Some(Halt::Watched(address)),
+        (Some(Halt::Point), Some(address)) => Some(Halt::Watched(address)),
+        (_, _) => halt,
     }
-    if timeline.bench().stands_at(hart, points) {
-        Some(Halt::Point)
-    } else {
-        None
+}
+
+/// Whether what is watched has changed in so many turns.
+fn change_behind(
+    alloc: Global,
+    stops: &Stops,
+    timeline: &Timeline,
+    made: u32,
+    before: &Vec<u8>,
+) -> Result<Option<u64>, Refusal>
+    ensures none { IfOk result (λ changed. made ≡ 0 → changed ≡ None) }
+    ensures told { IfOk result (λ changed. (made ≡ 0 → ⊥) → Tells changed
+        (watched_in stops.now.watches.items (machine_of timeline.now.bench) ≡ before.now.items)) }
+    ensures refused { IfErr result (λ e. e ≡ Memory) }
+{
+    if made == 0 {
+        return Ok(None);
     }
+    stops.changed(alloc, timeline.bench(), before)
 }
 
 /// Up to so many turns of a hart, to the first that halts everything; what the line `turn` would have said of the
@@ -151,9 +189,8 @@ fn stretch<C: Crew>(
     requires hart { hart < setting.now.shape.now.harts }
     requires most { most ≤ 1000000 }
     ensures at { OnOk result (IsAt setting.now.shape.now timeline.new) }
-    ensures made { IfOk result (λ part. (row : Row) × MadeTurns setting.now.shape.now hart points.now row part.rests timeline.old timeline.new
-        × (part.made ≡ made_in row) × IsWithin most row
-        × (is_off row ≡ true → part.rests ≡ false → (most ≡ 0) ⊎ (pc_in hart (machine_of timeline.new.bench) ≡ None))) }
+    ensures made { IfOk result (λ part. Stretched setting.now.shape.now hart most points.now part.made part.rests part.halt
+        timeline.old timeline.new) }
     ensures begins { timeline.new.begins ≡ timeline.old.begins }
     ensures refused { IfErr result (λ e. e ≡ Memory) }
 {
@@ -182,21 +219,15 @@ fn watched_turn<C: Crew>(
     ensures at { OnOk result (IsAt setting.now.shape.now timeline.new) }
     ensures step { OnOk result (IsStep setting.now.shape.now hart timeline.old timeline.new) }
     ensures went { IfOk result (λ part. Went (λ h. h ≡ hart) part.made setting.now.shape.now timeline.old timeline.new) }
+    ensures first { IfOk result (λ part. ToHalt setting.now.shape.now stops.now part.halt timeline.old timeline.new) }
     ensures one { IfOk result (λ part. part.made ≤ 1) }
     ensures begins { timeline.new.begins ≡ timeline.old.begins }
     ensures refused { IfErr result (λ e. e ≡ Memory) }
 {
     let before = stops.watched(setting.alloc, timeline.bench())?;
     let part = stretch(setting, stops.points(), timeline, hart, 1, told)?;
-    let halt = match part.halt {
-        None | Some(Halt::Point) => {
-            match stops.changed(setting.alloc, timeline.bench(), &before)? {
-                Some(address) => Some(Halt::Watched(address)),
-                None => part.halt,
-            }
-        }
-        other => other,
-    };
+    let changed = change_behind(setting.alloc, stops, timeline, part.made, &before)?;
+    let halt = halt_seen(part.halt, changed);
     Ok(Part {
         halt,
         made: part.made,
@@ -216,6 +247,7 @@ fn watched_part<C: Crew>(
     requires at { IsAt setting.now.shape.now timeline.old }
     requires hart { hart < setting.now.shape.now.harts }
     ensures went { IfOk result (λ part. Went (λ h. h ≡ hart) part.made setting.now.shape.now timeline.old timeline.new) }
+    ensures first { IfOk result (λ part. ToHalt setting.now.shape.now stops.now part.halt timeline.old timeline.new) }
     ensures few { IfOk result (λ part. part.made ≤ most) }
     ensures refused { IfErr result (λ e. e ≡ Memory) }
 {
@@ -251,6 +283,7 @@ fn run_part<C: Crew>(
     requires hart { hart < setting.now.shape.now.harts }
     requires most { most ≤ 1000000 }
     ensures went { IfOk result (λ part. Went (λ h. h ≡ hart) part.made setting.now.shape.now timeline.old timeline.new) }
+    ensures first { IfOk result (λ part. ToHalt setting.now.shape.now stops.now part.halt timeline.old timeline.new) }
     ensures few { IfOk result (λ part. part.made ≤ most) }
     ensures refused { IfErr result (λ e. e ≡ Memory) }
 {
@@ -305,6 +338,7 @@ pub(crate) fn step_within<C: Crew>(
     requires at { IsAt setting.now.shape.now timeline.old }
     requires hart { hart < setting.now.shape.now.harts }
     ensures went { OnOk result ((n : ℕ) × (n ≤ within.most) × Went (λ h. h ≡ hart) n setting.now.shape.now timeline.old timeline.new) }
+    ensures first { IfOk result (λ stop. ToHalt setting.now.shape.now stops.now (Some stop.halt) timeline.old timeline.new) }
     ensures there { IfOk result (λ stop. stop.hart ≡ hart) }
     ensures refused { IfErr result (λ e. e ≡ Memory) }
 {
@@ -347,6 +381,7 @@ fn round_part<C: Crew>(
     requires hart { hart < setting.now.shape.now.harts }
     ensures went { OnOk result ((n : ℕ) × (round.new.left + n ≡ round.old.left)
         × Went (λ h. h ≡ hart) n setting.now.shape.now timeline.old timeline.new) }
+    ensures first { IfOk result (λ halt. ToHalt setting.now.shape.now stops.now halt timeline.old timeline.new) }
     ensures harts { OnOk result (round.new.harts ≡ round.old.harts) }
     ensures resting { OnOk result (round.new.resting ≤ round.old.resting) }
     ensures refused { IfErr result (λ e. e ≡ Memory) }
@@ -371,6 +406,7 @@ pub(crate) fn go<C: Crew>(
     requires rested { round.resting ≡ 0 }
     ensures went { OnOk result ((n : ℕ) × (n ≤ round.left)
         × Went (λ h. slice_index_or round.harts h false ≡ true) n setting.now.shape.now timeline.old timeline.new) }
+    ensures first { IfOk result (λ stop. ToHalt setting.now.shape.now stops.now (Some stop.halt) timeline.old timeline.new) }
     ensures there { IfOk result (λ stop. stop.hart < setting.now.shape.now.harts) }
     ensures refused { IfErr result (λ e. e ≡ Memory) }
 {

@@ -1,6 +1,6 @@
 //! A board under a debugger.
 
-ghost use Rattle.std.specs.Prelude.{◌≡◌, ◌⊎◌, ◌≤◌, ◌<◌, ℕ, [], All, length, slice_index_or, true, false, string_bytes, Ok, IfOk, IfErr, OnOk};
+ghost use Rattle.std.specs.Prelude.{◌≡◌, ◌⊎◌, ◌≤◌, ◌<◌, ℕ, [], All, length, slice_index_or, true, false, string_bytes, Ok, Some, IfOk, IfErr, OnOk};
 ghost use Rattle.board_model.specs.declared.refusal.Refusal.TheVariants.{Memory};
 ghost use Rattle.bench_history.specs.Pasts.{IsBack, NoRow};
 ghost use Rattle.bench_report.specs.Bench.{no_payloads};
@@ -9,7 +9,8 @@ ghost use Rattle.debug_timeline.specs.Ats.{IsAt, IsBefore, Ran};
 ghost use Rattle.debug_session.specs.Steps.{AreNoted, IsStep, MakesNone, Went};
 ghost use Rattle.debug_timeline.specs.Lives.{register_in};
 ghost use Rattle.debug_session.specs.Texts.{state_text};
-ghost use Rattle.debug_session.specs.Sessions.{begins_of, bench_of, history_of, machine_of_session, size_of, timeline_of};
+ghost use Rattle.debug_session.specs.Sessions.{begins_of, bench_of, history_of, machine_of_session, size_of, stops_of, timeline_of};
+ghost use Rattle.debug_session.specs.Firsts.{ToHalt};
 ghost use Rattle.debug_session.specs.Texts.{history_text};
 ghost use Rattle.script_lang.specs.Lines.{IsLineInRange};
 ghost use Rattle.script_lang.specs.Scripts.{script_of};
@@ -233,6 +234,8 @@ impl<'a, C: Crew> Session<'a, C> {
         requires hart { hart < (size_of self.old).harts }
         ensures went { OnOk result ((n : ℕ) × (n ≤ self.old.plan.most)
             × Went (λ h. h ≡ hart) n (size_of self.old) (timeline_of self.old) (timeline_of self.new)) }
+        ensures first { IfOk result (λ stop. ToHalt (size_of self.old) (stops_of self.old) (Some stop.halt) (timeline_of self.old)
+            (timeline_of self.new)) }
         ensures there { IfOk result (λ stop. stop.hart < (size_of self.old).harts) }
         ensures size { size_of self.new ≡ size_of self.old }
         ensures refused { IfErr result (λ e. e ≡ Memory) }
@@ -266,6 +269,8 @@ impl<'a, C: Crew> Session<'a, C> {
         requires first { first < (size_of self.old).harts }
         ensures went { OnOk result ((n : ℕ) × (n ≤ self.old.plan.most)
             × Went (λ h. slice_index_or harts.now h false ≡ true) n (size_of self.old) (timeline_of self.old) (timeline_of self.new)) }
+        ensures first { IfOk result (λ stop. ToHalt (size_of self.old) (stops_of self.old) (Some stop.halt) (timeline_of self.old)
+            (timeline_of self.new)) }
         ensures there { IfOk result (λ stop. stop.hart < (size_of self.old).harts) }
         ensures size { size_of self.new ≡ size_of self.old }
         ensures refused { IfErr result (λ e. e ≡ Memory) }

@@ -3,7 +3,7 @@
 ghost use Rattle.std.specs.Prelude.{◌≡◌, [], Some, OnOk, IfErr};
 ghost use Rattle.std.specs.Io.Buffered.{writer_buffer, writer_contents};
 ghost use Rattle.std.specs.Io.KnownBytes.{Appends};
-ghost use Rattle.sbidisk.specs.Texts.{head_text, image_text, found_text, seen_text};
+ghost use Rattle.disk_program.specs.Texts.{head_text, image_text, found_text, seen_text};
 
 use board_console::StateText;
 use board_model::{ImageHead, Refusal};
