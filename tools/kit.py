@@ -13,7 +13,7 @@ from importlib.machinery import SourceFileLoader
 from importlib.util import module_from_spec, spec_from_loader
 
 sys.dont_write_bytecode = True
-# The gate's tier of wrong bodies, and the second.
+# The first tier of wrong bodies, and the second.
 TIERS = ("must-fail", "mutants")
 
 Checked = namedtuple("Checked", "status said seconds stages")

@@ -1,16 +1,18 @@
 -- The command as its parser reads it, and what its words ask for. Source: docs/SCRIPT.md, "The program".
-use Rattle.std.specs.Prelude.{◌≡◌, ℕ, Bool, true, false, List, [], ◌∷◌, Option, Some, None, ◌==◌, if◌then◌else◌, bytes_eq, map, string_bytes}
+use Rattle.std.specs.Prelude.{◌≡◌, ◌≤◌, ⊤, ℕ, Bool, true, false, List, [], ◌∷◌, Option, Some, None, if◌then◌else◌, nat_lt, bytes_eq, map, string_bytes}
 use Rattle.std.specs.Option.{option_map}
 use Rattle.clap.specs.Words.{App, Rule, Text, first_value, matches_of, new_app, new_rule, one_text, rows_of, takes, with_rule}
 use Rattle.clap.specs.declared.builder.action.ArgAction.TheVariants.{Set}
 use Rattle.clap.specs.declared.parser.matches.Found.{Found}
 use Rattle.clap.specs.declared.builder.value_parser.ValueParser.{ValueParser}
+use Rattle.clap.specs.declared.builder.value_parser.ValueParser.TheVariants.{Unsigned}
+use Rattle.script_lang.specs.Words.{number_of}
 use Rattle.command_line.specs.Flags.{flag_rule}
-use Rattle.command_line.specs.Options.{payload_paths, with_payloads}
+use Rattle.command_line.specs.Options.{option_rule, payload_paths, value_rule, with_payloads}
 use Rattle.bench_program.specs.declared.usage.Bench.TheVariants.{Sweep, Faults}
 use Rattle.bench_program.specs.declared.usage.Options.{Options}
 use Rattle.bench_program.specs.declared.usage.Work.{Work}
-use Rattle.bench_program.specs.declared.usage.Work.TheVariants.{Report, Judge}
+use Rattle.bench_program.specs.declared.usage.Work.TheVariants.{Report, Judge, Compare, Show}
 use Rattle.bench_program.specs.declared.usage.Savers.{Savers}
 use Rattle.bench_program.specs.declared.usage.Savers.TheVariants.{Turns, Threads}
 use lib.Chars.{codes}
@@ -30,10 +32,19 @@ crew_rule crews =
 abbrev pub named_app : App
 named_app = record (new_app (codes "sbibench")) { top = record (new_app (codes "sbibench")).top { has_version = true } }
 
+-- an option with a number of schedules, or of one of them
+abbrev pub count_rule : Text → Rule
+count_rule id = value_rule id (Unsigned 1 1000000)
+
+abbrev pub with_schedules : App → App
+with_schedules app =
+    with_rule (with_rule (with_rule app (count_rule (codes "schedules"))) (option_rule (codes "seed"))) (count_rule (codes "show"))
+
 abbrev pub sbibench : ValueParser → App
 sbibench crews =
     with_payloads
-    (with_rule (with_rule (with_rule named_app (crew_rule crews)) (flag_rule (codes "sweep"))) (flag_rule (codes "faults")))
+    (with_schedules
+    (with_rule (with_rule (with_rule named_app (crew_rule crews)) (flag_rule (codes "sweep"))) (flag_rule (codes "faults"))))
 
 -- the payload files, by their paths
 abbrev pub payload_files : Options → List (Option (List ℕ))
@@ -50,28 +61,83 @@ pub record IsFlag (f : Found) (id : List ℕ) (b : Bool) : Type 0 where
   pub left : one_text f id ≡ Some (codes "false") → b ≡ false
   pub none : one_text f id ≡ None → b ≡ false
 
--- what is to be done by the flags of the benches, and by the crew; not both benches
-abbrev pub work_named : Bool → Bool → Savers → Option Work
-work_named true true savers = None
-work_named true false savers = Some (Judge Sweep)
-work_named false true savers = Some (Judge Faults)
-work_named false false savers = Some (Report savers)
+-- what is to be done without schedules, by the flags of the benches and by the crew; not both benches
+abbrev pub flags_named : Bool → Bool → Savers → Option Work
+flags_named true true savers = None
+flags_named true false savers = Some (Judge Sweep)
+flags_named false true savers = Some (Judge Faults)
+flags_named false false savers = Some (Report savers)
 
--- what the words of a command line name, as the command's parser reads them, and not both benches
+-- a number from 1 to so many
+abbrev pub bounded_by : ℕ → Option ℕ → Option ℕ
+bounded_by most None = None
+bounded_by most (Some n) = if nat_lt n 1 then None else (if nat_lt most n then None else Some n)
+
+-- what schedules are drawn from: 1 if no word says it
+abbrev pub seed_named : Option (List ℕ) → Option ℕ
+seed_named None = Some 1
+seed_named (Some word) = number_of word
+
+abbrev pub shown_by : ℕ → Option ℕ → Option Work
+shown_by seed None = None
+shown_by seed (Some k) = Some (Show (record { seed = seed; number = k }))
+
+-- so many schedules are compared, or the one that a word names is shown
+abbrev pub shown_named : ℕ → ℕ → Option (List ℕ) → Option Work
+shown_named runs seed None = Some (Compare (record { seed = seed; number = runs }))
+shown_named runs seed (Some word) = shown_by seed (bounded_by runs (number_of word))
+
+abbrev pub orders_by : Option ℕ → Option ℕ → Option (List ℕ) → Option Work
+orders_by None seed show = None
+orders_by (Some runs) None show = None
+orders_by (Some runs) (Some seed) show = shown_named runs seed show
+
+-- what is to be done with schedules, by the words of `--schedules`, `--seed` and `--show`
+abbrev pub orders_named : List ℕ → Option (List ℕ) → Option (List ℕ) → Option Work
+orders_named runs seed show = orders_by (bounded_by 1000000 (number_of runs)) (seed_named seed) show
+
+-- no bench is asked for beside it
+abbrev pub unflagged : Bool → Bool → Option Work → Option Work
+unflagged false false work = work
+unflagged true faults work = None
+unflagged false true work = None
+
+-- an option that goes with schedules stands alone
+abbrev pub without_schedules : Option (List ℕ) → Option (List ℕ) → Option Work → Option Work
+without_schedules None None work = work
+without_schedules (Some seed) show work = None
+without_schedules None (Some show) work = None
+
+-- what is to be done, by the flags of the benches, the words of schedules, and the crew: one work
+abbrev pub work_named : Bool → Bool → Option (List ℕ) → Option (List ℕ) → Option (List ℕ) → Savers → Option Work
+work_named sweep faults None seed show savers = without_schedules seed show (flags_named sweep faults savers)
+work_named sweep faults (Some runs) seed show savers = unflagged sweep faults (orders_named runs seed show)
+
+abbrev pub work_asked : Found → Bool → Bool → Option Work
+work_asked f sweep faults =
+    work_named sweep faults (first_value f (codes "schedules")) (first_value f (codes "seed")) (first_value f (codes "show"))
+    (savers_named (first_value f (codes "crew")))
+
+-- the bench of schedules runs at most so many
+abbrev pub IsBounded : Work → Type 0
+IsBounded (Compare drawn) = drawn.number ≤ 1000000
+IsBounded work = ⊤
+
+-- what the words of a command line name, as the command's parser reads them: one work
 abbrev pub IsNamedBy : List (List ℕ) → Options → Type 0
 IsNamedBy words options = (crews : ValueParser) × (f : Found) × (sweep faults : Bool)
     × (rows_of f ≡ matches_of (sbibench crews) words)
     × IsFlag f (codes "sweep") sweep × IsFlag f (codes "faults") faults
-    × (work_named sweep faults (savers_named (first_value f (codes "crew"))) ≡ Some options.work)
+    × (work_asked f sweep faults ≡ Some options.work)
     × (payload_files options ≡ payload_paths f)
 
 -- the words name no work: the command's parser does not take them, as it does not where they ask for the help
 abbrev pub NamesNoWork : List (List ℕ) → Type 0
 NamesNoWork words = (crews : ValueParser) × (takes (sbibench crews) words ≡ false)
 
--- or they name both benches
-abbrev pub NamesBoth : List (List ℕ) → Type 0
-NamesBoth words = (crews : ValueParser) × (f : Found) × (sweep faults : Bool)
+-- or they name no one work: two, or an option of schedules without them, or out of its range
+abbrev pub NamesConflict : List (List ℕ) → Type 0
+NamesConflict words = (crews : ValueParser) × (f : Found) × (sweep faults : Bool)
     × (rows_of f ≡ matches_of (sbibench crews) words)
     × IsFlag f (codes "sweep") sweep × IsFlag f (codes "faults") faults
-    × (work_named sweep faults (savers_named (first_value f (codes "crew"))) ≡ None)
+    × (work_asked f sweep faults ≡ None)

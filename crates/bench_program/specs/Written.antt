@@ -1,5 +1,5 @@
 -- What the program writes, by the work that its words ask for. Source: docs/SCRIPT.md, "The program".
-use Rattle.std.specs.Prelude.{◌≡◌, ◌⊎◌, ⊤, ℕ, List, Option, None, Ok, Err, IfSome, IsSome, get_or}
+use Rattle.std.specs.Prelude.{◌≡◌, ◌⊎◌, ◌<◌, ⊤, ℕ, List, Option, None, Ok, Err, IfSome, IsSome, get_or}
 use Rattle.board_model.specs.declared.refusal.Refusal.{Refusal}
 use Rattle.board_model.specs.declared.refusal.Refusal.TheVariants.{Memory, Output, NotPlain}
 use Rattle.std.specs.Io.KnownBytes.{Appends}
@@ -10,15 +10,17 @@ use Rattle.bench_report.specs.Reports.{AreByFirmware, IsReportWith, report_text}
 use Rattle.bench_report.specs.declared.printed.Answer.{Answer}
 use Rattle.bench_sweep.specs.Made.{four_of}
 use Rattle.bench_sweep.specs.Swept.{IsBenchOf}
+use Rattle.bench_schedules.specs.Numbers.{number_of_other}
+use Rattle.bench_schedules.specs.Schedules.{Shown, WroteSchedules}
 use Rattle.bench_judge.specs.declared.judges.Sweep.{Sweep as Counts}
 use Rattle.bench_program.specs.Benches.{judged}
 use Rattle.payload_files.specs.Named.{AreFilesOf}
-use Rattle.bench_program.specs.Usage.{payload_files, IsNamedBy, NamesNoWork, NamesBoth}
+use Rattle.bench_program.specs.Usage.{payload_files, IsNamedBy, NamesNoWork, NamesConflict}
 use Rattle.bench_program.specs.declared.fault.BenchFault.{BenchFault}
 use Rattle.bench_program.specs.declared.fault.BenchFault.TheVariants.{Usage, Input, File, Refused, Closed, Wrong}
 use Rattle.bench_program.specs.declared.usage.Options.{Options}
 use Rattle.bench_program.specs.declared.usage.Work.{Work}
-use Rattle.bench_program.specs.declared.usage.Work.TheVariants.{Report, Judge}
+use Rattle.bench_program.specs.declared.usage.Work.TheVariants.{Report, Judge, Compare, Show}
 
 -- what was written is a report of the script that begins with these payloads, and nothing else; where no line is a poke,
 -- it keeps the prefix law
@@ -27,15 +29,36 @@ IsReported payloads script old now = (said : Said) × (answers : List Answer) ×
     × (script_of script ≡ Ok said) × IsReportWith payloads said answers end × Appends old now (report_text answers)
     × (AreByFirmware said.lines → KeepsPrefixLaw said.lines answers)
 
--- what was written is what the work makes of the script: its report, or the lines of a bench, of which none is wrong
+-- so many schedules of the script that begins with these payloads were compared with its own run, and told; so many differ
+abbrev pub IsCompared : ℕ → List (List ℕ) → List ℕ → Option (List ℕ) → Option (List ℕ) → ℕ → Type 0
+IsCompared n payloads script old now differ = (said : Said) × (script_of script ≡ Ok said)
+    × WroteSchedules said payloads (number_of_other script said.lines) n old now differ
+
+-- one schedule of the script was written
+abbrev pub IsShown : List ℕ → Option (List ℕ) → Option (List ℕ) → Type 0
+IsShown script old now = (said : Said) × (script_of script ≡ Ok said) × Shown said old now
+
+-- what was written is what the work makes of the script: its report, the lines of a bench, of which none is wrong, or of its
+-- schedules, of which none differs, or one of them
 abbrev pub IsWritten : Work → List (List ℕ) → List ℕ → Option (List ℕ) → Option (List ℕ) → Type 0
 IsWritten (Report savers) payloads script old now = IsReported payloads script old now
 IsWritten (Judge bench) payloads script old now = (counts : Counts) × IsBenchOf (judged bench) (four_of payloads) script old now counts
+IsWritten (Compare drawn) payloads script old now = IsCompared drawn.number payloads script old now 0
+IsWritten (Show drawn) payloads script old now = IsShown script old now
+
+-- what was written is what the work makes of the script, and tells that something is wrong: some schedules differ
+abbrev pub TellsWrong : Work → List (List ℕ) → List ℕ → Option (List ℕ) → Option (List ℕ) → Type 0
+TellsWrong (Compare drawn) payloads script old now = (differ : ℕ) × (0 < differ) × IsCompared drawn.number payloads script old now differ
+TellsWrong work payloads script old now = ⊥
 
 -- the work was done over an input of which these bytes are known
 abbrev pub IsWorked : Work → List (List ℕ) → Option (List ℕ) → Option (List ℕ) → Option (List ℕ) → Type 0
 IsWorked work payloads input old now = (script : List ℕ) × IfSome input (λ bytes. script_of script ≡ script_of bytes)
     × IsWritten work payloads script old now
+
+abbrev pub IsWrongOver : Work → List (List ℕ) → Option (List ℕ) → Option (List ℕ) → Option (List ℕ) → Type 0
+IsWrongOver work payloads input old now = (script : List ℕ) × IfSome input (λ bytes. script_of script ≡ script_of bytes)
+    × TellsWrong work payloads script old now
 
 -- The options were done over it and over files of which these bytes are known: each slot begins with the file that is
 -- named for it.
@@ -43,26 +66,42 @@ abbrev pub AreDone : Options → (List ℕ → Option (List ℕ)) → Option (Li
 AreDone options bytes_at input old now = (payloads : List (List ℕ)) × AreFilesOf bytes_at (payload_files options) payloads
     × IsWorked options.work payloads input old now
 
+abbrev pub AreWrong : Options → (List ℕ → Option (List ℕ)) → Option (List ℕ) → Option (List ℕ) → Option (List ℕ) → Type 0
+AreWrong options bytes_at input old now = (payloads : List (List ℕ)) × AreFilesOf bytes_at (payload_files options) payloads
+    × IsWrongOver options.work payloads input old now
+
 -- the work that the words name was done over both
 abbrev pub IsDone : List (List ℕ) → (List ℕ → Option (List ℕ)) → Option (List ℕ) → Option (List ℕ) → Option (List ℕ) → Type 0
 IsDone words bytes_at input old now =
     (options : Options) × IsNamedBy words options × AreDone options bytes_at input old now
+
+-- and it told that something is wrong
+abbrev pub IsWrong : List (List ℕ) → (List ℕ → Option (List ℕ)) → Option (List ℕ) → Option (List ℕ) → Option (List ℕ) → Type 0
+IsWrong words bytes_at input old now =
+    (options : Options) × IsNamedBy words options × AreWrong options bytes_at input old now
 
 -- ---- faults
 -- a bench does not take the script, nor does any other work say so
 abbrev pub IsNotTaken : Work → Refusal → Type 0
 IsNotTaken (Report savers) e = ⊥
 IsNotTaken (Judge bench) e = e ≡ NotPlain
+IsNotTaken (Compare drawn) e = ⊥
+IsNotTaken (Show drawn) e = ⊥
+
+-- a work may tell that something is wrong: the benches of power cuts and failures never do
+abbrev pub MayTellWrong : Work → Type 0
+MayTellWrong (Compare drawn) = ⊤
+MayTellWrong work = ⊥
 
 -- a fault of a work over that script: memory was refused, the output failed or nobody reads it, the script has it, or no
--- bench takes the script; no bench finds a run wrong, and the command line has none
+-- bench takes the script; or it told that something is wrong. The command line has none
 abbrev pub IsFaultIn : Work → List ℕ → BenchFault → Type 0
 IsFaultIn work script (Refused e) = (e ≡ Memory) ⊎ (e ≡ Output) ⊎ (script_of script ≡ Err e) ⊎ IsNotTaken work e
 IsFaultIn work script Closed = ⊤
 IsFaultIn work script Input = ⊥
 IsFaultIn work script File = ⊥
 IsFaultIn work script Usage = ⊥
-IsFaultIn work script Wrong = ⊥
+IsFaultIn work script Wrong = MayTellWrong work
 
 -- the same over an input of which these bytes are known, which may fail
 abbrev pub IsFaultOf : Work → Option (List ℕ) → BenchFault → Type 0
@@ -73,9 +112,9 @@ IsFaultOf work input fault = (fault ≡ Input)
 abbrev pub IsUnread : Options → BenchFault → Type 0
 IsUnread options fault = (fault ≡ File) × ((slot : ℕ) × IsSome (get_or options.payloads slot None))
 
--- a fault of the work that the words name, or of their files; or they name none, or both benches; or memory was refused
+-- a fault of the work that the words name, or of their files; or they name none, or no one work; or memory was refused
 -- to the command line or a file
 abbrev pub IsFault : List (List ℕ) → Option (List ℕ) → BenchFault → Type 0
 IsFault words input fault =
     ((options : Options) × IsNamedBy words options × (IsUnread options fault ⊎ IsFaultOf options.work input fault))
-    ⊎ ((fault ≡ Usage) × (NamesNoWork words ⊎ NamesBoth words)) ⊎ (fault ≡ Refused Memory)
+    ⊎ ((fault ≡ Usage) × (NamesNoWork words ⊎ NamesConflict words)) ⊎ (fault ≡ Refused Memory)

@@ -6,7 +6,7 @@ mod fault;
 mod streams;
 mod usage;
 
-ghost use Rattle.std.specs.Prelude.{◌≡◌, ◌⊎◌, [], Result, OnOk, IfOk, IfErr, IfSome, Err, take};
+ghost use Rattle.std.specs.Prelude.{◌≡◌, ◌⊎◌, ◌≤◌, [], length, Result, OnOk, IfOk, IfErr, IfSome, Err, take};
 ghost use Rattle.std.specs.Io.Buffered.{writer_buffer, writer_contents};
 ghost use Rattle.board_model.specs.declared.refusal.Refusal.{Refusal};
 ghost use Rattle.board_model.specs.declared.refusal.Refusal.TheVariants.{Memory};
@@ -18,14 +18,15 @@ ghost use Rattle.script_lang.specs.Scripts.{script_of};
 ghost use Rattle.bench_sweep.specs.Made.{four_of};
 ghost use Rattle.bench_sweep.specs.Swept.{IsBenchOf};
 ghost use Rattle.bench_program.specs.Benches.{judged};
-ghost use Rattle.bench_program.specs.Written.{IsReported};
+ghost use Rattle.bench_program.specs.Written.{IsCompared, IsReported, IsShown};
 
 pub use crate::fault::BenchFault;
 pub use crate::streams::run_on;
 use crate::streams::{end, without_work};
 use crate::usage::USAGE;
-pub use crate::usage::{Bench, Options, Savers, Work, options_of};
+pub use crate::usage::{Bench, Drawn, Options, Savers, Work, options_of};
 use bench_report::run_with;
+use bench_schedules::{Compared, schedules, show};
 use bench_sweep::{Sweep, faults_with, sweep_with};
 use board::Payloads;
 use board_model::{MAX_LINE_BYTES, MAX_SCRIPT_LINES, Refusal};
@@ -137,6 +138,73 @@ pub fn write_bench<R: Threads + Sync, W: Write + Drop>(
     let done = run_bench::<R, W>(alloc, script, bench, payloads, out)?;
     out.flush().map_err(|_| Refusal::Output)?;
     Ok(done)
+}
+
+/// Runs schedules of the script that begins with these payloads, and writes which differ, to the end.
+///
+/// Refused as `bench_schedules::schedules` is, and `Output` also where what the writer held back could not be written.
+pub fn write_schedules<R: Threads + Sync, W: Write + Drop>(
+    alloc: Global,
+    script: &[u8],
+    drawn: Drawn,
+    payloads: &Payloads,
+    out: &mut BufWriter<W>,
+) -> Result<Compared, Refusal>
+    requires four { length payloads.now ≡ 4 }
+    requires most { drawn.number ≤ 1000000 }
+    // All schedules were run and compared with the script's own run, and those that differ were written and counted.
+    ensures wrote { IfOk result (λ count. IsCompared drawn.number payloads.now script.now
+        (writer_contents W.contents out.old) (writer_contents W.contents out.new) count.differ) }
+    // Nothing of it is held back.
+    ensures flushed { OnOk result (writer_buffer out.new ≡ []) }
+    // A refusal is the script's fault, or out of memory, or the writer's.
+    ensures refused { IfErr result (λ e. (e ≡ Refusal.Memory) ⊎ (e ≡ Refusal.Output) ⊎ (script_of script.now ≡ Err e)) }
+    // A script with a fault writes nothing.
+    ensures nothing { (e : Refusal) → script_of script.now ≡ Err e
+        → (writer_contents W.contents out.new ≡ writer_contents W.contents out.old)
+        × ((result ≡ Err e) ⊎ (result ≡ Err Refusal.Memory)) }
+{
+    let count = schedules::<R, BufWriter<W>>(
+        alloc,
+        script,
+        payloads,
+        drawn.number,
+        drawn.seed,
+        out,
+    )?;
+    match out.flush() {
+        Ok(()) => Ok(count),
+        Err(_) => Err(Refusal::Output),
+    }
+}
+
+/// Writes a schedule of the script that begins with these payloads, to the end.
+///
+/// Refused as `bench_schedules::show` is, and `Output` also where what the writer held back could not be written.
+pub fn write_schedule<R: Threads + Sync, W: Write + Drop>(
+    alloc: Global,
+    script: &[u8],
+    drawn: Drawn,
+    payloads: &Payloads,
+    out: &mut BufWriter<W>,
+) -> Result<(), Refusal>
+    requires four { length payloads.now ≡ 4 }
+    // What was written is a schedule of the script, and is read back as it.
+    ensures wrote { OnOk result (IsShown script.now (writer_contents W.contents out.old) (writer_contents W.contents out.new)) }
+    // Nothing of it is held back.
+    ensures flushed { OnOk result (writer_buffer out.new ≡ []) }
+    // A refusal is the script's fault, or out of memory, or the writer's.
+    ensures refused { IfErr result (λ e. (e ≡ Refusal.Memory) ⊎ (e ≡ Refusal.Output) ⊎ (script_of script.now ≡ Err e)) }
+    // A script with a fault writes nothing.
+    ensures nothing { (e : Refusal) → script_of script.now ≡ Err e
+        → (writer_contents W.contents out.new ≡ writer_contents W.contents out.old)
+        × ((result ≡ Err e) ⊎ (result ≡ Err Refusal.Memory)) }
+{
+    show::<R, BufWriter<W>>(alloc, script, payloads, drawn.seed, drawn.number, out)?;
+    match out.flush() {
+        Ok(()) => Ok(()),
+        Err(_) => Err(Refusal::Output),
+    }
 }
 
 /// How many bytes of output are written at once: none are held back on a terminal.

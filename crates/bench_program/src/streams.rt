@@ -1,22 +1,22 @@
 //! The program over any streams: what its command line asks for, from a reader to a writer.
 
-ghost use Rattle.std.specs.Prelude.{◌≡◌, ◌⊎◌, map, Result, OnOk, IfOk, IfErr, IfSome};
+ghost use Rattle.std.specs.Prelude.{◌≡◌, ◌⊎◌, ◌≤◌, length, map, Err, Result, OnOk, IfOk, IfErr, IfSome};
 ghost use Rattle.board_model.specs.declared.refusal.Refusal.TheVariants.{Memory};
 ghost use Rattle.std.specs.Io.Buffered.{writer_contents};
 ghost use Rattle.bench_program.specs.Faults.{status_after, without_work};
 ghost use Rattle.command_line.specs.Pipes.{pipe_contents};
 ghost use Rattle.payload_files.specs.Named.{AreFilesOf};
-ghost use Rattle.bench_program.specs.Usage.{payload_files, NamesNoWork};
-ghost use Rattle.bench_program.specs.Written.{AreDone, IsDone, IsFault, IsFaultIn, IsFaultOf, IsReported, IsUnread, IsWorked, IsWritten};
+ghost use Rattle.bench_program.specs.Usage.{payload_files, IsBounded, NamesNoWork};
+ghost use Rattle.bench_program.specs.Written.{AreDone, AreWrong, IsDone, IsFault, IsFaultIn, IsFaultOf, IsReported, IsUnread, IsWorked, IsWritten, IsWrong, IsWrongOver, TellsWrong};
 ghost use Rattle.bench_program.specs.declared.fault.BenchFault.{BenchFault};
-ghost use Rattle.bench_program.specs.declared.fault.BenchFault.TheVariants.{Closed, File, Input, Refused};
+ghost use Rattle.bench_program.specs.declared.fault.BenchFault.TheVariants.{Closed, File, Input, Refused, Wrong};
 ghost use Rattle.bench_program.specs.declared.usage.Savers.{Savers};
-ghost use Rattle.bench_program.specs.declared.usage.Work.TheVariants.{Judge, Report};
+ghost use Rattle.bench_program.specs.declared.usage.Work.TheVariants.{Compare, Judge, Report, Show};
 ghost use Rattle.script_lang.specs.Scripts.{script_of};
 
 use crate::fault::{BenchFault, status_of};
-use crate::usage::{Bench, Options, Savers, Work, options_of};
-use crate::{read_script, write_bench, write_report};
+use crate::usage::{Bench, Drawn, Options, Savers, Work, options_of};
+use crate::{read_script, write_bench, write_report, write_schedule, write_schedules};
 use board::Payloads;
 use board_model::Refusal;
 use command_line::{NoWork, Pipe, show_on};
@@ -113,6 +113,48 @@ fn judge<R: Threads + Sync, O: Write + Drop>(
     }
 }
 
+/// Runs schedules of the script, and writes which differ. Each line is handed on as it is made.
+fn compare<R: Threads + Sync, O: Write + Drop>(
+    alloc: Global,
+    drawn: Drawn,
+    script: &[u8],
+    payloads: &Payloads,
+    out: &mut BufWriter<Pipe<O>>,
+) -> Result<(), BenchFault>
+    requires four { length payloads.now ≡ 4 }
+    requires most { drawn.number ≤ 1000000 }
+    ensures written { OnOk result (IsWritten (Compare drawn) payloads.now script.now
+        (writer_contents (pipe_contents O.contents) out.old) (writer_contents (pipe_contents O.contents) out.new)) }
+    ensures wrong { result ≡ Err Wrong → TellsWrong (Compare drawn) payloads.now script.now
+        (writer_contents (pipe_contents O.contents) out.old) (writer_contents (pipe_contents O.contents) out.new) }
+    ensures faults { IfErr result (λ fault. IsFaultIn (Compare drawn) script.now fault) }
+{
+    match write_schedules::<R, Pipe<O>>(alloc, script, drawn, payloads, out) {
+        Ok(count) if count.differ == 0 => Ok(()),
+        Ok(_) => Err(BenchFault::Wrong),
+        Err(e) => Err(fault_of(e, out)),
+    }
+}
+
+/// Writes a schedule of the script.
+fn show_schedule<R: Threads + Sync, O: Write + Drop>(
+    alloc: Global,
+    drawn: Drawn,
+    script: &[u8],
+    payloads: &Payloads,
+    out: &mut BufWriter<Pipe<O>>,
+) -> Result<(), BenchFault>
+    requires four { length payloads.now ≡ 4 }
+    ensures written { OnOk result (IsWritten (Show drawn) payloads.now script.now
+        (writer_contents (pipe_contents O.contents) out.old) (writer_contents (pipe_contents O.contents) out.new)) }
+    ensures faults { IfErr result (λ fault. IsFaultIn (Show drawn) script.now fault) }
+{
+    match write_schedule::<R, Pipe<O>>(alloc, script, drawn, payloads, out) {
+        Ok(()) => Ok(()),
+        Err(e) => Err(fault_of(e, out)),
+    }
+}
+
 /// What a command line comes to that asks for no work: nothing more where what it asked for was shown.
 pub fn without_work(why: NoWork) -> Result<(), BenchFault>
     ensures { result ≡ without_work why }
@@ -142,6 +184,7 @@ fn named_payloads<P: PayloadFiles>(
     options: &Options,
 ) -> Result<Payloads, BenchFault>
     ensures read { IfOk result (AreFilesOf (P.bytes_at files.now) (payload_files options.now)) }
+    ensures four { IfOk result (λ payloads. length payloads ≡ 4) }
     ensures failed { IfErr result (λ fault. IsUnread options.now fault ⊎ (fault ≡ Refused Memory)) }
 {
     match payloads_of(alloc, files, &options.payloads) {
@@ -159,8 +202,12 @@ fn run_work<R: Threads + Sync, I: Read + Drop, O: Write + Drop>(
     input: I,
     out: &mut BufWriter<Pipe<O>>,
 ) -> Result<(), BenchFault>
+    requires four { length payloads ≡ 4 }
+    requires most { IsBounded work }
     ensures worked { OnOk result (IsWorked work payloads (I.remaining input)
         (writer_contents (pipe_contents O.contents) out.old) (writer_contents (pipe_contents O.contents) out.new)) }
+    ensures wrong { result ≡ Err Wrong → IsWrongOver work payloads (I.remaining input)
+        (writer_contents (pipe_contents O.contents) out.old) (writer_contents (pipe_contents O.contents) out.new) }
     ensures faults { IfErr result (λ fault. IsFaultOf work (I.remaining input) fault) }
 {
     let script = match input_script(alloc, input) {
@@ -170,6 +217,8 @@ fn run_work<R: Threads + Sync, I: Read + Drop, O: Write + Drop>(
     match work {
         Work::Report(savers) => report(alloc, threads, savers, &script, payloads, out),
         Work::Judge(bench) => judge::<R, O>(alloc, bench, &script, payloads, out),
+        Work::Compare(drawn) => compare::<R, O>(alloc, drawn, &script, &payloads, out),
+        Work::Show(drawn) => show_schedule::<R, O>(alloc, drawn, &script, &payloads, out),
     }
 }
 
@@ -182,8 +231,11 @@ fn run_options<R: Threads + Sync, P: PayloadFiles, I: Read + Drop, O: Write + Dr
     input: I,
     out: &mut BufWriter<Pipe<O>>,
 ) -> Result<(), BenchFault>
+    requires most { IsBounded options.now.work }
     ensures done { OnOk result (AreDone options.now (P.bytes_at files.now) (I.remaining input)
         (writer_contents (pipe_contents O.contents) out.old) (writer_contents (pipe_contents O.contents) out.new)) }
+    ensures wrong { result ≡ Err Wrong → AreWrong options.now (P.bytes_at files.now) (I.remaining input)
+        (writer_contents (pipe_contents O.contents) out.old) (writer_contents (pipe_contents O.contents) out.new) }
     ensures faults { IfErr result (λ fault. IsUnread options.now fault ⊎ (fault ≡ Refused Memory)
         ⊎ IsFaultOf options.now.work (I.remaining input) fault) }
 {
@@ -211,6 +263,8 @@ fn run_words<
     ensures done { OnOk result (IsDone (map S.text words.now) (P.bytes_at files.now) (I.remaining input)
         (writer_contents (pipe_contents O.contents) out.old) (writer_contents (pipe_contents O.contents) out.new)
         ⊎ NamesNoWork (map S.text words.now)) }
+    ensures wrong { result ≡ Err Wrong → IsWrong (map S.text words.now) (P.bytes_at files.now) (I.remaining input)
+        (writer_contents (pipe_contents O.contents) out.old) (writer_contents (pipe_contents O.contents) out.new) }
     ensures faults { IfErr result (λ fault. IsFault (map S.text words.now) (I.remaining input) fault) }
 {
     match options_of(alloc, words) {
@@ -256,7 +310,10 @@ pub fn run_on<
         (writer_contents (pipe_contents O.contents) out.old)
         (writer_contents (pipe_contents O.contents) out.new)
         ⊎ NamesNoWork (map S.text words.now))
-        × IfErr done (λ fault. IsFault (map S.text words.now) (I.remaining input) fault) }
+        × IfErr done (λ fault. IsFault (map S.text words.now) (I.remaining input) fault)
+        × (done ≡ Err Wrong → IsWrong (map S.text words.now) (P.bytes_at files.now) (I.remaining input)
+        (writer_contents (pipe_contents O.contents) out.old)
+        (writer_contents (pipe_contents O.contents) out.new)) }
 {
     let done = run_words(alloc, threads, files, words, input, out, faults);
     end(&done, faults)

@@ -1,14 +1,18 @@
 //! The command line, and what `--help` says.
 
-ghost use Rattle.std.specs.Prelude.{◌≡◌, ◌⊎◌, false, Bool, Some, None, map, codes, IfOk, IfErr};
+ghost use Rattle.std.specs.Prelude.{◌≡◌, ◌⊎◌, ◌≤◌, false, Bool, Some, None, map, codes, IfOk, IfErr, IfSome};
+ghost use Rattle.std.specs.Option.{option_map};
+ghost use Rattle.script_lang.specs.Words.{number_of};
 ghost use Rattle.clap.specs.Words.{app_of, first_value, found_of, kind_of, matches_of, rows_of, rule_of};
 ghost use Rattle.clap.specs.declared.builder.value_parser.ValueParser.{ValueParser};
-ghost use Rattle.bench_program.specs.Usage.{crew_rule, sbibench, savers_named, work_named, IsFlag, IsNamedBy, NamesBoth, NamesNoWork};
+ghost use Rattle.bench_program.specs.Usage.{bounded_by, count_rule, crew_rule, flags_named, orders_named, savers_named, sbibench, seed_named, IsBounded, shown_named, unflagged, with_schedules, work_asked, IsFlag, IsNamedBy, NamesConflict, NamesNoWork};
 
 use board_model::refusal_lines;
+use clap::builder::ValueParser;
 use clap::error::ErrorKind;
 use clap::{Arg, ArgAction, ArgMatches, Command, Error};
-use command_line::{flag, payload_paths, with_payloads};
+use command_line::{flag, option, payload_paths, with_payloads};
+use script_lang::number;
 use std::alloc::{AllocError, Global};
 use std::convert::AsStr;
 
@@ -16,7 +20,7 @@ use std::convert::AsStr;
 const VERSION: &str = "1";
 
 /// How the program is called.
-pub const USAGE: &str = "sbibench [--crew CREW] [--sweep | --faults] < SCRIPT";
+pub const USAGE: &str = "sbibench [--crew CREW] [--sweep | --faults | --schedules N] < SCRIPT";
 
 const ABOUT: &str = "\
 Runs a script of programs, commands and power cuts on a modelled RISC-V board.
@@ -25,6 +29,10 @@ The script comes on standard input, and its report goes to standard output.
 With --sweep or --faults a bench runs in place of the report: the script again
 and again, with a power cut or a failure at each call of the disk, and after
 each run a power-on that must find what the disk was told to keep.
+
+With --schedules the script runs N times more, each time with the turns of its
+harts in another order, and the first line that each run reports otherwise is
+told. --show writes the script of one of those orders, to be run again.
 
 A payload too long for a line of the script comes from a file, by --p0 to --p3:
 its slot boots it until a line 'payload' says otherwise.";
@@ -42,7 +50,8 @@ Status:
      for failed input 'sbibench: input', for a payload file that could not be
      read 'sbibench: file', and nothing where no one reads the report
   2  a fault of the command line
-  3  a bench found something wrong: its last line counts how often
+  3  a bench found something wrong, or a schedule another report: its last line
+     counts how often
 
 Refusals, on standard error and in reports:
 ",
@@ -82,6 +91,18 @@ const SWEEP: &str = "sweep";
 /// The flag that chooses the bench of failures.
 const FAULTS: &str = "faults";
 
+/// The option that says how many schedules are run.
+const SCHEDULES: &str = "schedules";
+
+/// The option that says from what they are drawn.
+const SEED: &str = "seed";
+
+/// The option that shows one of them.
+const SHOW: &str = "show";
+
+/// The most schedules of one run of the bench.
+const MOST_SCHEDULES: u64 = 1_000_000;
+
 /// What the command line asks for.
 #[derive(Clone, Copy, Drop)]
 pub enum Work {
@@ -89,6 +110,17 @@ pub enum Work {
     Report(Savers),
     /// A bench over the script, whose lanes are written one after another.
     Judge(Bench),
+    /// So many schedules of the script, each compared with its own run.
+    Compare(Drawn),
+    /// The schedule of that number, as a script.
+    Show(Drawn),
+}
+
+/// Schedules that are drawn from a seed: how many of them, or which, from 1 on.
+#[derive(Clone, Copy, Drop)]
+pub struct Drawn {
+    pub seed: u64,
+    pub number: u64,
 }
 
 /// What is to be done, and what the slots begin with.
@@ -131,6 +163,27 @@ fn crew<'a>(alloc: Global) -> Arg<'a>
         .help("Who writes the lanes of an image: one after another, or a thread each")
 }
 
+/// An option with a number from 1 on that schedules have.
+fn count<'a>(alloc: Global, id: &'a str, value: &'a str, help: &'a str) -> Arg<'a>
+    ensures rule { rule_of result ≡ count_rule id.entry.now }
+    ensures local { result.global ≡ false }
+{
+    option(alloc, id, value, help).value_parser(ValueParser::unsigned(1, MOST_SCHEDULES))
+}
+
+/// The command with the options of schedules.
+fn with_schedules<'a>(alloc: Global, command: Command<'a>) -> Result<Command<'a>, AllocError>
+    ensures { IfOk result (λ c. app_of c ≡ with_schedules (app_of command.entry)) }
+{
+    let schedules = "Runs N schedules of the script, and tells which report otherwise";
+    let seed = "What the schedules are drawn from, 1 if not said";
+    let show = "Writes schedule K, in place of running any";
+    command
+        .arg(count(alloc, SCHEDULES, "N", schedules))?
+        .arg(option(alloc, SEED, "S", seed))?
+        .arg(count(alloc, SHOW, "K", show))
+}
+
 fn command<'a>(alloc: Global) -> Result<Command<'a>, AllocError>
     ensures { IfOk result (λ c. (crews : ValueParser) × (app_of c ≡ sbibench crews)) }
 {
@@ -144,6 +197,7 @@ fn command<'a>(alloc: Global) -> Result<Command<'a>, AllocError>
         .arg(crew(alloc))?
         .arg(flag(alloc, SWEEP, sweep))?
         .arg(flag(alloc, FAULTS, faults))?;
+    let command = with_schedules(alloc, command)?;
     with_payloads(alloc, command)
 }
 
@@ -157,9 +211,58 @@ fn chosen(matches: &ArgMatches<'_>) -> Savers
     }
 }
 
-/// What is to be done by the two flags and the crew: none where both benches are asked for.
+/// A number that a word spells, from 1 to `most`.
+fn bounded(most: u64, word: &str) -> Option<u64>
+    ensures value { result ≡ bounded_by most (number_of word.now) }
+    ensures most { IfSome result (λ number. number ≤ most) }
+{
+    let number = number(word.as_bytes())?;
+    if number < 1 || most < number {
+        return None;
+    }
+    Some(number)
+}
+
+/// What the schedules are drawn from: 1 if no word says it.
+fn seed_of(word: Option<&str>) -> Option<u64>
+    ensures { result ≡ seed_named (option_map (λ s. s.now) word.entry) }
+{
+    match word {
+        None => Some(1),
+        Some(word) => number(word.as_bytes()),
+    }
+}
+
+/// What is to be done with so many schedules of that seed, by the word that says which to show: none where there is no
+/// such one.
+fn shown_of(runs: u64, seed: u64, word: Option<&str>) -> Option<Work>
+    requires { runs ≤ 1000000 }
+    ensures value { result ≡ shown_named runs seed (option_map (λ s. s.now) word.entry) }
+    ensures most { IfSome result (λ work. IsBounded work) }
+{
+    match word {
+        None => Some(Work::Compare(Drawn { seed, number: runs })),
+        Some(word) => {
+            let number = bounded(runs, word)?;
+            Some(Work::Show(Drawn { seed, number }))
+        }
+    }
+}
+
+/// What is to be done with schedules, by the words of their options: none where one of them is out of its range.
+fn orders(runs: &str, seed: Option<&str>, show: Option<&str>) -> Option<Work>
+    ensures value { result ≡ orders_named runs.now (option_map (λ s. s.now) seed.entry) (option_map (λ s. s.now) show.entry) }
+    ensures most { IfSome result (λ work. IsBounded work) }
+{
+    let runs = bounded(MOST_SCHEDULES, runs)?;
+    let seed = seed_of(seed)?;
+    shown_of(runs, seed, show)
+}
+
+/// What is to be done without schedules, by the two flags and the crew: none where both benches are asked for.
 fn work_by(sweep: bool, faults: bool, savers: Savers) -> Option<Work>
-    ensures { result ≡ work_named sweep faults savers }
+    ensures value { result ≡ flags_named sweep faults savers }
+    ensures most { IfSome result (λ work. IsBounded work) }
 {
     match (sweep, faults) {
         (true, true) => None,
@@ -169,16 +272,58 @@ fn work_by(sweep: bool, faults: bool, savers: Savers) -> Option<Work>
     }
 }
 
-/// What is to be done: none where both benches are asked for.
+/// What is to be done with schedules, beside the two flags: none where a bench is asked for too.
+fn orders_by(
+    sweep: bool,
+    faults: bool,
+    runs: &str,
+    seed: Option<&str>,
+    show: Option<&str>,
+) -> Option<Work>
+    ensures value { result ≡ unflagged sweep faults (orders_named runs.now (option_map (λ s. s.now) seed.entry)
+        (option_map (λ s. s.now) show.entry)) }
+    ensures most { IfSome result (λ work. IsBounded work) }
+{
+    if sweep || faults {
+        return None;
+    }
+    orders(runs, seed, show)
+}
+
+/// What is to be done: none where two works are asked for, or an option that goes with schedules stands without them.
 fn work_in(matches: &ArgMatches<'_>) -> Option<Work>
-    ensures { (sweep faults : Bool) × IsFlag (found_of matches.now) (codes "sweep") sweep
+    ensures value { (sweep faults : Bool) × IsFlag (found_of matches.now) (codes "sweep") sweep
         × IsFlag (found_of matches.now) (codes "faults") faults
-        × (result ≡ work_named sweep faults (savers_named (first_value (found_of matches.now) (codes "crew")))) }
+        × (result ≡ work_asked (found_of matches.now) sweep faults) }
+    ensures most { IfSome result (λ work. IsBounded work) }
 {
     let sweep = matches.get_flag(SWEEP);
     let faults = matches.get_flag(FAULTS);
-    let savers = chosen(matches);
-    work_by(sweep, faults, savers)
+    let seed = matches.get_str(SEED);
+    let show = matches.get_str(SHOW);
+    match matches.get_str(SCHEDULES) {
+        Some(runs) => orders_by(sweep, faults, runs, seed, show),
+        None => {
+            if seed.is_some() || show.is_some() {
+                return None;
+            }
+            work_by(sweep, faults, chosen(matches))
+        }
+    }
+}
+
+/// What is wrong with words that name no one work.
+fn conflict(matches: &ArgMatches<'_>) -> &'static str {
+    if matches.get_str(SCHEDULES).is_none() {
+        if matches.get_str(SEED).is_none() && matches.get_str(SHOW).is_none() {
+            return "--sweep cannot be used with --faults";
+        }
+        return "--seed and --show go with --schedules";
+    }
+    if matches.get_flag(SWEEP) || matches.get_flag(FAULTS) {
+        return "--schedules cannot be used with --sweep or --faults";
+    }
+    "--seed takes a number below 2^64, and --show the number of one of the N schedules"
 }
 
 /// The words as the command's parser reads them, the program's name first.
@@ -191,34 +336,35 @@ fn parsed<'a, S: AsStr>(alloc: Global, words: &'a [S]) -> Result<ArgMatches<'a>,
     command(alloc)?.try_get_matches_from(words)
 }
 
-/// What is to be done; both benches are a fault.
+/// What is to be done; words that name no one work are a fault.
 fn one_work<'a>(alloc: Global, matches: &ArgMatches<'a>) -> Result<Work, Error>
     ensures named { IfOk result (λ work. (sweep faults : Bool) × IsFlag (found_of matches.now) (codes "sweep") sweep
         × IsFlag (found_of matches.now) (codes "faults") faults
-        × (work_named sweep faults (savers_named (first_value (found_of matches.now) (codes "crew"))) ≡ Some work)) }
-    ensures both { IfErr result (λ e. (kind_of e ≡ ErrorKind.OutOfMemory) ⊎ ((kind_of e ≡ ErrorKind.ArgumentConflict)
+        × (work_asked (found_of matches.now) sweep faults ≡ Some work)) }
+    ensures most { IfOk result (λ work. IsBounded work) }
+    ensures conflict { IfErr result (λ e. (kind_of e ≡ ErrorKind.OutOfMemory) ⊎ ((kind_of e ≡ ErrorKind.ArgumentConflict)
         × (sweep faults : Bool) × IsFlag (found_of matches.now) (codes "sweep") sweep
         × IsFlag (found_of matches.now) (codes "faults") faults
-        × (work_named sweep faults (savers_named (first_value (found_of matches.now) (codes "crew"))) ≡ None))) }
+        × (work_asked (found_of matches.now) sweep faults ≡ None))) }
 {
     match work_in(matches) {
         Some(work) => Ok(work),
         None => {
-            let text = "--sweep cannot be used with --faults";
             let mut again = command(alloc)?;
-            Err(again.error(ErrorKind::ArgumentConflict, text)?)
+            Err(again.error(ErrorKind::ArgumentConflict, conflict(matches))?)
         }
     }
 }
 
-/// What the words of a command line ask for, the program's name first. Both benches are a fault. The error is
-/// the command line's own text, which is the help or the version too, or says that memory was refused.
+/// What the words of a command line ask for, the program's name first. Words that name no one work are a
+/// fault. The error is the command line's own text, which is the help or the version too, or says that memory was refused.
 pub fn options_of<'a, S: AsStr>(alloc: Global, words: &'a [S]) -> Result<Options, Error>
-    // It is what the words name, as the command line's parser reads them, and not both benches.
+    // It is the one work that the words name, as the command line's parser reads them.
     ensures named { IfOk result (λ options. IsNamedBy (map S.text words.now) options) }
-    // Else memory was refused, or the words name both benches, or no work.
+    ensures most { IfOk result (λ options. IsBounded options.work) }
+    // Else memory was refused, or the words name no one work, or none.
     ensures refused { IfErr result (λ e. (kind_of e ≡ ErrorKind.OutOfMemory)
-        ⊎ ((kind_of e ≡ ErrorKind.ArgumentConflict) × NamesBoth (map S.text words.now)) ⊎ NamesNoWork (map S.text words.now)) }
+        ⊎ ((kind_of e ≡ ErrorKind.ArgumentConflict) × NamesConflict (map S.text words.now)) ⊎ NamesNoWork (map S.text words.now)) }
 {
     let matches = parsed(alloc, words)?;
     let work = match one_work(alloc, &matches) {

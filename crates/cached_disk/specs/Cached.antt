@@ -1,8 +1,9 @@
 -- What a cache keeps back of a disk, and what it takes of its device. Source: docs/PORTING.md.
-use Rattle.std.specs.Prelude.{◌≡◌, ◌⊎◌, ℕ, ◌<◌, ◌+◌, ◌≤◌, List, [], ◌∷◌, length, map, take, Result, OnOk}
-use Rattle.disk.specs.Facts.{Content, Facts, Counts, Passes, lent_sectors}
+use Rattle.std.specs.Prelude.{◌≡◌, ◌⊎◌, ℕ, List, [], ◌∷◌, length, map, take, Result, OnOk}
+use Rattle.disk.specs.Facts.{Content, Facts, Counts, Passes}
 use Rattle.disk.specs.FaultState.{FaultState, Caused}
-use Rattle.write_log.specs.WriteLog.{Piece, WriteLog, AgreesOutside, AreWithin, Untouched, ranges, replay, sim_facts, synced}
+use Rattle.write_log.specs.WriteLog.{Piece, WriteLog, AgreesOutside, AreWithin, Untouched, ranges, replay}
+use Rattle.logged_disk.specs.Kept.{IsKept, facts_over}
 use Rattle.cached_disk.specs.declared.waiting.Waiting.{Waiting}
 
 -- a sector that waits, as a piece
@@ -18,8 +19,7 @@ shown ws held = replay (pieces_of ws) held
 
 -- the facts of the disk: its content, and of a crash what its log says
 abbrev pub facts_of : List Waiting → WriteLog → ℕ → Facts → Facts
-facts_of ws log calls device =
-    sim_facts (shown ws device.content) (synced log) log device.failures calls device.lent
+facts_of ws log calls device = facts_over (shown ws device.content) log calls device
 
 -- that sector waits
 abbrev pub Waits : List Waiting → ℕ → Type 0
@@ -30,17 +30,11 @@ Waits (w ∷ ws) k = (w.number ≡ k) ⊎ Waits ws k
 abbrev pub ButIn : List (ℕ × ℕ) → Content → Content → Type 0
 ButIn rs old new = AgreesOutside old rs new
 
--- What a cache keeps of its device and of its log. What the device holds, and whatever a crash leaves in it, is what stood
--- at the last sync, but for the ranges that were written since; and what waits, and what is lent, was written since.
+-- what a cache keeps of its device and of its log: what waits was written since the last sync
 pub record IsCached (ws : List Waiting) (log : WriteLog) (device : Facts) : Type 0 where
+  pub kept : IsKept log device
   pub fits : AreWithin (length device.content) (ranges (pieces_of ws))
-  pub log_fits : AreWithin (length device.content) (ranges log.written)
-  pub holds : ButIn (ranges log.written) (synced log) device.content
-  pub leaves : (c : Content) → device.may_leave c → ButIn (ranges log.written) (synced log) c
   pub waits : (k : ℕ) → Waits ws k → Untouched (ranges log.written) k → ⊥
-  pub lent : (k : ℕ) → device.lent.first ≤ k → k < device.lent.first + lent_sectors device.lent
-      → Untouched (ranges log.written) k → ⊥
-  pub lent_fits : device.lent.first + lent_sectors device.lent ≤ length device.content
 
 -- What waits was handed on to the device: with Ok it holds what a read gave before. Nothing but the sectors that wait was
 -- touched, and an error is one call of the device that failed.

@@ -1,14 +1,12 @@
 -- What the laws of a disk ask of a cache.
-use Rattle.std.proofs.Common.{◌≡◌, ◌⊎◌, ◌∙◌, inl, inr, ℕ, ◌+◌, ◌<◌, ◌≤◌, List, [], ◌∷◌, length, arith}
+use Rattle.std.proofs.Common.{◌≡◌, inl, inr, ℕ, ◌+◌, List, [], ◌∷◌, length, arith}
 use Rattle.std.proofs.lemmas.Bool.{cases_lt}
-use Rattle.disk.specs.Facts.{Content, Facts}
+use Rattle.disk.specs.Facts.{Facts}
 use Rattle.write_log.specs.WriteLog.{WriteLog, AgreesOutside, Untouched, ranges, synced}
 use Rattle.write_log.proofs.Pieces.{length_replay, replay_outside}
+use Rattle.logged_disk.proofs.Kept.{agrees_then}
 use Rattle.cached_disk.specs.declared.waiting.Waiting.{Waiting}
-use Rattle.cached_disk.specs.Cached.{pieces_of, shown, Waits, ButIn, IsCached}
-
-pub but_then : (rs : List (ℕ × ℕ)) (x y z : Content) → ButIn rs x y → ButIn rs y z → ButIn rs x z
-but_then rs x y z p q = record { as_long = q.as_long ∙ p.as_long; same = λ k u. q.same k u ∙ p.same k u }
+use Rattle.cached_disk.specs.Cached.{pieces_of, shown, Waits, IsCached}
 
 -- a sector that doesn't wait is in no piece that waits
 pub apart_waiting : (ws : List Waiting) (k : ℕ) → (Waits ws k → ⊥) → Untouched (ranges (pieces_of ws)) k
@@ -33,7 +31,7 @@ length_shown ws log a cached = length_replay (pieces_of ws) a.content cached.fit
 
 -- what a crash may leave of the disk, what a read gives may be
 pub keeps : (ws : List Waiting) (log : WriteLog) (a : Facts) → IsCached ws log a → AgreesOutside (synced log) (ranges log.written) (shown ws a.content)
-keeps ws log a cached = but_then (ranges log.written) (synced log) a.content (shown ws a.content) cached.holds (record {
+keeps ws log a cached = agrees_then (ranges log.written) (synced log) a.content (shown ws a.content) cached.kept.holds (record {
   as_long = length_shown ws log a cached;
   same = λ k u. replay_outside (pieces_of ws) a.content k cached.fits (covered ws log cached.waits k u);
 })

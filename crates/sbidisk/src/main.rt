@@ -4,8 +4,6 @@
 
 mod disk_file;
 mod examines;
-mod shows;
-mod usage;
 
 use crate::examines::examine;
 use std::process::ExitCode;

@@ -2,7 +2,7 @@ use Rattle.std.proofs.Common.{◌≡◌, ◌∙◌, ◌⊎◌, ℕ, List, Option
 use Rattle.std.proofs.lemmas.Result.{on_ok_weaker, IfErr-weaker}
 use Rattle.clap.specs.Words.{kind_of}
 use Rattle.bench_program.specs.Faults.{without_work}
-use Rattle.bench_program.specs.Usage.{IsNamedBy, NamesBoth, NamesNoWork}
+use Rattle.bench_program.specs.Usage.{IsNamedBy, NamesConflict, NamesNoWork}
 use Rattle.bench_program.specs.Written.{IsFault, IsFaultOf, IsUnread}
 use Rattle.bench_program.specs.declared.fault.BenchFault.{BenchFault}
 use Rattle.bench_program.specs.declared.fault.BenchFault.TheVariants.{Refused}
@@ -33,4 +33,4 @@ returns-in-Err-clause-faults g c =
     let words : List (List ℕ) = map g.S.AsStr.text c.args.words.now in
     let input : Option (List ℕ) = g.I.Read.remaining c.args.input in
     let Of : BenchFault → Type 0 = λ fault. (options : Options) × IsNamedBy words options × (IsUnread options fault ⊎ IsFaultOf options.work input fault) in
-    line_fault (kind_of c.in-Err.text) c.without_work.result Of (NamesNoWork words) (NamesBoth words) (c.without_work.ensures ∙ ap without_work c.show_on.ensures) c.in-Err.ensures.refused
+    line_fault (kind_of c.in-Err.text) c.without_work.result Of (NamesNoWork words) (NamesConflict words) (c.without_work.ensures ∙ ap without_work c.show_on.ensures) c.in-Err.ensures.refused

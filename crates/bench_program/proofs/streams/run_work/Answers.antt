@@ -1,5 +1,5 @@
-use Rattle.std.proofs.Common.{inr, refl, sym, IfErr}
-use Rattle.std.proofs.lemmas.Result.{on_ok_weaker, IfErr-weaker}
+use Rattle.std.proofs.Common.{sym}
+use Rattle.std.proofs.lemmas.Result.{on_ok_weaker}
 use Rattle.std.specs.Io.Buffered.{writer_contents}
 use Rattle.command_line.specs.Pipes.{pipe_contents}
 use Rattle.bench_program.specs.Written.{IsReported}

@@ -3,7 +3,7 @@ use Rattle.std.proofs.lemmas.Result.{IfOk-weaker}
 use Rattle.clap.specs.Simple.{app_of_fields}
 use Rattle.clap.specs.Words.{App, app_of, with_rule}
 use Rattle.command_line.specs.Options.{with_payloads}
-use Rattle.bench_program.specs.Usage.{named_app}
+use Rattle.bench_program.specs.Usage.{named_app, with_schedules}
 use Rattle.bench_program.proofs.usage.command.Goals as goal
 
 abbrev with_version : App → App
@@ -19,4 +19,5 @@ returns c =
     let one = c.in_ok-arg.ensures.shape c.crew.ensures.local ∙ ap₂ with_rule named_is c.crew.ensures.rule.1 in
     let two = c.in_ok-arg-2.ensures.shape c.flag.ensures.local ∙ ap₂ with_rule one c.flag.ensures.rule in
     let three = c.in_ok-command.ensures.shape c.flag-2.ensures.local ∙ ap₂ with_rule two c.flag-2.ensures.rule in
-    IfOk-weaker c.with_payloads.result _ _ (λ r h. (crews, h ∙ ap with_payloads three)) c.with_payloads.ensures
+    let four = c.in_ok-command-2.ensures ∙ ap with_schedules three in
+    IfOk-weaker c.with_payloads.result _ _ (λ r h. (crews, h ∙ ap with_payloads four)) c.with_payloads.ensures

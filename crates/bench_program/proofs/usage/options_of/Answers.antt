@@ -11,7 +11,7 @@ returns-clause-named g c =
 pub returns-in-Err-clause-refused : goal.returns-in-Err-clause-refused
 returns-in-Err-clause-refused g c =
     let parsed = c.in_ok-matches.ensures.matches in
-    elim c.in-Err.ensures.both [
+    elim c.in-Err.ensures.conflict [
       | inl memory ↦ inl memory
-      | inr both ↦ inr (inl (both.0, (parsed.0, found_of c.in_ok-matches.matches, both.1, both.2, parsed.1, both.3, both.4, both.5)))
+      | inr two ↦ inr (inl (two.0, (parsed.0, found_of c.in_ok-matches.matches, two.1, two.2, parsed.1, two.3, two.4, two.5)))
     ]

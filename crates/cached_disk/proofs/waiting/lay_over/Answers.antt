@@ -1,6 +1,6 @@
-use Rattle.std.proofs.Common.{◌≡◌, ◌∙◌, ◌+◌, ◌<◌, inl, inr, refl, sym, subst, ap, length, get_or, [], List}
+use Rattle.std.proofs.Common.{inl, inr, subst, [], List}
 use Rattle.std.proofs.lemmas.List.{take_all}
-use Rattle.disk.specs.Facts.{Content, AreSectorsAt}
+use Rattle.disk.specs.Facts.{AreSectorsAt}
 use Rattle.cached_disk.specs.declared.waiting.Waiting.{Waiting}
 use Rattle.cached_disk.specs.Cached.{shown}
 use Rattle.cached_disk.proofs.Caches.{read_put, read_none}

@@ -1,4 +1,4 @@
-use Rattle.std.proofs.Common.{◌≡◌, ◌≤◌, ◌+◌, length, take}
+use Rattle.std.proofs.Common.{◌≤◌, ◌+◌, length, take}
 use Rattle.disk.specs.Facts.{Content, AreSectorsAt}
 use Rattle.write_log.specs.WriteLog.{ranges, AreWithin}
 use Rattle.cached_disk.specs.Cached.{pieces_of, shown}

@@ -1,8 +1,7 @@
 use Rattle.std.proofs.Common.{◌+◌, ◌≤◌, ℕ, List, length, subst}
 use Rattle.disk.specs.Facts.{AreSectorsAt}
-use Rattle.write_log.specs.WriteLog.{AreWithin, ranges}
 use Rattle.cached_disk.specs.declared.waiting.Waiting.{Waiting}
-use Rattle.cached_disk.specs.Cached.{pieces_of, shown}
+use Rattle.cached_disk.specs.Cached.{shown}
 use Rattle.cached_disk.specs.Laws.{length_shown}
 use Rattle.cached_disk.proofs.cached.CachedDiskDisk.read.Goals as goal
 

@@ -1,4 +1,4 @@
-use Rattle.std.proofs.Common.{◌≡◌, List, [], arith}
+use Rattle.std.proofs.Common.{◌≡◌, [], arith}
 use Rattle.disk.specs.Facts.{Lent}
 use Rattle.std.proofs.lemmas.Grind.{common_steps}
 use Rattle.cached_disk.proofs.Calls.{split_over, length_nil}

@@ -1,0 +1,61 @@
+-- Turns that were made in place, as a line of the bench.
+use Rattle.std.proofs.Common.{◌≡◌, ◌≤◌, inl, inr, ℕ, zero, suc, true, false, List, Option, None, Some, Result, Ok, Err, MatchResult, refl, subst, arith}
+use Rattle.std.specs.Prelude.{IfOk}
+use Rattle.board.specs.Turns as boards
+use Rattle.board_model.specs.Shapes.{Size}
+use Rattle.board_model.specs.declared.refusal.Refusal.{Refusal}
+use Rattle.machine.specs.Machine.{Machine}
+use Rattle.machine_lines.specs.Shows.{HasHart}
+use Rattle.sbi.specs.declared.words.Word.{Word}
+use Rattle.sbi.specs.declared.words.Word.TheVariants as words
+use Rattle.script_lang.specs.declared.line.Line.{Line}
+use Rattle.script_lang.specs.declared.line.Line.TheVariants as lines
+use Rattle.bench_report.specs.declared.power.Power.{Power}
+use Rattle.bench_report.specs.declared.power.Power.TheVariants.{On}
+use Rattle.bench_report.specs.declared.printed.Answer.{Answer}
+use Rattle.bench_report.specs.Agree.{BoardAfter, BoardIs, IsBench, OnIs}
+use Rattle.bench_report.specs.Bench.{BenchLife, Bench}
+use Rattle.bench_report.specs.Happens.{unpowered}
+use Rattle.bench_report.specs.Steps.{Moves}
+use Rattle.bench_report.specs.Turns.{GuestTurns}
+use Rattle.bench_report.specs.Views.{SimBoard, SimStore, store_in, machine_in}
+use Rattle.bench_report.proofs.Came.{Stands, turns}
+use Rattle.bench_report.proofs.Commanded.{Running, running_on}
+use Rattle.bench_rows.specs.declared.rows.Row.TheVariants as rows
+use Rattle.bench_rows.specs.Rows.{RowMoves, row_answer}
+use Rattle.bench_rows.proofs.Turns.{Struck, Went, loss_of, moves_of, trimmed}
+use Rattle.bench_live.specs.Lives.{WentInPlace}
+
+stands_by : (size : Size) (word : Word) (b : Bench) (board : SimBoard) → Stands size word b (machine_in board) (store_in board) → BoardAfter size word b board
+stands_by size (words.Goes did) b board is = running_on size b board is
+stands_by size (words.Over end) b board is = is
+
+-- what the board did
+pub went_on : (size : Size) (b : Bench) (old new : SimBoard) (h n made : ℕ) (word : Word) → OnIs size b old → HasHart (machine_in old) h
+    → boards.TurnsManyHeld h n (machine_in old) (machine_in new) (store_in old) (store_in new) made word → WentInPlace size h n b made word (On new)
+went_on size b old new h n made word was has turned = by b.power was.0 refl
+  where
+    by : (p : Option BenchLife) → BoardIs size b.disk_state b.kept p old → b.power ≡ p → WentInPlace size h n b made word (On new)
+    by None is on = absurd is
+    by (Some life) is on =
+        let P : Machine → Type 0 = λ m. HasHart m h in
+        let running : Running size b (machine_in old) (store_in old) = (life, on, is.0, is.1, was.1) in
+        let did = turns size h n b (machine_in old) (machine_in new) (store_in old) (store_in new) made word running turned in
+        (did.0, life, on, subst P is.1 has, did.1, stands_by size word did.0 new did.2, did.3)
+
+-- ---- the line of a row, and of as many turns as were made
+module _ (size : Size) (h n : ℕ) (b : Bench) (made : ℕ) (word : Word) (new : Bench) (life : BenchLife) (on : b.power ≡ Some life) (has : HasHart life.machine h) (guest : GuestTurns h n b made word new) where
+  long : Went h n b made word new
+  long = record { life = life; on = on; has = has; guest = guest }
+
+  short : Went h made b made word new
+  short = record { life = life; on = on; has = has; guest = trimmed h n b made word new guest }
+
+  pub row_of : new.fault_state.struck ≡ false → RowMoves size h (rows.Made made word) b new × Moves size (lines.Turn h n) b (row_answer h (rows.Made made word)) new
+  row_of calm = (moves_of size h made b made word new short calm, moves_of size h n b made word new long calm)
+
+  pub lost_of : new.fault_state.struck ≡ true → RowMoves size h (rows.Lost made) b (unpowered new) × Moves size (lines.Turn h n) b (row_answer h (rows.Lost made)) (unpowered new)
+  lost_of hit =
+      let one : Struck h made b (unpowered new) = record { made = made; word = word; mid = new; went = short; hit = hit; off = refl } in
+      let all : Struck h n b (unpowered new) = record { made = made; word = word; mid = new; went = long; hit = hit; off = refl } in
+      (loss_of size h made b (unpowered new) one, loss_of size h n b (unpowered new) all)

@@ -1,0 +1,4 @@
+pub mod FourSlots
+pub mod IdleRows
+pub mod InPlace
+pub mod Lives

@@ -1,0 +1,44 @@
+-- A line that a bench under way runs.
+use Rattle.std.proofs.Common.{◌≡◌, ◌∙◌, List, ℕ, Option, Some, Result, Ok, Err, MatchResult, IfOk, true, false, refl, sym, subst}
+use Rattle.board_model.specs.Shapes.{Size}
+use Rattle.board_model.specs.declared.refusal.Refusal.{Refusal}
+use Rattle.board_model.specs.declared.refusal.Refusal.TheVariants.{Memory}
+use Rattle.script_lang.specs.declared.line.Line.{Line}
+use Rattle.script_lang.specs.declared.line.Line.TheVariants as lines
+use Rattle.sbi.specs.declared.words.Word.{Word}
+use Rattle.sbi.specs.declared.words.Word.TheVariants as words
+use Rattle.bench_report.specs.Agree.{Agrees, IsBench, Matches}
+use Rattle.bench_report.specs.Bench.{Bench}
+use Rattle.bench_report.specs.Happens.{unpowered}
+use Rattle.bench_report.specs.Steps.{Moves}
+use Rattle.bench_report.specs.declared.power.Power.{Power}
+use Rattle.bench_report.specs.declared.power.Power.TheVariants.{Off, On}
+use Rattle.bench_rows.specs.Rows.{RowMoves, row_answer}
+use Rattle.bench_rows.specs.declared.rows.Row.TheVariants as rows
+use Rattle.bench_live.proofs.InPlace.{lost_of, row_of}
+use Rattle.bench_report.specs.declared.printed.Answer.{Answer}
+use Rattle.bench_live.specs.Lives.{IsAfter, PowerShows, WentInPlace, stays_on}
+
+pub runs_on : (size : Size) (line : Line) (start : Option Power) (power after : Power) (old new : List (List ℕ)) (r : Result Answer Refusal) → start ≡ Some power
+    → ((b : Bench) → IsBench size b power old → MatchResult r (λ answer. (x : Bench) × Moves size line b answer x × IsBench size x after new) (λ e. (e ≡ Memory) × Matches size b after new))
+    → IfOk r (λ answer. (b : Bench) → PowerShows size b start old → (x : Bench) × Moves size line b answer x × IsBench size x after new)
+runs_on size line start power after old new (Ok answer) is reported = λ b shows. (let P : Option Power → Type 0 = λ p. PowerShows size b p old in reported b (subst P is shows))
+runs_on size line start power after old new (Err e) is reported = tt
+
+-- turns after which the board is on
+pub stays : (size : Size) (word : Word) (x : Bench) (power : Power) → stays_on word ≡ true → IsAfter size word x power → Agrees size x power
+stays size (words.Goes did) x (On board) e is = is
+stays size (words.Goes did) x (Off disk) e is = absurd is
+stays size (words.Over end) x power e is = absurd (let no : ⊥ = cc in no)
+
+-- turns that were made in place, as a line, where no cut struck, and where one did
+module _ (size : Size) (h n made : ℕ) (word : Word) (b : Bench) (after left : Power) (old : List (List ℕ)) (went : WentInPlace size h n b made word after) (same : old ≡ b.payloads) where
+  pub made_row : went.0.fault_state.struck ≡ false → Agrees size went.0 left
+      → (x : Bench) × RowMoves size h (rows.Made made word) b x × Moves size (lines.Turn h n) b (row_answer h (rows.Made made word)) x × IsBench size x left old
+  made_row calm agrees =
+      let m = row_of size h n b made word went.0 went.1 went.2 went.3 went.4 calm in (went.0, m.0, m.1, (agrees, same ∙ sym went.6, calm))
+
+  pub lost_row : went.0.fault_state.struck ≡ true → Agrees size (unpowered went.0) left
+      → (x : Bench) × RowMoves size h (rows.Lost made) b x × Moves size (lines.Turn h n) b (row_answer h (rows.Lost made)) x × IsBench size x left old
+  lost_row hit agrees =
+      let m = lost_of size h n b made word went.0 went.1 went.2 went.3 went.4 hit in (unpowered went.0, m.0, m.1, (agrees, same ∙ sym went.6, refl))

@@ -1,0 +1,11 @@
+use Rattle.std.proofs.Common.{◌≡◌, Some}
+use Rattle.bench_live.proofs.Lives.{runs_on}
+use Rattle.bench_live.proofs.live.LiveBench.run.Goals as goal
+
+pub returns-clause-reported : goal.returns-clause-reported
+returns-clause-reported g c =
+    let taken = c.take.ensures.value in
+    let there = c.unwrap-power.ensures in
+    let is : c.args.self.now.power ≡ Some c.unwrap-power.result = cc in
+    runs_on c.args.setting.now.shape.now c.args.line.now c.args.self.now.power c.unwrap-power.result c.line_with_cuts-after.result.0 c.args.self.now.payloads c.line_with_cuts-after.new.payloads c.line_with_cuts-after.result.1 is
+    c.line_with_cuts-after.ensures.reported

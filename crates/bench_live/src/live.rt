@@ -1,0 +1,126 @@
+//! The bench between two lines.
+
+ghost use Rattle.std.specs.Prelude.{◌≡◌, ◌≤◌, IfOk, IfErr, OnOk, length};
+ghost use Rattle.board_model.specs.Shapes.{Size};
+ghost use Rattle.board_model.specs.declared.refusal.Refusal.TheVariants.{Memory};
+ghost use Rattle.bench_report.specs.Agree.{OffIs, fill_after};
+ghost use Rattle.bench_report.specs.Bench.{Bench, bench_with};
+ghost use Rattle.bench_report.specs.Happens.{off};
+ghost use Rattle.bench_report.specs.Steps.{Moves};
+ghost use Rattle.bench_report.specs.Views.{facts};
+ghost use Rattle.bench_live.specs.Lives.{IsSound, Shows};
+ghost use Rattle.bench_rows.specs.Rows.{IsWithin, RowMoves, row_answer};
+ghost use Rattle.script_lang.specs.Lines.{IsLineInRange};
+ghost use Rattle.script_lang.specs.declared.line.Line.TheVariants as lines;
+ghost use Rattle.simdisk.specs.declared.fill.Fill.TheVariants as fills;
+ghost use Rattle.store.specs.Leaves.{IsIdle};
+
+use crate::copies::copied;
+use crate::cuts::settled;
+use crate::rows::{in_place, is_still_on};
+use bench_report::{Answer, Power, Setting, disk_left, line_with_cuts};
+use bench_rows::Row;
+use board::Payloads;
+use board_model::{HartId, Refusal, Shape};
+use crew::Crew;
+use script_lang::Line;
+use simdisk::{Fill, SimDisk};
+use std::alloc::Global;
+use store::blank_disks;
+
+/// The board, off or on, what the slots boot, and what an armed cut is to leave.
+#[derive(Drop)]
+pub struct LiveBench {
+    /// Away only while a line runs.
+    pub power: Option<Power>,
+    /// What each slot boots.
+    pub payloads: Payloads,
+    /// What an armed cut is to leave.
+    pub fill: Fill,
+}
+
+impl LiveBench {
+    /// The bench before its first line: a blank disk of the size that the board needs, and these payloads.
+    pub fn blank(alloc: Global, shape: &Shape, begins: &Payloads) -> Result<LiveBench, Refusal>
+        requires four { length begins.now ≡ 4 }
+        ensures shows { IfOk result (λ live. Shows shape.now (bench_with begins.now) live) }
+        ensures sound { IfOk result (λ live. IsSound live) }
+        ensures fill { IfOk result (λ live. live.fill ≡ fills.Old) }
+        ensures refused { IfErr result (λ e. e ≡ Memory) }
+    {
+        blank_disks::<SimDisk>();
+        let disk = SimDisk::blank(alloc, shape.sectors())?;
+        let payloads = copied(alloc, begins)?;
+        Ok(LiveBench {
+            power: Some(Power::Off(disk)),
+            payloads,
+            fill: Fill::Old,
+        })
+    }
+
+    /// Runs a line, as `bench_report::line_with_cuts` does. Refused `Memory` alone, where a payload or a poke found
+    /// none; then the bench is of no use.
+    pub fn run<C: Crew>(&mut self, setting: &Setting<'_, C>, line: &Line) -> Result<Answer, Refusal>
+        requires range { IsLineInRange setting.now.shape.now line.now }
+        requires sound { IsSound self.old }
+        ensures reported { IfOk result (λ answer. (b : Bench) → Shows setting.now.shape.now b self.old
+            → (new : Bench) × Moves setting.now.shape.now line.now b answer new × Shows setting.now.shape.now new self.new) }
+        ensures sound { OnOk result (IsSound self.new) }
+        ensures fill { self.new.fill ≡ fill_after line.now self.old.fill }
+        ensures refused { IfErr result (λ e. e ≡ Memory) }
+    {
+        let power = self.power.take().unwrap();
+        let (after, answer) = line_with_cuts(
+            setting,
+            line,
+            power,
+            &mut self.payloads,
+            &mut self.fill,
+        );
+        self.power = Some(after);
+        answer
+    }
+
+    /// Up to so many turns of a hart, one after another: what the line `turn` does, and many times as fast, since
+    /// a board that stays on is not moved.
+    pub fn turns<C: Crew>(&mut self, setting: &Setting<'_, C>, hart: HartId, count: u32) -> Row
+        requires some { 1 ≤ count }
+        requires sound { IsSound self.old }
+        ensures reported { (size : Size) (b : Bench) → Shows size b self.old → (new : Bench)
+            × RowMoves size hart result b new × Moves size (lines.Turn hart count) b (row_answer hart result) new
+            × Shows size new self.new }
+        ensures range { IsWithin count result }
+        ensures sound { IsSound self.new }
+        ensures fill { self.new.fill ≡ self.old.fill }
+    {
+        let Some(power) = &mut self.power else {
+            return Row::Off;
+        };
+        let Some((made, word)) = in_place(setting, power, hart, count) else {
+            return Row::Off;
+        };
+        if is_still_on(power, word) {
+            return Row::Made(made, word);
+        }
+        let Some(power) = self.power.take() else {
+            return Row::Off;
+        };
+        let (left, lost) = settled(power, word, self.fill);
+        self.power = Some(left);
+        if lost {
+            Row::Lost(made)
+        } else {
+            Row::Made(made, word)
+        }
+    }
+
+    /// The disk of a bench that goes no further, of a board whose power is off.
+    pub fn into_disk(self) -> SimDisk
+        requires sound { IsSound self }
+        ensures left { (size : Size) (b : Bench) → Shows size b self → OffIs size (off b) result }
+        ensures idle { IsIdle (facts result) }
+    {
+        let power = self.power.unwrap();
+        disk_left(power)
+    }
+}

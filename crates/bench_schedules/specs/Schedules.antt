@@ -1,0 +1,135 @@
+-- The runs of the schedule bench. Source: docs/SCRIPT.md, "Schedules".
+use Rattle.std.specs.Prelude.{Ok, Bool, ◌≡◌, ◌≢◌, ◌⊎◌, ◌+◌, ℕ, suc, List, [], ◌∷◌, ◌++◌, Option, None, Some, All, length, take, if◌then◌else◌}
+use Rattle.std.specs.Fmt.{decimal}
+use Rattle.std.specs.List.{flat_map}
+use Rattle.std.specs.Io.KnownBytes.{Appends}
+use Rattle.board_console.specs.Texts.{state_text}
+use Rattle.board_model.specs.Shapes.{Size}
+use Rattle.board_model.specs.declared.durable.Durable.{Durable}
+use Rattle.script_lang.specs.Lines.{text_of}
+use Rattle.script_lang.specs.Scripts.{Script, script_of}
+use Rattle.script_lang.specs.Spellings.{script_text, IsWritable}
+use Rattle.script_lang.specs.declared.line.Line.{Line}
+use Rattle.bench_report.specs.Bench.{Bench, bench_with}
+use Rattle.bench_report.specs.Steps.{Run}
+use Rattle.bench_report.specs.Texts.{line_text}
+use Rattle.bench_report.specs.declared.printed.Answer.{Answer}
+use Rattle.bench_report.specs.declared.printed.Printed.{Printed}
+use Rattle.bench_report.specs.declared.printed.Printed.TheVariants as printed
+use Rattle.bench_orders.specs.Orders.{IsScheduleOf, is_other}
+use Rattle.bench_schedules.specs.declared.runs.Difference.{Difference}
+use lib.Chars.{codes}
+
+-- what the lines answered that are no turns, as far as answers go
+abbrev pub told : List Line → List Answer → List Answer
+told [] answers = []
+told (line ∷ more) [] = []
+told (line ∷ more) (a ∷ answers) = if is_other line then (a ∷ told more answers) else told more answers
+
+-- the answer of one line, where that is no turn
+abbrev pub one_told : Bool → Answer → List Answer
+one_told other a = if other then (a ∷ []) else []
+
+-- a power-on was refused for want of memory
+abbrev pub IsWant : Answer → Type 0
+IsWant a = a.line ≡ printed.OnRefused 11
+
+-- From these payloads on the lines ran, and memory was never seen to be refused: no power-on was refused for want of it, and the disk's record
+-- always had it.
+pub record RanWell (size : Size) (start : List (List ℕ)) (those : List Line) (answers : List Answer) (end : Bench) : Type 0 where
+  pub run : Run size (bench_with start) those answers end
+  pub answered : All (λ a. IsWant a → ⊥) answers
+  pub disk : end.fault_state.own ≡ 0
+
+-- The run answered as the script's own run; or up to a place as that, and there otherwise.
+abbrev pub ToldLike : List Answer → List Answer → Option Difference → Type 0
+ToldLike own ran None = ran ≡ own
+ToldLike own ran (Some d) =
+    (before after : List Answer) × (own ≡ before ++ d.own ∷ after) × (length before ≡ d.place) × (d.own ≢ d.answer)
+    × (ran ≡ before ++ d.answer ∷ [])
+
+-- Some first lines ran, up to the one that differs; or, where none does, all of them.
+pub record RanLike (size : Size) (start : List (List ℕ)) (those : List Line) (own : List Answer) (differs : Option Difference) : Type 0 where
+  pub n : ℕ
+  pub answers : List Answer
+  pub end : Bench
+  pub ran : RanWell size start (take n those) answers end
+  pub like : ToldLike own (told (take n those) answers) differs
+
+-- a schedule of the script was run, which began with these payloads as the script did
+pub record Ran (said : Script) (start : List (List ℕ)) (own : List Answer) (differs : Option Difference) : Type 0 where
+  pub schedule : Script
+  pub order : IsScheduleOf said schedule
+  pub writable : IsWritable schedule
+  pub ran : RanLike said.size start schedule.lines own differs
+
+-- the script's own run, by what its lines answered that are no turns
+pub record RanOwn (size : Size) (start : List (List ℕ)) (those : List Line) (own : List Answer) : Type 0 where
+  pub answers : List Answer
+  pub end : Bench
+  pub ran : RanWell size start those answers end
+  pub told : own ≡ told those answers
+
+-- the first line of the report of an answer that found this and said that, which is another than where the own run found so
+abbrev pub apart_text : Option Durable → Printed → Option Durable → List ℕ → Type 0
+apart_text None line own text = text ≡ line_text line
+apart_text (Some d) line own text =
+    ((own ≡ Some d) × (text ≡ line_text line)) ⊎ ((own ≢ Some d) × (text ≡ codes "found " ++ state_text d))
+
+-- what is written of schedule k, where `number` gives the script's line at a place
+abbrev pub RunText : (ℕ → ℕ) → ℕ → Option Difference → List ℕ → Type 0
+RunText number k None text = text ≡ []
+RunText number k (Some d) text =
+    (apart : List ℕ) × apart_text d.answer.found d.answer.line d.own.found apart
+    × (text ≡ codes "schedule " ++ decimal k ++ codes " line " ++ decimal (number d.place) ++ codes " " ++ apart ++ 10 ∷ [])
+
+-- what is written of the schedules from number k on
+abbrev pub RunsText : (ℕ → ℕ) → ℕ → List (Option Difference) → List ℕ → Type 0
+RunsText number k [] text = text ≡ []
+RunsText number k (run ∷ runs) text =
+    (first rest : List ℕ) × RunText number k run first × RunsText number (k + 1) runs rest × (text ≡ first ++ rest)
+
+abbrev pub differing : List (Option Difference) → ℕ
+differing [] = 0
+differing (None ∷ runs) = differing runs
+differing (Some d ∷ runs) = suc (differing runs)
+
+-- the lines of stretches that name few turns
+abbrev pub tight_text : List ℕ → List ℕ
+tight_text numbers = flat_map (λ n. codes "line " ++ decimal n ++ codes " tight\n") numbers
+
+abbrev pub count_text : ℕ → ℕ → List ℕ
+count_text n differ = codes "schedules " ++ decimal n ++ codes " differ " ++ decimal differ ++ 10 ∷ []
+
+-- These runs were made, from schedule k on: what was written of them, and how many differ.
+pub record Wrote (said : Script) (start : List (List ℕ)) (number : ℕ → ℕ) (own : List Answer) (k n : ℕ) (old new : Option (List ℕ)) (differ : ℕ) : Type 0 where
+  pub runs : List (Option Difference)
+  pub all : length runs ≡ n
+  pub each : All (Ran said start own) runs
+  pub count : differ ≡ differing runs
+  pub text : List ℕ
+  pub tells : RunsText number k runs text
+  pub written : Appends old new text
+
+-- All n schedules were run, each was compared with the script's own run and counted, and this was written of them.
+pub record WroteSchedules (said : Script) (start : List (List ℕ)) (number : ℕ → ℕ) (n : ℕ) (old new : Option (List ℕ)) (differ : ℕ) : Type 0 where
+  pub own : List Answer
+  pub ran : RanOwn said.size start said.lines own
+  pub tight : List ℕ
+  pub first : Option (List ℕ)
+  pub begun : Appends old first (tight_text tight)
+  pub last : Option (List ℕ)
+  pub wrote : Wrote said start number own 1 n first last differ
+  pub ended : Appends last new (count_text n differ)
+
+-- lines as they are written, each with a line feed
+abbrev pub lines_text : List Line → List ℕ
+lines_text those = flat_map (λ line. text_of line ++ 10 ∷ []) those
+
+-- `--show`: one schedule of the script, as a text that is read back as it. A line feed ends its last line too.
+pub record Shown (said : Script) (old new : Option (List ℕ)) : Type 0 where
+  pub schedule : Script
+  pub order : IsScheduleOf said schedule
+  pub writable : IsWritable schedule
+  pub reads : script_of (script_text schedule) ≡ Ok schedule
+  pub text : Appends old new (script_text schedule ++ 10 ∷ [])

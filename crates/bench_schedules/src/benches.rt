@@ -1,0 +1,350 @@
+//! Whole benches.
+
+ghost use Rattle.std.specs.Prelude.{◌≡◌, ◌⊎◌, ◌+◌, ◌++◌, ◌≤◌, ◌<◌, ◌^◌, ℕ, slice_index_or, length, All, IfErr, IfOk, OnOk, Ok, Err};
+ghost use Rattle.std.specs.Io.KnownBytes.{Appends};
+ghost use Rattle.board_model.specs.Shapes.{IsSize};
+ghost use Rattle.board_model.specs.declared.refusal.Refusal.{Refusal as Refused};
+ghost use Rattle.board_model.specs.declared.refusal.Refusal.TheVariants.{Memory, Output};
+ghost use Rattle.script_lang.specs.Lines.{FitsLine, IsLineInRange};
+ghost use Rattle.script_lang.specs.Scripts.{script_of, Script as Said};
+ghost use Rattle.script_lang.specs.Views.{view};
+ghost use Rattle.bench_orders.specs.Orders.{IsOrderFor, other_count};
+ghost use Rattle.bench_schedules.specs.Numbers.{number_of_other, place_of_other};
+ghost use Rattle.bench_schedules.specs.Schedules.{Ran, RanOwn, RunText, Shown, Wrote, WroteSchedules, differing, tight_text};
+ghost use Rattle.std.specs.Prelude.{List, ◌∷◌, []};
+
+use crate::lines_fit::fits;
+use crate::numbers::{number_at, number_of_other, numbers};
+use crate::own::{Own, run_own};
+use crate::runs::{Difference, run_confirmed, run_until};
+use crate::shown::write_script;
+use crate::written::{write_count, write_difference, write_tight};
+use bench_orders::{generator, orders_keep_lines, schedule};
+use bench_report::{Answer, Setting};
+use board::Payloads;
+use board_model::{Refusal, Shape};
+use crew::{Crew, Sequential};
+use script_lang::{Line, Script, parse_script, scripts_read_as_written};
+use std::alloc::Global;
+use std::io::Write;
+use std::thread::Threads;
+
+/// How many schedules were run, and how many answered otherwise than the script's own run.
+#[derive(Clone, Copy, Drop)]
+pub struct Compared {
+    pub runs: u64,
+    pub differ: u64,
+}
+
+/// A script that is run by schedules.
+#[derive(Drop)]
+struct Runner<'a, C> {
+    /// How its boards are made.
+    setting: Setting<'a, C>,
+    /// Its lines.
+    lines: &'a [Line],
+    /// What the slots begin with.
+    begins: &'a Payloads,
+    /// The number of its board line, and of each of its lines.
+    numbers: &'a [u64],
+    /// What schedules are drawn from.
+    seed: u64,
+}
+
+/// Runs a schedule of the script. Refused `Memory` alone.
+fn run_drawn<C: Crew>(
+    runner: &Runner<'_, C>,
+    lines: &[Line],
+    own: &[Answer],
+) -> Result<Option<Difference>, Refusal>
+    requires size { IsSize runner.now.setting.shape.now }
+    requires four { length runner.now.begins.now ≡ 4 }
+    requires ranges { All (IsLineInRange runner.now.setting.shape.now) runner.now.lines.now }
+    requires fits { All FitsLine runner.now.lines.now }
+    requires order { IsOrderFor runner.now.lines.now lines.now }
+    requires few { length lines.now ≤ 65535 }
+    requires count { length own.now ≡ other_count lines.now }
+    ensures ran { IfOk result (λ differs.
+        Ran (record { size = runner.now.setting.shape.now; lines = runner.now.lines.now }) runner.now.begins.now own.now differs) }
+    ensures refused { IfErr result (λ e. e ≡ Memory) }
+{
+    run_confirmed(&runner.setting, runner.begins, lines, own)
+}
+
+/// Runs schedule k of the script. Refused `Memory` alone.
+fn run_schedule<C: Crew>(
+    runner: &Runner<'_, C>,
+    own: &Own,
+    k: u64,
+) -> Result<Option<Difference>, Refusal>
+    requires size { IsSize runner.now.setting.shape.now }
+    requires four { length runner.now.begins.now ≡ 4 }
+    requires few { length runner.now.lines.now ≤ 65535 }
+    requires ranges { All (IsLineInRange runner.now.setting.shape.now) runner.now.lines.now }
+    requires fits { All FitsLine runner.now.lines.now }
+    requires count { length own.now.answers.items ≡ other_count runner.now.lines.now }
+    ensures ran { IfOk result (λ differs.
+        Ran (record { size = runner.now.setting.shape.now; lines = runner.now.lines.now }) runner.now.begins.now own.now.answers.items differs) }
+    ensures refused { IfErr result (λ e. e ≡ Memory) }
+{
+    orders_keep_lines();
+    let mut rng = generator(runner.seed, k);
+    let lines = schedule(
+        runner.setting.alloc,
+        &mut rng,
+        runner.lines,
+        &own.stretches.fronts,
+    )?;
+    run_drawn(runner, &lines, &own.answers)
+}
+
+/// Writes what the run of schedule k told, and answers 1 where it differed, else 0.
+fn write_run<C, W: Write>(
+    runner: &Runner<'_, C>,
+    k: u64,
+    differs: Option<Difference>,
+    out: &mut W,
+) -> Result<u64, Refusal>
+    requires few { length runner.now.lines.now ≤ 65535 }
+    ensures ok { IfOk result (λ m. (text : List ℕ) × RunText (λ place. slice_index_or runner.now.numbers.now
+        (1 + place_of_other place runner.now.lines.now) 0) k differs text
+        × Appends (W.contents out.old) (W.contents out.new) text × (m ≡ differing (differs ∷ []))) }
+    ensures err { IfErr result (λ e. (e ≡ Memory) ⊎ (e ≡ Output)) }
+{
+    match differs {
+        None => Ok(0),
+        Some(difference) => {
+            let number = number_of_other(runner.numbers, runner.lines, difference.place);
+            write_difference(out, k, number, &difference)?;
+            Ok(1)
+        }
+    }
+}
+
+/// Runs that many schedules, from number 1 on, and writes a line for each that differs: how many do.
+#[tactic(auto, using(crate::proofs::Ledgers::wrote_none, crate::proofs::Ledgers::wrote_more))]
+fn run_each<C: Crew, W: Write>(
+    runner: &Runner<'_, C>,
+    own: &Own,
+    n: u64,
+    out: &mut W,
+) -> Result<u64, Refusal>
+    requires size { IsSize runner.now.setting.shape.now }
+    requires four { length runner.now.begins.now ≡ 4 }
+    requires few { length runner.now.lines.now ≤ 65535 }
+    requires ranges { All (IsLineInRange runner.now.setting.shape.now) runner.now.lines.now }
+    requires fits { All FitsLine runner.now.lines.now }
+    requires count { length own.now.answers.items ≡ other_count runner.now.lines.now }
+    requires most { n ≤ 1000000 }
+    ensures wrote { IfOk result (λ differ. Wrote (record { size = runner.now.setting.shape.now; lines = runner.now.lines.now })
+        runner.now.begins.now (λ place. slice_index_or runner.now.numbers.now (1 + place_of_other place runner.now.lines.now) 0)
+        own.now.answers.items 1 n (W.contents out.old) (W.contents out.new) differ) }
+    ensures err { IfErr result (λ e. (e ≡ Memory) ⊎ (e ≡ Output)) }
+{
+    let mut differ = 0;
+    for done in 0..n {
+        let k = done + 1;
+        let differs = run_schedule(runner, own, k)?;
+        differ += write_run(runner, k, differs, out)?;
+    }
+    Ok(differ)
+}
+
+/// Writes a line for the stretch that begins at that place.
+fn write_one_tight<W: Write>(numbers: &[u64], place: usize, out: &mut W) -> Result<(), Refusal>
+    ensures ok { OnOk result ((told : List ℕ) × Appends (W.contents out.old) (W.contents out.new) (tight_text told)) }
+    ensures err { IfErr result (λ e. (e ≡ Memory) ⊎ (e ≡ Output)) }
+{
+    if 65_535 < place {
+        return Ok(());
+    }
+    write_tight(out, number_at(numbers, place))
+}
+
+/// Writes a line for each stretch that names few turns.
+fn write_all_tight<W: Write>(numbers: &[u64], tight: &[usize], out: &mut W) -> Result<(), Refusal>
+    ensures ok { OnOk result ((told : List ℕ) × Appends (W.contents out.old) (W.contents out.new) (tight_text told)) }
+    ensures err { IfErr result (λ e. (e ≡ Memory) ⊎ (e ≡ Output)) }
+{
+    for place in tight {
+        write_one_tight(numbers, *place, out)?;
+    }
+    Ok(())
+}
+
+/// Each number of a shape is within its range.
+fn sizes(shape: &Shape)
+    ensures { IsSize shape.now }
+{
+    let _harts = shape.harts();
+    let _pages = shape.pages();
+    let _lanes = shape.lanes();
+}
+
+/// The script's own run, which a second one of it confirms. Refused `Memory` alone.
+fn own_of<C: Crew>(
+    setting: &Setting<'_, C>,
+    begins: &Payloads,
+    lines: &[Line],
+) -> Result<Own, Refusal>
+    requires four { length begins.now ≡ 4 }
+    requires ranges { All (IsLineInRange setting.now.shape.now) lines.now }
+    ensures ran { IfOk result (λ own. RanOwn setting.now.shape.now begins.now lines.now own.answers.items) }
+    ensures count { IfOk result (λ own. length own.answers.items ≡ other_count lines.now) }
+    ensures refused { IfErr result (λ e. e ≡ Memory) }
+{
+    let own = run_own(setting, begins, lines)?;
+    match run_until(setting, begins, lines, &own.answers)? {
+        None => Ok(own),
+        Some(_) => Err(Refusal::Memory),
+    }
+}
+
+/// Runs the script, and then that many schedules of it, and writes what they told.
+fn run_all<C: Crew, W: Write>(runner: &Runner<'_, C>, n: u64, out: &mut W) -> Result<u64, Refusal>
+    requires size { IsSize runner.now.setting.shape.now }
+    requires four { length runner.now.begins.now ≡ 4 }
+    requires few { length runner.now.lines.now ≤ 65535 }
+    requires ranges { All (IsLineInRange runner.now.setting.shape.now) runner.now.lines.now }
+    requires fits { All FitsLine runner.now.lines.now }
+    requires most { n ≤ 1000000 }
+    ensures wrote { IfOk result (λ differ. WroteSchedules (record { size = runner.now.setting.shape.now; lines = runner.now.lines.now })
+        runner.now.begins.now (λ place. slice_index_or runner.now.numbers.now (1 + place_of_other place runner.now.lines.now) 0) n
+        (W.contents out.old) (W.contents out.new) differ) }
+    ensures err { IfErr result (λ e. (e ≡ Memory) ⊎ (e ≡ Output)) }
+{
+    let own = own_of(&runner.setting, runner.begins, runner.lines)?;
+    write_all_tight(runner.numbers, &own.stretches.tight, out)?;
+    let differ = run_each(runner, &own, n, out)?;
+    write_count(out, n, differ)?;
+    Ok(differ)
+}
+
+/// Runs that many schedules of a script that was read, and the script's own run first.
+fn run_script<'a, R: Threads + Sync, W: Write>(
+    alloc: Global,
+    script: &'a Script,
+    begins: &'a Payloads,
+    numbers: &'a [u64],
+    n: u64,
+    seed: u64,
+    out: &mut W,
+) -> Result<u64, Refusal>
+    requires four { length begins.now ≡ 4 }
+    requires few { length script.now.lines.items ≤ 65535 }
+    requires ranges { All (IsLineInRange script.now.shape) script.now.lines.items }
+    requires most { n ≤ 1000000 }
+    ensures wrote { IfOk result (λ differ. WroteSchedules (view script.now) begins.now
+        (λ place. slice_index_or numbers.now (1 + place_of_other place script.now.lines.items) 0) n
+        (W.contents out.old) (W.contents out.new) differ) }
+    ensures err { IfErr result (λ e. (e ≡ Memory) ⊎ (e ≡ Output)) }
+{
+    let lines = script.lines.as_slice();
+    sizes(&script.shape);
+    fits(lines);
+    let crew = Sequential::<R>::new([0, 1, 2, 3])?;
+    let runner = Runner {
+        setting: Setting {
+            alloc,
+            crew: &crew,
+            shape: &script.shape,
+        },
+        lines,
+        begins,
+        numbers,
+        seed,
+    };
+    run_all(&runner, n, out)
+}
+
+/// Writes schedule k of a script that was read, once its own run told where its stretches do something.
+fn show_script<R: Threads + Sync, W: Write>(
+    alloc: Global,
+    script: &Script,
+    begins: &Payloads,
+    seed: u64,
+    k: u64,
+    out: &mut W,
+) -> Result<(), Refusal>
+    requires four { length begins.now ≡ 4 }
+    requires few { length script.now.lines.items ≤ 65535 }
+    requires ranges { All (IsLineInRange script.now.shape) script.now.lines.items }
+    ensures shown { OnOk result (Shown (view script.now) (W.contents out.old) (W.contents out.new)) }
+    ensures err { IfErr result (λ e. (e ≡ Memory) ⊎ (e ≡ Output)) }
+{
+    orders_keep_lines();
+    scripts_read_as_written();
+    let lines = script.lines.as_slice();
+    sizes(&script.shape);
+    fits(lines);
+    let crew = Sequential::<R>::new([0, 1, 2, 3])?;
+    let setting = Setting {
+        alloc,
+        crew: &crew,
+        shape: &script.shape,
+    };
+    let own = own_of(&setting, begins, lines)?;
+    let mut rng = generator(seed, k);
+    let drawn = schedule(alloc, &mut rng, lines, &own.stretches.fronts)?;
+    write_script(out, &script.shape, &drawn)
+}
+
+/// The schedule bench (docs/SCRIPT.md, "Schedules"): runs a script that begins with these payloads as it stands, and then
+/// so many schedules of it, each with
+/// the turns of each stretch in another order. Where the report of a schedule first differs from the script's own in a
+/// line that is no `turn` line, it writes what was reported there, by the number of the script's line; at the end, how many
+/// differ. Each schedule is drawn from the seed and its number alone.
+///
+/// Refused `BadShape` or `BadScript` where the script has a fault, and then nothing is written; `Memory` where memory was
+/// refused in any run, which is never a difference; `Output` where the writer failed. After the last two any part may stand
+/// in the writer.
+pub fn schedules<R: Threads + Sync, W: Write>(
+    alloc: Global,
+    script: &[u8],
+    begins: &Payloads,
+    n: u64,
+    seed: u64,
+    out: &mut W,
+) -> Result<Compared, Refusal>
+    requires four { length begins.now ≡ 4 }
+    requires most { n ≤ 1000000 }
+    // All schedules were run and compared with the script's own run, and those that differ were written and counted.
+    ensures wrote { IfOk result (λ count. (count.runs ≡ n) × (said : Said) × (script_of script.now ≡ Ok said)
+        × WroteSchedules said begins.now (number_of_other script.now said.lines) n (W.contents out.old) (W.contents out.new) count.differ) }
+    // A refusal is the script's fault, or want of memory, or the writer's.
+    ensures refused { IfErr result (λ e. (e ≡ Memory) ⊎ (e ≡ Output) ⊎ (script_of script.now ≡ Err e)) }
+    // A script with a fault runs nothing.
+    ensures nothing { (e : Refused) → script_of script.now ≡ Err e
+        → (W.contents out.new ≡ W.contents out.old) × ((result ≡ Err e) ⊎ (result ≡ Err Memory)) }
+{
+    let read = parse_script(alloc, script)?;
+    let numbers = numbers(alloc, script)?;
+    let differ = run_script::<R, W>(alloc, &read, begins, &numbers, n, seed, out)?;
+    Ok(Compared { runs: n, differ })
+}
+
+/// Writes schedule k of a script that begins with these payloads, as a script: the one that [`schedules`] runs by that
+/// number, and whose report it tells. The payloads are no part of it: it is run with the same ones.
+///
+/// Refused as `schedules` is.
+pub fn show<R: Threads + Sync, W: Write>(
+    alloc: Global,
+    script: &[u8],
+    begins: &Payloads,
+    seed: u64,
+    k: u64,
+    out: &mut W,
+) -> Result<(), Refusal>
+    requires four { length begins.now ≡ 4 }
+    // What was written is a schedule of the script, and is read back as it.
+    ensures shown { OnOk result ((said : Said) × (script_of script.now ≡ Ok said)
+        × Shown said (W.contents out.old) (W.contents out.new)) }
+    // A refusal is the script's fault, or want of memory, or the writer's.
+    ensures refused { IfErr result (λ e. (e ≡ Memory) ⊎ (e ≡ Output) ⊎ (script_of script.now ≡ Err e)) }
+    // A script with a fault runs nothing.
+    ensures nothing { (e : Refused) → script_of script.now ≡ Err e
+        → (W.contents out.new ≡ W.contents out.old) × ((result ≡ Err e) ⊎ (result ≡ Err Memory)) }
+{
+    let read = parse_script(alloc, script)?;
+    show_script::<R, W>(alloc, &read, begins, seed, k, out)
+}

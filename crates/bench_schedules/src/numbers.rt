@@ -1,0 +1,82 @@
+//! The numbers of a script's lines.
+
+ghost use Rattle.std.specs.Prelude.{◌≡◌, ◌+◌, ◌≤◌, ◌==◌, ℕ, List, length, map, IfOk, slice_index_or};
+ghost use Rattle.std.specs.List.{slice_split};
+ghost use Rattle.script_lang.specs.Scripts.{is_passed};
+ghost use Rattle.bench_schedules.specs.Numbers.{numbers_from, numbers_of, number_of_other, place_of_other};
+
+use crate::going::is_other;
+use script_lang::Line;
+use std::alloc::{AllocError, Global};
+
+/// Whether a line is passed over: an empty one, and one that begins with `#`.
+fn is_passed(line: &[u8]) -> bool
+    ensures { result ≡ is_passed line.now }
+{
+    line.is_empty() || line[0] == b'#'
+}
+
+/// The lines of a script, and an empty one behind a last line feed.
+fn parts(alloc: Global, script: &[u8]) -> Result<Vec<&[u8]>, AllocError>
+    ensures { IfOk result (λ v. map (λ w. w.now) v.items ≡ slice_split (λ b. b == 10) script.now) }
+{
+    script.split(|b| *b == b'\n').collect(alloc)
+}
+
+/// The numbers of those lines that are not passed over.
+fn numbers_in(alloc: Global, lines: &[&[u8]]) -> Result<Vec<u64>, AllocError>
+    ensures { IfOk result (λ v. v.items ≡ numbers_from 1 (map (λ w. w.now) lines.now)) }
+{
+    let mut found = Vec::new(alloc);
+    for (i, bytes) in lines.iter().enumerate() {
+        if !is_passed(bytes) {
+            found.push(i as u64 + 1)?;
+        }
+    }
+    Ok(found)
+}
+
+/// The numbers, from 1, of the lines that are not passed over: of the board line, and then of each behind it.
+pub fn numbers(alloc: Global, script: &[u8]) -> Result<Vec<u64>, AllocError>
+    ensures { IfOk result (λ v. v.items ≡ numbers_of script.now) }
+{
+    let parts = parts(alloc, script)?;
+    numbers_in(alloc, &parts)
+}
+
+/// The place of the k-th line that is no `turn`, from 0 on.
+#[tactic(auto, using(crate::proofs::Places::place_here, crate::proofs::Places::place_turn, crate::proofs::Places::place_next))]
+fn place_of_other(lines: &[Line], k: usize) -> usize
+    ensures value { result ≡ place_of_other k lines.now }
+    ensures range { result ≤ length lines.now }
+{
+    let mut left = k;
+    for (i, line) in lines.iter().enumerate() {
+        if is_other(line) {
+            if left == 0 {
+                return i;
+            }
+            left -= 1;
+        }
+    }
+    lines.len()
+}
+
+/// The number of a line by its place among a script's lines, 0 where it has none.
+pub fn number_at(numbers: &[u64], place: usize) -> u64
+    requires { place ≤ 65535 }
+    ensures { result ≡ slice_index_or numbers.now (1 + place) 0 }
+{
+    match numbers.get(place + 1) {
+        Some(number) => *number,
+        None => 0,
+    }
+}
+
+/// The number of the k-th line that is no `turn`, from 0 on.
+pub fn number_of_other(numbers: &[u64], lines: &[Line], k: usize) -> u64
+    requires { length lines.now ≤ 65535 }
+    ensures { result ≡ slice_index_or numbers.now (1 + place_of_other k lines.now) 0 }
+{
+    number_at(numbers, place_of_other(lines, k))
+}

@@ -1,0 +1,104 @@
+//! The run of one schedule.
+
+ghost use Rattle.std.specs.Prelude.{◌≡◌, ◌<◌, length, true, All, IfErr, IfOk};
+ghost use Rattle.board_model.specs.declared.refusal.Refusal.TheVariants.{Memory};
+ghost use Rattle.script_lang.specs.Lines.{IsLineInRange};
+ghost use Rattle.bench_orders.specs.Orders.{is_other, other_count};
+ghost use Rattle.bench_schedules.specs.Behind.{IsApart, IsBehind};
+ghost use Rattle.bench_schedules.specs.Schedules.{RanLike};
+
+use crate::going::{end, is_other, step};
+use bench_live::LiveBench;
+use bench_report::{Answer, Setting};
+use board::Payloads;
+use board_model::Refusal;
+use crew::Crew;
+use script_lang::Line;
+
+/// Where the run of a schedule first answers other than the script's own run.
+#[derive(Clone, Copy, PartialEq, Eq, Drop)]
+pub struct Difference {
+    /// The place of the line among those that are no `turn` lines, from 0 on.
+    pub place: usize,
+    /// What the script's own run answered there.
+    pub own: Answer,
+    /// What the schedule's run answered there.
+    pub answer: Answer,
+}
+
+/// The place behind a line: the next one, where it is no `turn` line and answers what the script's own run did. A line that
+/// answers other than that is told.
+fn behind(own: &[Answer], place: usize, line: &Line, answer: Answer) -> Result<usize, Difference>
+    requires { is_other line.now ≡ true → place < length own.now }
+    ensures alike { IfOk result (λ next. IsBehind own.now place line.now answer next) }
+    ensures apart { IfErr result (λ d. IsApart own.now place line.now answer d) }
+{
+    if !is_other(line) {
+        return Ok(place);
+    }
+    let said = own[place];
+    if said == answer {
+        return Ok(place + 1);
+    }
+    Err(Difference {
+        place,
+        own: said,
+        answer,
+    })
+}
+
+/// Runs lines, from these payloads on, up to the first that is no `turn` and answers other than in the script's own
+/// run. Refused `Memory` alone: where it was refused in a run, that is no difference.
+pub fn run_until<C: Crew>(
+    setting: &Setting<'_, C>,
+    begins: &Payloads,
+    lines: &[Line],
+    own: &[Answer],
+) -> Result<Option<Difference>, Refusal>
+    requires four { length begins.now ≡ 4 }
+    requires ranges { All (IsLineInRange setting.now.shape.now) lines.now }
+    requires count { length own.now ≡ other_count lines.now }
+    ensures ran { IfOk result (λ differs. RanLike setting.now.shape.now begins.now lines.now own.now differs) }
+    ensures refused { IfErr result (λ e. e ≡ Memory) }
+{
+    let mut live = LiveBench::blank(setting.alloc, setting.shape, begins)?;
+    let mut place = 0;
+    for line in lines {
+        let answer = step(setting, line, &mut live)?;
+        let next = match behind(own, place, line, answer) {
+            Ok(next) => next,
+            Err(difference) => {
+                end(live, setting.shape)?;
+                return Ok(Some(difference));
+            }
+        };
+        place = next;
+    }
+    end(live, setting.shape)?;
+    Ok(None)
+}
+
+/// The same, and what differs a second run of these lines has to confirm: where it tells otherwise, memory was refused to
+/// a guest's suspension, which nothing else tells.
+pub fn run_confirmed<C: Crew>(
+    setting: &Setting<'_, C>,
+    begins: &Payloads,
+    lines: &[Line],
+    own: &[Answer],
+) -> Result<Option<Difference>, Refusal>
+    requires four { length begins.now ≡ 4 }
+    requires ranges { All (IsLineInRange setting.now.shape.now) lines.now }
+    requires count { length own.now ≡ other_count lines.now }
+    ensures ran { IfOk result (λ differs. RanLike setting.now.shape.now begins.now lines.now own.now differs) }
+    ensures refused { IfErr result (λ e. e ≡ Memory) }
+{
+    let differs = run_until(setting, begins, lines, own)?;
+    if differs.is_none() {
+        return Ok(differs);
+    }
+    let again = run_until(setting, begins, lines, own)?;
+    if again != differs {
+        return Err(Refusal::Memory);
+    }
+    Ok(differs)
+}

@@ -1,0 +1,103 @@
+-- What is replied to a request, of a bench with a board of that size whose hart h is shown. Source:
+-- "Debugging with GDB", appendix "GDB Remote Serial Protocol", "Packets" and "General Query Packets".
+use Rattle.std.specs.Prelude.{◌≡◌, ⊤, ℕ, ◌+◌, ◌-◌, List, [], ◌∷◌, ◌++◌, Option, Some, None, IsSome, nat_lt, nat_le, ◌&&◌, if◌then◌else◌}
+use Rattle.board_model.specs.Shapes.{Size}
+use Rattle.debug_timeline.specs.Lives.{machine_of, memory_in, register_in}
+use Rattle.debug_timeline.specs.declared.debugged.DebuggedBench.{DebuggedBench}
+use Rattle.gdb_packets.specs.Packets.{digit_of}
+use Rattle.debug_packets.specs.Texts.{threads_object}
+use Rattle.gdb_replies.specs.Replies.{memory_map_text, pairs_of, part_text, register_text, registers_text, threads_text}
+use Rattle.gdb_requests.specs.declared.requests.Look.{Look}
+use Rattle.gdb_requests.specs.declared.requests.Look.TheVariants as looks
+use Rattle.gdb_requests.specs.declared.requests.Object.{Object}
+use Rattle.gdb_requests.specs.declared.requests.Object.TheVariants as objects
+use Rattle.gdb_requests.specs.declared.requests.Request.{Request}
+use Rattle.gdb_requests.specs.declared.requests.Request.TheVariants as asks
+use lib.Chars.{codes}
+
+-- the hart of a thread, whose number is one more
+abbrev pub hart_named : Size → ℕ → Option ℕ
+hart_named size thread = if nat_lt 0 thread && nat_le thread size.harts then Some (thread - 1) else None
+
+-- whether there is that thread
+abbrev pub by_hart : Option ℕ → List ℕ
+by_hart None = codes "E01"
+by_hart (Some h) = codes "OK"
+
+abbrev pub thread_reply : Size → ℕ → List ℕ
+thread_reply size thread = by_hart (hart_named size thread)
+
+-- that hart, where there is one
+abbrev pub hart_or : Option ℕ → ℕ → ℕ
+hart_or None h = h
+hart_or (Some g) h = g
+
+-- one register by its value; there are 42
+abbrev pub register_reply : ℕ → Option ℕ → List ℕ
+register_reply n value = if nat_lt n 42 then register_text n value else codes "E01"
+
+-- bytes of memory, where all of them are there
+abbrev pub memory_reply : Option (List ℕ) → List ℕ
+memory_reply None = codes "E0e"
+memory_reply (Some bytes) = pairs_of bytes
+
+-- a part of an object of qXfer; of the description, which is fixed, a part of some text
+abbrev pub IsPart : Object → Size → DebuggedBench → ℕ → ℕ → List ℕ → Type 0
+IsPart objects.Description size b offset count text = (whole : List ℕ) × (text ≡ part_text whole offset count)
+IsPart objects.MemoryMap size b offset count text = text ≡ part_text (memory_map_text size) offset count
+IsPart objects.Threads size b offset count text = text ≡ part_text (threads_object size b) offset count
+
+abbrev pub SaysPart : Object → Size → DebuggedBench → ℕ → ℕ → Option (List ℕ) → Type 0
+SaysPart object size b offset count None = ⊥
+SaysPart object size b offset count (Some text) = IsPart object size b offset count text
+
+-- a payload with that text
+abbrev pub Says : List ℕ → Option (List ℕ) → Type 0
+Says text out = out ≡ Some text
+
+-- what a request that moves nothing is replied
+abbrev pub IsLookReply : Look → Size → ℕ → DebuggedBench → Option (List ℕ) → Type 0
+IsLookReply looks.Reason size h b out = IsSome out
+IsLookReply looks.Registers size h b out = Says (registers_text 42 (λ n. register_in h n (machine_of b))) out
+IsLookReply (looks.Register n) size h b out = Says (register_reply n (register_in h n (machine_of b))) out
+IsLookReply (looks.Memory address count) size h b out = Says (memory_reply (memory_in address count (machine_of b))) out
+IsLookReply (looks.Show thread) size h b out = Says (thread_reply size thread) out
+IsLookReply looks.AnyThread size h b out = Says (codes "OK") out
+IsLookReply (looks.IsAlive thread) size h b out = Says (thread_reply size thread) out
+IsLookReply (looks.SetPoint address) size h b out = Says (codes "OK") out
+IsLookReply (looks.ClearPoint address) size h b out = Says (codes "OK") out
+IsLookReply (looks.SetWatch address count) size h b out = Says (codes "OK") out
+IsLookReply (looks.ClearWatch address count) size h b out = Says (codes "OK") out
+IsLookReply looks.Write size h b out = Says (codes "E01") out
+IsLookReply looks.Supports size h b out = IsSome out
+IsLookReply (looks.Part object offset count) size h b out = SaysPart object size b offset count out
+IsLookReply looks.CurrentThread size h b out = Says (codes "QC" ++ digit_of (h + 1) ∷ []) out
+IsLookReply looks.IsAttached size h b out = Says (codes "1") out
+IsLookReply looks.FirstThreads size h b out = Says (threads_text size.harts) out
+IsLookReply looks.MoreThreads size h b out = Says (codes "l") out
+IsLookReply looks.NoAcks size h b out = Says (codes "OK") out
+IsLookReply looks.Actions size h b out = Says (codes "vCont;c;C;s;S;r") out
+IsLookReply looks.Detach size h b out = Says (codes "OK") out
+IsLookReply looks.Kill size h b out = out ≡ None
+IsLookReply looks.Malformed size h b out = Says (codes "E01") out
+IsLookReply looks.Unknown size h b out = Says [] out
+
+-- it is one payload, or none
+abbrev pub IsReply : Look → Size → ℕ → DebuggedBench → List (List ℕ) → Type 0
+IsReply look size h b [] = IsLookReply look size h b None
+IsReply look size h b (text ∷ more) = (more ≡ []) × IsLookReply look size h b (Some text)
+
+-- the payloads that a request is replied with; those of one that moves the board are the console's and the stop's
+abbrev pub Replied : Request → Size → ℕ → DebuggedBench → List (List ℕ) → Type 0
+Replied (asks.Look look) size h b out = IsReply look size h b out
+Replied (asks.Move move) size h b out = ⊤
+
+-- the hart that is shown behind a request that moves nothing
+abbrev pub hart_shown : Look → Size → ℕ → ℕ
+hart_shown (looks.Show thread) size h = hart_or (hart_named size thread) h
+hart_shown look size h = h
+
+-- the same of any request; of one that moves the board it is the stop's
+abbrev pub Shown : Request → Size → ℕ → ℕ → Type 0
+Shown (asks.Look look) size old new = new ≡ hart_shown look size old
+Shown (asks.Move move) size old new = ⊤

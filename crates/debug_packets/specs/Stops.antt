@@ -1,0 +1,35 @@
+-- The stop reply. Source: "Debugging with GDB", appendix "GDB Remote Serial Protocol", "Stop Reply Packets".
+use Rattle.std.specs.Prelude.{ℕ, ◌+◌, Bool, false, List, [], ◌∷◌, ◌++◌, if◌then◌else◌}
+use Rattle.std.specs.Fmt.{digits}
+use Rattle.gdb_packets.specs.Packets.{digit_of}
+use Rattle.debug_session.specs.declared.halts.Halt.{Halt}
+use Rattle.debug_session.specs.declared.halts.Halt.TheVariants.{Stepped, Point, Watched, Ended, Off, Idle, Spent, Interrupted, Begin}
+use Rattle.debug_session.specs.declared.halts.Stop.{Stop}
+use lib.Chars.{codes}
+
+-- GDB's number of the signal: 2 SIGINT, 5 SIGTRAP, 32 SIGPWR, 0 none
+abbrev pub signal_text : Halt → List ℕ
+signal_text Stepped = codes "05"
+signal_text Point = codes "05"
+signal_text (Watched address) = codes "05"
+signal_text Begin = codes "05"
+signal_text Ended = codes "20"
+signal_text Off = codes "20"
+signal_text Idle = codes "00"
+signal_text Spent = codes "00"
+signal_text Interrupted = codes "02"
+
+-- the first address that was watched
+abbrev pub watch_text : ℕ → List ℕ
+watch_text address = codes "watch:" ++ (digits 16 false address ++ codes ";")
+
+-- the reason, where GDB has a word for it, and takes `swbreak` where that is one
+abbrev pub reason_text : Halt → Bool → List ℕ
+reason_text Point takes = if takes then codes "swbreak:;" else []
+reason_text (Watched address) takes = watch_text address
+reason_text Begin takes = codes "replaylog:begin;"
+reason_text _ takes = []
+
+abbrev pub stop_text : Stop → Bool → List ℕ
+stop_text stop takes =
+    codes "T" ++ (signal_text stop.halt ++ (codes "thread:" ++ (digit_of (stop.hart + 1) ∷ (codes ";" ++ reason_text stop.halt takes))))

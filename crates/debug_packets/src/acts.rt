@@ -1,0 +1,174 @@
+//! Requests that may move the board.
+
+ghost use Rattle.std.specs.Prelude.{◌≡◌, ◌<◌, codes, OnOk};
+ghost use Rattle.debug_session.specs.Steps.{IsStep};
+ghost use Rattle.debug_timeline.specs.Ats.{IsAt};
+ghost use Rattle.debug_session.specs.Sessions.{size_of, timeline_of};
+ghost use Rattle.debug_packets.specs.Moved.{MovedBy, ResumedBy, WentAlone, WentBack, WentFarBack, WentOn};
+ghost use Rattle.gdb_requests.specs.Fields.{behind_prefix};
+
+use crate::answers::Payloads;
+use crate::asked::Asked;
+use crate::resumes::asked_by;
+use crate::stops::{stop_text, told_of};
+use crate::talk::Talk;
+use crate::texts::{answer_text, tell};
+use bench_report::Answer;
+use board_model::{HartId, Refusal};
+use crew::Crew;
+use debug_session::Stop;
+use gdb_requests::Move;
+use std::sync::atomic::AtomicBool;
+
+impl<'a, C: Crew> Talk<'a, C> {
+    /// Answers a request that may move the board; texts for the console go before.
+    pub(crate) fn act(
+        &mut self,
+        asked: Move,
+        packet: &[u8],
+        interrupt: &AtomicBool,
+        out: &mut Payloads,
+    ) -> Result<Vec<u8>, Refusal>
+        requires at { IsAt (size_of self.old.session) (timeline_of self.old.session) }
+        ensures at { OnOk result (IsAt (size_of self.new.session) (timeline_of self.new.session)) }
+        ensures size { size_of self.new.session ≡ size_of self.old.session }
+        ensures moved { OnOk result (MovedBy asked packet.now (size_of self.old.session) self.old.hart
+            (timeline_of self.old.session) (timeline_of self.new.session)) }
+    {
+        match asked {
+            Move::Step => self.step(self.hart, out),
+            Move::Go => self.go(&[true; 8], interrupt, out),
+            Move::StepBack => self.step_back(),
+            Move::GoBack => self.go_back(),
+            Move::Resume => self.resume(packet, interrupt, out),
+            Move::Monitor => self.monitor(packet, out),
+        }
+    }
+
+    /// `bs`
+    fn step_back(&mut self) -> Result<Vec<u8>, Refusal>
+        requires at { IsAt (size_of self.old.session) (timeline_of self.old.session) }
+        ensures at { OnOk result (IsAt (size_of self.new.session) (timeline_of self.new.session)) }
+        ensures size { size_of self.new.session ≡ size_of self.old.session }
+        ensures moved { OnOk result (WentBack self.old.hart (timeline_of self.old.session) (timeline_of self.new.session)) }
+    {
+        let stop = self.session.step_back(self.hart)?;
+        self.stopped_at(stop)
+    }
+
+    /// `bc`
+    fn go_back(&mut self) -> Result<Vec<u8>, Refusal>
+        requires at { IsAt (size_of self.old.session) (timeline_of self.old.session) }
+        ensures at { OnOk result (IsAt (size_of self.new.session) (timeline_of self.new.session)) }
+        ensures size { size_of self.new.session ≡ size_of self.old.session }
+        ensures moved { OnOk result (WentFarBack (timeline_of self.old.session) (timeline_of self.new.session)) }
+    {
+        let stop = self.session.go_back(self.hart)?;
+        self.stopped_at(stop)
+    }
+
+    /// `vCont`: what it asks is done.
+    fn resume(
+        &mut self,
+        packet: &[u8],
+        interrupt: &AtomicBool,
+        out: &mut Payloads,
+    ) -> Result<Vec<u8>, Refusal>
+        requires at { IsAt (size_of self.old.session) (timeline_of self.old.session) }
+        ensures at { OnOk result (IsAt (size_of self.new.session) (timeline_of self.new.session)) }
+        ensures size { size_of self.new.session ≡ size_of self.old.session }
+        ensures moved { OnOk result (ResumedBy (behind_prefix (codes "vCont;") packet.now) (size_of self.old.session)
+            (timeline_of self.old.session) (timeline_of self.new.session)) }
+    {
+        let asked = asked_by(self.alloc(), self.session.setting().shape, packet)?;
+        match asked {
+            Asked::Nothing => self.said(b"E01"),
+            Asked::Step(hart) => self.step(hart, out),
+            Asked::StepWithin(hart, first, end) => {
+                self.step_within(hart, first, end, interrupt, out)
+            }
+            Asked::Go(harts) => self.go(&harts, interrupt, out),
+        }
+    }
+
+    /// Steps a hart.
+    fn step(&mut self, hart: HartId, out: &mut Payloads) -> Result<Vec<u8>, Refusal>
+        requires at { IsAt (size_of self.old.session) (timeline_of self.old.session) }
+        requires hart { hart < (size_of self.old.session).harts }
+        ensures at { OnOk result (IsAt (size_of self.new.session) (timeline_of self.new.session)) }
+        ensures size { size_of self.new.session ≡ size_of self.old.session }
+        ensures moved { OnOk result (IsStep (size_of self.old.session) hart (timeline_of self.old.session) (timeline_of self.new.session)) }
+    {
+        let mut told = Vec::new(self.alloc());
+        let stop = self.session.step(hart, &mut told)?;
+        self.after(stop, &told, out)
+    }
+
+    /// Steps a hart while its pc lies from the first address on and before the second.
+    fn step_within(
+        &mut self,
+        hart: HartId,
+        first: u64,
+        end: u64,
+        interrupt: &AtomicBool,
+        out: &mut Payloads,
+    ) -> Result<Vec<u8>, Refusal>
+        requires at { IsAt (size_of self.old.session) (timeline_of self.old.session) }
+        requires hart { hart < (size_of self.old.session).harts }
+        ensures at { OnOk result (IsAt (size_of self.new.session) (timeline_of self.new.session)) }
+        ensures size { size_of self.new.session ≡ size_of self.old.session }
+        ensures moved { OnOk result (WentAlone hart (size_of self.old.session) (timeline_of self.old.session) (timeline_of self.new.session)) }
+    {
+        let mut told = Vec::new(self.alloc());
+        let stop = self
+            .session
+            .step_within(hart, first, end, interrupt, &mut told)?;
+        self.after(stop, &told, out)
+    }
+
+    /// Goes on with these harts.
+    fn go(
+        &mut self,
+        harts: &[bool; 8],
+        interrupt: &AtomicBool,
+        out: &mut Payloads,
+    ) -> Result<Vec<u8>, Refusal>
+        requires at { IsAt (size_of self.old.session) (timeline_of self.old.session) }
+        ensures at { OnOk result (IsAt (size_of self.new.session) (timeline_of self.new.session)) }
+        ensures size { size_of self.new.session ≡ size_of self.old.session }
+        ensures moved { OnOk result (WentOn harts.now (size_of self.old.session) (timeline_of self.old.session) (timeline_of self.new.session)) }
+    {
+        let mut told = Vec::new(self.alloc());
+        let stop = self.session.go(self.hart, harts, interrupt, &mut told)?;
+        self.after(stop, &told, out)
+    }
+
+    /// Tells the report of what ended a run, and why it stands.
+    fn after(
+        &mut self,
+        stop: Stop,
+        told: &Vec<Answer>,
+        out: &mut Payloads,
+    ) -> Result<Vec<u8>, Refusal>
+        requires there { stop.hart < (size_of self.old.session).harts }
+        ensures { self.new.session ≡ self.old.session }
+    {
+        let alloc = self.alloc();
+        for answer in told {
+            let text = answer_text(alloc, answer)?;
+            tell(alloc, text.as_bytes(), out)?;
+        }
+        tell(alloc, told_of(stop.halt).as_bytes(), out)?;
+        self.stopped_at(stop)
+    }
+
+    /// The board stands so from now on.
+    fn stopped_at(&mut self, stop: Stop) -> Result<Vec<u8>, Refusal>
+        requires there { stop.hart < (size_of self.old.session).harts }
+        ensures { self.new.session ≡ self.old.session }
+    {
+        self.last = stop;
+        self.hart = stop.hart;
+        Ok(stop_text(self.alloc(), stop, self.takes_swbreak)?)
+    }
+}

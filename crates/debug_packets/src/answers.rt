@@ -1,0 +1,131 @@
+//! What is answered to a packet.
+
+ghost use Rattle.std.specs.Prelude.{◌≡◌, map, IfOk, OnOk};
+ghost use Rattle.debug_timeline.specs.Ats.{IsAt};
+ghost use Rattle.debug_session.specs.Sessions.{bench_of, size_of, timeline_of};
+ghost use Rattle.debug_packets.specs.Replies.{IsReply, Replied, Shown, hart_shown};
+ghost use Rattle.debug_packets.specs.Moved.{Moved, MovedBy};
+ghost use Rattle.debug_packets.specs.Talks.{hart_in, session_in};
+ghost use Rattle.gdb_requests.specs.Asked.{request_of};
+ghost use Rattle.gdb_requests.specs.declared.requests.Look.{Look};
+ghost use Rattle.gdb_requests.specs.declared.requests.Request.TheVariants as asks;
+
+use crate::talk::Talk;
+use board_model::Refusal;
+use crew::Crew;
+use debug_session::{Halt, Session, Stop};
+use gdb_requests::{Look, Move, Request, request_of};
+use std::alloc::Global;
+use std::sync::atomic::AtomicBool;
+
+/// Payloads to be sent, in their order.
+pub type Payloads = Vec<Vec<u8>>;
+
+impl<'a, C: Crew> Talk<'a, C> {
+    /// A talk about a session, whose hart 0 is shown.
+    pub fn new(session: Session<'a, C>) -> Result<Talk<'a, C>, Refusal>
+        ensures session { IfOk result (λ talk. session_in talk ≡ session.entry) }
+        ensures first { IfOk result (λ talk. hart_in talk ≡ 0) }
+    {
+        let Some(hart) = session.setting().shape.hart(0) else {
+            return Err(Refusal::BadShape);
+        };
+        let last = Stop {
+            hart,
+            halt: Halt::Stepped,
+        };
+        Ok(Talk {
+            session,
+            hart,
+            last,
+            takes_swbreak: false,
+            acknowledges: true,
+            is_over: false,
+        })
+    }
+
+    /// Answers a packet: the payloads to be sent, in their order. The interrupt stops what goes on.
+    ///
+    /// Refused `Memory`, and then the talk is of no use.
+    pub fn answer(&mut self, packet: &[u8], interrupt: &AtomicBool) -> Result<Payloads, Refusal>
+        requires at { IsAt (size_of (session_in self.old)) (timeline_of (session_in self.old)) }
+        ensures at { OnOk result (IsAt (size_of (session_in self.new)) (timeline_of (session_in self.new))) }
+        ensures size { size_of (session_in self.new) ≡ size_of (session_in self.old) }
+        // Looking disturbs nothing: whatever is no step, no way on or back and no line leaves bench and history.
+        ensures looks { (look : Look) → request_of packet.now ≡ asks.Look look
+            → timeline_of (session_in self.new) ≡ timeline_of (session_in self.old) }
+        // What is shown is the board's.
+        ensures replied { IfOk result (λ out. Replied (request_of packet.now) (size_of (session_in self.old)) (hart_in self.old)
+            (bench_of (session_in self.old)) (map (λ v. v.items) out.items)) }
+        // A hart is shown until another one is asked for, or a stop shows it.
+        ensures shown { OnOk result (Shown (request_of packet.now) (size_of (session_in self.old)) (hart_in self.old)
+            (hart_in self.new)) }
+        // What moves the board changes its history so.
+        ensures moved { OnOk result (Moved (request_of packet.now) packet.now (size_of (session_in self.old)) (hart_in self.old)
+            (timeline_of (session_in self.old)) (timeline_of (session_in self.new))) }
+    {
+        match request_of(packet) {
+            Request::Look(asked) => self.answer_look(asked, packet),
+            Request::Move(asked) => self.answer_move(asked, packet, interrupt),
+        }
+    }
+
+    /// Answers what looks: one payload, or none.
+    fn answer_look(&mut self, asked: Look, packet: &[u8]) -> Result<Payloads, Refusal>
+        ensures same { timeline_of self.new.session ≡ timeline_of self.old.session }
+        ensures size { size_of self.new.session ≡ size_of self.old.session }
+        ensures shown { OnOk result (self.new.hart ≡ hart_shown asked (size_of self.old.session) self.old.hart) }
+        ensures replied { IfOk result (λ out. IsReply asked (size_of self.old.session) self.old.hart
+            (bench_of self.old.session) (map (λ v. v.items) out.items)) }
+    {
+        let mut out = Vec::new(self.alloc());
+        match self.look(asked, packet)? {
+            None => Ok(out),
+            Some(answer) => {
+                out.push(answer)?;
+                Ok(out)
+            }
+        }
+    }
+
+    /// Answers what may move the board: texts for the console, and then the stop.
+    fn answer_move(
+        &mut self,
+        asked: Move,
+        packet: &[u8],
+        interrupt: &AtomicBool,
+    ) -> Result<Payloads, Refusal>
+        requires at { IsAt (size_of self.old.session) (timeline_of self.old.session) }
+        ensures at { OnOk result (IsAt (size_of self.new.session) (timeline_of self.new.session)) }
+        ensures size { size_of self.new.session ≡ size_of self.old.session }
+        ensures moved { OnOk result (MovedBy asked packet.now (size_of self.old.session) self.old.hart
+            (timeline_of self.old.session) (timeline_of self.new.session)) }
+    {
+        let mut out = Vec::new(self.alloc());
+        let answer = self.act(asked, packet, interrupt, &mut out)?;
+        out.push(answer)?;
+        Ok(out)
+    }
+
+    /// Whether packets are acknowledged.
+    pub fn acknowledges(&self) -> bool {
+        self.acknowledges
+    }
+
+    /// Whether the debugger has left.
+    pub fn is_over(&self) -> bool {
+        self.is_over
+    }
+
+    /// Where memory comes from.
+    pub(crate) fn alloc(&self) -> Global {
+        self.session.setting().alloc
+    }
+
+    /// A payload with that text.
+    pub(crate) fn said(&self, text: &[u8]) -> Result<Vec<u8>, Refusal>
+        ensures { IfOk result (λ v. v.items ≡ text.now) }
+    {
+        Ok(Vec::from_slice(self.alloc(), text)?)
+    }
+}

@@ -1,0 +1,18 @@
+//! GDB's Remote Serial Protocol over a debugged board: what is answered to each packet ("Debugging with GDB", appendix
+//! "GDB Remote Serial Protocol"). docs/DEBUGGING.md tells what of it there is.
+#![tactic(auto)]
+
+mod acts;
+mod answers;
+mod asked;
+mod looks;
+mod monitor;
+mod resumes;
+mod stops;
+mod talk;
+mod texts;
+mod wire;
+
+pub use answers::Payloads;
+pub use talk::Talk;
+pub use wire::reply;

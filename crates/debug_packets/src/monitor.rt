@@ -1,0 +1,140 @@
+//! The lines that `monitor` hands on.
+
+ghost use Rattle.std.specs.Prelude.{◌≡◌, codes, IfOk, IfSome, OnOk};
+ghost use Rattle.std.specs.Option.{option_map};
+ghost use Rattle.debug_timeline.specs.Ats.{IsAt};
+ghost use Rattle.debug_session.specs.Sessions.{size_of, timeline_of};
+ghost use Rattle.debug_packets.specs.Moved.{LineRan, MonitoredBy, TextSaid, hexed, just_one, line_in};
+ghost use Rattle.gdb_requests.specs.Fields.{behind_prefix};
+ghost use Rattle.script_lang.specs.Lines.{IsLineInRange};
+
+use crate::answers::Payloads;
+use crate::talk::Talk;
+use crate::texts::{answer_text, board_text, harts_text, tell};
+use board_model::{Refusal, Shape};
+use crew::Crew;
+use debug_session::Session;
+use gdb_requests::behind;
+use hex::FromHexError;
+use script_lang::{Line, parse_script};
+use std::alloc::Global;
+
+const HELP: &str = "\
+Any line of the script language is run, becomes part of the history, and says its report:
+  slot 1, tries 2 3, good, discard   durable commands of the console
+  cut 00, on resume, on fresh        power
+  cutat 3 00, failat 3               faults of the disk
+  wake, inspect, pending             and all others of docs/SCRIPT.md
+Beside them:
+  script    the history as a script, which sbibench runs to the same reports
+  harts     what each hart stands at
+  help      this text
+After a line that moves the board, `maintenance flush register-cache` (flushregs) shows it.
+";
+
+/// What is no line of the language is told.
+const NO_LINE: &str = "not a line of the script language: see monitor help\n";
+
+/// The line of a script that has just one.
+#[tactic(auto, using(crate::proofs::Lines::just_from))]
+fn just_one(lines: Vec<Line>) -> Option<Line>
+    ensures { result ≡ just_one lines.items }
+{
+    let mut lines = lines;
+    if 1 < lines.len() {
+        return None;
+    }
+    lines.pop()
+}
+
+/// The line that a text is on a board of that shape, where it is just one.
+fn line_of(alloc: Global, shape: &Shape, text: &[u8]) -> Result<Option<Line>, Refusal>
+    ensures line { IfOk result (λ line. line ≡ line_in shape.now text.now) }
+    ensures range { IfOk result (λ line. IfSome line (IsLineInRange shape.now)) }
+{
+    let head = board_text(alloc, shape)?;
+    let mut script = Vec::from_slice(alloc, head.as_bytes())?;
+    script.extend_from_slice(text)?;
+    match parse_script(alloc, &script) {
+        Ok(read) => {
+            if read.shape != *shape {
+                return Err(Refusal::BadShape);
+            }
+            Ok(just_one(read.lines))
+        }
+        Err(Refusal::Memory) => Err(Refusal::Memory),
+        Err(_) => Ok(None),
+    }
+}
+
+/// Runs the line that a text is, and tells its report.
+fn run_text<C: Crew>(session: &mut Session<'_, C>, text: &[u8]) -> Result<String, Refusal>
+    requires at { IsAt (size_of session.old) (timeline_of session.old) }
+    ensures at { OnOk result (IsAt (size_of session.new) (timeline_of session.new)) }
+    ensures size { size_of session.new ≡ size_of session.old }
+    ensures moved { OnOk result (LineRan (line_in (size_of session.old) text.now) (size_of session.old)
+        (timeline_of session.old) (timeline_of session.new)) }
+{
+    let alloc = session.setting().alloc;
+    match line_of(alloc, session.setting().shape, text)? {
+        Some(line) => {
+            let answer = session.line(line)?;
+            Ok(answer_text(alloc, &answer)?)
+        }
+        None => Ok(String::from_str(alloc, NO_LINE)?),
+    }
+}
+
+/// What `monitor` says: a word of the debugger's own, which changes nothing, or a line's report.
+fn monitored<C: Crew>(session: &mut Session<'_, C>, text: &[u8]) -> Result<String, Refusal>
+    requires at { IsAt (size_of session.old) (timeline_of session.old) }
+    ensures at { OnOk result (IsAt (size_of session.new) (timeline_of session.new)) }
+    ensures size { size_of session.new ≡ size_of session.old }
+    ensures moved { OnOk result (TextSaid text.now (size_of session.old)
+        (timeline_of session.old) (timeline_of session.new)) }
+{
+    if text.is_empty() || text == b"help".as_slice() {
+        return Ok(String::from_str(session.setting().alloc, HELP)?);
+    }
+    if text == b"script".as_slice() {
+        let mut script = session.script()?;
+        script.push('\n')?;
+        return Ok(script);
+    }
+    if text == b"harts".as_slice() {
+        return harts_text(session);
+    }
+    run_text(session, text)
+}
+
+/// The bytes that pairs of digits write.
+fn unhex(alloc: Global, word: &[u8]) -> Result<Option<Vec<u8>>, Refusal>
+    ensures { IfOk result (λ found. option_map (λ v. v.items) found ≡ hexed word.now) }
+{
+    match hex::decode(alloc, word) {
+        Ok(bytes) => Ok(Some(bytes)),
+        Err(FromHexError::OutOfMemory) => Err(Refusal::Memory),
+        Err(_) => Ok(None),
+    }
+}
+
+impl<'a, C: Crew> Talk<'a, C> {
+    /// `qRcmd`: the text goes to the console, and then comes `OK`.
+    pub(crate) fn monitor(&mut self, packet: &[u8], out: &mut Payloads) -> Result<Vec<u8>, Refusal>
+        requires at { IsAt (size_of self.old.session) (timeline_of self.old.session) }
+        ensures at { OnOk result (IsAt (size_of self.new.session) (timeline_of self.new.session)) }
+        ensures size { size_of self.new.session ≡ size_of self.old.session }
+        ensures moved { OnOk result (MonitoredBy (behind_prefix (codes "qRcmd,") packet.now) (size_of self.old.session)
+            (timeline_of self.old.session) (timeline_of self.new.session)) }
+    {
+        let Some(word) = behind(packet, b"qRcmd,") else {
+            return self.said(b"");
+        };
+        let Some(line) = unhex(self.alloc(), word)? else {
+            return self.said(b"E01");
+        };
+        let text = monitored(&mut self.session, &line)?;
+        tell(self.alloc(), text.as_bytes(), out)?;
+        self.said(b"OK")
+    }
+}

@@ -1,0 +1,86 @@
+//! What a `vCont` asks of the harts of a board.
+
+ghost use Rattle.std.specs.Prelude.{◌≡◌, ◌<◌, map, codes, IfOk, IfSome};
+ghost use Rattle.debug_packets.specs.Resumes.{goers_by, is_going, IsAskedBy, IsAskedIn};
+ghost use Rattle.gdb_requests.specs.Fields.{behind_prefix};
+
+use crate::asked::Asked;
+use board_model::{Refusal, Shape};
+use gdb_requests::{Action, action_for, are_known, behind, parts};
+use std::alloc::Global;
+
+/// The step that a hart is to make, if it is to make one.
+fn step_of(shape: &Shape, words: &[&[u8]], number: u64) -> Option<Asked>
+    requires { number < 8 }
+    ensures { IfSome result (IsAskedIn shape.now (map (λ w. w.now) words.now)) }
+{
+    let hart = shape.hart(number)?;
+    match action_for(words, number + 1) {
+        None | Some(Action::Go) => None,
+        Some(Action::Step) => Some(Asked::Step(hart)),
+        Some(Action::StepWithin(first, end)) => Some(Asked::StepWithin(hart, first, end)),
+    }
+}
+
+/// The step of the first hart that is to make one.
+fn first_step(shape: &Shape, words: &[&[u8]]) -> Option<Asked>
+    ensures { IfSome result (IsAskedIn shape.now (map (λ w. w.now) words.now)) }
+{
+    for number in 0..u64::from(shape.harts()) {
+        if let Some(asked) = step_of(shape, words, number) {
+            return Some(asked);
+        }
+    }
+    None
+}
+
+/// Whether a hart is to go on.
+fn is_going(words: &[&[u8]], number: u64) -> bool
+    requires { number < 8 }
+    ensures { result ≡ is_going number (map (λ w. w.now) words.now) }
+{
+    match action_for(words, number + 1) {
+        Some(Action::Go) => true,
+        _ => false,
+    }
+}
+
+/// The harts that are to go on, of all eight that a board may have.
+fn goers(words: &[&[u8]]) -> [bool; 8]
+    ensures { result ≡ goers_by (map (λ w. w.now) words.now) }
+{
+    [
+        is_going(words, 0),
+        is_going(words, 1),
+        is_going(words, 2),
+        is_going(words, 3),
+        is_going(words, 4),
+        is_going(words, 5),
+        is_going(words, 6),
+        is_going(words, 7),
+    ]
+}
+
+/// What these words ask: the step of the first hart that is to make one, or else that those go on that are to.
+fn asked_in(shape: &Shape, words: &[&[u8]]) -> Asked
+    ensures { IsAskedIn shape.now (map (λ w. w.now) words.now) result }
+{
+    if !are_known(words) {
+        return Asked::Nothing;
+    }
+    match first_step(shape, words) {
+        Some(asked) => asked,
+        None => Asked::Go(goers(words)),
+    }
+}
+
+/// What the packet of a `vCont` asks.
+pub(crate) fn asked_by(alloc: Global, shape: &Shape, packet: &[u8]) -> Result<Asked, Refusal>
+    ensures { IfOk result (IsAskedBy shape.now (behind_prefix (codes "vCont;") packet.now)) }
+{
+    let Some(actions) = behind(packet, b"vCont;") else {
+        return Ok(Asked::Nothing);
+    };
+    let words = parts(alloc, actions)?;
+    Ok(asked_in(shape, &words))
+}

@@ -1,0 +1,69 @@
+//! Why nothing runs, as a packet.
+
+ghost use Rattle.std.specs.Prelude.{◌≡◌, ◌++◌, IfOk, OnOk};
+ghost use Rattle.debug_packets.specs.Stops.{reason_text, signal_text, stop_text, watch_text};
+
+use debug_session::{Halt, Stop};
+use gdb_packets::digit;
+use std::alloc::{AllocError, Global};
+
+/// The number of GDB's signal that says why nothing runs, as two digits: SIGINT, SIGPWR where the board is off or
+/// dozes, none where nothing was to be done or the turns of a command were made, and else SIGTRAP.
+fn signal_text(halt: Halt) -> &'static [u8; 2]
+    ensures { result.now ≡ signal_text halt }
+{
+    match halt {
+        Halt::Interrupted => b"02",
+        Halt::Ended | Halt::Off => b"20",
+        Halt::Idle | Halt::Spent => b"00",
+        Halt::Stepped | Halt::Point | Halt::Watched(_) | Halt::Begin => b"05",
+    }
+}
+
+/// Writes the reason, where GDB has a word for it. `swbreak` stands only where GDB offered to take it: else it answers
+/// "Unexpected swbreak stop reason".
+fn put_reason(
+    alloc: Global,
+    out: &mut Vec<u8>,
+    halt: Halt,
+    takes_swbreak: bool,
+) -> Result<(), AllocError>
+    ensures { OnOk result (out.new.items ≡ out.old.items ++ reason_text halt takes_swbreak) }
+{
+    match halt {
+        Halt::Point if takes_swbreak => out.extend_from_slice(b"swbreak:;"),
+        Halt::Watched(address) => put_watch(alloc, out, address),
+        Halt::Begin => out.extend_from_slice(b"replaylog:begin;"),
+        _ => Ok(()),
+    }
+}
+
+/// Writes what was watched.
+fn put_watch(alloc: Global, out: &mut Vec<u8>, address: u64) -> Result<(), AllocError>
+    ensures { OnOk result (out.new.items ≡ out.old.items ++ watch_text address) }
+{
+    let text = format!(in alloc; "watch:{address:x};")?;
+    out.extend_from_slice(text.as_bytes())
+}
+
+/// The stop reply ("Stop Reply Packets").
+pub fn stop_text(alloc: Global, stop: Stop, takes_swbreak: bool) -> Result<Vec<u8>, AllocError>
+    ensures { IfOk result (λ v. v.items ≡ stop_text stop takes_swbreak) }
+{
+    let mut out = Vec::from_slice(alloc, b"T")?;
+    out.extend_from_slice(signal_text(stop.halt))?;
+    out.extend_from_slice(b"thread:")?;
+    out.push(digit(stop.hart.number() as u8 + 1))?;
+    out.push(b';')?;
+    put_reason(alloc, &mut out, stop.halt, takes_swbreak)?;
+    Ok(out)
+}
+
+/// What the console says of a stop that GDB has no words for.
+pub fn told_of(halt: Halt) -> &'static str {
+    match halt {
+        Halt::Idle => "every hart that may run has nothing to do\n",
+        Halt::Spent => "the turns of one command are made: continue goes on\n",
+        _ => "",
+    }
+}

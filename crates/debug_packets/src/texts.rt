@@ -1,0 +1,117 @@
+//! Texts of a session: an answer, its harts.
+
+ghost use Rattle.std.specs.Prelude.{◌≡◌, ◌<◌, string_bytes, IfOk};
+ghost use Rattle.debug_session.specs.Sessions.{bench_of, size_of};
+ghost use Rattle.bench_report.specs.Reports.{answer_text};
+ghost use Rattle.bench_report.specs.Texts.{found_line};
+ghost use Rattle.debug_packets.specs.Texts.{board_line, thread_line, thread_lines, threads_object};
+
+use crate::answers::Payloads;
+use bench_report::Answer;
+use board_console::StateText;
+use board_model::{Durable, HartId, Refusal, Shape};
+use crew::Crew;
+use debug_session::Session;
+use gdb_replies::put_hex;
+use std::alloc::{AllocError, Global};
+
+/// The most bytes of a text for the console in one packet.
+const CONSOLE_BYTES: usize = 4096;
+
+/// Text for the console, in packets that are short enough.
+pub fn tell(alloc: Global, text: &[u8], out: &mut Payloads) -> Result<(), Refusal> {
+    for piece in text.chunks(CONSOLE_BYTES) {
+        let mut packet = Vec::from_slice(alloc, b"O")?;
+        put_hex(&mut packet, piece)?;
+        out.push(packet)?;
+    }
+    Ok(())
+}
+
+/// The line of a report that says what an open found, where there is one.
+fn found_text(alloc: Global, found: &Option<Durable>) -> Result<String, AllocError>
+    ensures { IfOk result (λ text. string_bytes text ≡ found_line found.now) }
+{
+    match *found {
+        None => Ok(String::new(alloc)),
+        Some(durable) => {
+            let state = StateText(durable);
+            format!(in alloc; "found {state}\n")
+        }
+    }
+}
+
+/// The lines of a report that a line of a script makes.
+pub fn answer_text(alloc: Global, answer: &Answer) -> Result<String, AllocError>
+    ensures { IfOk result (λ text. string_bytes text ≡ answer_text answer.now) }
+{
+    let found = found_text(alloc, &answer.found)?;
+    let line = answer.line;
+    format!(in alloc; "{found}{line}\n")
+}
+
+/// The board line of a script.
+pub fn board_text(alloc: Global, shape: &Shape) -> Result<String, AllocError>
+    ensures { IfOk result (λ text. string_bytes text ≡ board_line shape.now) }
+{
+    let harts = shape.harts();
+    let pages = shape.pages();
+    let lanes = shape.lanes();
+    format!(in alloc; "board {harts} {pages} {lanes}\n")
+}
+
+/// Where each hart stands.
+pub fn harts_text<C: Crew>(session: &Session<'_, C>) -> Result<String, Refusal> {
+    let alloc = session.setting().alloc;
+    let shape = session.setting().shape;
+    let mut text = String::new(alloc);
+    for number in 0..u64::from(shape.harts()) {
+        let Some(hart) = shape.hart(number) else {
+            continue;
+        };
+        let line = match session.bench().pc(hart) {
+            Some(pc) => format!(in alloc; "hart {number} pc 0x{pc:x}\n")?,
+            None => format!(in alloc; "hart {number} off\n")?,
+        };
+        text.push_str(line.as_str())?;
+    }
+    Ok(text)
+}
+
+/// A hart as a thread, with what was last said of a turn of it in this life.
+fn thread_line<C: Crew>(session: &Session<'_, C>, hart: HartId) -> Result<String, Refusal>
+    ensures { IfOk result (λ text. string_bytes text ≡ thread_line (bench_of session.now) hart) }
+{
+    let number = hart.number();
+    let thread = number + 1;
+    let state = session.state_text(hart);
+    Ok(format!(in session.setting().alloc;
+        "<thread id=\"{thread:x}\" core=\"{number}\" name=\"hart {number}\">{state}</thread>\n"
+    )?)
+}
+
+/// All harts as threads.
+fn thread_lines<C: Crew>(session: &Session<'_, C>) -> Result<String, Refusal>
+    ensures { IfOk result (λ text. string_bytes text ≡ thread_lines (size_of session.now).harts (bench_of session.now)) }
+{
+    let shape = session.setting().shape;
+    let mut text = String::new(session.setting().alloc);
+    for number in 0..u64::from(shape.harts()) {
+        let Some(hart) = shape.hart(number) else {
+            return Err(Refusal::BadShape);
+        };
+        let line = thread_line(session, hart)?;
+        text.push_str(line.as_str())?;
+    }
+    Ok(text)
+}
+
+/// The harts as threads, as an object of `qXfer:threads:read`.
+pub fn threads_object<C: Crew>(session: &Session<'_, C>) -> Result<String, Refusal>
+    ensures { IfOk result (λ text. string_bytes text ≡ threads_object (size_of session.now) (bench_of session.now)) }
+{
+    let lines = thread_lines(session)?;
+    Ok(format!(in session.setting().alloc;
+        "<?xml version=\"1.0\"?>\n<threads>\n{lines}</threads>\n"
+    )?)
+}

@@ -1,0 +1,4 @@
+pub mod Wents
+pub mod Scripts
+pub mod Places
+pub mod Firsts

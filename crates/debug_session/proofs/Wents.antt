@@ -1,0 +1,137 @@
+-- Turns that became part of a history, one command after another.
+use Rattle.std.proofs.Common.{◌≡◌, ◌≤◌, ◌+◌, ◌-◌, ◌⊎◌, inl, inr, ℕ, Bool, true, false, List, [], ◌∷◌, ◌++◌, Option, None, length, refl, sym, ap, ◌∙◌, subst, append_assoc, arith}
+use Rattle.std.specs.Prelude.{All, replicate}
+use Rattle.std.proofs.lemmas.List.{append-nil, length-append, length-replicate}
+use Rattle.std.proofs.lemmas.List.Elements.{All-append, All-cons, All-head, All-nil, All-replicate, All-tail}
+use Rattle.board_model.specs.Shapes.{Size}
+use Rattle.script_lang.specs.declared.line.Line.{Line}
+use Rattle.script_lang.specs.declared.line.Line.TheVariants as lines
+use Rattle.bench_history.specs.Pasts.{moments}
+use Rattle.bench_rows.specs.declared.rows.Row.{Row}
+use Rattle.machine.specs.Machine.{Machine}
+use Rattle.bench_rows.specs.declared.rows.Row.TheVariants as rows
+use Rattle.bench_rows.specs.Rows.{IsWithin, is_off, made_in}
+use Rattle.debug_timeline.specs.declared.timeline.Timeline.{Timeline}
+use Rattle.bench_report.specs.Bench.{Bench}
+use Rattle.debug_timeline.specs.Passes.{GoesTo, Passes}
+use Rattle.debug_timeline.specs.Ats.{IsAt, MadeTurns}
+use Rattle.debug_session.specs.declared.halts.Halt.{Halt}
+use Rattle.debug_session.specs.Firsts.{Stretched}
+use Rattle.debug_session.specs.Steps.{IsStep, IsTurnOf, Went}
+use Rattle.debug_timeline.specs.Lives.{HasHalted, pc_in}
+
+-- none
+pub went_none : (May : ℕ → Type 0) (size : Size) (t : Timeline) → IsAt size t → Went May 0 size t t
+went_none May size t at = record {
+  at = at;
+  begins = refl;
+  turns = [];
+  grew = sym (append-nil (moments t.history));
+  only = All-nil (IsTurnOf May);
+  as_many = refl;
+}
+
+-- those of one row
+pub went_row : (size : Size) (h n : ℕ) (points : List ℕ) (row : Row) (rests : Bool) (old new : Timeline) → IsAt size new → new.begins ≡ old.begins → MadeTurns size h points row rests old new → n ≡ made_in row → Went (λ x. x ≡ h) n size old new
+went_row size h n points row rests old new at begins made e = record {
+  at = at;
+  begins = begins;
+  turns = replicate (made_in row) (lines.Turn h 1);
+  grew = made.grew;
+  only = All-replicate (IsTurnOf (λ x. x ≡ h)) (made_in row) (lines.Turn h 1) (refl, refl);
+  as_many = length-replicate (made_in row) (lines.Turn h 1) ∙ sym e;
+}
+
+-- by harts that may run
+may_turn : (A B : ℕ → Type 0) → ((h : ℕ) → A h → B h) → (line : Line) → IsTurnOf A line → IsTurnOf B line
+may_turn A B may (lines.Turn h n) is = (is.0, may h is.1)
+may_turn A B may (lines.Payload slot bytes) is = absurd is
+may_turn A B may lines.Format is = absurd is
+may_turn A B may (lines.On mode) is = absurd is
+may_turn A B may (lines.Command c) is = absurd is
+may_turn A B may (lines.Call h words) is = absurd is
+may_turn A B may (lines.Show look) is = absurd is
+may_turn A B may (lines.Arm arming) is = absurd is
+may_turn A B may (lines.Cut fill) is = absurd is
+may_turn A B may (lines.Poke k offset bytes) is = absurd is
+may_turn A B may lines.Inspect is = absurd is
+may_turn A B may lines.Wake is = absurd is
+
+may_all : (A B : ℕ → Type 0) → ((h : ℕ) → A h → B h) → (xs : List Line) → All (IsTurnOf A) xs → All (IsTurnOf B) xs
+may_all A B may [] all = All-nil (IsTurnOf B)
+may_all A B may (x ∷ xs) all = All-cons (IsTurnOf B) x xs (may_turn A B may x (All-head (IsTurnOf A) x xs all)) (may_all A B may xs (All-tail (IsTurnOf A) x xs all))
+
+-- and then others
+pub went_more : (May Next : ℕ → Type 0) (n k : ℕ) (size : Size) (first mid last : Timeline) → ((h : ℕ) → Next h → May h) → Went May n size first mid → Went Next k size mid last → Went May (n + k) size first last
+went_more May Next n k size first mid last may one two = record {
+  at = two.at;
+  begins = two.begins ∙ one.begins;
+  turns = one.turns ++ two.turns;
+  grew = two.grew ∙ ap (λ (xs : List Line). xs ++ two.turns) one.grew ∙ append_assoc (moments first.history) one.turns two.turns;
+  only = All-append (IsTurnOf May) one.turns two.turns one.only (may_all Next May may two.turns two.only);
+  as_many = length-append one.turns two.turns ∙ ap (λ (x : ℕ). x + length two.turns) one.as_many ∙ ap (λ (x : ℕ). n + x) two.as_many;
+}
+
+-- ---- turns of one hart
+-- why none was made
+pub off_why : (h most : ℕ) (points : List ℕ) (row : Row) (machine : Option Machine) → is_off row ≡ true → (made_in row ≡ most) ⊎ HasHalted h points row machine → (most ≡ 0) ⊎ (pc_in h machine ≡ None)
+off_why h most points rows.Off machine off (inl e) = inl (sym e)
+off_why h most points rows.Off machine off (inr (inl (made, why))) = absurd (let never : ⊥ = cc in never)
+off_why h most points rows.Off machine off (inr (inr none)) = inr none
+off_why h most points (rows.Made n word) machine off why = absurd (let never : ⊥ = cc in never)
+off_why h most points (rows.Lost n) machine off why = absurd (let never : ⊥ = cc in never)
+
+rests_or : (rests : Bool) (P : Type 0) → (rests ≡ false → (◌≡◌ {A = ℕ} 1 0) ⊎ P) → (rests ≡ true) ⊎ P
+rests_or true P why = inl refl
+rests_or false P why = elim (why refl) [ inl never ↦ absurd (omega (arith, never)) | inr p ↦ inr p ]
+
+-- one turn comes to any address
+one_turn : (size : Size) (h : ℕ) (points : List ℕ) (row : Row) (b new : Bench) → IsWithin 1 row → GoesTo size h points row b new → GoesTo size h [] row b new
+one_turn size h points rows.Off b new within goes = goes
+one_turn size h points (rows.Made n word) b new within (mid, passed, last) =
+    let none : n - 1 ≡ 0 = omega (arith, within) in
+    let P : ℕ → Type 0 = λ k. Passes size h points k b mid in
+    let Q : ℕ → Type 0 = λ k. Passes size h [] k b mid in
+    (mid, subst Q (sym none) (subst P none passed), last)
+one_turn size h points (rows.Lost n) b new within (mid, passed, last) =
+    let none : n - 1 ≡ 0 = omega (arith, within) in
+    let P : ℕ → Type 0 = λ k. Passes size h points k b mid in
+    let Q : ℕ → Type 0 = λ k. Passes size h [] k b mid in
+    (mid, subst Q (sym none) (subst P none passed), last)
+
+-- one turn, as a step
+pub step_of : (size : Size) (h made : ℕ) (points : List ℕ) (rests : Bool) (halt : Option Halt) (old new : Timeline) → Stretched size h 1 points made rests halt old new
+    → IsStep size h old new
+step_of size h made points rests halt old new (row, turns, e, within, why, is) = (row, rests, within, record { moves = λ b left. (let did = turns.moves b left in (did.0, did.1, did.2, did.3, one_turn size h points row b did.0 within did.4)); grew = turns.grew; busy = turns.busy }, λ off. rests_or rests _ (why off))
+
+-- so many turns
+pub went_of : (size : Size) (h most made : ℕ) (points : List ℕ) (rests : Bool) (halt : Option Halt) (old new : Timeline) → IsAt size new → new.begins ≡ old.begins → Stretched size h most points made rests halt old new
+    → Went (λ x. x ≡ h) made size old new
+went_of size h most made points rests halt old new at begins (row, turns, e, within, why, is) = went_row size h made points row rests old new at begins turns e
+
+pub few_of : (size : Size) (h most made : ℕ) (points : List ℕ) (rests : Bool) (halt : Option Halt) (old new : Timeline) → Stretched size h most points made rests halt old new
+    → made ≤ most
+few_of size h most made points rests halt old new (row, turns, e, within, why, is) = few row e within
+  where
+    few : (r : Row) → made ≡ made_in r → IsWithin most r → made ≤ most
+    few rows.Off e within = omega (arith, e)
+    few (rows.Made n word) e within = omega (arith, e, within)
+    few (rows.Lost n) e within = omega (arith, e, within)
+
+-- one turn more at most
+pub step_more : (h done made : ℕ) (size : Size) (first mid last : Timeline) → (n : ℕ) × (n ≤ done) × Went (λ x. x ≡ h) n size first mid → made ≤ 1 → Went (λ x. x ≡ h) made size mid last
+    → (n : ℕ) × (n ≤ done + 1) × Went (λ x. x ≡ h) n size first last
+step_more h done made size first mid last (n, few, one) more two =
+    (n + made, omega (arith, few, more), went_more (λ x. x ≡ h) (λ x. x ≡ h) n made size first mid last (λ x e. e) one two)
+
+pub few_went : (May : ℕ → Type 0) (k most : ℕ) (size : Size) (first last : Timeline) → k ≤ most → (n : ℕ) × (n ≤ k) × Went May n size first last → (n : ℕ) × (n ≤ most) × Went May n size first last
+few_went May k most size first last less (n, few, went) = (n, omega (arith, less, few), went)
+
+-- ---- parts of a round
+pub left_went : (May : ℕ → Type 0) (left whole : ℕ) (size : Size) (first last : Timeline) → (n : ℕ) × (left + n ≡ whole) × Went May n size first last → (n : ℕ) × (n ≤ whole) × Went May n size first last
+left_went May left whole size first last (n, e, went) = (n, omega (arith, e), went)
+
+pub part_more : (May : ℕ → Type 0) (h was before left whole : ℕ) (size : Size) (first mid last : Timeline) → May h → before ≡ was → (n : ℕ) × (was + n ≡ whole) × Went May n size first mid
+    → (k : ℕ) × (left + k ≡ before) × Went (λ x. x ≡ h) k size mid last → (n : ℕ) × (left + n ≡ whole) × Went May n size first last
+part_more May h was before left whole size first mid last may same (n, e, one) (k, f, two) =
+    (n + k, omega (arith, same, e, f), went_more May (λ x. x ≡ h) n k size first mid last (λ x is. subst May (sym is) may) one two)

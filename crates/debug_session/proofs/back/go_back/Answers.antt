@@ -1,0 +1,7 @@
+use Rattle.debug_timeline.proofs.Histories.{place_hart}
+use Rattle.debug_session.proofs.back.go_back.Goals as goal
+
+pub returns-in_ok-go_back-in-Some-clause-there : goal.returns-in_ok-go_back-in-Some-clause-there
+returns-in_ok-go_back-in-Some-clause-there g c =
+    let place = c.in-Some.place in
+    place_hart c.args.setting.now.shape.now place.stop.hart place.line place.turns c.args.timeline.now.history (rw c.in-Some.is at c.in_ok-place.ensures.place) c.requires.at.ranges

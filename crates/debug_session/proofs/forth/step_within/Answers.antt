@@ -1,0 +1,49 @@
+use Rattle.std.proofs.Common.{None, Some, refl, ◌≡◌, ◌≤◌, ◌+◌, arith}
+use Rattle.debug_session.specs.declared.halts.Halt.TheVariants as halts
+use Rattle.debug_session.proofs.Firsts.{halt_then, no_halt, other_halt}
+use Rattle.debug_session.proofs.Wents.{few_went, step_more, went_none}
+use Rattle.debug_session.proofs.forth.step_within.Goals as goal
+
+pub loop-done-init : goal.loop-done-init
+loop-done-init g c = record { went = (0, omega arith, went_none (λ h. h ≡ c.args.hart) c.args.setting.now.shape.now c.args.timeline.now c.requires.at); first = no_halt c.args.setting.now.shape.now c.args.stops.now c.args.timeline.now; few = omega arith }
+
+pub returns-in-Some-clause-went : goal.returns-in-Some-clause-went
+returns-in-Some-clause-went g c =
+    let size = c.args.setting.now.shape.now in
+    let part = c.in_ok-part in
+    let less : c.loop-done.done + 1 ≤ c.args.within.most = omega (arith, c.loop-done-test.true) in
+    few_went (λ h. h ≡ c.args.hart) (c.loop-done.done + 1) c.args.within.most size c.args.timeline.now c.watched_turn.new.timeline less (step_more c.args.hart c.loop-done.done part.part.made size c.args.timeline.now c.loop-done.timeline c.watched_turn.new.timeline c.loop-done.invariant.went part.ensures.one part.ensures.went)
+
+pub returns-then-part-clause-went : goal.returns-then-part-clause-went
+returns-then-part-clause-went g c =
+    let size = c.args.setting.now.shape.now in
+    let part = c.in_ok-part in
+    let less : c.loop-done.done + 1 ≤ c.args.within.most = omega (arith, c.loop-done-test.true) in
+    few_went (λ h. h ≡ c.args.hart) (c.loop-done.done + 1) c.args.within.most size c.args.timeline.now c.watched_turn.new.timeline less (step_more c.args.hart c.loop-done.done part.part.made size c.args.timeline.now c.loop-done.timeline c.watched_turn.new.timeline c.loop-done.invariant.went part.ensures.one part.ensures.went)
+
+pub returns-then-swap-clause-went : goal.returns-then-swap-clause-went
+returns-then-swap-clause-went g c =
+    let size = c.args.setting.now.shape.now in
+    let part = c.in_ok-part in
+    let less : c.loop-done.done + 1 ≤ c.args.within.most = omega (arith, c.loop-done-test.true) in
+    few_went (λ h. h ≡ c.args.hart) (c.loop-done.done + 1) c.args.within.most size c.args.timeline.now c.watched_turn.new.timeline less (step_more c.args.hart c.loop-done.done part.part.made size c.args.timeline.now c.loop-done.timeline c.watched_turn.new.timeline c.loop-done.invariant.went part.ensures.one part.ensures.went)
+
+pub loop-done-preserved : goal.loop-done-preserved
+loop-done-preserved g c =
+    let part = c.in_ok-part in
+    record { went = step_more c.args.hart c.loop-done.done part.part.made c.args.setting.now.shape.now c.args.timeline.now c.loop-done.timeline c.watched_turn.new.timeline c.loop-done.invariant.went part.ensures.one part.ensures.went; first = halt_then c.args.setting.now.shape.now c.args.stops.now c.in_ok-part.part.halt None c.args.timeline.now c.loop-done.timeline c.watched_turn.new.timeline c.in_default.is c.loop-done.invariant.first c.in_ok-part.ensures.first; few = omega (arith, c.loop-done-test.true) }
+
+pub returns-in-Some-clause-first : goal.returns-in-Some-clause-first
+returns-in-Some-clause-first g c = halt_then c.args.setting.now.shape.now c.args.stops.now c.in_ok-part.part.halt (Some c.in-Some.halt) c.args.timeline.now c.loop-done.timeline c.watched_turn.new.timeline c.in-Some.is c.loop-done.invariant.first c.in_ok-part.ensures.first
+
+pub returns-then-part-clause-first : goal.returns-then-part-clause-first
+returns-then-part-clause-first g c = other_halt c.args.setting.now.shape.now c.args.stops.now halts.Stepped c.args.timeline.now c.watched_turn.new.timeline refl (halt_then c.args.setting.now.shape.now c.args.stops.now c.in_ok-part.part.halt None c.args.timeline.now c.loop-done.timeline c.watched_turn.new.timeline c.in_default.is c.loop-done.invariant.first c.in_ok-part.ensures.first)
+
+pub returns-then-swap-clause-first : goal.returns-then-swap-clause-first
+returns-then-swap-clause-first g c = other_halt c.args.setting.now.shape.now c.args.stops.now halts.Interrupted c.args.timeline.now c.watched_turn.new.timeline refl (halt_then c.args.setting.now.shape.now c.args.stops.now c.in_ok-part.part.halt None c.args.timeline.now c.loop-done.timeline c.watched_turn.new.timeline c.in_default.is c.loop-done.invariant.first c.in_ok-part.ensures.first)
+
+pub returns-clause-went : goal.returns-clause-went
+returns-clause-went g c = few_went (λ h. h ≡ c.args.hart) c.loop-done.done c.args.within.most c.args.setting.now.shape.now c.args.timeline.now c.loop-done.timeline c.loop-done.invariant.few c.loop-done.invariant.went
+
+pub returns-clause-first : goal.returns-clause-first
+returns-clause-first g c = other_halt c.args.setting.now.shape.now c.args.stops.now halts.Stepped c.args.timeline.now c.loop-done.timeline refl c.loop-done.invariant.first

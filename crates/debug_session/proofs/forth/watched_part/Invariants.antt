@@ -1,0 +1,14 @@
+use Rattle.std.proofs.Common.{None, ◌≡◌, ◌≤◌, ◌-◌}
+use Rattle.debug_session.specs.Firsts.{ToHalt}
+use Rattle.debug_session.specs.Steps.{Went}
+use Rattle.debug_session.proofs.forth.watched_part.Given as goal
+
+abbrev pub invariant-loop-sum : goal.invariant-loop-sum
+invariant-loop-sum g l = record {
+  went : Went (λ h. h ≡ l.hart) l.sum l.setting.shape.now l.fn.timeline l.timeline;
+  first : ToHalt l.setting.shape.now l.stops None l.fn.timeline l.timeline;
+  few : l.sum ≤ l.most;
+}
+
+abbrev pub decreases-loop-sum : goal.decreases-loop-sum
+decreases-loop-sum g l = l.most - l.sum

@@ -1,0 +1,135 @@
+-- Running forward ends at the first halt.
+use Rattle.std.specs.Prelude.{◌≡◌, ◌⊎◌, ℕ, Bool, true, false, List, [], ◌∷◌, ◌++◌, Option, Some, None, map, if◌then◌else◌}
+use Rattle.std.specs.List.{flat_map}
+use Rattle.board_model.specs.Shapes.{Size}
+use Rattle.machine.specs.Machine.{Machine}
+use Rattle.sbi.specs.declared.words.Word.{Word}
+use Rattle.sbi.specs.declared.words.Word.TheVariants as words
+use Rattle.sbi_calls.specs.declared.words.Did.{Did}
+use Rattle.sbi_calls.specs.declared.words.Did.TheVariants as dids
+use Rattle.script_lang.specs.declared.line.Line.{Line}
+use Rattle.script_lang.specs.declared.line.Line.TheVariants as lines
+use Rattle.bench_history.specs.Pasts.{moments}
+use Rattle.bench_report.specs.Bench.{Bench}
+use Rattle.bench_rows.specs.declared.rows.Row.{Row}
+use Rattle.bench_rows.specs.declared.rows.Row.TheVariants as rows
+use Rattle.bench_rows.specs.Rows.{IsWithin, RowMoves, is_off, made_in}
+use Rattle.debug_timeline.specs.declared.timeline.Timeline.{Timeline}
+use Rattle.debug_timeline.specs.Ats.{IsLeft, MadeTurns}
+use Rattle.debug_timeline.specs.Lives.{machine_of, memory_in, pc_in, stands_in}
+use Rattle.debug_timeline.specs.Passes.{machine_left}
+use Rattle.debug_session.specs.declared.halts.Halt.{Halt}
+use Rattle.debug_session.specs.declared.halts.Halt.TheVariants as halts
+use Rattle.debug_session.specs.declared.stops.Stops.{Stops}
+use Rattle.debug_session.specs.declared.stops.Watch.{Watch}
+
+-- ---- what is watched
+abbrev pub bytes_seen : Option (List ℕ) → List ℕ
+bytes_seen None = []
+bytes_seen (Some bytes) = bytes
+
+abbrev pub seen_by : Option Machine → Watch → List ℕ
+seen_by m w = bytes_seen (memory_in w.address w.count m)
+
+-- the bytes that are watched, one after another, as far as the board has them
+abbrev pub watched_in : List Watch → Option Machine → List ℕ
+watched_in watches m = flat_map (seen_by m) watches
+
+-- ---- a turn behind which nothing halts
+abbrev pub is_dozing : Did → Bool
+is_dozing dids.Dozing = true
+is_dozing did = false
+
+-- the board dozes, or its life is over
+abbrev pub halts_all : Word → Bool
+halts_all (words.Goes did) = is_dozing did
+halts_all (words.Over end) = true
+
+abbrev pub ends_all : Row → Bool
+ends_all rows.Off = false
+ends_all (rows.Made n word) = halts_all word
+ends_all (rows.Lost n) = true
+
+-- hart h stands at a breakpoint
+abbrev pub is_at_point : Stops → ℕ → Bench → Bool
+is_at_point stops h b = stands_in stops.points.items (pc_in h (machine_left b.power))
+
+-- what is watched is as it was
+abbrev pub KeepsWatched : Stops → Bench → Bench → Type 0
+KeepsWatched stops b new =
+    watched_in stops.watches.items (machine_left new.power) ≡ watched_in stops.watches.items (machine_left b.power)
+
+-- A turn of hart h: the life goes on, the hart stands at no breakpoint, and what is watched is as it was.
+abbrev pub PassesBy : Size → Stops → ℕ → Bench → Bench → Type 0
+PassesBy size stops h b new =
+    (word : Word) × RowMoves size h (rows.Made 1 word) b new × (halts_all word ≡ false)
+    × (is_at_point stops h new ≡ false) × KeepsWatched stops b new
+
+-- such turns, each of the hart that stands in the list
+abbrev pub PassAll : Size → Stops → List ℕ → Bench → Bench → Type 0
+PassAll size stops [] b new = new ≡ b
+PassAll size stops (h ∷ more) b new = (mid : Bench) × PassesBy size stops h b mid × PassAll size stops more mid new
+
+-- ---- why all halts
+-- a turn may be why
+abbrev pub is_of_turn : Halt → Bool
+is_of_turn halts.Ended = true
+is_of_turn halts.Point = true
+is_of_turn (halts.Watched address) = true
+is_of_turn halt = false
+
+abbrev pub IsWhy : Halt → Stops → ℕ → Row → Bench → Bench → Type 0
+IsWhy halts.Ended stops h row b new = ends_all row ≡ true
+IsWhy halts.Point stops h row b new = is_at_point stops h new ≡ true
+IsWhy (halts.Watched address) stops h row b new = KeepsWatched stops b new → ⊥
+IsWhy halt stops h row b new = ⊥
+
+-- Turns of these harts, one after another. Where a turn is why all halts, it is the last; behind each other nothing halts.
+abbrev pub RanBy : Bool → Size → Stops → Halt → List ℕ → Bench → Bench → Type 0
+RanBy false size stops halt harts b new = PassAll size stops harts b new
+RanBy true size stops halt harts b new =
+    (before : List ℕ) × (h : ℕ) × (mid : Bench) × (row : Row) × (harts ≡ before ++ h ∷ []) × PassAll size stops before b mid
+    × (made_in row ≡ 1) × RowMoves size h row mid new × IsWhy halt stops h row mid new
+
+abbrev pub RanTo : Size → Stops → Option Halt → List ℕ → Bench → Bench → Type 0
+RanTo size stops None harts b new = PassAll size stops harts b new
+RanTo size stops (Some halt) harts b new = RanBy (is_of_turn halt) size stops halt harts b new
+
+abbrev pub one_turn : ℕ → Line
+one_turn h = lines.Turn h 1
+
+-- Turns became part of the history, up to the first halt.
+pub record ToHalt (size : Size) (stops : Stops) (halt : Option Halt) (old new : Timeline) : Type 0 where
+  pub harts : List ℕ
+  pub grew : moments new.history ≡ moments old.history ++ map one_turn harts
+  pub ran : (b : Bench) → IsLeft size old b → (after : Bench) × RanTo size stops halt harts b after × IsLeft size new after
+
+-- ---- how the code finds it
+-- behind a row, by where the hart stands then
+abbrev pub halt_after : Row → Bool → Bool → Option Halt
+halt_after rows.Off rests stands = if rests then None else Some halts.Off
+halt_after (rows.Lost n) rests stands = Some halts.Ended
+halt_after (rows.Made n word) rests stands =
+    if halts_all word then Some halts.Ended else (if stands then Some halts.Point else None)
+
+-- and where what is watched has changed, by the first address of it
+abbrev pub watch_or : Option Halt → Option ℕ → Option Halt
+watch_or halt None = halt
+watch_or halt (Some address) = Some (halts.Watched address)
+
+abbrev pub halt_seen : Option Halt → Option ℕ → Option Halt
+halt_seen None changed = watch_or None changed
+halt_seen (Some halts.Point) changed = watch_or (Some halts.Point) changed
+halt_seen (Some halt) changed = Some halt
+
+-- by what is told of a change: none, so it is the same
+abbrev pub Tells : Option ℕ → Type 0 → Type 0
+Tells None same = same
+Tells (Some address) same = same → ⊥
+
+-- a row of a hart to the first that halts there
+abbrev pub Stretched : Size → ℕ → ℕ → List ℕ → ℕ → Bool → Option Halt → Timeline → Timeline → Type 0
+Stretched size h most points made rests halt old new =
+    (row : Row) × MadeTurns size h points row rests old new × (made ≡ made_in row) × IsWithin most row
+    × (is_off row ≡ true → rests ≡ false → (most ≡ 0) ⊎ (pc_in h (machine_of new.bench) ≡ None))
+    × (halt ≡ halt_after row rests (stands_in points (pc_in h (machine_of new.bench))))

@@ -1,0 +1,4 @@
+pub mod Steps
+pub mod Sessions
+pub mod Texts
+pub mod Firsts

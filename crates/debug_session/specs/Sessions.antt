@@ -1,0 +1,39 @@
+-- What a clause sees of a session.
+use Rattle.std.specs.Prelude.{ℕ, List, Option}
+use Rattle.board_model.specs.Shapes.{Size}
+use Rattle.machine.specs.Machine.{Machine}
+use Rattle.script_lang.specs.declared.line.Line.{Line}
+use Rattle.debug_timeline.specs.declared.debugged.DebuggedBench.{DebuggedBench}
+use Rattle.debug_session.specs.declared.stops.Stops.{Stops}
+use Rattle.debug_session.specs.declared.session.Session.{Session}
+use Rattle.debug_timeline.specs.declared.timeline.Timeline.{Timeline}
+use Rattle.debug_timeline.specs.Lives.{machine_of}
+
+module _ {C : Type 0} where
+  -- its bench, with its history
+  abbrev pub timeline_of : Session C → Timeline
+  timeline_of s = s.timeline
+
+  -- the size of its board
+  abbrev pub size_of : Session C → Size
+  size_of s = s.setting.shape.now
+
+  -- the lines that were run
+  abbrev pub history_of : Session C → List Line
+  history_of s = s.timeline.history
+
+  -- the payloads with which they begin
+  abbrev pub begins_of : Session C → List (List ℕ)
+  begins_of s = s.timeline.begins
+
+  -- the bench as it stands
+  abbrev pub bench_of : Session C → DebuggedBench
+  bench_of s = s.timeline.bench
+
+  -- the memory and harts of a board that is on
+  abbrev pub machine_of_session : Session C → Option Machine
+  machine_of_session s = machine_of s.timeline.bench
+
+  -- its breakpoints and watchpoints
+  abbrev pub stops_of : Session C → Stops
+  stops_of s = s.stops

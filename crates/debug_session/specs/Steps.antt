@@ -1,0 +1,43 @@
+-- Steps of a session: turns that became part of its history.
+use Rattle.std.specs.Prelude.{◌≡◌, ◌⊎◌, ℕ, Bool, true, List, [], ◌∷◌, ◌++◌, All, None, length, ⊤}
+use Rattle.board_model.specs.Shapes.{Size}
+use Rattle.script_lang.specs.declared.line.Line.{Line}
+use Rattle.script_lang.specs.declared.line.Line.TheVariants as lines
+use Rattle.bench_history.specs.Pasts.{moments}
+use Rattle.bench_report.specs.declared.printed.Answer.{Answer}
+use Rattle.bench_rows.specs.declared.rows.Row.{Row}
+use Rattle.bench_rows.specs.Rows.{IsWithin, is_off}
+use Rattle.debug_timeline.specs.declared.timeline.Timeline.{Timeline}
+use Rattle.debug_timeline.specs.Ats.{IsAt, IsNoted, MadeTurns}
+use Rattle.debug_timeline.specs.Lives.{machine_of, pc_in}
+
+-- these lines became part of it, one after another
+abbrev pub AreNoted : List Line → List Line → List Line → Type 0
+AreNoted [] old new = new ≡ old
+AreNoted (line ∷ more) old new = (answer : Answer) × (mid : List Line) × IsNoted line answer old mid × AreNoted more mid new
+
+-- One turn of hart h became part of the history, and nothing else; or none did, since it is idle and changes nothing, or
+-- the board is off or lacks the hart.
+abbrev pub IsStep : Size → ℕ → Timeline → Timeline → Type 0
+IsStep size h old new =
+    (row : Row) × (rests : Bool) × IsWithin 1 row × MadeTurns size h [] row rests old new
+    × (is_off row ≡ true → (rests ≡ true) ⊎ (pc_in h (machine_of new.bench) ≡ None))
+
+-- one turn of a hart that may run
+abbrev pub IsTurnOf : (ℕ → Type 0) → Line → Type 0
+IsTurnOf May (lines.Turn h n) = (n ≡ 1) × May h
+IsTurnOf May line = ⊥
+
+-- So many turns of harts that may run became part of the history, and nothing else.
+pub record Went (May : ℕ → Type 0) (count : ℕ) (size : Size) (old new : Timeline) : Type 0 where
+  pub at : IsAt size new
+  pub begins : new.begins ≡ old.begins
+  pub turns : List Line
+  pub grew : moments new.history ≡ moments old.history ++ turns
+  pub only : All (IsTurnOf May) turns
+  pub as_many : length turns ≡ count
+
+-- a line that makes no turns
+abbrev pub MakesNone : Line → Type 0
+MakesNone (lines.Turn h n) = ⊥
+MakesNone line = ⊤

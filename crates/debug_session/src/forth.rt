@@ -1,0 +1,441 @@
+//! Running forward: turns of one hart, and of harts in turn.
+
+ghost use Rattle.std.specs.Prelude.{◌≡◌, ◌⊎◌, ◌≤◌, ◌<◌, ◌+◌, ℕ, Bool, true, false, slice_index_or, None, Some, IfOk, IfErr, IfSome, OnOk};
+ghost use Rattle.board_model.specs.declared.refusal.Refusal.TheVariants.{Memory};
+ghost use Rattle.bench_rows.specs.declared.rows.Row.{Row};
+ghost use Rattle.bench_rows.specs.Rows.{IsWithin, is_off, made_in};
+ghost use Rattle.debug_timeline.specs.Ats.{IsAt, MadeTurns};
+ghost use Rattle.debug_session.specs.Steps.{IsStep, Went};
+ghost use Rattle.debug_session.specs.Firsts.{Stretched, Tells, ToHalt, halt_after, halt_seen, halts_all, watched_in};
+ghost use Rattle.debug_timeline.specs.Lives.{machine_of, pc_in, stands_in};
+
+use crate::halts::{Halt, Stop};
+use crate::stops::Stops;
+use bench_report::{Answer, Setting};
+use bench_rows::Row;
+use board_model::{HartId, Refusal, Shape};
+use crew::Crew;
+use debug_timeline::Timeline;
+use machine::{Did, Word};
+use std::alloc::Global;
+use std::sync::atomic::{AtomicBool, Ordering};
+
+/// The most turns of a hart before the next one's.
+const MOST_TURNS: u32 = 1_000_000;
+
+/// What came of a hart's part of a round.
+#[derive(Clone, Copy, Drop)]
+pub(crate) struct Part {
+    /// Why everything halts, if it does.
+    pub(crate) halt: Option<Halt>,
+    /// How many turns were made.
+    pub(crate) made: u32,
+    /// Whether the hart has nothing to do.
+    pub(crate) rests: bool,
+}
+
+/// Addresses within which a hart steps, from the first on and before the end, and how many turns it makes at most.
+#[derive(Clone, Copy, Drop)]
+pub(crate) struct Within {
+    pub(crate) first: u64,
+    pub(crate) end: u64,
+    pub(crate) most: u64,
+}
+
+/// A round of harts that run in turn.
+#[derive(Clone, Copy, Drop)]
+pub(crate) struct Round {
+    /// Which may run.
+    pub(crate) harts: [bool; 8],
+    /// The number of the hart whose part is next.
+    pub(crate) place: u64,
+    /// How many turns each makes before the next one's.
+    pub(crate) quantum: u32,
+    /// How many turns may still be made.
+    pub(crate) left: u64,
+    /// How many parts without a turn came one after another.
+    pub(crate) resting: u32,
+}
+
+impl Round {
+    /// The hart whose part is next, where it may run; then comes the one behind it.
+    fn next(&mut self, shape: &Shape) -> Option<HartId>
+        requires few { self.old.resting < 8 }
+        ensures hart { IfSome result (λ h. (h < shape.now.harts) × (slice_index_or self.old.harts h false ≡ true)) }
+        ensures harts { self.new.harts ≡ self.old.harts }
+        ensures left { self.new.left ≡ self.old.left }
+        ensures resting { self.new.resting ≡ self.old.resting + 1 }
+    {
+        let number = self.place % u64::from(shape.harts());
+        self.place = number + 1;
+        self.resting += 1;
+        let hart = shape.hart(number)?;
+        if self.harts[hart.index()] {
+            Some(hart)
+        } else {
+            None
+        }
+    }
+
+    /// How many turns the next part may have.
+    fn turns(&self) -> u32
+        ensures left { result ≤ self.now.left }
+        ensures few { result ≤ 1000000 }
+    {
+        let most = if self.quantum < MOST_TURNS {
+            self.quantum
+        } else {
+            MOST_TURNS
+        };
+        if self.left < u64::from(most) {
+            self.left as u32
+        } else {
+            most
+        }
+    }
+
+    /// A part made so many turns.
+    fn made(&mut self, count: u32)
+        requires left { count ≤ self.old.left }
+        ensures harts { self.new.harts ≡ self.old.harts }
+        ensures left { self.new.left + count ≡ self.old.left }
+        ensures resting { self.new.resting ≤ self.old.resting }
+    {
+        self.left -= u64::from(count);
+        if 0 < count {
+            self.resting = 0;
+        }
+    }
+}
+
+/// Whether everything halts behind a turn of which this is said: the board dozes, or its life is over.
+fn halts_all(word: Word) -> bool
+    ensures { result ≡ halts_all word }
+{
+    match word {
+        Word::Over(_) => true,
+        Word::Goes(Did::Dozing) => true,
+        Word::Goes(_) => false,
+    }
+}
+
+/// Why everything halts behind these turns of a hart, if it does.
+fn halt_behind(
+    timeline: &Timeline,
+    points: &[u64],
+    hart: HartId,
+    row: Row,
+    rests: bool,
+) -> Option<Halt>
+    ensures { result ≡ halt_after row rests (stands_in points.now (pc_in hart (machine_of timeline.now.bench))) }
+{
+    match row {
+        Row::Off if rests => None,
+        Row::Off => Some(Halt::Off),
+        Row::Lost(_) => Some(Halt::Ended),
+        Row::Made(_, word) => {
+            if halts_all(word) {
+                Some(Halt::Ended)
+            } else if timeline.bench().stands_at(hart, points) {
+                Some(Halt::Point)
+            } else {
+                None
+            }
+        }
+    }
+}
+
+/// The same, where what is watched has changed.
+fn halt_seen(halt: Option<Halt>, changed: Option<u64>) -> Option<Halt>
+    ensures { result ≡ halt_seen halt changed }
+{
+    match (halt, changed) {
+        (None, Some(address)) => Some(Halt::Watched(address)),
+        (Some(Halt::Point), Some(address)) => Some(Halt::Watched(address)),
+        (_, _) => halt,
+    }
+}
+
+/// Whether what is watched has changed in so many turns.
+fn change_behind(
+    alloc: Global,
+    stops: &Stops,
+    timeline: &Timeline,
+    made: u32,
+    before: &Vec<u8>,
+) -> Result<Option<u64>, Refusal>
+    ensures none { IfOk result (λ changed. made ≡ 0 → changed ≡ None) }
+    ensures told { IfOk result (λ changed. (made ≡ 0 → ⊥) → Tells changed
+        (watched_in stops.now.watches.items (machine_of timeline.now.bench) ≡ before.now.items)) }
+    ensures refused { IfErr result (λ e. e ≡ Memory) }
+{
+    if made == 0 {
+        return Ok(None);
+    }
+    stops.changed(alloc, timeline.bench(), before)
+}
+
+/// Up to so many turns of a hart, to the first that halts everything; what the line `turn` would have said of the
+/// last is told where it does so by itself.
+fn stretch<C: Crew>(
+    setting: &Setting<'_, C>,
+    points: &[u64],
+    timeline: &mut Timeline,
+    hart: HartId,
+    most: u32,
+    told: &mut Vec<Answer>,
+) -> Result<Part, Refusal>
+    requires at { IsAt setting.now.shape.now timeline.old }
+    requires hart { hart < setting.now.shape.now.harts }
+    requires most { most ≤ 1000000 }
+    ensures at { OnOk result (IsAt setting.now.shape.now timeline.new) }
+    ensures made { IfOk result (λ part. Stretched setting.now.shape.now hart most points.now part.made part.rests part.halt
+        timeline.old timeline.new) }
+    ensures begins { timeline.new.begins ≡ timeline.old.begins }
+    ensures refused { IfErr result (λ e. e ≡ Memory) }
+{
+    let (row, rests) = timeline.turns_to(setting, hart, most, points)?;
+    let halt = halt_behind(timeline, points, hart, row, rests);
+    if halt == Some(Halt::Ended) || halt == Some(Halt::Off) {
+        told.push(row.last().answer(hart))?;
+    }
+    Ok(Part {
+        halt,
+        made: row.made(),
+        rests,
+    })
+}
+
+/// One turn of a hart, where bytes are watched.
+fn watched_turn<C: Crew>(
+    setting: &Setting<'_, C>,
+    stops: &Stops,
+    timeline: &mut Timeline,
+    hart: HartId,
+    told: &mut Vec<Answer>,
+) -> Result<Part, Refusal>
+    requires at { IsAt setting.now.shape.now timeline.old }
+    requires hart { hart < setting.now.shape.now.harts }
+    ensures at { OnOk result (IsAt setting.now.shape.now timeline.new) }
+    ensures step { OnOk result (IsStep setting.now.shape.now hart timeline.old timeline.new) }
+    ensures went { IfOk result (λ part. Went (λ h. h ≡ hart) part.made setting.now.shape.now timeline.old timeline.new) }
+    ensures first { IfOk result (λ part. ToHalt setting.now.shape.now stops.now part.halt timeline.old timeline.new) }
+    ensures one { IfOk result (λ part. part.made ≤ 1) }
+    ensures begins { timeline.new.begins ≡ timeline.old.begins }
+    ensures refused { IfErr result (λ e. e ≡ Memory) }
+{
+    let before = stops.watched(setting.alloc, timeline.bench())?;
+    let part = stretch(setting, stops.points(), timeline, hart, 1, told)?;
+    let changed = change_behind(setting.alloc, stops, timeline, part.made, &before)?;
+    let halt = halt_seen(part.halt, changed);
+    Ok(Part {
+        halt,
+        made: part.made,
+        rests: part.rests,
+    })
+}
+
+/// A hart's part of a round where bytes are watched, turn by turn.
+fn watched_part<C: Crew>(
+    setting: &Setting<'_, C>,
+    stops: &Stops,
+    timeline: &mut Timeline,
+    hart: HartId,
+    most: u32,
+    told: &mut Vec<Answer>,
+) -> Result<Part, Refusal>
+    requires at { IsAt setting.now.shape.now timeline.old }
+    requires hart { hart < setting.now.shape.now.harts }
+    ensures went { IfOk result (λ part. Went (λ h. h ≡ hart) part.made setting.now.shape.now timeline.old timeline.new) }
+    ensures first { IfOk result (λ part. ToHalt setting.now.shape.now stops.now part.halt timeline.old timeline.new) }
+    ensures few { IfOk result (λ part. part.made ≤ most) }
+    ensures refused { IfErr result (λ e. e ≡ Memory) }
+{
+    let mut sum = 0;
+    while sum < most {
+        let part = watched_turn(setting, stops, timeline, hart, told)?;
+        sum += part.made;
+        if part.halt.is_some() || part.rests || part.made == 0 {
+            return Ok(Part {
+                halt: part.halt,
+                made: sum,
+                rests: part.rests,
+            });
+        }
+    }
+    Ok(Part {
+        halt: None,
+        made: sum,
+        rests: false,
+    })
+}
+
+/// A hart's part of a round: up to so many turns.
+fn run_part<C: Crew>(
+    setting: &Setting<'_, C>,
+    stops: &Stops,
+    timeline: &mut Timeline,
+    hart: HartId,
+    most: u32,
+    told: &mut Vec<Answer>,
+) -> Result<Part, Refusal>
+    requires at { IsAt setting.now.shape.now timeline.old }
+    requires hart { hart < setting.now.shape.now.harts }
+    requires most { most ≤ 1000000 }
+    ensures went { IfOk result (λ part. Went (λ h. h ≡ hart) part.made setting.now.shape.now timeline.old timeline.new) }
+    ensures first { IfOk result (λ part. ToHalt setting.now.shape.now stops.now part.halt timeline.old timeline.new) }
+    ensures few { IfOk result (λ part. part.made ≤ most) }
+    ensures refused { IfErr result (λ e. e ≡ Memory) }
+{
+    if stops.watch() {
+        watched_part(setting, stops, timeline, hart, most, told)
+    } else {
+        stretch(setting, stops.points(), timeline, hart, most, told)
+    }
+}
+
+/// Steps a hart once: what the line `turn` would have said is told where the turn ends everything.
+pub(crate) fn step<C: Crew>(
+    setting: &Setting<'_, C>,
+    stops: &Stops,
+    timeline: &mut Timeline,
+    hart: HartId,
+    told: &mut Vec<Answer>,
+) -> Result<Stop, Refusal>
+    requires at { IsAt setting.now.shape.now timeline.old }
+    requires hart { hart < setting.now.shape.now.harts }
+    ensures at { OnOk result (IsAt setting.now.shape.now timeline.new) }
+    ensures step { OnOk result (IsStep setting.now.shape.now hart timeline.old timeline.new) }
+    ensures there { IfOk result (λ stop. stop.hart ≡ hart) }
+    ensures begins { timeline.new.begins ≡ timeline.old.begins }
+    ensures refused { IfErr result (λ e. e ≡ Memory) }
+{
+    let part = watched_turn(setting, stops, timeline, hart, told)?;
+    Ok(Stop {
+        hart,
+        halt: part.halt.unwrap_or(Halt::Stepped),
+    })
+}
+
+/// Whether the pc of a hart lies within these addresses.
+fn is_within(timeline: &Timeline, hart: HartId, within: Within) -> bool {
+    match timeline.bench().pc(hart) {
+        Some(pc) => within.first <= pc && pc < within.end,
+        None => false,
+    }
+}
+
+/// Steps a hart while its pc lies within these addresses, to the first halt.
+pub(crate) fn step_within<C: Crew>(
+    setting: &Setting<'_, C>,
+    stops: &Stops,
+    timeline: &mut Timeline,
+    hart: HartId,
+    within: Within,
+    interrupt: &AtomicBool,
+    told: &mut Vec<Answer>,
+) -> Result<Stop, Refusal>
+    requires at { IsAt setting.now.shape.now timeline.old }
+    requires hart { hart < setting.now.shape.now.harts }
+    ensures went { OnOk result ((n : ℕ) × (n ≤ within.most) × Went (λ h. h ≡ hart) n setting.now.shape.now timeline.old timeline.new) }
+    ensures first { IfOk result (λ stop. ToHalt setting.now.shape.now stops.now (Some stop.halt) timeline.old timeline.new) }
+    ensures there { IfOk result (λ stop. stop.hart ≡ hart) }
+    ensures refused { IfErr result (λ e. e ≡ Memory) }
+{
+    let mut done = 0;
+    while done < within.most {
+        let part = watched_turn(setting, stops, timeline, hart, told)?;
+        done += 1;
+        if let Some(halt) = part.halt {
+            return Ok(Stop { hart, halt });
+        }
+        if part.rests || !is_within(timeline, hart, within) {
+            return Ok(Stop {
+                hart,
+                halt: Halt::Stepped,
+            });
+        }
+        if interrupt.swap(false, Ordering::SeqCst) {
+            return Ok(Stop {
+                hart,
+                halt: Halt::Interrupted,
+            });
+        }
+    }
+    Ok(Stop {
+        hart,
+        halt: Halt::Stepped,
+    })
+}
+
+/// The part of a round that a hart has: why everything halts, if it does.
+fn round_part<C: Crew>(
+    setting: &Setting<'_, C>,
+    stops: &Stops,
+    timeline: &mut Timeline,
+    hart: HartId,
+    round: &mut Round,
+    told: &mut Vec<Answer>,
+) -> Result<Option<Halt>, Refusal>
+    requires at { IsAt setting.now.shape.now timeline.old }
+    requires hart { hart < setting.now.shape.now.harts }
+    ensures went { OnOk result ((n : ℕ) × (round.new.left + n ≡ round.old.left)
+        × Went (λ h. h ≡ hart) n setting.now.shape.now timeline.old timeline.new) }
+    ensures first { IfOk result (λ halt. ToHalt setting.now.shape.now stops.now halt timeline.old timeline.new) }
+    ensures harts { OnOk result (round.new.harts ≡ round.old.harts) }
+    ensures resting { OnOk result (round.new.resting ≤ round.old.resting) }
+    ensures refused { IfErr result (λ e. e ≡ Memory) }
+{
+    let did = run_part(setting, stops, timeline, hart, round.turns(), told)?;
+    round.made(did.made);
+    Ok(did.halt)
+}
+
+/// Goes on with the harts of a round, in turn, to the first halt. The interrupt is looked at before each hart's part.
+pub(crate) fn go<C: Crew>(
+    setting: &Setting<'_, C>,
+    stops: &Stops,
+    timeline: &mut Timeline,
+    first: HartId,
+    round: Round,
+    interrupt: &AtomicBool,
+    told: &mut Vec<Answer>,
+) -> Result<Stop, Refusal>
+    requires at { IsAt setting.now.shape.now timeline.old }
+    requires first { first < setting.now.shape.now.harts }
+    requires rested { round.resting ≡ 0 }
+    ensures went { OnOk result ((n : ℕ) × (n ≤ round.left)
+        × Went (λ h. slice_index_or round.harts h false ≡ true) n setting.now.shape.now timeline.old timeline.new) }
+    ensures first { IfOk result (λ stop. ToHalt setting.now.shape.now stops.now (Some stop.halt) timeline.old timeline.new) }
+    ensures there { IfOk result (λ stop. stop.hart < setting.now.shape.now.harts) }
+    ensures refused { IfErr result (λ e. e ≡ Memory) }
+{
+    let mut round = round;
+    'parts: for _ in 0..u64::MAX {
+        if round.left == 0 {
+            break;
+        }
+        if setting.shape.harts() <= round.resting {
+            return Ok(Stop {
+                hart: first,
+                halt: Halt::Idle,
+            });
+        }
+        let Some(hart) = round.next(setting.shape) else {
+            continue;
+        };
+        if interrupt.swap(false, Ordering::SeqCst) {
+            return Ok(Stop {
+                hart,
+                halt: Halt::Interrupted,
+            });
+        }
+        if let Some(halt) = round_part(setting, stops, timeline, hart, &mut round, told)? {
+            return Ok(Stop { hart, halt });
+        }
+    }
+    Ok(Stop {
+        hart: first,
+        halt: Halt::Spent,
+    })
+}

@@ -1,0 +1,35 @@
+//! Why a board stands.
+
+use board_model::HartId;
+
+/// Why nothing runs.
+#[derive(Clone, Copy, PartialEq, Eq, Drop)]
+pub enum Halt {
+    /// The step was made, or nothing was asked yet.
+    Stepped,
+    /// A hart came to a breakpoint.
+    Point,
+    /// A turn changed what is watched at this address.
+    Watched(u64),
+    /// The board dozes, its life is over, or an armed cut struck: the console has the line.
+    Ended,
+    /// The board is off.
+    Off,
+    /// No hart that may run has anything to do.
+    Idle,
+    /// The turns that one command may make are made.
+    Spent,
+    /// The debugger asked for it.
+    Interrupted,
+    /// Nothing stands before this place in the history.
+    Begin,
+}
+
+/// Why nothing runs, and the hart that is shown.
+#[derive(Clone, Copy, PartialEq, Eq, Drop)]
+pub struct Stop {
+    /// The hart that is shown.
+    pub hart: HartId,
+    /// Why nothing runs.
+    pub halt: Halt,
+}

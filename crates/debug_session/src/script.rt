@@ -1,0 +1,90 @@
+//! A history as a script.
+
+ghost use Rattle.std.specs.Prelude.{◌≡◌, ◌≤◌, ◌++◌, IfOk, IfErr, OnOk, Ok, string_bytes};
+ghost use Rattle.board.specs.Boots.{payload_at};
+ghost use Rattle.board_model.specs.declared.refusal.Refusal.TheVariants.{Memory};
+ghost use Rattle.bench_report.specs.Bench.{no_payloads};
+ghost use Rattle.debug_session.specs.Texts.{begin_text, begins_text, history_text, lines_text};
+ghost use Rattle.script_lang.specs.Scripts.{script_of};
+ghost use Rattle.script_lang.specs.Spellings.{IsWritable, board_text};
+
+use board::Payloads;
+use board_model::{Refusal, Shape, Slot};
+use script_lang::{Line, scripts_read_as_written};
+use script_text::LineText;
+use std::alloc::{AllocError, Global};
+
+/// The board line.
+fn board_line(alloc: Global, shape: &Shape) -> Result<String, AllocError>
+    ensures { IfOk result (λ text. string_bytes text ≡ board_text shape.now) }
+{
+    let harts = shape.harts();
+    let pages = shape.pages();
+    let lanes = shape.lanes();
+    format!(in alloc; "board {harts} {pages} {lanes}")
+}
+
+/// Adds a comment that names the payload with which a slot begins, where it begins with one.
+fn add_begin(
+    alloc: Global,
+    begins: &Payloads,
+    number: u32,
+    text: &mut String,
+) -> Result<(), AllocError>
+    requires { number ≤ 3 }
+    ensures { OnOk result (string_bytes text.new ≡ string_bytes text.old ++ begin_text number (payload_at begins.now number)) }
+{
+    let Some(slot) = Slot::new(number) else {
+        return Ok(());
+    };
+    let count = begins.get(slot).len();
+    if count == 0 {
+        return Ok(());
+    }
+    let comment = format!(in alloc; "\n# --p{number}: a file of {count} bytes")?;
+    text.push_str(comment.as_str())
+}
+
+/// Adds the comments of all slots.
+fn add_begins(alloc: Global, begins: &Payloads, text: &mut String) -> Result<(), AllocError>
+    ensures { OnOk result (string_bytes text.new ≡ string_bytes text.old ++ begins_text begins.now) }
+{
+    add_begin(alloc, begins, 0, text)?;
+    add_begin(alloc, begins, 1, text)?;
+    add_begin(alloc, begins, 2, text)?;
+    add_begin(alloc, begins, 3, text)
+}
+
+/// Adds the lines, each behind a line feed.
+fn add_lines(alloc: Global, lines: &[Line], text: &mut String) -> Result<(), AllocError>
+    ensures { OnOk result (string_bytes text.new ≡ string_bytes text.old ++ lines_text lines.now) }
+{
+    for line in lines {
+        let word = LineText(line);
+        let more = format!(in alloc; "\n{word}")?;
+        text.push_str(more.as_str())?;
+    }
+    Ok(())
+}
+
+/// The text of these lines as a script, without a last line feed; behind the board line a comment names each payload
+/// with which a slot begins, since no line has room for it.
+#[tactic(auto, using(crate::proofs::Scripts::history_is_script))]
+pub(crate) fn script_of(
+    alloc: Global,
+    shape: &Shape,
+    begins: &Payloads,
+    lines: &[Line],
+) -> Result<String, Refusal>
+    ensures text { IfOk result (λ text. string_bytes text ≡ history_text shape.now begins.now lines.now) }
+    // Where it begins with no payload, it is read back as these lines.
+    ensures read { begins.now ≡ no_payloads → IsWritable (record { size = shape.now; lines = lines.now })
+        → IfOk result (λ text. script_of (string_bytes text) ≡ Ok (record { size = shape.now; lines = lines.now })) }
+    ensures refused { IfErr result (λ e. e ≡ Memory) }
+{
+    scripts_read_as_written();
+    let mut text = board_line(alloc, shape)?;
+    add_begins(alloc, begins, &mut text)?;
+    add_lines(alloc, lines, &mut text)?;
+    Ok(text)
+}

@@ -1,0 +1,331 @@
+//! A board under a debugger.
+
+ghost use Rattle.std.specs.Prelude.{◌≡◌, ◌⊎◌, ◌≤◌, ◌<◌, ℕ, [], All, length, slice_index_or, true, false, string_bytes, Ok, Some, IfOk, IfErr, OnOk};
+ghost use Rattle.board_model.specs.declared.refusal.Refusal.TheVariants.{Memory};
+ghost use Rattle.bench_history.specs.Pasts.{IsBack, NoRow};
+ghost use Rattle.bench_report.specs.Bench.{no_payloads};
+ghost use Rattle.bench_rows.specs.Notes.{AreInRange};
+ghost use Rattle.debug_timeline.specs.Ats.{IsAt, IsBefore, Ran};
+ghost use Rattle.debug_session.specs.Steps.{AreNoted, IsStep, MakesNone, Went};
+ghost use Rattle.debug_timeline.specs.Lives.{register_in};
+ghost use Rattle.debug_session.specs.Texts.{state_text};
+ghost use Rattle.debug_session.specs.Sessions.{begins_of, bench_of, history_of, machine_of_session, size_of, stops_of, timeline_of};
+ghost use Rattle.debug_session.specs.Firsts.{ToHalt};
+ghost use Rattle.debug_session.specs.Texts.{history_text};
+ghost use Rattle.script_lang.specs.Lines.{IsLineInRange};
+ghost use Rattle.script_lang.specs.Scripts.{script_of};
+ghost use Rattle.script_lang.specs.Spellings.{IsWritable};
+
+use crate::forth::{self, Round, Within};
+use crate::halts::{Halt, Stop};
+use crate::stops::{Stops, Watch};
+use crate::{back, script};
+use bench_report::{Answer, Setting};
+use board::Payloads;
+use board_model::{HartId, Refusal};
+use crew::Crew;
+use debug_timeline::{DebuggedBench, Timeline};
+use machine::{Did, Word};
+use script_lang::Line;
+use std::sync::atomic::AtomicBool;
+
+/// How a session goes on.
+#[derive(Clone, Copy, Drop)]
+pub struct Plan {
+    /// How many turns a hart makes before the next one's, 1 to 1,000,000: more are as many.
+    pub quantum: u32,
+    /// How many turns a command makes at most.
+    pub most: u64,
+}
+
+/// A board under a debugger: its timeline, its breakpoints and watchpoints. A call that is refused leaves it of no use.
+#[derive(Drop)]
+pub struct Session<'a, C> {
+    setting: Setting<'a, C>,
+    plan: Plan,
+    timeline: Timeline,
+    stops: Stops,
+}
+
+/// The timeline behind these lines.
+fn begun<C: Crew>(
+    setting: &Setting<'_, C>,
+    begins: Payloads,
+    lines: Vec<Line>,
+) -> Result<Timeline, Refusal>
+    requires four { length begins ≡ 4 }
+    requires ranges { AreInRange setting.now.shape.now lines.items }
+    ensures at { IfOk result (IsAt setting.now.shape.now) }
+    ensures noted { IfOk result (λ t. AreNoted lines.items [] t.history) }
+    ensures begins { IfOk result (λ t. t.begins ≡ begins) }
+    ensures refused { IfErr result (λ e. e ≡ Memory) }
+{
+    let mut timeline = Timeline::blank(setting.alloc, setting.shape, begins)?;
+    for line in lines {
+        timeline.line(setting, line)?;
+    }
+    Ok(timeline)
+}
+
+impl<'a, C: Crew> Session<'a, C> {
+    /// A session behind those lines, of a script that begins with these payloads. Refused `Memory` alone.
+    pub fn new(
+        setting: Setting<'a, C>,
+        plan: Plan,
+        begins: Payloads,
+        lines: Vec<Line>,
+    ) -> Result<Session<'a, C>, Refusal>
+        requires four { length begins ≡ 4 }
+        requires ranges { AreInRange setting.shape.now lines.items }
+        ensures at { IfOk result (λ s. IsAt (size_of s) (timeline_of s)) }
+        ensures size { IfOk result (λ s. size_of s ≡ setting.entry.shape.now) }
+        ensures noted { IfOk result (λ s. AreNoted lines.items [] (history_of s)) }
+        ensures begins { IfOk result (λ s. begins_of s ≡ begins) }
+        ensures refused { IfErr result (λ e. e ≡ Memory) }
+    {
+        let timeline = begun(&setting, begins, lines)?;
+        Ok(Session {
+            setting,
+            plan,
+            timeline,
+            stops: Stops::new(setting.alloc),
+        })
+    }
+
+    /// What the boards are made with.
+    pub fn setting(&self) -> &Setting<'a, C>
+        ensures { result.now.shape.now ≡ size_of self.now }
+    {
+        &self.setting
+    }
+
+    /// The timeline.
+    pub fn timeline(&self) -> &Timeline
+        ensures { result.now ≡ timeline_of self.now }
+    {
+        &self.timeline
+    }
+
+    /// The bench as it stands.
+    pub fn bench(&self) -> &DebuggedBench
+        ensures { result.now ≡ bench_of self.now }
+    {
+        self.timeline.bench()
+    }
+
+    /// The text of the history as a script, without a last line feed: `sbibench` runs it to the same reports. Behind
+    /// the board line a comment names each payload with which a slot begins, since no line has room for it.
+    pub fn script(&self) -> Result<String, Refusal>
+        ensures text { IfOk result (λ text. string_bytes text
+            ≡ history_text (size_of self.now) (begins_of self.now) (history_of self.now)) }
+        ensures read { begins_of self.now ≡ no_payloads
+            → IsWritable (record { size = size_of self.now; lines = history_of self.now })
+            → IfOk result (λ text. script_of (string_bytes text)
+            ≡ Ok (record { size = size_of self.now; lines = history_of self.now })) }
+        ensures refused { IfErr result (λ e. e ≡ Memory) }
+    {
+        script::script_of(
+            self.setting.alloc,
+            self.setting.shape,
+            self.timeline.begins(),
+            self.timeline.lines(),
+        )
+    }
+
+    /// A register of a hart, as `DebuggedBench::register` shows it.
+    pub fn register(&mut self, hart: HartId, number: u64) -> Option<u64>
+        ensures same { self.new ≡ self.old }
+        ensures shown { result ≡ register_in hart number (machine_of_session self.old) }
+    {
+        self.timeline.register(hart, number)
+    }
+
+    /// Runs a line of the script language, which becomes part of the history: what it says.
+    pub fn line(&mut self, line: Line) -> Result<Answer, Refusal>
+        requires at { IsAt (size_of self.old) (timeline_of self.old) }
+        requires range { IsLineInRange (size_of self.old) line }
+        ensures at { OnOk result (IsAt (size_of self.new) (timeline_of self.new)) }
+        ensures ran { IfOk result (λ answer. Ran (size_of self.old) line answer (timeline_of self.old) (timeline_of self.new)) }
+        ensures size { size_of self.new ≡ size_of self.old }
+        ensures begins { begins_of self.new ≡ begins_of self.old }
+        ensures refused { IfErr result (λ e. e ≡ Memory) }
+    {
+        self.timeline.line(&self.setting, line)
+    }
+
+    /// Sets a breakpoint.
+    pub fn set_point(&mut self, address: u64) -> Result<(), Refusal>
+        ensures timeline { timeline_of self.new ≡ timeline_of self.old }
+        ensures size { size_of self.new ≡ size_of self.old }
+        ensures refused { IfErr result (λ e. e ≡ Memory) }
+    {
+        self.stops.set_point(address)
+    }
+
+    /// Takes a breakpoint away.
+    pub fn clear_point(&mut self, address: u64)
+        ensures timeline { timeline_of self.new ≡ timeline_of self.old }
+        ensures size { size_of self.new ≡ size_of self.old }
+    {
+        self.stops.clear_point(address);
+    }
+
+    /// Watches bytes.
+    pub fn set_watch(&mut self, watch: Watch) -> Result<(), Refusal>
+        ensures timeline { timeline_of self.new ≡ timeline_of self.old }
+        ensures size { size_of self.new ≡ size_of self.old }
+        ensures refused { IfErr result (λ e. e ≡ Memory) }
+    {
+        self.stops.set_watch(watch)
+    }
+
+    /// Watches them no more.
+    pub fn clear_watch(&mut self, watch: Watch)
+        ensures timeline { timeline_of self.new ≡ timeline_of self.old }
+        ensures size { size_of self.new ≡ size_of self.old }
+    {
+        self.stops.clear_watch(watch);
+    }
+
+    /// What a hart is, by what was last said of a turn of it in this life.
+    pub fn state_text(&self, hart: HartId) -> &'static str
+        ensures { result.now ≡ state_text hart (bench_of self.now) }
+    {
+        if !self.timeline.bench().is_on() {
+            return "power off";
+        }
+        match self.timeline.bench().said(hart) {
+            None => "no turn yet",
+            Some(Word::Over(_)) => "power off",
+            Some(Word::Goes(did)) => match did {
+                Did::Idle => "idle",
+                Did::Stopped => "stopped",
+                Did::Suspended => "suspended",
+                Did::Dozing => "dozing",
+                Did::Entered | Did::Woke | Did::Resumed | Did::Next => "runs",
+            },
+        }
+    }
+
+    /// Steps a hart once. What its turn says is told where it ends everything, or where the board is off.
+    pub fn step(&mut self, hart: HartId, told: &mut Vec<Answer>) -> Result<Stop, Refusal>
+        requires at { IsAt (size_of self.old) (timeline_of self.old) }
+        requires hart { hart < (size_of self.old).harts }
+        ensures at { OnOk result (IsAt (size_of self.new) (timeline_of self.new)) }
+        ensures step { OnOk result (IsStep (size_of self.old) hart (timeline_of self.old) (timeline_of self.new)) }
+        ensures there { IfOk result (λ stop. stop.hart < (size_of self.old).harts) }
+        ensures size { size_of self.new ≡ size_of self.old }
+        ensures begins { OnOk result (begins_of self.new ≡ begins_of self.old) }
+        ensures refused { IfErr result (λ e. e ≡ Memory) }
+    {
+        forth::step(&self.setting, &self.stops, &mut self.timeline, hart, told)
+    }
+
+    /// Steps a hart while its pc lies from the first address on and before the second, to the first halt.
+    pub fn step_within(
+        &mut self,
+        hart: HartId,
+        first: u64,
+        end: u64,
+        interrupt: &AtomicBool,
+        told: &mut Vec<Answer>,
+    ) -> Result<Stop, Refusal>
+        requires at { IsAt (size_of self.old) (timeline_of self.old) }
+        requires hart { hart < (size_of self.old).harts }
+        ensures went { OnOk result ((n : ℕ) × (n ≤ self.old.plan.most)
+            × Went (λ h. h ≡ hart) n (size_of self.old) (timeline_of self.old) (timeline_of self.new)) }
+        ensures first { IfOk result (λ stop. ToHalt (size_of self.old) (stops_of self.old) (Some stop.halt) (timeline_of self.old)
+            (timeline_of self.new)) }
+        ensures there { IfOk result (λ stop. stop.hart < (size_of self.old).harts) }
+        ensures size { size_of self.new ≡ size_of self.old }
+        ensures refused { IfErr result (λ e. e ≡ Memory) }
+    {
+        let within = Within {
+            first,
+            end,
+            most: self.plan.most,
+        };
+        forth::step_within(
+            &self.setting,
+            &self.stops,
+            &mut self.timeline,
+            hart,
+            within,
+            interrupt,
+            told,
+        )
+    }
+
+    /// Goes on with these harts, in turn, from that one on: up to `quantum` turns of each, to the first halt. The
+    /// interrupt is looked at before each hart's part.
+    pub fn go(
+        &mut self,
+        first: HartId,
+        harts: &[bool; 8],
+        interrupt: &AtomicBool,
+        told: &mut Vec<Answer>,
+    ) -> Result<Stop, Refusal>
+        requires at { IsAt (size_of self.old) (timeline_of self.old) }
+        requires first { first < (size_of self.old).harts }
+        ensures went { OnOk result ((n : ℕ) × (n ≤ self.old.plan.most)
+            × Went (λ h. slice_index_or harts.now h false ≡ true) n (size_of self.old) (timeline_of self.old) (timeline_of self.new)) }
+        ensures first { IfOk result (λ stop. ToHalt (size_of self.old) (stops_of self.old) (Some stop.halt) (timeline_of self.old)
+            (timeline_of self.new)) }
+        ensures there { IfOk result (λ stop. stop.hart < (size_of self.old).harts) }
+        ensures size { size_of self.new ≡ size_of self.old }
+        ensures refused { IfErr result (λ e. e ≡ Memory) }
+    {
+        let round = Round {
+            harts: *harts,
+            place: u64::from(first.number()),
+            quantum: self.plan.quantum,
+            left: self.plan.most,
+            resting: 0,
+        };
+        forth::go(
+            &self.setting,
+            &self.stops,
+            &mut self.timeline,
+            first,
+            round,
+            interrupt,
+            told,
+        )
+    }
+
+    /// Goes back to before the last turn of that hart, and forgets it and whatever came after, and nothing else. Where it
+    /// made none nothing changes.
+    pub fn step_back(&mut self, hart: HartId) -> Result<Stop, Refusal>
+        requires at { IsAt (size_of self.old) (timeline_of self.old) }
+        requires hart { hart < (size_of self.old).harts }
+        ensures at { OnOk result (IsAt (size_of self.new) (timeline_of self.new)) }
+        ensures back { IfOk result (λ stop. (stop.hart ≡ hart)
+            × (((stop.halt ≡ Halt.Stepped) × IsBack hart (history_of self.old) (history_of self.new))
+            ⊎ ((stop.halt ≡ Halt.Begin) × NoRow hart (history_of self.old) × (timeline_of self.new ≡ timeline_of self.old)))) }
+        ensures there { IfOk result (λ stop. stop.hart < (size_of self.old).harts) }
+        ensures size { size_of self.new ≡ size_of self.old }
+        ensures begins { begins_of self.new ≡ begins_of self.old }
+        ensures refused { IfErr result (λ e. e ≡ Memory) }
+    {
+        let found = self.timeline.step_back(&self.setting, hart)?;
+        let halt = if found { Halt::Stepped } else { Halt::Begin };
+        Ok(Stop { hart, halt })
+    }
+
+    /// Goes back to before the last turn of which the hart stood at a breakpoint, or that changed what is watched;
+    /// where there is none, to before the first turn; and forgets whatever came after. Where no turn was made nothing
+    /// changes.
+    pub fn go_back(&mut self, hart: HartId) -> Result<Stop, Refusal>
+        requires at { IsAt (size_of self.old) (timeline_of self.old) }
+        requires hart { hart < (size_of self.old).harts }
+        ensures at { OnOk result (IsAt (size_of self.new) (timeline_of self.new)) }
+        ensures back { IfOk result (λ stop. IsBefore stop.hart (history_of self.old) (history_of self.new)
+            ⊎ (All MakesNone (history_of self.old) × (timeline_of self.new ≡ timeline_of self.old))) }
+        ensures there { IfOk result (λ stop. stop.hart < (size_of self.old).harts) }
+        ensures size { size_of self.new ≡ size_of self.old }
+        ensures begins { OnOk result (begins_of self.new ≡ begins_of self.old) }
+        ensures refused { IfErr result (λ e. e ≡ Memory) }
+    {
+        back::go_back(&self.setting, &self.stops, &mut self.timeline, hart)
+    }
+}

@@ -1,0 +1,4 @@
+pub mod Rests
+pub mod Histories
+pub mod Timelines
+pub mod Passed

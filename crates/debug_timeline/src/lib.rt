@@ -1,0 +1,14 @@
+//! The bench of a debugger with its history: the lines that were run, and how it goes forward and back. Its state is one
+//! that its history may leave.
+#![tactic(auto)]
+
+mod debugged;
+mod looks;
+mod replays;
+mod timeline;
+
+pub use bench_rows::Row;
+pub use debugged::DebuggedBench;
+pub use looks::{PC, REGISTERS};
+pub use replays::replay;
+pub use timeline::Timeline;

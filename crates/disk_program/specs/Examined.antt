@@ -1,0 +1,40 @@
+-- What the examiner makes of a disk's file, and its status. Source: docs/CONSOLE.md, "The program `sbidisk`".
+use Rattle.std.specs.Prelude.{◌≡◌, ◌⊎◌, ℕ, Bool, true, false, List, Option, IfSome, Result}
+use Rattle.std.specs.Io.KnownBytes.{Appends}
+use Rattle.board_files.specs.Disks.{IsLookedAt, first_sectors}
+use Rattle.command_line.specs.Faults.{status_after, without_work}
+use Rattle.command_line.specs.declared.NoWork.{NoWork}
+use Rattle.command_line.specs.declared.fault.ProgramFault.{ProgramFault}
+use Rattle.disk.specs.Facts.{Content}
+use Rattle.disk_program.specs.Texts.{seen_text}
+use Rattle.disk_program.specs.declared.usage.Work.{Work}
+use Rattle.disk_program.specs.declared.usage.Work.TheVariants.{Lines, Memory}
+use Rattle.examined.specs.Memories.{HoldsMemory}
+use Rattle.examined.specs.Sights.{IsSeen}
+use Rattle.examined.specs.declared.sees.Seen.{Seen}
+
+-- P of the sectors that are looked at of a file of these bytes, where they are known
+abbrev pub IfLookedAt : Option (List ℕ) → (Content → Type 0) → Type 0
+IfLookedAt bytes P = IfSome bytes (λ all. (n : ℕ) × IsLookedAt n all × P (first_sectors n all))
+
+-- the lines of what stands in the file were written, and nothing else
+abbrev pub WritesSeen : Option (List ℕ) → Option (List ℕ) → Option (List ℕ) → Type 0
+WritesSeen bytes old now = (seen : Seen) × IfLookedAt bytes (λ c. IsSeen c seen) × Appends old now (seen_text seen)
+
+-- the memory of the image that stands in the file was written, and nothing else
+abbrev pub WritesMemory : Option (List ℕ) → Option (List ℕ) → Option (List ℕ) → Type 0
+WritesMemory bytes old now = (memory : List ℕ) × IfLookedAt bytes (λ c. HoldsMemory c memory) × Appends old now memory
+
+-- what was asked for was written
+abbrev pub WritesWork : (List ℕ → Option (List ℕ)) → Work → Option (List ℕ) → Option (List ℕ) → Type 0
+WritesWork disk_at (Lines path) old now = WritesSeen (disk_at path.now) old now
+WritesWork disk_at (Memory path) old now = WritesMemory (disk_at path.now) old now
+
+-- the status, by whether nobody reads the output any more
+abbrev pub status_by : Bool → Result (Unit {0}) ProgramFault → ℕ
+status_by true done = 1
+status_by false done = status_after done
+
+-- What was done without a fault: work, or nothing more than to show what was asked for.
+abbrev pub IsExamined : (List ℕ → Option (List ℕ)) → Option (List ℕ) → Option (List ℕ) → Result (Unit {0}) ProgramFault → Type 0
+IsExamined disk_at old now done = ((work : Work) × WritesWork disk_at work old now) ⊎ ((why : NoWork) × (done ≡ without_work why))

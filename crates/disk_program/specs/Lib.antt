@@ -1,0 +1,3 @@
+-- The lines that are written of a disk.
+pub mod Texts
+pub mod Examined

@@ -1,0 +1,96 @@
+//! The lines that say what stands on a disk.
+
+ghost use Rattle.std.specs.Prelude.{◌≡◌, [], Some, OnOk, IfErr};
+ghost use Rattle.std.specs.Io.Buffered.{writer_buffer, writer_contents};
+ghost use Rattle.std.specs.Io.KnownBytes.{Appends};
+ghost use Rattle.disk_program.specs.Texts.{head_text, image_text, found_text, seen_text};
+
+use board_console::StateText;
+use board_model::{ImageHead, Refusal};
+use command_line::write_to_end;
+use examined::{Found, InspectionText, Seen};
+use machine_lines::Value;
+use std::fmt;
+use std::io::{BufWriter, Write};
+
+/// What stands of an image beside its memory, but for the serial.
+#[derive(Drop)]
+struct HeadText(ImageHead);
+
+impl fmt::Display for HeadText {
+    ghost output = { λ h. Some (head_text h.0) };
+
+    fn fmt<W: fmt::Write>(&self, f: &mut fmt::Formatter<W>) -> fmt::Result {
+        let hart = self.0.hart.number();
+        let address = Value(self.0.address.value());
+        let opaque = Value(self.0.opaque);
+        write!(f, "hart {hart} address 0x{address} opaque 0x{opaque}")
+    }
+}
+
+/// The line of an image, which has so many pages, or nothing where there is none.
+#[derive(Drop)]
+struct ImageText(Option<ImageHead>, u32);
+
+impl fmt::Display for ImageText {
+    ghost output = { λ i. Some (image_text i.1 i.0) };
+
+    fn fmt<W: fmt::Write>(&self, f: &mut fmt::Formatter<W>) -> fmt::Result {
+        match self.0 {
+            None => Ok(()),
+            Some(head) => {
+                let text = HeadText(head);
+                let pages = self.1;
+                writeln!(f, "image {text} pages {pages}")
+            }
+        }
+    }
+}
+
+/// The lines of what an open finds, or nothing where it finds none.
+#[derive(Drop)]
+struct FoundText(Option<Found>);
+
+impl fmt::Display for FoundText {
+    ghost output = { λ t. Some (found_text t.0) };
+
+    fn fmt<W: fmt::Write>(&self, f: &mut fmt::Formatter<W>) -> fmt::Result {
+        match self.0 {
+            None => Ok(()),
+            Some(found) => {
+                let state = StateText(found.state);
+                let image = ImageText(found.state.image, found.pages);
+                write!(f, "found {state}\n{image}")
+            }
+        }
+    }
+}
+
+/// What stands on a disk.
+#[derive(Drop)]
+struct SeenText(Seen);
+
+impl fmt::Display for SeenText {
+    ghost output = { λ t. Some (seen_text t.0) };
+
+    fn fmt<W: fmt::Write>(&self, f: &mut fmt::Formatter<W>) -> fmt::Result {
+        let inspection = InspectionText(self.0.inspection);
+        let found = FoundText(self.0.found);
+        write!(f, "inspect {inspection}\n{found}")
+    }
+}
+
+/// Writes the lines to the end: `inspect ..` as a report has it, `found ..` where an open finds a state, and
+/// `image ..` where that has an image.
+///
+/// Refused `Output` where they could not be written.
+pub fn write_seen<W: Write + Drop>(seen: &Seen, out: &mut BufWriter<W>) -> Result<(), Refusal>
+    ensures written { OnOk result (Appends (writer_contents W.contents out.old)
+        (writer_contents W.contents out.new) (seen_text seen.now)) }
+    // Nothing of it is held back.
+    ensures flushed { OnOk result (writer_buffer out.new ≡ []) }
+    ensures refused { IfErr result (λ e. e ≡ Refusal.Output) }
+{
+    let text = SeenText(*seen);
+    write_to_end(&text, out)
+}

@@ -1,2 +1,0 @@
--- The lines that are written of a disk.
-pub mod Texts

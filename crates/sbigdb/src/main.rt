@@ -1,0 +1,17 @@
+//! `sbigdb SCRIPT [--p0 PATH ..] [--quantum N] [--most N]`: GDB's Remote Serial Protocol on standard input and output,
+//! over the board that the script leaves (docs/DEBUGGING.md). Status 0; 1 for a refusal or a file that could not be
+//! read; 2 for a fault of the command line.
+#![tactic(auto)]
+
+mod files;
+mod program;
+mod start;
+mod streams;
+mod told;
+
+use crate::program::debug;
+use std::process::ExitCode;
+
+fn main(rt: HostRuntime) -> ExitCode {
+    debug(&rt, &rt)
+}

@@ -1,0 +1,166 @@
+//! The talk on the process's own streams. One thread reads, so that an interrupt is heard while turns run.
+
+ghost use Rattle.std.specs.Prelude.{◌≡◌, All, length};
+ghost use Rattle.debug_timeline.specs.Ats.{IsAt};
+ghost use Rattle.script_lang.specs.Lines.{IsLineInRange};
+ghost use Rattle.debug_session.specs.Sessions.{size_of, timeline_of};
+ghost use Rattle.debug_packets.specs.Talks.{session_in};
+
+use crate::start::Start;
+use crate::told::{Told, told_payloads};
+use bench_report::Setting;
+use board_model::Refusal;
+use crew::{Crew, Sequential};
+use crossbeam_channel::{Receiver, Sender, unbounded};
+use debug_packets::{Talk, reply};
+use debug_session::{Plan, Session};
+use gdb_packets::{Decoder, Heard};
+use gdb_requests::{Look, Request, request_of};
+use script_lang::Script;
+use std::alloc::Global;
+use std::io::{self, Read, Write};
+use std::sync::Wait;
+use std::sync::atomic::{AtomicBool, Ordering};
+use std::thread::{self, Threads};
+
+/// How many bytes are read at once.
+const READ_AT_ONCE: usize = 4096;
+
+/// Whether nothing is to be read behind it: a packet that ends the talk, behind which a debugger may keep its pipe open.
+fn ends_talk(heard: &Heard) -> bool {
+    match heard {
+        Heard::Packet(packet) => {
+            matches!(request_of(packet), Request::Look(Look::Detach | Look::Kill))
+        }
+        _ => false,
+    }
+}
+
+/// Hands on what was heard, but for an interrupt, which is told at once: whether more is to be read.
+fn hand_on<R: Wait>(rt: &R, what: Heard, heard: &Sender<Heard>, interrupt: &AtomicBool) -> bool {
+    match what {
+        Heard::Interrupt => {
+            interrupt.store(true, Ordering::SeqCst);
+            true
+        }
+        Heard::Nothing => true,
+        other => {
+            let last = ends_talk(&other);
+            heard.send(rt, other).is_ok() && !last
+        }
+    }
+}
+
+/// Reads standard input to its end, or to a packet that ends the talk.
+fn listen<R: Wait, I: Read + Drop>(
+    rt: &R,
+    alloc: Global,
+    mut input: I,
+    heard: Sender<Heard>,
+    interrupt: &AtomicBool,
+) {
+    let mut decoder = Decoder::new(alloc);
+    let mut buffer = [0u8; READ_AT_ONCE];
+    for _ in 0..u64::MAX {
+        let count = match input.read(&mut buffer) {
+            Ok(0) | Err(_) => return,
+            Ok(count) => count,
+        };
+        for byte in &buffer[..count] {
+            let Ok(what) = decoder.take(*byte) else {
+                return;
+            };
+            if !hand_on(rt, what, &heard, interrupt) {
+                return;
+            }
+        }
+    }
+}
+
+/// Answers whatever is heard until the talk is over, or the input ends.
+fn answers<R: Wait, C: Crew, W: Write>(
+    rt: &R,
+    alloc: Global,
+    talk: &mut Talk<'_, C>,
+    heard: &Receiver<Heard>,
+    interrupt: &AtomicBool,
+    out: &mut W,
+) -> Result<(), Refusal>
+    requires at { IsAt (size_of (session_in talk.old)) (timeline_of (session_in talk.old)) }
+{
+    for _ in 0..u64::MAX {
+        let Ok(what) = heard.recv(rt) else {
+            return Ok(());
+        };
+        match what {
+            Heard::Packet(packet) => reply(talk, alloc, &packet, interrupt, out)?,
+            Heard::Damaged if talk.acknowledges() => out
+                .write_all(b"-")
+                .map_err(|_| Refusal::Output)?,
+            _ => {}
+        }
+        if talk.is_over() {
+            return Ok(());
+        }
+    }
+    Ok(())
+}
+
+/// The session and its talk.
+fn serve<R: Threads + Wait + Sync>(
+    rt: &R,
+    host: &HostRuntime,
+    start: Start,
+    plan: Plan,
+    heard: &Receiver<Heard>,
+    interrupt: &AtomicBool,
+) -> Result<(), Refusal>
+    requires ranges { All (IsLineInRange start.script.shape) start.script.lines.items }
+    requires four { length start.payloads ≡ 4 }
+{
+    let alloc = host.alloc();
+    let crew = Sequential::<R>::new([0, 1, 2, 3])?;
+    let Start { script, payloads } = start;
+    let Script { shape, lines } = script;
+    let Told { lines, begins } = told_payloads(alloc, lines, &payloads)?;
+    let setting = Setting {
+        alloc,
+        crew: &crew,
+        shape: &shape,
+    };
+    let session = Session::new(setting, plan, begins, lines)?;
+    let mut talk = Talk::new(session)?;
+    let mut out = io::writer(host);
+    answers(rt, alloc, &mut talk, heard, interrupt, &mut out)
+}
+
+/// The whole talk. Refused `Memory`, and `Output` where the debugger does not read.
+pub fn converse<R: Threads + Wait + Sync>(
+    host: &HostRuntime,
+    rt: &R,
+    start: Start,
+    plan: Plan,
+) -> Result<(), Refusal>
+    requires ranges { All (IsLineInRange start.script.shape) start.script.lines.items }
+    requires four { length start.payloads ≡ 4 }
+{
+    let alloc = host.alloc();
+    let interrupt = AtomicBool::new(false);
+    let interrupt = &interrupt;
+    let Ok((sender, receiver)) = unbounded::<Heard, _>(alloc) else {
+        return Err(Refusal::Memory);
+    };
+    thread::scope(
+        thread::scope_env(),
+        rt,
+        move |scope| -> Result<(), Refusal>
+            requires { All (IsLineInRange start.script.shape) start.script.lines.items × (length start.payloads ≡ 4) }
+        {
+            let reader = scope.spawn(move || listen(rt, alloc, host.stdin(), sender, interrupt));
+            if reader.is_err() {
+                return Err(Refusal::Memory);
+            }
+            serve(rt, host, start, plan, &receiver, interrupt)
+        },
+    )
+}

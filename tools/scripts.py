@@ -1,0 +1,27 @@
+"""What the tools here take of scripts and of their reports (docs/SCRIPT.md)."""
+from itertools import zip_longest
+
+
+def numbered(script):
+    """The lines that are not passed over, with their numbers from 1 on."""
+    return [(n, line) for n, line in enumerate(script.split("\n"), 1) if line and not line.startswith("#")]
+
+
+def told_lines(script, report):
+    """Of each line of the script that is no turn: its number, and its lines of the report."""
+    lines, at, found = report.splitlines(), 0, []
+    for number, line in numbered(script):
+        here = 2 if line.startswith("on ") and lines[at : at + 1] and lines[at].startswith("found ") else 1
+        if not line.startswith("turn "):
+            found.append((number, lines[at : at + here]))
+        at += here
+    return found
+
+
+def first_difference(own_run, other_run):
+    """Where the second of two reports first differs from the first in a line that is no turn: the number of the first script's line, what
+    the first report says there, and what the second says. None where it differs nowhere."""
+    for (number, own), (_, other) in zip(own_run, other_run):
+        if own != other:
+            return (number, *next(pair for pair in zip_longest(own, other, fillvalue="") if pair[0] != pair[1]))
+    return None
