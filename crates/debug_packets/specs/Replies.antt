@@ -2,8 +2,8 @@
 -- "Debugging with GDB", appendix "GDB Remote Serial Protocol", "Packets" and "General Query Packets".
 use Rattle.std.specs.Prelude.{◌≡◌, ⊤, ℕ, ◌+◌, ◌-◌, List, [], ◌∷◌, ◌++◌, Option, Some, None, IsSome, nat_lt, nat_le, ◌&&◌, if◌then◌else◌}
 use Rattle.board_model.specs.Shapes.{Size}
-use Rattle.debug_timeline.specs.Lives.{machine_on, memory_in, register_in}
-use Rattle.debug_timeline.specs.declared.live.LiveBench.{LiveBench}
+use Rattle.debug_timeline.specs.Lives.{machine_of, memory_in, register_in}
+use Rattle.debug_timeline.specs.declared.debugged.DebuggedBench.{DebuggedBench}
 use Rattle.gdb_packets.specs.Packets.{digit_of}
 use Rattle.debug_packets.specs.Texts.{threads_object}
 use Rattle.gdb_replies.specs.Replies.{memory_map_text, pairs_of, part_text, register_text, registers_text, threads_text}
@@ -42,12 +42,12 @@ memory_reply None = codes "E0e"
 memory_reply (Some bytes) = pairs_of bytes
 
 -- a part of an object of qXfer; of the description, which is fixed, a part of some text
-abbrev pub IsPart : Object → Size → LiveBench → ℕ → ℕ → List ℕ → Type 0
+abbrev pub IsPart : Object → Size → DebuggedBench → ℕ → ℕ → List ℕ → Type 0
 IsPart objects.Description size b offset count text = (whole : List ℕ) × (text ≡ part_text whole offset count)
 IsPart objects.MemoryMap size b offset count text = text ≡ part_text (memory_map_text size) offset count
 IsPart objects.Threads size b offset count text = text ≡ part_text (threads_object size b) offset count
 
-abbrev pub SaysPart : Object → Size → LiveBench → ℕ → ℕ → Option (List ℕ) → Type 0
+abbrev pub SaysPart : Object → Size → DebuggedBench → ℕ → ℕ → Option (List ℕ) → Type 0
 SaysPart object size b offset count None = ⊥
 SaysPart object size b offset count (Some text) = IsPart object size b offset count text
 
@@ -56,11 +56,11 @@ abbrev pub Says : List ℕ → Option (List ℕ) → Type 0
 Says text out = out ≡ Some text
 
 -- what a request that moves nothing is replied
-abbrev pub IsLookReply : Look → Size → ℕ → LiveBench → Option (List ℕ) → Type 0
+abbrev pub IsLookReply : Look → Size → ℕ → DebuggedBench → Option (List ℕ) → Type 0
 IsLookReply looks.Reason size h b out = IsSome out
-IsLookReply looks.Registers size h b out = Says (registers_text 42 (λ n. register_in h n (machine_on b.power))) out
-IsLookReply (looks.Register n) size h b out = Says (register_reply n (register_in h n (machine_on b.power))) out
-IsLookReply (looks.Memory address count) size h b out = Says (memory_reply (memory_in address count (machine_on b.power))) out
+IsLookReply looks.Registers size h b out = Says (registers_text 42 (λ n. register_in h n (machine_of b))) out
+IsLookReply (looks.Register n) size h b out = Says (register_reply n (register_in h n (machine_of b))) out
+IsLookReply (looks.Memory address count) size h b out = Says (memory_reply (memory_in address count (machine_of b))) out
 IsLookReply (looks.Show thread) size h b out = Says (thread_reply size thread) out
 IsLookReply looks.AnyThread size h b out = Says (codes "OK") out
 IsLookReply (looks.IsAlive thread) size h b out = Says (thread_reply size thread) out
@@ -83,12 +83,12 @@ IsLookReply looks.Malformed size h b out = Says (codes "E01") out
 IsLookReply looks.Unknown size h b out = Says [] out
 
 -- it is one payload, or none
-abbrev pub IsReply : Look → Size → ℕ → LiveBench → List (List ℕ) → Type 0
+abbrev pub IsReply : Look → Size → ℕ → DebuggedBench → List (List ℕ) → Type 0
 IsReply look size h b [] = IsLookReply look size h b None
 IsReply look size h b (text ∷ more) = (more ≡ []) × IsLookReply look size h b (Some text)
 
 -- the payloads that a request is replied with; those of one that moves the board are the console's and the stop's
-abbrev pub Replied : Request → Size → ℕ → LiveBench → List (List ℕ) → Type 0
+abbrev pub Replied : Request → Size → ℕ → DebuggedBench → List (List ℕ) → Type 0
 Replied (asks.Look look) size h b out = IsReply look size h b out
 Replied (asks.Move move) size h b out = ⊤
 

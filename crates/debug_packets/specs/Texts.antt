@@ -5,7 +5,7 @@ use Rattle.std.specs.Fmt.{decimal, digits}
 use Rattle.std.specs.List.{flat_map, range_with_len}
 use Rattle.board_model.specs.Shapes.{Size}
 use Rattle.debug_session.specs.Texts.{state_text}
-use Rattle.debug_timeline.specs.declared.live.LiveBench.{LiveBench}
+use Rattle.debug_timeline.specs.declared.debugged.DebuggedBench.{DebuggedBench}
 use lib.Chars.{codes}
 
 abbrev pub board_line : Size → List ℕ
@@ -13,15 +13,15 @@ board_line size =
     codes "board " ++ (decimal size.harts ++ (codes " " ++ (decimal size.pages ++ (codes " " ++ (decimal size.lanes ++ codes "\n")))))
 
 -- a hart as a thread, with what was last said of a turn of it in this life
-abbrev pub thread_line : LiveBench → ℕ → List ℕ
+abbrev pub thread_line : DebuggedBench → ℕ → List ℕ
 thread_line b h =
     codes "<thread id=\"" ++ (digits 16 false (h + 1) ++ (codes "\" core=\"" ++ (decimal h ++ (codes "\" name=\"hart "
     ++ (decimal h ++ (codes "\">" ++ (state_text h b ++ codes "</thread>\n")))))))
 
-abbrev pub thread_lines : ℕ → LiveBench → List ℕ
+abbrev pub thread_lines : ℕ → DebuggedBench → List ℕ
 thread_lines harts b = flat_map (thread_line b) (range_with_len 0 harts)
 
 -- the threads, as an object of qXfer
-abbrev pub threads_object : Size → LiveBench → List ℕ
+abbrev pub threads_object : Size → DebuggedBench → List ℕ
 threads_object size b =
     codes "<?xml version=\"1.0\"?>\n<threads>\n" ++ (thread_lines size.harts b ++ codes "</threads>\n")

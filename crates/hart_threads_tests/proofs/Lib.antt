@@ -1,1 +1,1 @@
-pub mod Sized
+pub mod Empty

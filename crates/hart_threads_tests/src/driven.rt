@@ -2,7 +2,7 @@
 
 ghost use Rattle.store.specs.Leaves.{IsIdle};
 
-use crate::fixtures::{Open, driven, parts_of, same};
+use crate::fixtures::{Open, Trial, driven, parts_of, same};
 use board_model::Shape;
 use disk::Disk;
 use ram::Ram;
@@ -28,8 +28,23 @@ fn opened(alloc: Global, disk: SimDisk) -> Result<Store<SimDisk>, Fail>
     }
 }
 
-/// Whether the bytes are the code, and zeros behind it.
-fn is_code(bytes: &[u8], code: &[u8]) -> bool {
+/// The slot that is found on that disk, the serial of its image, and the next; and the image's memory.
+type Found = (u32, Option<u64>, u64, Ram);
+
+fn found_on(alloc: Global, disk: SimDisk, shape: Shape) -> Result<Found, Fail>
+    requires { IsIdle (⟦<SimDisk as Disk>⟧.facts disk) }
+{
+    let mut store = opened(alloc, disk)?;
+    let found = store.found();
+    let mut ram = Ram::new(alloc, shape)?;
+    store.load_image(&mut ram)?;
+    let serial = found.image.map(|image| image.serial);
+    Ok((found.slot.number(), serial, found.next, ram))
+}
+
+/// Whether the memory is the code, and zeros behind it.
+fn is_code(ram: &Ram, code: &[u8]) -> bool {
+    let bytes = ram.bytes();
     bytes.starts_with(code) && bytes.iter().skip(code.len()).all(|b| *b == 0)
 }
 
@@ -37,20 +52,9 @@ fn is_code(bytes: &[u8], code: &[u8]) -> bool {
 fn a_guest_suspends_its_board(rt: HostRuntime) -> Result<(), Fail> {
     let alloc = rt.alloc();
     let (parts, shape) = parts_of(alloc, &Shape::new(2, 20, 2)?, &SLEEPER)?;
-    let (all, disk) = driven(&rt, alloc, &Open, parts, &shape, 9);
-    assert!(&rt; all);
-    let mut store = opened(alloc, disk)?;
-    let found = store.found();
-    same(&rt, (found.slot.number(), found.next), (0, 1));
-    same(&rt, found.image.map(|image| image.serial), Some(0));
-    let mut ram = Ram::new(alloc, shape)?;
-    assert!(&rt; store.load_image(&mut ram).is_ok());
-    let mut whole = true;
-    for number in 0..20 {
-        let code = if number == 0 { SLEEPER.as_slice() } else { &[] };
-        let page = shape.page(number).ok_or("a page")?;
-        whole = whole && is_code(ram.page(page), code);
-    }
-    assert!(&rt; whole);
+    let ran = driven(&rt, alloc, &Open, Trial::of(9), parts, &shape)?;
+    let (slot, serial, next, ram) = found_on(alloc, ran.disk, shape)?;
+    same(&rt, (slot, serial, next), (0, Some(0), 1));
+    assert!(&rt; is_code(&ram, &SLEEPER));
     Ok(())
 }

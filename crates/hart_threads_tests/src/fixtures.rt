@@ -1,6 +1,6 @@
 //! Boards that are about to be run, and gates.
 
-ghost use Rattle.std.specs.Prelude.{◌≡◌, ◌+◌, [], true, All, Some, IfOk, IfSome};
+ghost use Rattle.std.specs.Prelude.{◌≡◌, ◌+◌, [], true, Some, IfOk};
 ghost use Rattle.board_model.specs.Durable.{formatted as new_state};
 ghost use Rattle.store.specs.Leaves.{IsIdle, LeavesOnly};
 ghost use Rattle.store.specs.Views.{found_state};
@@ -8,19 +8,23 @@ ghost use Rattle.machine.specs.Held.{IsHeld};
 ghost use Rattle.receipts.specs.Views.{id_of, parts_of};
 ghost use Rattle.hart_threads_tests.specs.Begun.{IsBegun};
 
+use crate::dozing::UntilWoken;
 use board::{Board, Parts, Payloads};
-use board_model::{BootMode, HartId, Shape, Slot};
+use board_console::console;
+use board_model::{BootMode, Command, HartId, Shape, Slot};
 use disk::Disk;
-use hart_threads::{AfterConsole, Closing, Gate, SharedBoard, Threaded, drive};
-use shared_store::{Journal, NewBook, Part, SharedBus, Unshared};
+use hart_threads::{AfterConsole, Closing, Ended, Gate, Rested, SharedBoard, Threaded, Why, drive};
+use rv_decode::Reg;
+use shared_store::{Heard, Journal, NewBook, Part, SharedBus, SharedStore, Unshared};
 use simdisk::SimDisk;
-use std::alloc::Global;
+use std::alloc::{AllocError, Global};
 use std::marker::Brand;
 use std::process::Abort;
 use std::sync::{Mutex, OnceLock, Wait};
 use std::test::Fail;
 use std::thread::Threads;
-use store::{Saving, Store, format};
+use std::time::Clock;
+use store::{Saving, format};
 
 /// These two have to be equal.
 pub fn same<T: PartialEq + Drop>(rt: &impl Abort, found: T, wanted: T) {
@@ -62,16 +66,6 @@ fn booting(alloc: Global, payload: &[u8]) -> Result<Payloads, Fail> {
     Ok(payloads)
 }
 
-/// A board that was powered on fresh over a new disk.
-pub fn booted(alloc: Global, shape: &Shape, payload: &[u8]) -> Result<Board<SimDisk>, Fail> {
-    let disk = formatted(alloc, shape)?;
-    let payloads = booting(alloc, payload)?;
-    match Board::power_on(alloc, disk, BootMode::Fresh, &payloads) {
-        Ok(board) => Ok(board),
-        Err(_) => Err("the board is off")?,
-    }
-}
-
 /// The parts of a board that was powered on fresh over a new disk, and its shape.
 pub fn parts_of(
     alloc: Global,
@@ -92,69 +86,141 @@ pub fn parts_of(
     }
 }
 
-/// One of the parts, which was told nothing.
-pub fn next_part<J: Journal>(parts: &mut Vec<Part<J>>) -> Option<Part<J>>
-    requires fresh { All (λ p. p.told ≡ []) parts.old.items }
-    ensures told { IfSome result (λ p. p.told ≡ []) }
-    ensures fresh { All (λ p. p.told ≡ []) parts.new.items }
-{
-    parts.pop()
+/// A board's run on threads.
+#[derive(Clone, Copy, Drop)]
+pub struct Trial<'a> {
+    /// How many turns a hart makes at most.
+    pub turns: u64,
+    /// What is issued before the harts run, whatever it is answered.
+    pub commands: &'a [Command],
+    /// What the console reads; it waits for this gate first, and tells it when it has left.
+    pub input: &'a [u8],
+    pub until: Option<&'a UntilWoken>,
 }
 
-/// The store of a board's parts.
-pub fn store_of(parts: Parts<SimDisk>) -> Store<SimDisk>
-    ensures { result ≡ parts.store }
-{
-    let Parts {
-        harts: _,
-        seats: _,
-        tables: _,
-        bus: _,
-        store,
-    } = parts;
-    store
-}
-
-/// Runs the harts of a board with a console that returns at once: whether all threads were had, and the disk.
-pub fn driven<R: Threads + Wait + Sync>(
-    rt: &R,
-    alloc: Global,
-    gate: &(dyn Gate + Sync),
-    parts: Parts<SimDisk>,
-    shape: &Shape,
-    turns: u64,
-) -> (bool, SimDisk)
-    requires held { IsHeld shape.now parts.harts.items parts.tables (Some parts.seats) parts.bus.doze }
-    requires begun { IsBegun shape.now parts.store }
-    ensures { IsIdle (⟦<SimDisk as Disk>⟧.facts result.1) }
-{
-    match NewBook::new(alloc, shape.harts() + 1) {
-        Ok(book) => {
-            let lock = OnceLock::new();
-            driven_as::<Brand, R>(rt, alloc, gate, parts, book, lock, shape, turns)
+impl<'a> Trial<'a> {
+    /// So many turns, with no command, and a console that returns at once.
+    pub fn of(turns: u64) -> Trial<'a>
+        ensures { result.turns ≡ turns }
+    {
+        Trial {
+            turns,
+            commands: &[],
+            input: b"",
+            until: None,
         }
-        Err(_) => (false, store_of(parts).into_disk()),
     }
 }
 
-/// The same, of a journal that has a name.
-fn driven_as<J: Threaded + Send + Sync, R: Threads + Wait + Sync>(
+/// How a loop ended: how many turns it made and why it ended, the hart's a0, a1 and pc then, the number of its receipt, how
+/// many of its turns it dozed, and how often it found the board woken.
+#[derive(Drop)]
+pub struct End {
+    pub made: u64,
+    pub why: Why,
+    pub regs: (u64, u64),
+    pub pc: u64,
+    pub receipt: Option<u32>,
+    pub dozed: u64,
+    pub woken: u64,
+}
+
+/// How the loops of a board's harts ended, what its console wrote, and its disk.
+#[derive(Drop)]
+pub struct Ran {
+    pub ends: Vec<End>,
+    pub said: Vec<u8>,
+    pub disk: SimDisk,
+}
+
+fn end_of<J: Threaded>(ended: &Ended<'_, J>) -> End {
+    End {
+        made: ended.made,
+        why: ended.why,
+        regs: (ended.hart.reg(Reg::new(10)), ended.hart.reg(Reg::new(11))),
+        pc: ended.hart.pc(),
+        receipt: ended.told.as_ref().map(|told| told.number()),
+        dozed: ended.looks.made(),
+        woken: ended.looks.woken(),
+    }
+}
+
+fn ends_of<J: Threaded>(alloc: Global, loops: &[Rested<'_, J>]) -> Result<Vec<End>, AllocError> {
+    let mut ends = Vec::new(alloc);
+    for rested in loops {
+        ends.push(end_of(&rested.ended))?;
+    }
+    Ok(ends)
+}
+
+/// Issues these commands, whatever they are answered.
+fn issue<J: Journal>(store: &mut SharedStore<SimDisk, J>, part: Part<J>, commands: &[Command]) {
+    let mut part = part;
+    let mut heard = Heard::nothing();
+    for command in commands {
+        let (told, _answered) = store.apply(part, &mut heard, *command);
+        part = told;
+    }
+}
+
+/// What the console of a trial writes.
+fn talk<J: Journal, R: Wait + Clock>(
+    rt: &R,
+    alloc: Global,
+    bus: &Mutex<SharedBus<J>>,
+    store: &Mutex<SharedStore<SimDisk, J>>,
+    part: Part<J>,
+    trial: Trial<'_>,
+) -> Vec<u8> {
+    let mut out = Vec::new(alloc);
+    let mut input = trial.input;
+    let mut heard = Heard::nothing();
+    if let Some(gate) = trial.until {
+        gate.wait(rt);
+    }
+    let (_part, _left) = console(rt, bus, store, part, &mut heard, &mut input, &mut out);
+    if let Some(gate) = trial.until {
+        gate.tell();
+    }
+    out
+}
+
+/// Runs the harts of a board under that gate, with its console.
+pub fn driven<R: Threads + Wait + Clock + Sync>(
     rt: &R,
     alloc: Global,
     gate: &(dyn Gate + Sync),
+    trial: Trial<'_>,
+    parts: Parts<SimDisk>,
+    shape: &Shape,
+) -> Result<Ran, Fail>
+    requires held { IsHeld shape.now parts.harts.items parts.tables (Some parts.seats) parts.bus.doze }
+    requires begun { IsBegun shape.now parts.store }
+    ensures { IfOk result (λ ran. IsIdle (⟦<SimDisk as Disk>⟧.facts ran.disk)) }
+{
+    let book = NewBook::new(alloc, shape.harts() + 2)?;
+    let lock = OnceLock::new();
+    driven_as::<Brand, R>(rt, alloc, gate, trial, parts, book, lock, shape)
+}
+
+/// The same, of a journal that has a name.
+fn driven_as<J: Threaded + Send + Sync, R: Threads + Wait + Clock + Sync>(
+    rt: &R,
+    alloc: Global,
+    gate: &(dyn Gate + Sync),
+    trial: Trial<'_>,
     parts: Parts<SimDisk>,
     book: NewBook,
     lock: OnceLock<AfterConsole>,
     shape: &Shape,
-    turns: u64,
-) -> (bool, SimDisk)
+) -> Result<Ran, Fail>
     requires held { IsHeld shape.now parts.harts.items parts.tables (Some parts.seats) parts.bus.doze }
     requires begun { IsBegun shape.now parts.store }
     requires named { (J.size ≡ shape.now) × (J.found ≡ found_state parts.store) × (J.issued ≡ [])
         × (J.memory ≡ parts.bus.ram) }
-    requires book { (id_of book ≡ J.book) × (parts_of book ≡ J.parts) × (J.parts ≡ shape.now.harts + 1) }
-    requires driven { (lock.id ≡ J.parting) × (turns ≡ J.turns) × (J.gated ≡ true) }
-    ensures { IsIdle (⟦<SimDisk as Disk>⟧.facts result.1) }
+    requires book { (id_of book ≡ J.book) × (parts_of book ≡ J.parts) × (J.parts ≡ shape.now.harts + 2) }
+    requires driven { (lock.id ≡ J.parting) × (trial.turns ≡ J.turns) × (J.gated ≡ true) }
+    ensures { IfOk result (λ ran. IsIdle (⟦<SimDisk as Disk>⟧.facts ran.disk)) }
 {
     let Parts {
         harts,
@@ -163,16 +229,17 @@ fn driven_as<J: Threaded + Send + Sync, R: Threads + Wait + Sync>(
         bus,
         store,
     } = parts;
-    let (mut whole, _boot) = Unshared::<SimDisk, J>::new(store, book);
-    let Ok(given) = whole.hand_out_all(alloc, harts.len()) else {
-        return (false, whole.close().into_disk());
-    };
+    let (mut whole, boot) = Unshared::<SimDisk, J>::new(store, book);
+    let part = whole.hand_out();
+    let given = whole.hand_out_all(alloc, harts.len())?;
     let doze = bus.doze;
     let bus: Mutex<SharedBus<J>> = Mutex::new(SharedBus::new(bus));
-    let store = Mutex::new(whole.share());
+    let mut shared = whole.share();
+    issue(&mut shared, boot, trial.commands);
+    let store = Mutex::new(shared);
     let closing = Closing::new(lock);
     let crew = crew::Threads::new(rt);
-    let size = *shape;
+    let (rung, told, size) = (&bus, &store, *shape);
     let board = SharedBoard {
         saving: Saving { alloc, crew: &crew },
         tables: &tables,
@@ -188,11 +255,15 @@ fn driven_as<J: Threaded + Send + Sync, R: Threads + Wait + Sync>(
         harts,
         seats,
         doze,
-        turns,
+        trial.turns,
         given,
-        (),
-        |()| (),
+        part,
+        move |part| talk(rt, alloc, rung, told, part, trial),
     );
-    let all = done.is_ok();
-    (all, store.into_inner().unshare().close().into_disk())
+    let Ok((loops, said)) = done else {
+        return Err("a thread was not had".into());
+    };
+    let ends = ends_of(alloc, &loops)?;
+    let disk = store.into_inner().unshare().close().into_disk();
+    Ok(Ran { ends, said, disk })
 }

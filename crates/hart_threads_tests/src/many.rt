@@ -1,9 +1,10 @@
 //! Boards of three harts and of eight: each hart makes its turns, and the life of all ends with one's.
 
-use crate::fixtures::{driven, parts_of, same};
+use crate::fixtures::{Trial, driven, parts_of, same};
 use crate::looped::STOPPER;
 use board_model::{HartId, Shape};
 use hart_threads::Gate;
+use std::process::Abort;
 use std::sync::atomic::{AtomicU64, Ordering};
 use std::test::*;
 
@@ -55,18 +56,21 @@ impl Gate for Counting {
     }
 }
 
+/// Hart k made that many turns, for each k.
+fn made_by_each(rt: &impl Abort, gate: &Counting, turns: &[u64]) {
+    for (hart, wanted) in turns.iter().enumerate() {
+        same(rt, gate.made_by(hart), *wanted);
+    }
+}
+
 #[test]
 fn each_of_eight_harts_makes_its_turns_but_one_that_the_gate_ends(
     rt: HostRuntime,
 ) -> Result<(), Fail> {
     let (parts, shape) = parts_of(rt.alloc(), &Shape::new(8, 1, 1)?, &[])?;
     let gate = Counting::new(Some((3, 5)));
-    let (all, _disk) = driven(&rt, rt.alloc(), &gate, parts, &shape, 20);
-    assert!(&rt; all);
-    for hart in 0..8 {
-        let turns = if hart == 3 { 5 } else { 20 };
-        same(&rt, gate.made_by(hart), turns);
-    }
+    driven(&rt, rt.alloc(), &gate, Trial::of(20), parts, &shape)?;
+    made_by_each(&rt, &gate, &[20, 20, 20, 5, 20, 20, 20, 20]);
     Ok(())
 }
 
@@ -74,8 +78,7 @@ fn each_of_eight_harts_makes_its_turns_but_one_that_the_gate_ends(
 fn the_gate_is_asked_past_a_million_turns(rt: HostRuntime) -> Result<(), Fail> {
     let (parts, shape) = parts_of(rt.alloc(), &Shape::new(1, 1, 1)?, &[])?;
     let gate = Counting::new(Some((0, 1_048_600)));
-    let (all, _disk) = driven(&rt, rt.alloc(), &gate, parts, &shape, ENDLESS);
-    assert!(&rt; all);
+    driven(&rt, rt.alloc(), &gate, Trial::of(ENDLESS), parts, &shape)?;
     same(&rt, gate.made_by(0), 1_048_600);
     Ok(())
 }
@@ -84,8 +87,7 @@ fn the_gate_is_asked_past_a_million_turns(rt: HostRuntime) -> Result<(), Fail> {
 fn the_life_of_all_harts_ends_with_a_reset_of_one(rt: HostRuntime) -> Result<(), Fail> {
     let (parts, shape) = parts_of(rt.alloc(), &Shape::new(3, 1, 1)?, &STOPPER)?;
     let gate = Counting::new(None);
-    let (all, _disk) = driven(&rt, rt.alloc(), &gate, parts, &shape, ENDLESS);
-    assert!(&rt; all);
+    driven(&rt, rt.alloc(), &gate, Trial::of(ENDLESS), parts, &shape)?;
     same(&rt, gate.made_by(0), 6);
     Ok(())
 }

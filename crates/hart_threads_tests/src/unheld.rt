@@ -1,5 +1,4 @@
-//! Consoles with no harts beside them: one whose output looks, at each write, whether another could take the bus and the
-//! store, and one that wakes its board.
+//! A console with no harts beside it, whose output looks, at each write, whether another could take the bus and the store.
 
 ghost use Rattle.std.specs.Prelude.{◌≡◌, []};
 ghost use Rattle.store.specs.Views.{found_state};
@@ -9,16 +8,15 @@ ghost use Rattle.hart_threads_tests.specs.Begun.{IsBegun};
 use crate::fixtures::{parts_of, same};
 use board::Parts;
 use board_console::console;
-use board_model::{Addr, HartId, Shape};
+use board_model::Shape;
 use shared_store::{Heard, Journal, NewBook, SharedBus, SharedStore, Unshared};
 use simdisk::SimDisk;
-use std::alloc::Global;
 use std::io::{self, Write};
 use std::marker::Brand;
 use std::sync::{Mutex, Wait};
 use std::test::*;
-use store::{Resumption, Store};
-use susp::{Bus, Doze};
+use store::Store;
+use susp::Bus;
 
 /// It counts the lines that are written, and the writes that find the bus or the store held.
 #[derive(Drop)]
@@ -86,55 +84,5 @@ fn no_lock_is_held_while_an_answer_is_written(rt: HostRuntime) -> Result<(), Fai
     } = parts;
     let (lines, held) = talked::<Brand, HostRuntime>(&rt, bus, store, book);
     same(&rt, (lines, held), (6, 0));
-    Ok(())
-}
-
-/// What a console of that bus and store answers to `wake` twice, and the bus then.
-fn wakes<J: Journal, R: Wait>(
-    rt: &R,
-    alloc: Global,
-    bus: Bus,
-    store: Store<SimDisk>,
-    book: NewBook,
-) -> (Vec<u8>, Bus)
-    requires begun { IsBegun J.size store }
-    requires named { (J.found ≡ found_state store) × (J.issued ≡ []) × (J.memory ≡ bus.ram) }
-    requires book { (id_of book ≡ J.book) × (parts_of book ≡ J.parts) × (J.parts ≡ 1) }
-{
-    let (whole, part) = Unshared::<SimDisk, J>::new(store, book);
-    let bus: Mutex<SharedBus<J>> = Mutex::new(SharedBus::new(bus));
-    let store = Mutex::new(whole.share());
-    let mut input = b"wake\nwake\n".as_slice();
-    let mut out = Vec::new(alloc);
-    let mut heard = Heard::nothing();
-    let (_part, _left) = console(rt, &bus, &store, part, &mut heard, &mut input, &mut out);
-    (out, bus.into_inner().unshare())
-}
-
-#[test]
-fn a_board_is_woken_once_and_its_memory_stays(rt: HostRuntime) -> Result<(), Fail> {
-    let alloc = rt.alloc();
-    let (parts, _shape) = parts_of(alloc, &Shape::new(1, 1, 1)?, &[7, 9])?;
-    let book = NewBook::new(alloc, 1)?;
-    let Parts {
-        harts: _,
-        seats: _,
-        tables: _,
-        bus,
-        store,
-    } = parts;
-    let at = Resumption {
-        hart: HartId::new(0).ok_or("hart 0")?,
-        address: Addr::new(0x8000_0000).ok_or("an address")?,
-        opaque: 5,
-    };
-    let bus = Bus {
-        ram: bus.ram,
-        doze: Some(Doze { at, woken: false }),
-    };
-    let (said, bus) = wakes::<Brand, HostRuntime>(&rt, alloc, bus, store, book);
-    assert!(&rt; said.as_slice() == b"wake ok\nwake refused 18\n".as_slice());
-    assert!(&rt; bus.doze.is_some_and(|doze| doze.woken));
-    assert!(&rt; bus.ram.bytes().starts_with(&[7, 9]));
     Ok(())
 }

@@ -1,3 +1,2 @@
 pub mod Race
 pub mod Crowd
-pub mod Known

@@ -2,7 +2,6 @@
 
 use crate::crowd::{all_harts, take_all};
 use crate::fixtures::same;
-use crate::known::{lost, refused};
 use crate::race::{Plan, ready_racers, rounds};
 use crate::two_tables::first_use;
 use board_model::{Addr, HartId, Shape};
@@ -42,24 +41,6 @@ fn eight_harts_raise_and_take(rt: HostRuntime) -> Result<(), Fail> {
     let (_whole, left) = take_all(&table, whole);
     assert!(&rt; 0 < sums.raised);
     same(&rt, sums.raised, sums.taken.wrapping_add(left));
-    Ok(())
-}
-
-#[test]
-fn no_interrupt_is_lost(rt: HostRuntime) -> Result<(), Fail> {
-    let shape = Shape::new(3, 1, 1)?;
-    let (table, whole) = PendingTable::new(rt.alloc(), shape)?;
-    same(&rt, lost(&rt, &table, whole, 100_000), 0);
-    Ok(())
-}
-
-#[test]
-fn no_start_is_refused(rt: HostRuntime) -> Result<(), Fail> {
-    let shape = Shape::new(4, 1, 1)?;
-    let one = HartId::new(1).unwrap();
-    let address = Addr::new(0x8000_0000).unwrap();
-    let (table, whole) = HartTable::new(rt.alloc(), shape, one)?;
-    same(&rt, refused(&rt, &table, whole, address, 100_000), Some(0));
     Ok(())
 }
 

@@ -41,7 +41,10 @@ fn payloads_read(rt: &HostRuntime, options: &Options) -> Result<Payloads, FileFa
 }
 
 /// What the session begins with: the script, and the payloads. The script is read first.
-pub fn start_read(rt: &HostRuntime, options: &Options) -> Result<Start, FileFault> {
+pub fn start_read(rt: &HostRuntime, options: &Options) -> Result<Start, FileFault>
+    ensures ranges { IfOk result (λ start. All (IsLineInRange start.script.shape) start.script.lines.items) }
+    ensures four { IfOk result (λ start. length start.payloads ≡ 4) }
+{
     let script = script_read(rt, options)?;
     let payloads = payloads_read(rt, options)?;
     Ok(Start { script, payloads })

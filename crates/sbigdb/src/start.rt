@@ -1,8 +1,5 @@
 //! What a session begins with.
 
-ghost use Rattle.std.specs.Prelude.{◌≡◌, All, length};
-ghost use Rattle.script_lang.specs.Lines.{IsLineInRange};
-
 use board::Payloads;
 use script_lang::Script;
 
@@ -13,6 +10,4 @@ pub struct Start {
     pub script: Script,
     /// What the four slots boot.
     pub payloads: Payloads,
-    ghost ranges: { All (IsLineInRange script.shape) script.lines.items },
-    ghost four: { length payloads ≡ 4 },
 }

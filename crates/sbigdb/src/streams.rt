@@ -1,6 +1,8 @@
 //! The talk on the process's own streams. One thread reads, so that an interrupt is heard while turns run.
 
+ghost use Rattle.std.specs.Prelude.{◌≡◌, All, length};
 ghost use Rattle.debug_timeline.specs.Ats.{IsAt};
+ghost use Rattle.script_lang.specs.Lines.{IsLineInRange};
 ghost use Rattle.debug_session.specs.Sessions.{size_of, timeline_of};
 ghost use Rattle.debug_packets.specs.Talks.{session_in};
 
@@ -84,7 +86,7 @@ fn answers<R: Wait, C: Crew, W: Write>(
     interrupt: &AtomicBool,
     out: &mut W,
 ) -> Result<(), Refusal>
-    requires { IsAt (size_of (session_in talk.old)) (timeline_of (session_in talk.old)) }
+    requires at { IsAt (size_of (session_in talk.old)) (timeline_of (session_in talk.old)) }
 {
     for _ in 0..u64::MAX {
         let Ok(what) = heard.recv(rt) else {
@@ -112,7 +114,10 @@ fn serve<R: Threads + Wait + Sync>(
     plan: Plan,
     heard: &Receiver<Heard>,
     interrupt: &AtomicBool,
-) -> Result<(), Refusal> {
+) -> Result<(), Refusal>
+    requires ranges { All (IsLineInRange start.script.shape) start.script.lines.items }
+    requires four { length start.payloads ≡ 4 }
+{
     let alloc = host.alloc();
     let crew = Sequential::<R>::new([0, 1, 2, 3])?;
     let Start { script, payloads } = start;
@@ -135,18 +140,27 @@ pub fn converse<R: Threads + Wait + Sync>(
     rt: &R,
     start: Start,
     plan: Plan,
-) -> Result<(), Refusal> {
+) -> Result<(), Refusal>
+    requires ranges { All (IsLineInRange start.script.shape) start.script.lines.items }
+    requires four { length start.payloads ≡ 4 }
+{
     let alloc = host.alloc();
     let interrupt = AtomicBool::new(false);
     let interrupt = &interrupt;
     let Ok((sender, receiver)) = unbounded::<Heard, _>(alloc) else {
         return Err(Refusal::Memory);
     };
-    thread::scope(thread::scope_env(), rt, move |scope| {
-        let reader = scope.spawn(move || listen(rt, alloc, host.stdin(), sender, interrupt));
-        if reader.is_err() {
-            return Err(Refusal::Memory);
-        }
-        serve(rt, host, start, plan, &receiver, interrupt)
-    })
+    thread::scope(
+        thread::scope_env(),
+        rt,
+        move |scope| -> Result<(), Refusal>
+            requires { All (IsLineInRange start.script.shape) start.script.lines.items × (length start.payloads ≡ 4) }
+        {
+            let reader = scope.spawn(move || listen(rt, alloc, host.stdin(), sender, interrupt));
+            if reader.is_err() {
+                return Err(Refusal::Memory);
+            }
+            serve(rt, host, start, plan, &receiver, interrupt)
+        },
+    )
 }

@@ -25,10 +25,13 @@ pub struct Told {
 }
 
 /// Tells the payload of one slot: in a line, where it has 1 to 1,024 bytes, else as one with which the script begins.
+#[tactic(auto, using(crate::proofs::Ranges::payload_ranged))]
 fn tell(alloc: Global, payloads: &Payloads, number: u32, told: &mut Told) -> Result<(), AllocError>
     requires { number ≤ 3 }
     ensures line { OnOk result (told.new.lines.items ≡ told.old.lines.items ++ line_for number (payload_at payloads.now number)) }
     ensures begin { OnOk result (told.new.begins ≡ slice_set told.old.begins number (begin_for (payload_at payloads.now number))) }
+    ensures ranges { OnOk result ((size : Size) → All (IsLineInRange size) told.old.lines.items
+        → All (IsLineInRange size) told.new.lines.items) }
 {
     let Some(slot) = Slot::new(number) else {
         return Ok(());
@@ -52,7 +55,8 @@ pub fn told_payloads(
     requires { length payloads.now ≡ 4 }
     ensures told { IfOk result (λ told. AreTold payloads.now lines.items told.lines.items told.begins) }
     ensures four { IfOk result (λ told. length told.begins ≡ 4) }
-    ensures ranges { (size : Size) → All (IsLineInRange size) lines.items → IfOk result (λ told. All (IsLineInRange size) told.lines.items) }
+    ensures ranges { IfOk result (λ told. (size : Size) → All (IsLineInRange size) lines.items
+        → All (IsLineInRange size) told.lines.items) }
 {
     let mut told = Told {
         lines: Vec::new(alloc),

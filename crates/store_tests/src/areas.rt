@@ -23,62 +23,24 @@ fn written<C: Crew>(alloc: Global, crew: &C, lanes: u64) -> Result<(LaneCounts, 
     Ok((counts, holds))
 }
 
-/// Fewer lanes than four, by turns: each lane in its order is filled while pages are left.
-const FEW_LANES: [(u64, [usize; 4], LaneCounts); 5] = [
+/// Lanes by turns: each lane in its order is filled while pages are left.
+const LANES: [(u64, [usize; 4], LaneCounts); 8] = [
     (1, [2, 0, 3, 1], [5, 0, 0, 0]),
     (2, [2, 0, 3, 1], [3, 2, 0, 0]),
     (2, [2, 3, 1, 0], [2, 3, 0, 0]),
     (3, [2, 0, 3, 1], [2, 1, 2, 0]),
     (3, [1, 3, 2, 0], [1, 2, 2, 0]),
+    (4, [0, 1, 2, 3], [2, 2, 1, 0]),
+    (4, [3, 2, 1, 0], [0, 1, 2, 2]),
+    (4, [2, 0, 3, 1], [2, 0, 2, 1]),
 ];
 
 #[test]
 fn lanes_are_filled_in_their_turn(rt: HostRuntime) -> Result<(), Fail> {
-    for (lanes, order, counts) in FEW_LANES {
+    for (lanes, order, counts) in LANES {
         let turns: Sequential<HostRuntime> = Sequential::new(order)?;
         same(&rt, written(rt.alloc(), &turns, lanes)?, (counts, true));
     }
-    Ok(())
-}
-
-/// How many of 5 pages four lanes have after turns in that order: the first two are full, the third has one.
-fn counts_after(order: [usize; 4]) -> LaneCounts {
-    let pages = [2, 2, 1, 0];
-    let mut counts = [0; 4];
-    for turn in 0..4 {
-        if let Some(count) = counts.get_mut(order[turn]) {
-            *count = pages[turn];
-        }
-    }
-    counts
-}
-
-/// Whether turns in that order, where it is one, write the memory and answer those counts.
-fn order_writes<R: Abort + thread::Threads + Sync>(
-    rt: &R,
-    alloc: Global,
-    order: [usize; 4],
-) -> Result<bool, Refusal> {
-    let Ok(turns) = Sequential::<R>::new(order) else {
-        return Ok(false);
-    };
-    let answer = written(alloc, &turns, 4)?;
-    same(rt, answer, (counts_after(order), true));
-    Ok(true)
-}
-
-#[test]
-fn turns_in_any_order_write_the_memory(rt: HostRuntime) -> Result<(), Fail> {
-    let mut orders = 0u32;
-    for number in 0..256usize {
-        let order = [number % 4, number / 4 % 4, number / 16 % 4, number / 64];
-        if order_writes(&rt, rt.alloc(), order)? {
-            orders = orders.saturating_add(1);
-        }
-    }
-    same(&rt, orders, 24);
-    same(&rt, counts_after([0, 1, 2, 3]), [2, 2, 1, 0]);
-    same(&rt, counts_after([3, 2, 1, 0]), [0, 1, 2, 2]);
     Ok(())
 }
 

@@ -28,5 +28,3 @@ mod sectors;
 mod sites;
 #[cfg(test)]
 mod suspensions;
-#[cfg(test)]
-mod tests;

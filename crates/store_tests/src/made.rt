@@ -1,14 +1,10 @@
-//! The bytes that a disk is made of, and what refused memory leaves. What faults and cuts leave is said by the disk's clauses, and
-//! shown by the scripts of `crates/examples`.
-ghost use Rattle.std.specs.Prelude.{◌≡◌};
-
+//! The bytes that a disk is made of. What faults, cuts and refused memory leave is said by the disk's clauses, and what the first two
+//! leave is shown by the scripts of `crates/examples`.
 use crate::fixtures::same;
-use crate::sectors::{contents, write_byte};
 use board_model::Refusal;
 use disk::Disk;
-use simdisk::{Fill, SimDisk};
+use simdisk::SimDisk;
 use std::alloc::Global;
-use std::process::Abort;
 use std::test::Fail;
 
 /// What a disk of these bytes is refused.
@@ -29,46 +25,5 @@ fn bytes_become_sectors(rt: HostRuntime) -> Result<(), Fail> {
         same(&rt, refusal, Some(Refusal::BadShape));
     }
     same(&rt, SimDisk::new(rt.alloc(), &[])?.sectors(), 0);
-    Ok(())
-}
-
-/// Whether a disk of four sectors could be lent as two lanes, which come back at once.
-fn lend_and_join(rt: &impl Abort, disk: &mut SimDisk) -> bool
-    requires { (⟦<SimDisk as Disk>⟧.facts disk.old).lent.lanes ≡ 0 }
-{
-    assert!(rt; disk.sectors() == 4);
-    match disk.split(0, 2, 2) {
-        Ok(lanes) => {
-            disk.join(lanes);
-            true
-        }
-        Err(_) => false,
-    }
-}
-
-/// `rt try --test --fail-alloc N` makes each growth of the write log and of a split fail in turn.
-#[test]
-fn a_refused_growth_is_counted_and_changes_nothing(rt: HostRuntime) -> Result<(), Fail> {
-    let Ok(mut disk) = SimDisk::blank(rt.alloc(), 4) else {
-        return Ok(());
-    };
-    let wrote = write_byte(&rt, &mut disk, 1, 5).is_ok();
-    same(
-        &rt,
-        contents(&rt, &disk),
-        [0, if wrote { 5 } else { 0 }, 0, 0],
-    );
-    let synced = disk.sync().is_ok();
-    let failures = u64::from(!wrote) + u64::from(!synced);
-    same(&rt, (disk.failures(), disk.refused()), (failures, failures));
-    let lent = lend_and_join(&rt, &mut disk);
-    same(&rt, (disk.failures(), disk.refused()), (failures, failures));
-    let left = match (lent, wrote, synced) {
-        (true, _, _) => [9, 9, 9, 9],
-        (false, true, true) => [0, 5, 0, 0],
-        (false, true, false) => [0, 9, 0, 0],
-        (false, false, _) => [0, 0, 0, 0],
-    };
-    same(&rt, contents(&rt, &disk.after_cut(Fill::Byte(9))), left);
     Ok(())
 }

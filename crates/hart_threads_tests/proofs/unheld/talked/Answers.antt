@@ -1,4 +1,4 @@
-use Rattle.hart_threads_tests.proofs.Sized.{none_carried}
+use Rattle.hart_threads_tests.proofs.Empty.{none_carried}
 use Rattle.hart_threads_tests.proofs.unheld.talked.Goals as goal
 
 pub new-whole-requires-clause-carried : goal.new-whole-requires-clause-carried
