@@ -4,6 +4,8 @@
 #[cfg(test)]
 mod command_lines;
 #[cfg(test)]
+mod examiner;
+#[cfg(test)]
 mod fixtures;
 #[cfg(test)]
 mod guest;

@@ -3,7 +3,7 @@
 ghost use Rattle.std.specs.Prelude.{◌≡◌, None, Some, IfErr, IfOk};
 ghost use Rattle.board_files.specs.Faults.{IsFileFault};
 
-use board_files::{BoardFiles, DiskFile, Failing, MemoryDisk, unreached};
+use board_files::{BoardFiles, DiskFile, DiskFiles, Failing, MemoryDisk, unreached};
 use board_model::Refusal;
 use board_program::Answers;
 use command_line::FileFault;
@@ -66,6 +66,16 @@ impl MemoryFiles {
             Ok(held) => Ok(held),
             Err(_) => Err(FileFault::refused(Refusal::Memory)),
         }
+    }
+}
+
+impl DiskFiles for MemoryFiles {
+    type Opened = MemoryDisk;
+
+    ghost disk_at = { λ files path. Some files.disk.items };
+
+    fn open(&self, path: &str) -> Result<MemoryDisk, FileFault> {
+        self.disk_file(path)
     }
 }
 

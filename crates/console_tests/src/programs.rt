@@ -15,13 +15,13 @@ use std::thread::Threads;
 
 /// A run: its words, the lines of its console and the room of its output; and what has to come of it.
 #[derive(Clone, Copy)]
-struct Run {
-    words: &'static [&'static str],
-    lines: &'static [u8],
-    room: usize,
-    status: u8,
-    told: &'static [u8],
-    faults: &'static [u8],
+pub struct Run {
+    pub words: &'static [&'static str],
+    pub lines: &'static [u8],
+    pub room: usize,
+    pub status: u8,
+    pub told: &'static [u8],
+    pub faults: &'static [u8],
 }
 
 const NEW: [&str; 8] = [
@@ -35,7 +35,7 @@ const SYNCED: [&str; 9] = [
 ];
 
 /// A run over a new disk, which nothing stops.
-const PLAIN: Run = Run {
+pub const PLAIN: Run = Run {
     words: &NEW,
     lines: b"",
     room: 1000,
@@ -60,7 +60,7 @@ fn bytes_left(
 }
 
 /// These files after a run that comes to what is told of it.
-fn after<R: Abort + Threads + Wait + Sync>(
+pub fn after<R: Abort + Threads + Wait + Sync>(
     rt: &R,
     files: MemoryFiles,
     run: &Run,
@@ -83,7 +83,7 @@ fn after<R: Abort + Threads + Wait + Sync>(
 }
 
 /// Files of which the disk's has these bytes, and those fail.
-fn files_of(alloc: Global, disk: &[u8], broken: Broken) -> Result<MemoryFiles, Fail> {
+pub fn files_of(alloc: Global, disk: &[u8], broken: Broken) -> Result<MemoryFiles, Fail> {
     Ok(MemoryFiles {
         alloc,
         payloads: [b"", b"", b"", b""],
@@ -93,7 +93,7 @@ fn files_of(alloc: Global, disk: &[u8], broken: Broken) -> Result<MemoryFiles, F
 }
 
 /// A suspension to disk, as `SLEEPS` of the sessions' tests.
-const SLEEPER: &[u8] = b"\
+pub const SLEEPER: &[u8] = b"\
 \x13\x05\x10\x00\x13\x15\xf5\x01\x13\x05\x15\x00\x93\x05\x10\x00\x93\x95\xf5\x01\
 \x13\x06\x00\x00\x13\x08\x00\x00\xb7\x58\x55\x53\x93\x88\x08\x35\x73\x00\x00\x00";
 

@@ -1,1 +1,2 @@
 pub mod FileSeen
+pub mod Words

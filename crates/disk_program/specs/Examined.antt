@@ -1,5 +1,5 @@
 -- What the examiner makes of a disk's file, and its status. Source: docs/CONSOLE.md, "The program `sbidisk`".
-use Rattle.std.specs.Prelude.{◌≡◌, ◌⊎◌, ℕ, Bool, true, false, List, Option, IfSome, Result}
+use Rattle.std.specs.Prelude.{◌≡◌, ◌⊎◌, ℕ, Bool, true, false, List, Option, IfSome, OnOk, Result}
 use Rattle.std.specs.Io.KnownBytes.{Appends}
 use Rattle.board_files.specs.Disks.{IsLookedAt, first_sectors}
 use Rattle.command_line.specs.Faults.{status_after, without_work}
@@ -7,6 +7,7 @@ use Rattle.command_line.specs.declared.NoWork.{NoWork}
 use Rattle.command_line.specs.declared.fault.ProgramFault.{ProgramFault}
 use Rattle.disk.specs.Facts.{Content}
 use Rattle.disk_program.specs.Texts.{seen_text}
+use Rattle.disk_program.specs.Usage.{AskForNone, IsNamedBy}
 use Rattle.disk_program.specs.declared.usage.Work.{Work}
 use Rattle.disk_program.specs.declared.usage.Work.TheVariants.{Lines, Memory}
 use Rattle.examined.specs.Memories.{HoldsMemory}
@@ -35,6 +36,13 @@ abbrev pub status_by : Bool → Result (Unit {0}) ProgramFault → ℕ
 status_by true done = 1
 status_by false done = status_after done
 
--- What was done without a fault: work, or nothing more than to show what was asked for.
-abbrev pub IsExamined : (List ℕ → Option (List ℕ)) → Option (List ℕ) → Option (List ℕ) → Result (Unit {0}) ProgramFault → Type 0
-IsExamined disk_at old now done = ((work : Work) × WritesWork disk_at work old now) ⊎ ((why : NoWork) × (done ≡ without_work why))
+-- the status is the one of the work, which was done whole where it has no fault
+abbrev pub IsWorked : (List ℕ → Option (List ℕ)) → Work → Option (List ℕ) → Option (List ℕ) → Bool → ℕ → Type 0
+IsWorked disk_at work old now closed status = (done : Result (Unit {0}) ProgramFault) × (status ≡ status_by closed done)
+    × OnOk done (WritesWork disk_at work old now)
+
+-- What comes of the words: the work that they name was done, or has a fault; or they ask for none.
+abbrev pub IsExamined : (List ℕ → Option (List ℕ)) → List (List ℕ) → Option (List ℕ) → Option (List ℕ) → Bool → ℕ → Type 0
+IsExamined disk_at words old now closed status =
+    ((work : Work) × IsNamedBy words work × IsWorked disk_at work old now closed status)
+    ⊎ ((why : NoWork) × AskForNone words why × (status ≡ status_after (without_work why)))

@@ -1,3 +1,4 @@
 -- The lines that are written of a disk.
 pub mod Texts
 pub mod Examined
+pub mod Usage

@@ -1,17 +1,15 @@
 //! What the program does: it says what stands in a disk's file (docs/CONSOLE.md, "The program `sbidisk`").
 
-ghost use Rattle.std.specs.Prelude.{◌≡◌, ◌≤◌, Bool, Result, OnOk};
-ghost use Rattle.std.specs.Io.Buffered.{writer_contents};
-ghost use Rattle.command_line.specs.Faults.{without_work};
-ghost use Rattle.command_line.specs.Pipes.{pipe_contents};
-ghost use Rattle.command_line.specs.Told.{fault_of};
-ghost use Rattle.command_line.specs.declared.fault.ProgramFault.{ProgramFault};
-ghost use Rattle.disk_program.specs.Examined.{IsExamined, WritesMemory, WritesSeen, WritesWork, status_by};
+ghost use Rattle.std.specs.Prelude.{◌≡◌, ◌≤◌, map, OnOk};
+ghost use Rattle.std.specs.Io.Buffered.{writer_contents, writer_inner};
+ghost use Rattle.command_line.specs.Faults.{status_after, without_work};
+ghost use Rattle.command_line.specs.Pipes.{is_closed_pipe, pipe_contents};
+ghost use Rattle.disk_program.specs.Examined.{IsExamined, IsWorked, WritesMemory, WritesSeen, WritesWork};
 
 use crate::shows::write_seen;
 use crate::usage::{Work, work_of};
 use board_files::{DiskFiles, seen_in};
-use command_line::{FileFault, NoWork, Pipe, ProgramFault, end_with, show_on, without_work};
+use command_line::{FileFault, NoWork, Pipe, end_with, show_on, without_work};
 use examined::{image_memory, see_disk, write_memory};
 use std::alloc::Global;
 use std::convert::AsStr;
@@ -75,7 +73,7 @@ fn do_work<D: DiskFiles, W: Write + Drop>(
     work: Work<'_>,
     out: &mut Out<W>,
 ) -> Result<(), FileFault>
-    ensures { OnOk result (WritesWork (D.disk_at files.now) work
+    ensures { OnOk result (WritesWork (D.disk_at files.now) work.entry
         (writer_contents (pipe_contents W.contents) out.old) (writer_contents (pipe_contents W.contents) out.new)) }
 {
     match work {
@@ -84,47 +82,44 @@ fn do_work<D: DiskFiles, W: Write + Drop>(
     }
 }
 
-/// What is done where the words ask for no work.
-fn no_work(why: NoWork) -> Result<(), FileFault>
-    ensures { fault_of result ≡ without_work why }
-{
-    match without_work(why) {
-        Ok(()) => Ok(()),
-        Err(fault) => Err(FileFault::from(fault)),
-    }
-}
-
-/// Does what the words ask for. Answers also whether nobody reads the output any more.
-#[tactic(auto, using(crate::proofs::FileSeen::did_work, crate::proofs::FileSeen::did_none))]
-fn looked<D: DiskFiles, S: AsStr, W: Write + Drop, F: Write>(
+/// Does that work. Answers the status, and tells a fault but where the reader of the output is gone.
+#[tactic(auto, using(crate::proofs::FileSeen::ends_closed, crate::proofs::FileSeen::ends_open))]
+fn examine_by<D: DiskFiles, W: Write + Drop, F: Write + IsTerminal>(
     alloc: Global,
     files: &D,
-    words: &[S],
+    work: Work<'_>,
     out: &mut Out<W>,
     faults: &mut F,
-) -> (Result<(), FileFault>, bool)
-    ensures { OnOk result.0 (IsExamined (D.disk_at files.now)
+) -> u8
+    ensures range { result ≤ 2 }
+    ensures worked { IsWorked (D.disk_at files.now) work.entry
         (writer_contents (pipe_contents W.contents) out.old) (writer_contents (pipe_contents W.contents) out.new)
-        (fault_of result.0)) }
+        (is_closed_pipe (writer_inner out.new)) result }
 {
-    match work_of(alloc, words) {
-        Ok(Some(work)) => {
-            let done = do_work(alloc, files, work, out);
-            (done, out.get_ref().is_closed())
-        }
-        Ok(None) => (Err(FileFault::from(ProgramFault::Usage)), false),
-        Err(text) => {
-            let why = show_on(out, faults, &text);
-            (no_work(why), false)
-        }
+    let done = do_work(alloc, files, work, out);
+    if out.get_ref().is_closed() {
+        return 1;
     }
+    end_with(faults, "sbidisk", &done)
+}
+
+/// The status of words that ask for no work. A fault of the command line was told.
+fn end_without<F: Write + IsTerminal>(faults: &mut F, why: NoWork) -> u8
+    ensures range { result ≤ 2 }
+    ensures status { result ≡ status_after (without_work why) }
+{
+    let done = match without_work(why) {
+        Ok(()) => Ok(()),
+        Err(fault) => Err(FileFault::from(fault)),
+    };
+    end_with(faults, "sbidisk", &done)
 }
 
 /// The program over files and streams: says on `out` what stands in the disk's file that the words of a command line name,
 /// the program's name first, or writes the memory of its image there, or what the words ask to be shown; or it says on
 /// `faults` why not. It says nothing there where the reader of its output is gone, as any filter. It boots nothing, and
 /// the file is never written. Answers the status that docs/CONSOLE.md, "The program `sbidisk`", has.
-#[tactic(auto, using(crate::proofs::FileSeen::ends_closed, crate::proofs::FileSeen::ends_open))]
+#[tactic(auto, using(crate::proofs::FileSeen::asks_for_none))]
 pub fn examine_on<D: DiskFiles, S: AsStr, W: Write + Drop, F: Write + IsTerminal>(
     alloc: Global,
     files: &D,
@@ -133,16 +128,19 @@ pub fn examine_on<D: DiskFiles, S: AsStr, W: Write + Drop, F: Write + IsTerminal
     faults: &mut F,
 ) -> u8
     ensures range { result ≤ 2 }
-    // The status is the one of what was done, or 1 where nobody reads the output any more. It is 0 only where the lines or
-    // the memory of a disk's file were written whole, and nothing else, or where something was asked to be shown.
-    ensures status { (done : Result (Unit {0}) ProgramFault) × (closed : Bool) × (result ≡ status_by closed done)
-        × OnOk done (IsExamined (D.disk_at files.now) (writer_contents (pipe_contents W.contents) out.old)
-        (writer_contents (pipe_contents W.contents) out.new) done) }
+    // The status is the one of the work that the words name, or 1 where nobody reads the output any more. It is 0 only where
+    // the lines or the memory of the file that they name were written whole, and nothing else, or where the words ask for no
+    // work.
+    ensures status { IsExamined (D.disk_at files.now) (map S.text words.now)
+        (writer_contents (pipe_contents W.contents) out.old) (writer_contents (pipe_contents W.contents) out.new)
+        (is_closed_pipe (writer_inner out.new)) result }
 {
-    let (done, is_closed) = looked(alloc, files, words, out, faults);
-    if is_closed {
-        1
-    } else {
-        end_with(faults, "sbidisk", &done)
+    match work_of(alloc, words) {
+        Ok(Some(work)) => examine_by(alloc, files, work, out, faults),
+        Ok(None) => end_without(faults, NoWork::Usage),
+        Err(text) => {
+            let why = show_on(out, faults, &text);
+            end_without(faults, why)
+        }
     }
 }

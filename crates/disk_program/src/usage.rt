@@ -1,6 +1,11 @@
 //! The command line, and what `--help` says.
 
-use clap::{Arg, ArgAction, Command, Error};
+ghost use Rattle.std.specs.Prelude.{◌≡◌, ◌⊎◌, false, map, None, IfErr, IfOk, IfSome};
+ghost use Rattle.clap.specs.Words.{app_of, found_of, kind_of, matches_of, rows_of, rule_of, takes};
+ghost use Rattle.disk_program.specs.Usage.{IsNamedBy, NamesNoPath, asked_of, named_app, path_rule, sbidisk};
+
+use clap::error::ErrorKind;
+use clap::{Arg, ArgAction, ArgMatches, Command, Error};
 use command_line::flag;
 use std::alloc::{AllocError, Global};
 use std::convert::AsStr;
@@ -62,34 +67,73 @@ pub enum Work<'a> {
     Memory(&'a str),
 }
 
-fn command<'a>(alloc: Global) -> Result<Command<'a>, AllocError> {
-    let path = Arg::new(alloc, PATH)
+/// The word that names the disk's file.
+fn path<'a>(alloc: Global) -> Arg<'a>
+    ensures rule { rule_of result ≡ path_rule }
+    ensures local { result.global ≡ false }
+{
+    Arg::new(alloc, PATH)
         .required(true)
         .action(ArgAction::Set)
-        .help("The disk's file");
+        .help("The disk's file")
+}
+
+/// The command without a word or an option.
+fn named<'a>(alloc: Global) -> Command<'a>
+    ensures { app_of result ≡ named_app }
+{
     Command::new(alloc, "sbidisk")
         .version(VERSION)
         .override_usage(USAGE)
         .about(ABOUT)
         .after_help(LINES)
-        .arg(path)?
-        .arg(flag(
-            alloc,
-            MEMORY,
-            "Writes the memory of the image that stands, and nothing else",
-        ))
+}
+
+/// The command.
+fn command<'a>(alloc: Global) -> Result<Command<'a>, AllocError>
+    ensures { IfOk result (λ c. app_of c ≡ sbidisk) }
+{
+    named(alloc).arg(path(alloc))?.arg(flag(
+        alloc,
+        MEMORY,
+        "Writes the memory of the image that stands, and nothing else",
+    ))
+}
+
+/// The words as the command's parser reads them, the program's name first.
+fn parsed<'a, S: AsStr>(alloc: Global, words: &'a [S]) -> Result<ArgMatches<'a>, Error>
+    ensures matches { IfOk result (λ m. rows_of (found_of m) ≡ matches_of sbidisk (map S.text words.entry.now)) }
+    // It fails for memory, or since it does not take the words.
+    ensures refused { IfErr result (λ e. (kind_of e ≡ ErrorKind.OutOfMemory)
+        ⊎ (takes sbidisk (map S.text words.entry.now) ≡ false)) }
+{
+    command(alloc)?.try_get_matches_from(words)
+}
+
+/// The work of a path, by whether its memory is asked for.
+fn asked_of(path: &str, is_memory: bool) -> Work<'_>
+    ensures { result ≡ asked_of path.entry is_memory }
+{
+    if is_memory {
+        Work::Memory(path)
+    } else {
+        Work::Lines(path)
+    }
 }
 
 /// What the words of a command line ask for, the program's name first; none where they name no path. The error is
 /// the command line's own text, which is the help or the version too, or says that memory was refused.
-pub fn work_of<'a, S: AsStr>(alloc: Global, words: &'a [S]) -> Result<Option<Work<'a>>, Error> {
-    let matches = command(alloc)?.try_get_matches_from(words)?;
+pub fn work_of<'a, S: AsStr>(alloc: Global, words: &'a [S]) -> Result<Option<Work<'a>>, Error>
+    ensures named { IfOk result (λ found. IfSome found (IsNamedBy (map S.text words.entry.now))) }
+    ensures none { IfOk result (λ found. found ≡ None → NamesNoPath (map S.text words.entry.now)) }
+    // Else memory was refused, or the parser does not take the words.
+    ensures refused { IfErr result (λ e. (kind_of e ≡ ErrorKind.OutOfMemory)
+        ⊎ (takes sbidisk (map S.text words.entry.now) ≡ false)) }
+{
+    let matches = parsed(alloc, words)?;
     let Some(path) = matches.get_str(PATH) else {
         return Ok(None);
     };
-    Ok(Some(if matches.get_flag(MEMORY) {
-        Work::Memory(path)
-    } else {
-        Work::Lines(path)
-    }))
+    let is_memory = matches.get_flag(MEMORY);
+    Ok(Some(asked_of(path, is_memory)))
 }

@@ -133,7 +133,7 @@ fn write_beside(held: &Held<'_>, beside: &str, sectors: &[Sector], is_new: bool)
 
 /// Writes the disk's file, where it doesn't hold the disk: into a file beside it, named `.new`, which is then
 /// renamed over it. So a host that crashes meanwhile leaves the file as it was or as it is written, and perhaps
-/// the other one. Where the other one cannot be written whole it is removed. Answers whether it was written.
+/// the other one. Where the other one cannot be written whole it is removed.
 pub fn write_disk(held: &Held<'_>, sectors: &[Sector], is_new: bool) -> Result<(), FileFault>
     ensures failed { IfErr result (λ e. IsFileFault e.fault) }
 {
