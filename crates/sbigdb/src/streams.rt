@@ -1,6 +1,6 @@
 //! The talk on the process's own streams. One thread reads, so that an interrupt is heard while turns run.
 
-ghost use Rattle.std.specs.Prelude.{◌≡◌, All, length};
+ghost use Rattle.std.specs.Prelude.{◌≡◌, All, length, OnOk};
 ghost use Rattle.debug_timeline.specs.Ats.{IsAt};
 ghost use Rattle.script_lang.specs.Lines.{IsLineInRange};
 ghost use Rattle.debug_session.specs.Sessions.{size_of, timeline_of};
@@ -77,6 +77,26 @@ fn listen<R: Wait, I: Read + Drop>(
     }
 }
 
+/// Answers what was heard: a packet, or one that came damaged, where packets are acknowledged.
+fn respond<C: Crew, W: Write>(
+    talk: &mut Talk<'_, C>,
+    alloc: Global,
+    what: Heard,
+    interrupt: &AtomicBool,
+    out: &mut W,
+) -> Result<(), Refusal>
+    requires at { IsAt (size_of (session_in talk.old)) (timeline_of (session_in talk.old)) }
+    ensures at { OnOk result (IsAt (size_of (session_in talk.new)) (timeline_of (session_in talk.new))) }
+{
+    match what {
+        Heard::Packet(packet) => reply(talk, alloc, &packet, interrupt, out),
+        Heard::Damaged if talk.acknowledges() => {
+            out.write_all(b"-").map_err(|_| Refusal::Output)
+        }
+        _ => Ok(()),
+    }
+}
+
 /// Answers whatever is heard until the talk is over, or the input ends.
 fn answers<R: Wait, C: Crew, W: Write>(
     rt: &R,
@@ -92,13 +112,7 @@ fn answers<R: Wait, C: Crew, W: Write>(
         let Ok(what) = heard.recv(rt) else {
             return Ok(());
         };
-        match what {
-            Heard::Packet(packet) => reply(talk, alloc, &packet, interrupt, out)?,
-            Heard::Damaged if talk.acknowledges() => out
-                .write_all(b"-")
-                .map_err(|_| Refusal::Output)?,
-            _ => {}
-        }
+        respond(talk, alloc, what, interrupt, out)?;
         if talk.is_over() {
             return Ok(());
         }
