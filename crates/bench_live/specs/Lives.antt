@@ -6,7 +6,8 @@ use Rattle.sbi.specs.declared.words.Word.TheVariants as words
 use Rattle.bench_report.specs.declared.power.Power.{Power}
 use Rattle.bench_report.specs.declared.power.Power.TheVariants.{Off, On}
 use Rattle.bench_report.specs.Bench.{Bench, BenchLife}
-use Rattle.bench_report.specs.Agree.{BoardAfter, IsBench, IsResting, IsUnstruck}
+use Rattle.bench_report.specs.Agree.{Agrees, BoardAfter, IsBench, IsResting, IsUnstruck}
+use Rattle.bench_report.specs.Happens.{unpowered}
 use Rattle.bench_report.specs.Turns.{GuestTurns}
 use Rattle.machine_lines.specs.Shows.{HasHart}
 use Rattle.bench_live.specs.declared.live.LiveBench.{LiveBench}
@@ -48,3 +49,14 @@ WentInPlace size h n b made word after =
 abbrev pub stays_on : Word → Bool
 stays_on (words.Goes did) = true
 stays_on (words.Over end) = false
+
+-- the board is there, and on
+abbrev pub IsThere : Option Power → Type 0
+IsThere None = ⊥
+IsThere (Some power) = IsOn power
+
+-- what is left of a board behind its last turn, and whether an armed cut struck
+abbrev pub IsSettled : Word → Power → Power → Bool → Type 0
+IsSettled word power left lost =
+    (size : Size) (b : Bench) → IsAfter size word b power
+    → (lost ≡ b.fault_state.struck) × (lost ≡ false → Agrees size b left) × (lost ≡ true → Agrees size (unpowered b) left)

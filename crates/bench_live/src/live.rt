@@ -1,6 +1,6 @@
 //! The bench between two lines.
 
-ghost use Rattle.std.specs.Prelude.{◌≡◌, ◌≤◌, IfOk, IfErr, OnOk, length};
+ghost use Rattle.std.specs.Prelude.{◌≡◌, ◌≤◌, Some, IfOk, IfErr, OnOk, length};
 ghost use Rattle.board_model.specs.Shapes.{Size};
 ghost use Rattle.board_model.specs.declared.refusal.Refusal.TheVariants.{Memory};
 ghost use Rattle.bench_report.specs.Agree.{OffIs, fill_after};
@@ -8,7 +8,8 @@ ghost use Rattle.bench_report.specs.Bench.{Bench, bench_with};
 ghost use Rattle.bench_report.specs.Happens.{off};
 ghost use Rattle.bench_report.specs.Steps.{Moves};
 ghost use Rattle.bench_report.specs.Views.{facts};
-ghost use Rattle.bench_live.specs.Lives.{IsSound, Shows};
+ghost use Rattle.bench_live.specs.Lives.{IsSettled, IsSound, IsThere, Shows};
+ghost use Rattle.bench_report.specs.declared.power.Power.{Power};
 ghost use Rattle.bench_rows.specs.Rows.{IsWithin, RowMoves, row_answer};
 ghost use Rattle.script_lang.specs.Lines.{IsLineInRange};
 ghost use Rattle.script_lang.specs.declared.line.Line.TheVariants as lines;
@@ -23,6 +24,7 @@ use bench_rows::Row;
 use board::Payloads;
 use board_model::{HartId, Refusal, Shape};
 use crew::Crew;
+use machine::Word;
 use script_lang::Line;
 use simdisk::{Fill, SimDisk};
 use std::alloc::Global;
@@ -102,16 +104,27 @@ impl LiveBench {
         if is_still_on(power, word) {
             return Row::Made(made, word);
         }
-        let Some(power) = self.power.take() else {
-            return Row::Off;
-        };
-        let (left, lost) = settled(power, word, self.fill);
-        self.power = Some(left);
-        if lost {
+        if self.settle(word) {
             Row::Lost(made)
         } else {
             Row::Made(made, word)
         }
+    }
+
+    /// Settles a board that is on behind turns of which this is said of the last: whether an armed cut struck in them. It
+    /// is a function of its own since it moves the board, which `turns` is to do only where a row has ended.
+    fn settle(&mut self, word: Word) -> bool
+        requires on { IsThere self.old.power }
+        ensures settled { (power : Power) → self.old.power ≡ Some power
+            → (left : Power) × (self.new.power ≡ Some left) × IsSettled word power left result }
+        ensures sound { IsSound self.new }
+        ensures payloads { self.new.payloads ≡ self.old.payloads }
+        ensures fill { self.new.fill ≡ self.old.fill }
+    {
+        let power = self.power.take().unwrap();
+        let (left, lost) = settled(power, word, self.fill);
+        self.power = Some(left);
+        lost
     }
 
     /// The disk of a bench that goes no further, of a board whose power is off.

@@ -16,31 +16,29 @@ returns-then-is_still_on-clause-reported g c = λ size b shows.
     made_row size c.args.hart c.args.count c.in-Some-in_place.made c.in-Some-in_place.word b c.in_place.new.power c.in_place.new.power c.args.self.now.payloads went was.1
     (c.is_still_on.ensures.reported c.if-is_still_on.true size went.0 agrees) agrees
 
-pub returns-then-lost-clause-reported : goal.returns-then-lost-clause-reported
-returns-then-lost-clause-reported g c = λ size b shows.
+pub returns-then-settle-clause-reported : goal.returns-then-settle-clause-reported
+returns-then-settle-clause-reported g c = λ size b shows.
     let P : Option Power → Type 0 = λ p. PowerShows size b p c.args.self.now.payloads in
     let was : IsBench size b c.in-Some.power c.args.self.now.payloads = subst P c.in-Some.is shows in
     let went = c.in-Some-in_place.ensures.reported size b was.0 in
-    let taken = c.take.ensures.value in
-    let is = c.in-Some-take.is in
-    let e : c.in_place.new.power ≡ c.in-Some-take.power = cc in
-    let A : Power → Type 0 = λ p. IsAfter size c.in-Some-in_place.word went.0 p in
-    let after = subst A e went.5 in
-    lost_row size c.args.hart c.args.count c.in-Some-in_place.made c.in-Some-in_place.word b c.in_place.new.power c.settled-left.result.0 c.args.self.now.payloads went was.1
-    (sym (c.settled-left.ensures.told size went.0 after) ∙ c.if-lost.true) (c.settled-left.ensures.lost size went.0 after c.if-lost.true)
+    let did = c.settle.ensures.settled c.in_place.new.power refl in
+    let told = did.2 size went.0 went.5 in
+    let row = lost_row size c.args.hart c.args.count c.in-Some-in_place.made c.in-Some-in_place.word b c.in_place.new.power did.0 c.args.self.now.payloads went was.1 (sym told.0 ∙ c.if-settle.true) (told.2 c.if-settle.true) in
+    let Q : Option Power → Type 0 = λ p. PowerShows size row.0 p c.args.self.now.payloads in
+    let R : List (List ℕ) → Type 0 = λ x. PowerShows size row.0 c.settle.new.self.power x in
+    (row.0, row.1, row.2, subst R (sym c.settle.ensures.payloads) (subst Q (sym did.1) row.3))
 
-pub returns-else-lost-clause-reported : goal.returns-else-lost-clause-reported
-returns-else-lost-clause-reported g c = λ size b shows.
+pub returns-else-settle-clause-reported : goal.returns-else-settle-clause-reported
+returns-else-settle-clause-reported g c = λ size b shows.
     let P : Option Power → Type 0 = λ p. PowerShows size b p c.args.self.now.payloads in
     let was : IsBench size b c.in-Some.power c.args.self.now.payloads = subst P c.in-Some.is shows in
     let went = c.in-Some-in_place.ensures.reported size b was.0 in
-    let taken = c.take.ensures.value in
-    let is = c.in-Some-take.is in
-    let e : c.in_place.new.power ≡ c.in-Some-take.power = cc in
-    let A : Power → Type 0 = λ p. IsAfter size c.in-Some-in_place.word went.0 p in
-    let after = subst A e went.5 in
-    made_row size c.args.hart c.args.count c.in-Some-in_place.made c.in-Some-in_place.word b c.in_place.new.power c.settled-left.result.0 c.args.self.now.payloads went was.1
-    (sym (c.settled-left.ensures.told size went.0 after) ∙ c.if-lost.false) (c.settled-left.ensures.kept size went.0 after c.if-lost.false)
+    let did = c.settle.ensures.settled c.in_place.new.power refl in
+    let told = did.2 size went.0 went.5 in
+    let row = made_row size c.args.hart c.args.count c.in-Some-in_place.made c.in-Some-in_place.word b c.in_place.new.power did.0 c.args.self.now.payloads went was.1 (sym told.0 ∙ c.if-settle.false) (told.1 c.if-settle.false) in
+    let Q : Option Power → Type 0 = λ p. PowerShows size row.0 p c.args.self.now.payloads in
+    let R : List (List ℕ) → Type 0 = λ x. PowerShows size row.0 c.settle.new.self.power x in
+    (row.0, row.1, row.2, subst R (sym c.settle.ensures.payloads) (subst Q (sym did.1) row.3))
 
 pub returns-in_default-in_place-clause-reported : goal.returns-in_default-in_place-clause-reported
 returns-in_default-in_place-clause-reported g c = λ size b shows.
