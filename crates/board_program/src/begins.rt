@@ -1,42 +1,17 @@
-//! What a session begins with: its payloads and its disk.
+//! The disk that a session begins with.
 
-ghost use Rattle.std.specs.Prelude.{◌≡◌, false, map, string_bytes, IfOk, IfErr};
-ghost use Rattle.std.specs.Option.{option_map};
-ghost use Rattle.payload_files.specs.Named.{AreFilesOf};
-ghost use Rattle.board_files.specs.Faults.{IsFileFault};
+ghost use Rattle.std.specs.Prelude.{◌≡◌, false, string_bytes, IfOk, IfErr};
 ghost use Rattle.board_program.specs.Operated.{Begins, IsUnread};
 
 use crate::told::tell_shape;
-use board::Payloads;
-use board_files::{BoardFiles, DiskFile, disk_in, shape_in, unreached};
+use board_files::{BoardFiles, DiskFile, disk_in, shape_in};
 use board_model::Refusal;
 use board_options::Options;
 use command_line::FileFault;
 use disk::Disk;
-use payload_files::{PayloadFiles, payloads_of};
 use simdisk::SimDisk;
 use std::alloc::Global;
 use std::io::{IsTerminal, Write};
-
-/// The payloads, from their files.
-pub fn payloads_read<P: PayloadFiles>(
-    alloc: Global,
-    files: &P,
-    options: &Options,
-) -> Result<Payloads, FileFault>
-    ensures read { IfOk result (AreFilesOf (P.bytes_at files.now) (map (option_map string_bytes) options.now.payloads)) }
-    ensures failed { IfErr result (λ e. IsFileFault e.fault) }
-{
-    match payloads_of(alloc, files, &options.payloads) {
-        Ok(payloads) => Ok(payloads),
-        Err(fault) => {
-            let path = options.payloads[fault.slot.index()]
-                .as_ref()
-                .map_or("", String::as_str);
-            Err(unreached(alloc, path, fault.error))
-        }
-    }
-}
 
 /// The disk in a file. No more than the first sector is read of a file that doesn't begin with that of a disk for
 /// which it is large enough.

@@ -9,7 +9,7 @@ ghost use Rattle.disk.specs.Facts.{Unchanged};
 ghost use Rattle.board_program.specs.Operated.{EndsInFile, HasLeft, IsWritten, RunsOver, StaysInFile, known};
 ghost use Rattle.board_program.specs.Ran.{told_of};
 
-use crate::begins::{Begun, payloads_read, take_disk};
+use crate::begins::{Begun, take_disk};
 use crate::over::{Answers, Asked, Over, session_over};
 use crate::told::{tell_elf, tell_harts};
 use board_files::{BoardFiles, DiskFile, HeldFile};
@@ -19,7 +19,7 @@ use board_session::Streams;
 use command_line::{FileFault, first_of};
 use disk::Disk;
 use file_disk::{FileDisk, SectorFile};
-use payload_files::PayloadFiles;
+use payload_files::{PayloadFiles, read_payloads};
 use simdisk::SimDisk;
 use std::alloc::Global;
 use std::io::{IsTerminal, Read, Write};
@@ -252,7 +252,7 @@ fn run_over<
 /// Runs the board that the options ask for, from its files to its disk's file. The disk is kept in its file all
 /// along, where that is asked for; else the file is written wherever a disk was made or read and its bytes have
 /// changed, also after a refusal. Of two faults the first is told.
-#[tactic(auto, using(crate::proofs::FilesLeft::has_left, crate::proofs::FilesLeft::none_left, crate::proofs::DiskBegun::unread_file))]
+#[tactic(auto, using(crate::proofs::FilesLeft::has_left, crate::proofs::FilesLeft::none_left, crate::proofs::DiskBegun::unread_payload))]
 pub fn run_session<
     R: Threads + Wait + Sync,
     B: PayloadFiles + BoardFiles,
@@ -273,7 +273,7 @@ pub fn run_session<
         (O.contents streams.out) (O.contents result.out))
         result.left (fault_of result.ended) }
 {
-    let payloads = match payloads_read(alloc, files, options) {
+    let payloads = match read_payloads(alloc, files, &options.payloads) {
         Ok(payloads) => payloads,
         Err(fault) => return not_begun(streams.out, fault),
     };

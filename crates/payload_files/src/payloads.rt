@@ -2,11 +2,14 @@
 
 ghost use Rattle.std.specs.Prelude.{◌≡◌, ◌<◌, ℕ, List, None, map, get_or, slice_set, string_bytes, IfOk, IfErr, IsSome, OnOk};
 ghost use Rattle.std.specs.Option.{option_map};
+ghost use Rattle.std.specs.declared.io.ErrorKind.{ErrorKind};
+ghost use Rattle.command_line.specs.Faults.{fault_of_kind};
 ghost use Rattle.payload_files.specs.Named.{AreFilesOf, IsFileOf};
 
 use crate::files::PayloadFiles;
 use board::Payloads;
 use board_model::Slot;
+use command_line::FileFault;
 use std::alloc::Global;
 use std::io;
 
@@ -80,4 +83,25 @@ pub fn payloads_of<F: PayloadFiles>(
     read_slot(alloc, files, paths, 2, &mut payloads)?;
     read_slot(alloc, files, paths, 3, &mut payloads)?;
     Ok(payloads)
+}
+
+/// The payloads, as [`payloads_of`] reads them, for a program that tells its user which file could not be read, and why.
+pub fn read_payloads<F: PayloadFiles>(
+    alloc: Global,
+    files: &F,
+    paths: &[Option<String>; 4],
+) -> Result<Payloads, FileFault>
+    ensures read { IfOk result (AreFilesOf (F.bytes_at files.now) (map (option_map string_bytes) paths.now)) }
+    // The fault is the one of the file's error.
+    ensures failed { IfErr result (λ e. (kind : ErrorKind) × (e.fault ≡ fault_of_kind kind)) }
+{
+    match payloads_of(alloc, files, paths) {
+        Ok(payloads) => Ok(payloads),
+        Err(fault) => {
+            let path = paths[fault.slot.index()]
+                .as_ref()
+                .map_or("", String::as_str);
+            Err(FileFault::new(alloc, path, fault.error))
+        }
+    }
 }
