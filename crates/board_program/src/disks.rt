@@ -3,7 +3,7 @@
 ghost use Rattle.std.specs.Prelude.{◌≡◌, false, string_bytes, IfOk, IfErr};
 ghost use Rattle.board_program.specs.Operated.{Begins, IsUnread};
 
-use crate::told::tell_shape;
+use crate::notices::tell_shape;
 use board_files::{BoardFiles, DiskFile, disk_in, shape_in};
 use board_model::Refusal;
 use board_options::Options;
@@ -55,7 +55,7 @@ pub fn disk_of<H: DiskFile, F: Write + IsTerminal>(
 
 /// The file of a disk that a session has, and the disk that it begins with.
 #[derive(Drop)]
-pub struct Begun<H: Drop> {
+pub struct TakenDisk<H: Drop> {
     pub held: H,
     pub disk: SimDisk,
 }
@@ -67,7 +67,7 @@ pub fn take_disk<B: BoardFiles, F: Write + IsTerminal>(
     files: &B,
     options: &Options,
     faults: &mut F,
-) -> Result<Begun<B::Held>, FileFault>
+) -> Result<TakenDisk<B::Held>, FileFault>
     ensures none_out { IfOk result (λ b. (⟦<SimDisk as Disk>⟧.facts b.disk).lent.lanes ≡ 0) }
     ensures held { IfOk result (λ b. B.Held.bytes b.held ≡ B.disk_at files.now (string_bytes options.now.disk)) }
     ensures begins { IfOk result (λ b. Begins options.now.new options.now.shape
@@ -77,5 +77,5 @@ pub fn take_disk<B: BoardFiles, F: Write + IsTerminal>(
 {
     let held = files.hold(&options.disk, options.new, options.sync)?;
     let disk = disk_of(alloc, options, &held, faults)?;
-    Ok(Begun { held, disk })
+    Ok(TakenDisk { held, disk })
 }

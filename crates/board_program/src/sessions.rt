@@ -1,4 +1,4 @@
-//! The session over a disk.
+//! One session: a board runs on threads over a disk that is there, beside the console on its streams.
 
 ghost use Rattle.std.specs.Prelude.{◌≡◌};
 ghost use Rattle.store.specs.Leaves.{IsIdle};
@@ -25,43 +25,43 @@ pub trait Answers: Write {
         ensures { Self.contents self.new ≡ Self.contents self.old };
 }
 
-/// The board that is asked for, and what its slots boot.
+/// The board that the command line asks for, and the bytes that its slots boot.
 #[derive(Clone, Copy)]
-pub struct Asked<'a> {
+pub struct BoardSetup<'a> {
     pub options: &'a Options,
     pub payloads: &'a Payloads,
 }
 
-/// A session that has ended, or was not begun.
+/// What a session gives back, also where it could not begin.
 #[derive(Drop)]
-pub struct Over<D: Disk + Drop, O: Write + Drop> {
+pub struct EndedSession<D: Disk + Drop, O: Write + Drop> {
     /// The disk, as the session leaves it.
     pub disk: D,
-    /// Why it was refused, if it was.
+    /// Why the session was refused, if it was.
     pub ran: Result<(), Refusal>,
     /// What the answers were written to.
     pub out: O,
-    /// The harts as their loops ended.
+    /// How each hart ended. Empty where none ran.
     pub harts: Vec<HartEnd>,
 }
 
-/// The session over that disk, with the console on these streams.
+/// Runs the board on threads, and the console on these streams, until the session has ended.
 #[tactic(auto, using(crate::proofs::FilesLeft::has_run))]
-fn talk_over<R: Threads + Wait + Sync, D: Disk + Drop + Send, I: Read + Drop, O: Answers + Drop>(
+fn talk<R: Threads + Wait + Sync, D: Disk + Drop + Send, I: Read + Drop, O: Answers + Drop>(
     alloc: Global,
     threads: &R,
-    asked: &Asked<'_>,
+    setup: &BoardSetup<'_>,
     disk: D,
     streams: Streams<I, O>,
-) -> Over<D, O>
+) -> EndedSession<D, O>
     requires { IsIdle (D.facts disk) }
     ensures none_out { IsIdle (D.facts result.disk) }
-    ensures run { HasRun asked.now.options.now asked.now.payloads.now (D.facts disk) (D.facts result.disk)
+    ensures run { HasRun setup.now.options.now setup.now.payloads.now (D.facts disk) (D.facts result.disk)
         (I.remaining streams.input) (O.contents streams.out) (O.contents result.out) result.ran }
 {
     let Streams { input, mut out } = streams;
-    out.begin(asked.options.sync);
-    let (options, payloads) = (asked.options, asked.payloads);
+    out.begin(setup.options.sync);
+    let (options, payloads) = (setup.options, setup.payloads);
     let ended = session(
         threads,
         alloc,
@@ -79,7 +79,7 @@ fn talk_over<R: Threads + Wait + Sync, D: Disk + Drop + Send, I: Read + Drop, O:
         harts,
     } = ended;
     let Streams { input: _, out } = streams;
-    Over {
+    EndedSession {
         disk,
         ran,
         out,
@@ -87,23 +87,24 @@ fn talk_over<R: Threads + Wait + Sync, D: Disk + Drop + Send, I: Read + Drop, O:
     }
 }
 
-/// The session over that disk, with the console on these streams. The input is read through a buffer.
+/// Runs the board on threads over that disk, and the console on these streams, until the session has ended. The input is
+/// read through a buffer. Refused `Memory` where there is none for the buffer: then nothing was done.
 #[tactic(auto, using(crate::proofs::FilesLeft::runs_through, crate::proofs::FilesLeft::nothing_ran))]
-pub fn session_over<
+pub fn run_session<
     R: Threads + Wait + Sync,
     D: Disk + Drop + Send,
     I: Read + Drop,
     O: Answers + Drop,
->(alloc: Global, threads: &R, asked: &Asked<'_>, disk: D, streams: Streams<I, O>) -> Over<D, O>
+>(alloc: Global, threads: &R, setup: &BoardSetup<'_>, disk: D, streams: Streams<I, O>) -> EndedSession<D, O>
     requires { IsIdle (D.facts disk) }
     ensures none_out { IsIdle (D.facts result.disk) }
-    ensures run { HasRun asked.now.options.now asked.now.payloads.now (D.facts disk) (D.facts result.disk)
+    ensures run { HasRun setup.now.options.now setup.now.payloads.now (D.facts disk) (D.facts result.disk)
         (I.remaining streams.input) (O.contents streams.out) (O.contents result.out) result.ran }
 {
     let Streams { input, out } = streams;
     match BufReader::new(alloc, input) {
-        Ok(input) => talk_over(alloc, threads, asked, disk, Streams { input, out }),
-        Err(_) => Over {
+        Ok(input) => talk(alloc, threads, setup, disk, Streams { input, out }),
+        Err(_) => EndedSession {
             disk,
             ran: Err(Refusal::Memory),
             out,
