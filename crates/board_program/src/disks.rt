@@ -13,8 +13,8 @@ use simdisk::SimDisk;
 use std::alloc::Global;
 use std::io::{IsTerminal, Write};
 
-/// The disk in a file. No more than the first sector is read of a file that doesn't begin with that of a disk for
-/// which it is large enough.
+/// The disk that a file holds. Where the first sector is no superblock of a board, or the file is too small for that board,
+/// no more than this sector is read.
 #[tactic(auto, using(crate::proofs::DiskBegun::begins_with, crate::proofs::DiskBegun::unread_file))]
 fn read_disk<H: DiskFile, F: Write + IsTerminal>(
     alloc: Global,
@@ -31,7 +31,7 @@ fn read_disk<H: DiskFile, F: Write + IsTerminal>(
     disk_in(alloc, held, &shape)
 }
 
-/// The disk that a session begins with: a blank one of the shape, or the file's.
+/// The disk that a session begins with: with `--new` a blank one of the shape, else the file's.
 #[tactic(auto, using(crate::proofs::DiskBegun::begins_by, crate::proofs::DiskBegun::unread_by, crate::proofs::DiskBegun::unread_file))]
 pub fn disk_of<H: DiskFile, F: Write + IsTerminal>(
     alloc: Global,
@@ -53,7 +53,7 @@ pub fn disk_of<H: DiskFile, F: Write + IsTerminal>(
     }
 }
 
-/// The file of a disk that a session has, and the disk that it begins with.
+/// The file that a session has taken, and the disk that it begins with.
 #[derive(Drop)]
 pub struct TakenDisk<H: Drop> {
     pub held: H,

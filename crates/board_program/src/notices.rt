@@ -1,4 +1,4 @@
-//! What is told on standard error beside faults (docs/CONSOLE.md, "The harts").
+//! Notices on standard error, which are no faults (docs/CONSOLE.md, "The harts").
 
 use board::Payloads;
 use board_model::{SLOTS, Shape, Slot};
@@ -7,15 +7,15 @@ use hart_lines::HartLines;
 use hart_threads::HartEnd;
 use std::io::{IsTerminal, Write};
 
-/// What an ELF file begins with. No guest does: its first word is no instruction.
+/// The first bytes of an ELF file. A guest never begins with them, since they are no instruction.
 const ELF: [u8; 4] = [0x7f, 0x45, 0x4c, 0x46];
 
-/// Whether more is told than faults: it was asked for, or standard error is a terminal.
+/// Whether notices are wanted: `--tell` asks for them, or standard error is a terminal.
 fn is_told<F: IsTerminal>(faults: &F, options: &Options) -> bool {
     options.tell || faults.is_terminal()
 }
 
-/// Tells how each hart ended, in the order of their numbers.
+/// Where notices are wanted: tells how each hart ended, in the order of their numbers.
 pub fn tell_harts<F: Write + IsTerminal>(faults: &mut F, options: &Options, harts: &[HartEnd]) {
     if is_told(faults, options) {
         let lines = HartLines(harts);
@@ -23,7 +23,7 @@ pub fn tell_harts<F: Write + IsTerminal>(faults: &mut F, options: &Options, hart
     }
 }
 
-/// Tells of each payload that is an ELF file, from which a guest's bytes are still to be taken.
+/// Tells of each payload that is an ELF file. A board boots bare bytes, which `objcopy` takes out of such a file.
 pub fn tell_elf<F: Write>(faults: &mut F, payloads: &Payloads) {
     for number in 0..SLOTS {
         let Some(slot) = Slot::new(number) else {
@@ -38,7 +38,7 @@ pub fn tell_elf<F: Write>(faults: &mut F, payloads: &Payloads) {
     }
 }
 
-/// Tells where the command line asks for another board than the disk's, if more is told than faults.
+/// Where notices are wanted: tells that the command line asks for another board than the disk has.
 pub fn tell_shape<F: Write + IsTerminal>(faults: &mut F, options: &Options, found: &Shape) {
     let (harts, pages, lanes) = (found.harts(), found.pages(), found.lanes());
     let (asked, given) = (&options.shape, options.given);

@@ -1,4 +1,4 @@
-//! A session from its files to its disk's file.
+//! From the files that a command line names to the file of the session's disk.
 
 ghost use Rattle.std.specs.Prelude.{◌≡◌, ℕ, List, Option, IfErr, IfOk, IfSome, OnOk, string_bytes};
 ghost use Rattle.store.specs.Leaves.{IsIdle};
@@ -27,18 +27,18 @@ use std::sync::Wait;
 use std::thread::Threads;
 use store::format;
 
-/// The file of a session's disk, once the session has ended.
+/// What stands of the file of a session's disk, once the session has ended.
 #[derive(Drop)]
 pub enum FileLeft<H: Drop, K: Drop> {
     /// No session was begun.
     None,
-    /// The disk was to be written into the file at the end.
+    /// The file, and the disk that was to be written into it at the end.
     AtEnd(H, SimDisk),
-    /// The disk was kept in this file all along.
+    /// The file in which the disk was kept all along.
     AllAlong(K),
 }
 
-/// What was done: what stands of the file, what the answers were written to, and the fault, where there is one.
+/// What a run gives back: what stands of the file, what the answers were written to, and the fault, where there is one.
 #[derive(Drop)]
 pub struct RunEnd<H: Drop, K: Drop, O: Write + Drop> {
     pub left: FileLeft<H, K>,
@@ -46,8 +46,8 @@ pub struct RunEnd<H: Drop, K: Drop, O: Write + Drop> {
     pub ended: Result<(), FileFault>,
 }
 
-/// Whether commands were made of a disk that could not be written: of a new one where it is no longer as the format
-/// leaves one.
+/// Whether commands are lost with a disk that could not be written. Of a new disk none are, as long as it is what the
+/// format leaves.
 fn has_commands(alloc: Global, options: &Options, disk: &SimDisk) -> bool {
     if !options.new {
         return true;
@@ -58,7 +58,7 @@ fn has_commands(alloc: Global, options: &Options, disk: &SimDisk) -> bool {
     format(&mut fresh, &options.shape).is_ok() && fresh.content() != disk.content()
 }
 
-/// Writes the disk into its file.
+/// Writes the disk into its file. A fault says whether commands are lost by it.
 #[tactic(auto, using(crate::proofs::FaultsEnded::same_fault))]
 fn write_disk<H: HeldFile>(
     alloc: Global,
@@ -76,8 +76,7 @@ fn write_disk<H: HeldFile>(
     }
 }
 
-/// The session's disk is written into its file wherever its bytes have changed, also after a refusal. Of two faults the
-/// first is told.
+/// Writes the disk into its file at the end of a session, also of one that was refused. Of two faults the first is told.
 #[tactic(auto, using(crate::proofs::FaultsEnded::is_written))]
 fn write_at_the_end<H: HeldFile>(
     alloc: Global,
@@ -93,7 +92,7 @@ fn write_at_the_end<H: HeldFile>(
     first_of(as_file_fault(ran), written)
 }
 
-/// The fault of a session.
+/// The program's fault for a session that was refused.
 fn as_file_fault(ran: Result<(), Refusal>) -> Result<(), FileFault>
     ensures { fault_of result ≡ told_of ran }
 {
@@ -103,7 +102,7 @@ fn as_file_fault(ran: Result<(), Refusal>) -> Result<(), FileFault>
     }
 }
 
-/// The disk in memory, kept in its file: each sync of the disk waits for the file.
+/// The disk in memory as one that is kept in its file: each of its syncs waits for the file.
 fn disk_in_file<B: BoardFiles>(
     alloc: Global,
     files: &B,
@@ -124,7 +123,7 @@ fn disk_in_file<B: BoardFiles>(
     }
 }
 
-/// No session was begun, for that fault.
+/// What a run gives back that could not begin a session, for that fault.
 fn no_session<H: Drop, K: Drop, O: Write + Drop>(out: O, fault: FileFault) -> RunEnd<H, K, O>
     ensures left { result.left ≡ FileLeft.None }
     ensures out { result.out ≡ out }
@@ -137,7 +136,7 @@ fn no_session<H: Drop, K: Drop, O: Write + Drop>(out: O, fault: FileFault) -> Ru
     }
 }
 
-/// The session over the disk in memory, which is written into its file at the end.
+/// Runs the session over the disk in memory, and then writes the disk into its file.
 #[tactic(auto, using(crate::proofs::FilesLeft::ends_in_file))]
 fn run_then_write<
     R: Threads + Wait + Sync,
@@ -178,7 +177,7 @@ fn run_then_write<
     }
 }
 
-/// The session over a disk that is kept in its file all along. The file is given back.
+/// Runs the session over a disk that is kept in its file all along. The file is given back.
 #[tactic(auto, using(crate::proofs::FilesLeft::stays_in_file))]
 fn run_in_file<
     R: Threads + Wait + Sync,
@@ -216,8 +215,8 @@ fn run_in_file<
     }
 }
 
-/// The session over the disk that was taken for it: kept in its file all along where that is asked for, else written
-/// into it at the end.
+/// Runs the session over the disk that was taken for it. The disk is kept in its file all along where `--sync` asks for
+/// that; else it is written into the file at the end.
 fn run_taken<
     R: Threads + Wait + Sync,
     B: BoardFiles,
@@ -249,9 +248,9 @@ fn run_taken<
     }
 }
 
-/// Runs the board that the options ask for, from its files to its disk's file. The disk is kept in its file all
-/// along, where that is asked for; else the file is written wherever a disk was made or read and its bytes have
-/// changed, also after a refusal. Of two faults the first is told.
+/// Runs the board that the options ask for: reads the payloads and the disk, runs the session, and leaves the disk in its
+/// file. With `--sync` the disk is kept in the file all along. Else the file is written at the end, also after a refusal,
+/// unless its bytes are the same. Of two faults the first is told.
 #[tactic(auto, using(crate::proofs::FilesLeft::has_left, crate::proofs::FilesLeft::none_left, crate::proofs::DiskBegun::unread_payload))]
 pub fn run_from_files<
     R: Threads + Wait + Sync,
