@@ -15,9 +15,9 @@ ghost use Rattle.std.specs.Prelude.{List, ◌∷◌, []};
 
 use crate::lines_fit::fits;
 use crate::numbers::{number_at, number_of_other, numbers};
-use crate::own::{Own, run_own};
+use crate::own_runs::{OwnRun, run_own};
 use crate::runs::{Difference, run_confirmed, run_until};
-use crate::shown::write_script;
+use crate::scripts::write_script;
 use crate::written::{write_count, write_difference, write_tight};
 use bench_orders::{generator, orders_keep_lines, schedule};
 use bench_report::{Answer, Setting};
@@ -44,7 +44,7 @@ struct Runner<'a, C> {
     /// Its lines.
     lines: &'a [Line],
     /// What the slots begin with.
-    begins: &'a Payloads,
+    payloads: &'a Payloads,
     /// The number of its board line, and of each of its lines.
     numbers: &'a [u64],
     /// What schedules are drawn from.
@@ -58,33 +58,33 @@ fn run_drawn<C: Crew>(
     own: &[Answer],
 ) -> Result<Option<Difference>, Refusal>
     requires size { IsSize runner.now.setting.shape.now }
-    requires four { length runner.now.begins.now ≡ 4 }
+    requires four { length runner.now.payloads.now ≡ 4 }
     requires ranges { All (IsLineInRange runner.now.setting.shape.now) runner.now.lines.now }
     requires fits { All FitsLine runner.now.lines.now }
     requires order { IsOrderFor runner.now.lines.now lines.now }
     requires few { length lines.now ≤ 65535 }
     requires count { length own.now ≡ other_count lines.now }
     ensures ran { IfOk result (λ differs.
-        Ran (record { size = runner.now.setting.shape.now; lines = runner.now.lines.now }) runner.now.begins.now own.now differs) }
+        Ran (record { size = runner.now.setting.shape.now; lines = runner.now.lines.now }) runner.now.payloads.now own.now differs) }
     ensures refused { IfErr result (λ e. e ≡ Memory) }
 {
-    run_confirmed(&runner.setting, runner.begins, lines, own)
+    run_confirmed(&runner.setting, runner.payloads, lines, own)
 }
 
 /// Runs schedule k of the script. Refused `Memory` alone.
 fn run_schedule<C: Crew>(
     runner: &Runner<'_, C>,
-    own: &Own,
+    own: &OwnRun,
     k: u64,
 ) -> Result<Option<Difference>, Refusal>
     requires size { IsSize runner.now.setting.shape.now }
-    requires four { length runner.now.begins.now ≡ 4 }
+    requires four { length runner.now.payloads.now ≡ 4 }
     requires few { length runner.now.lines.now ≤ 65535 }
     requires ranges { All (IsLineInRange runner.now.setting.shape.now) runner.now.lines.now }
     requires fits { All FitsLine runner.now.lines.now }
     requires count { length own.now.answers.items ≡ other_count runner.now.lines.now }
     ensures ran { IfOk result (λ differs.
-        Ran (record { size = runner.now.setting.shape.now; lines = runner.now.lines.now }) runner.now.begins.now own.now.answers.items differs) }
+        Ran (record { size = runner.now.setting.shape.now; lines = runner.now.lines.now }) runner.now.payloads.now own.now.answers.items differs) }
     ensures refused { IfErr result (λ e. e ≡ Memory) }
 {
     orders_keep_lines();
@@ -123,21 +123,21 @@ fn write_run<C, W: Write>(
 
 /// Runs that many schedules, from number 1 on, and writes a line for each that differs: how many do.
 #[tactic(auto, using(crate::proofs::Ledgers::wrote_none, crate::proofs::Ledgers::wrote_more))]
-fn run_each<C: Crew, W: Write>(
+fn run_schedules<C: Crew, W: Write>(
     runner: &Runner<'_, C>,
-    own: &Own,
+    own: &OwnRun,
     n: u64,
     out: &mut W,
 ) -> Result<u64, Refusal>
     requires size { IsSize runner.now.setting.shape.now }
-    requires four { length runner.now.begins.now ≡ 4 }
+    requires four { length runner.now.payloads.now ≡ 4 }
     requires few { length runner.now.lines.now ≤ 65535 }
     requires ranges { All (IsLineInRange runner.now.setting.shape.now) runner.now.lines.now }
     requires fits { All FitsLine runner.now.lines.now }
     requires count { length own.now.answers.items ≡ other_count runner.now.lines.now }
     requires most { n ≤ 1000000 }
     ensures wrote { IfOk result (λ differ. Wrote (record { size = runner.now.setting.shape.now; lines = runner.now.lines.now })
-        runner.now.begins.now (λ place. slice_index_or runner.now.numbers.now (1 + place_of_other place runner.now.lines.now) 0)
+        runner.now.payloads.now (λ place. slice_index_or runner.now.numbers.now (1 + place_of_other place runner.now.lines.now) 0)
         own.now.answers.items 1 n (W.contents out.old) (W.contents out.new) differ) }
     ensures err { IfErr result (λ e. (e ≡ Memory) ⊎ (e ≡ Output)) }
 {
@@ -173,7 +173,7 @@ fn write_all_tight<W: Write>(numbers: &[u64], tight: &[usize], out: &mut W) -> R
 }
 
 /// Each number of a shape is within its range.
-fn sizes(shape: &Shape)
+fn shape_in_range(shape: &Shape)
     ensures { IsSize shape.now }
 {
     let _harts = shape.harts();
@@ -182,65 +182,65 @@ fn sizes(shape: &Shape)
 }
 
 /// The script's own run, which a second one of it confirms. Refused `Memory` alone.
-fn own_of<C: Crew>(
+fn confirmed_own_run<C: Crew>(
     setting: &Setting<'_, C>,
-    begins: &Payloads,
+    payloads: &Payloads,
     lines: &[Line],
-) -> Result<Own, Refusal>
-    requires four { length begins.now ≡ 4 }
+) -> Result<OwnRun, Refusal>
+    requires four { length payloads.now ≡ 4 }
     requires ranges { All (IsLineInRange setting.now.shape.now) lines.now }
-    ensures ran { IfOk result (λ own. RanOwn setting.now.shape.now begins.now lines.now own.answers.items) }
+    ensures ran { IfOk result (λ own. RanOwn setting.now.shape.now payloads.now lines.now own.answers.items) }
     ensures count { IfOk result (λ own. length own.answers.items ≡ other_count lines.now) }
     ensures refused { IfErr result (λ e. e ≡ Memory) }
 {
-    let own = run_own(setting, begins, lines)?;
-    match run_until(setting, begins, lines, &own.answers)? {
+    let own = run_own(setting, payloads, lines)?;
+    match run_until(setting, payloads, lines, &own.answers)? {
         None => Ok(own),
         Some(_) => Err(Refusal::Memory),
     }
 }
 
 /// Runs the script, and then that many schedules of it, and writes what they told.
-fn run_all<C: Crew, W: Write>(runner: &Runner<'_, C>, n: u64, out: &mut W) -> Result<u64, Refusal>
+fn compare_all<C: Crew, W: Write>(runner: &Runner<'_, C>, n: u64, out: &mut W) -> Result<u64, Refusal>
     requires size { IsSize runner.now.setting.shape.now }
-    requires four { length runner.now.begins.now ≡ 4 }
+    requires four { length runner.now.payloads.now ≡ 4 }
     requires few { length runner.now.lines.now ≤ 65535 }
     requires ranges { All (IsLineInRange runner.now.setting.shape.now) runner.now.lines.now }
     requires fits { All FitsLine runner.now.lines.now }
     requires most { n ≤ 1000000 }
     ensures wrote { IfOk result (λ differ. WroteSchedules (record { size = runner.now.setting.shape.now; lines = runner.now.lines.now })
-        runner.now.begins.now (λ place. slice_index_or runner.now.numbers.now (1 + place_of_other place runner.now.lines.now) 0) n
+        runner.now.payloads.now (λ place. slice_index_or runner.now.numbers.now (1 + place_of_other place runner.now.lines.now) 0) n
         (W.contents out.old) (W.contents out.new) differ) }
     ensures err { IfErr result (λ e. (e ≡ Memory) ⊎ (e ≡ Output)) }
 {
-    let own = own_of(&runner.setting, runner.begins, runner.lines)?;
+    let own = confirmed_own_run(&runner.setting, runner.payloads, runner.lines)?;
     write_all_tight(runner.numbers, &own.stretches.tight, out)?;
-    let differ = run_each(runner, &own, n, out)?;
+    let differ = run_schedules(runner, &own, n, out)?;
     write_count(out, n, differ)?;
     Ok(differ)
 }
 
 /// Runs that many schedules of a script that was read, and the script's own run first.
-fn run_script<'a, R: Threads + Sync, W: Write>(
+fn compare_script<'a, R: Threads + Sync, W: Write>(
     alloc: Global,
     script: &'a Script,
-    begins: &'a Payloads,
+    payloads: &'a Payloads,
     numbers: &'a [u64],
     n: u64,
     seed: u64,
     out: &mut W,
 ) -> Result<u64, Refusal>
-    requires four { length begins.now ≡ 4 }
+    requires four { length payloads.now ≡ 4 }
     requires few { length script.now.lines.items ≤ 65535 }
     requires ranges { All (IsLineInRange script.now.shape) script.now.lines.items }
     requires most { n ≤ 1000000 }
-    ensures wrote { IfOk result (λ differ. WroteSchedules (view script.now) begins.now
+    ensures wrote { IfOk result (λ differ. WroteSchedules (view script.now) payloads.now
         (λ place. slice_index_or numbers.now (1 + place_of_other place script.now.lines.items) 0) n
         (W.contents out.old) (W.contents out.new) differ) }
     ensures err { IfErr result (λ e. (e ≡ Memory) ⊎ (e ≡ Output)) }
 {
     let lines = script.lines.as_slice();
-    sizes(&script.shape);
+    shape_in_range(&script.shape);
     fits(lines);
     let crew = Sequential::<R>::new([0, 1, 2, 3])?;
     let runner = Runner {
@@ -250,23 +250,23 @@ fn run_script<'a, R: Threads + Sync, W: Write>(
             shape: &script.shape,
         },
         lines,
-        begins,
+        payloads,
         numbers,
         seed,
     };
-    run_all(&runner, n, out)
+    compare_all(&runner, n, out)
 }
 
 /// Writes schedule k of a script that was read, once its own run told where its stretches do something.
 fn show_script<R: Threads + Sync, W: Write>(
     alloc: Global,
     script: &Script,
-    begins: &Payloads,
+    payloads: &Payloads,
     seed: u64,
     k: u64,
     out: &mut W,
 ) -> Result<(), Refusal>
-    requires four { length begins.now ≡ 4 }
+    requires four { length payloads.now ≡ 4 }
     requires few { length script.now.lines.items ≤ 65535 }
     requires ranges { All (IsLineInRange script.now.shape) script.now.lines.items }
     ensures shown { OnOk result (Shown (view script.now) (W.contents out.old) (W.contents out.new)) }
@@ -275,7 +275,7 @@ fn show_script<R: Threads + Sync, W: Write>(
     orders_keep_lines();
     scripts_read_as_written();
     let lines = script.lines.as_slice();
-    sizes(&script.shape);
+    shape_in_range(&script.shape);
     fits(lines);
     let crew = Sequential::<R>::new([0, 1, 2, 3])?;
     let setting = Setting {
@@ -283,7 +283,7 @@ fn show_script<R: Threads + Sync, W: Write>(
         crew: &crew,
         shape: &script.shape,
     };
-    let own = own_of(&setting, begins, lines)?;
+    let own = confirmed_own_run(&setting, payloads, lines)?;
     let mut rng = generator(seed, k);
     let drawn = schedule(alloc, &mut rng, lines, &own.stretches.fronts)?;
     write_script(out, &script.shape, &drawn)
@@ -301,16 +301,16 @@ fn show_script<R: Threads + Sync, W: Write>(
 pub fn schedules<R: Threads + Sync, W: Write>(
     alloc: Global,
     script: &[u8],
-    begins: &Payloads,
+    payloads: &Payloads,
     n: u64,
     seed: u64,
     out: &mut W,
 ) -> Result<Compared, Refusal>
-    requires four { length begins.now ≡ 4 }
+    requires four { length payloads.now ≡ 4 }
     requires most { n ≤ 1000000 }
     // All schedules were run and compared with the script's own run, and those that differ were written and counted.
     ensures wrote { IfOk result (λ count. (count.runs ≡ n) × (said : Said) × (script_of script.now ≡ Ok said)
-        × WroteSchedules said begins.now (number_of_other script.now said.lines) n (W.contents out.old) (W.contents out.new) count.differ) }
+        × WroteSchedules said payloads.now (number_of_other script.now said.lines) n (W.contents out.old) (W.contents out.new) count.differ) }
     // A refusal is the script's fault, or want of memory, or the writer's.
     ensures refused { IfErr result (λ e. (e ≡ Memory) ⊎ (e ≡ Output) ⊎ (script_of script.now ≡ Err e)) }
     // A script with a fault runs nothing.
@@ -319,7 +319,7 @@ pub fn schedules<R: Threads + Sync, W: Write>(
 {
     let read = parse_script(alloc, script)?;
     let numbers = numbers(alloc, script)?;
-    let differ = run_script::<R, W>(alloc, &read, begins, &numbers, n, seed, out)?;
+    let differ = compare_script::<R, W>(alloc, &read, payloads, &numbers, n, seed, out)?;
     Ok(Compared { runs: n, differ })
 }
 
@@ -330,12 +330,12 @@ pub fn schedules<R: Threads + Sync, W: Write>(
 pub fn show<R: Threads + Sync, W: Write>(
     alloc: Global,
     script: &[u8],
-    begins: &Payloads,
+    payloads: &Payloads,
     seed: u64,
     k: u64,
     out: &mut W,
 ) -> Result<(), Refusal>
-    requires four { length begins.now ≡ 4 }
+    requires four { length payloads.now ≡ 4 }
     // What was written is a schedule of the script, and is read back as it.
     ensures shown { OnOk result ((said : Said) × (script_of script.now ≡ Ok said)
         × Shown said (W.contents out.old) (W.contents out.new)) }
@@ -346,5 +346,5 @@ pub fn show<R: Threads + Sync, W: Write>(
         → (W.contents out.new ≡ W.contents out.old) × ((result ≡ Err e) ⊎ (result ≡ Err Memory)) }
 {
     let read = parse_script(alloc, script)?;
-    show_script::<R, W>(alloc, &read, begins, seed, k, out)
+    show_script::<R, W>(alloc, &read, payloads, seed, k, out)
 }

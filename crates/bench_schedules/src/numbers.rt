@@ -5,7 +5,7 @@ ghost use Rattle.std.specs.List.{slice_split};
 ghost use Rattle.script_lang.specs.Scripts.{is_passed};
 ghost use Rattle.bench_schedules.specs.Numbers.{numbers_from, numbers_of, number_of_other, place_of_other};
 
-use crate::going::is_other;
+use crate::line_runs::is_other;
 use script_lang::Line;
 use std::alloc::{AllocError, Global};
 

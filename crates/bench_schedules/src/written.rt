@@ -7,8 +7,8 @@ ghost use Rattle.board_model.specs.declared.refusal.Refusal.TheVariants.{Memory,
 ghost use Rattle.board_model.specs.declared.durable.Durable.{Durable as Found};
 ghost use Rattle.board_console.specs.Texts.{state_text};
 ghost use Rattle.bench_report.specs.Texts.{line_text};
-ghost use Rattle.bench_schedules.specs.Apart.{apart_said};
-ghost use Rattle.bench_schedules.specs.Schedules.{apart_text, count_text, tight_text};
+ghost use Rattle.bench_schedules.specs.Reported.{reported_text};
+ghost use Rattle.bench_schedules.specs.Schedules.{IsReportedText, count_text, tight_text};
 
 use crate::runs::Difference;
 use bench_report::{Printed, unwritten};
@@ -19,40 +19,40 @@ use std::io::Write;
 
 /// The first line of a report that is another than in the script's own.
 #[derive(Clone, Copy, Drop)]
-pub enum Apart {
+pub enum ReportedLine {
     /// What an open found.
     Found(Durable),
     /// What a line said.
     Line(Printed),
 }
 
-impl fmt::Display for Apart {
-    ghost output = { λ a. Some (apart_said a) };
+impl fmt::Display for ReportedLine {
+    ghost output = { λ a. Some (reported_text a) };
 
     fn fmt<W: fmt::Write>(&self, f: &mut fmt::Formatter<W>) -> fmt::Result {
         match *self {
-            Apart::Found(durable) => {
+            ReportedLine::Found(durable) => {
                 let state = StateText(durable);
                 write!(f, "found {state}")
             }
-            Apart::Line(line) => write!(f, "{line}"),
+            ReportedLine::Line(line) => write!(f, "{line}"),
         }
     }
 }
 
 /// The first line of the schedule's report there that is another: of what the script's own run found, what the schedule's
 /// found, and the line behind that.
-fn line_apart(own: Option<Durable>, found: Option<Durable>, line: Printed) -> Apart
-    ensures { apart_text found line own (apart_said result) }
+fn first_other(own: Option<Durable>, found: Option<Durable>, line: Printed) -> ReportedLine
+    ensures { IsReportedText found line own (reported_text result) }
 {
     let same = own == found;
     match found {
-        None => Apart::Line(line),
+        None => ReportedLine::Line(line),
         Some(durable) => {
             if same {
-                Apart::Line(line)
+                ReportedLine::Line(line)
             } else {
-                Apart::Found(durable)
+                ReportedLine::Found(durable)
             }
         }
     }
@@ -67,9 +67,9 @@ pub fn write_tight<W: Write>(out: &mut W, number: u64) -> Result<(), Refusal>
 }
 
 /// Writes the line of schedule k, by the script's line of that number and what was reported there.
-fn write_apart<W: Write>(out: &mut W, k: u64, number: u64, apart: Apart) -> Result<(), Refusal>
+fn write_reported<W: Write>(out: &mut W, k: u64, number: u64, apart: ReportedLine) -> Result<(), Refusal>
     ensures ok { OnOk result (Appends (W.contents out.old) (W.contents out.new)
-        (codes "schedule " ++ decimal k ++ codes " line " ++ decimal number ++ codes " " ++ apart_said apart ++ 10 ∷ [])) }
+        (codes "schedule " ++ decimal k ++ codes " line " ++ decimal number ++ codes " " ++ reported_text apart ++ 10 ∷ [])) }
     ensures err { IfErr result (λ e. (e ≡ Memory) ⊎ (e ≡ Output)) }
 {
     writeln!(out, "schedule {k} line {number} {apart}").map_err(|error| unwritten(error))
@@ -82,14 +82,14 @@ pub fn write_difference<W: Write>(
     number: u64,
     differs: &Difference,
 ) -> Result<(), Refusal>
-    ensures ok { OnOk result ((said : List ℕ) × apart_text differs.now.answer.found differs.now.answer.line differs.now.own.found said
+    ensures ok { OnOk result ((said : List ℕ) × IsReportedText differs.now.answer.found differs.now.answer.line differs.now.own.found said
         × Appends (W.contents out.old) (W.contents out.new)
         (codes "schedule " ++ decimal k ++ codes " line " ++ decimal number ++ codes " " ++ said ++ 10 ∷ [])) }
     ensures err { IfErr result (λ e. (e ≡ Memory) ⊎ (e ≡ Output)) }
 {
     let Difference { own, answer, .. } = *differs;
-    let apart = line_apart(own.found, answer.found, answer.line);
-    write_apart(out, k, number, apart)
+    let apart = first_other(own.found, answer.found, answer.line);
+    write_reported(out, k, number, apart)
 }
 
 /// Writes the last line of the bench.

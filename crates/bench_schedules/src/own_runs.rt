@@ -5,10 +5,10 @@ ghost use Rattle.std.specs.Option.{option_to_list};
 ghost use Rattle.board_model.specs.declared.refusal.Refusal.TheVariants.{Memory};
 ghost use Rattle.script_lang.specs.Lines.{IsLineInRange};
 ghost use Rattle.bench_orders.specs.Orders.{is_other, other_count};
-ghost use Rattle.bench_schedules.specs.Schedules.{RanOwn, one_told};
+ghost use Rattle.bench_schedules.specs.Schedules.{RanOwn, other_answer};
 
-use crate::going::{end, is_other, step};
-use crate::tight::Stretches;
+use crate::line_runs::{end_run, is_other, run_line};
+use crate::stretches::Stretches;
 use bench_live::LiveBench;
 use bench_report::{Answer, Setting};
 use board::Payloads;
@@ -18,7 +18,7 @@ use script_lang::Line;
 
 /// What the script's own run told.
 #[derive(Drop)]
-pub struct Own {
+pub struct OwnRun {
     /// What its lines answered that are no turns, in order.
     pub answers: Vec<Answer>,
     /// What it made of its stretches.
@@ -26,8 +26,8 @@ pub struct Own {
 }
 
 /// What a line answered, where that is no `turn`.
-fn told_of(line: &Line, answer: Answer) -> Option<Answer>
-    ensures { option_to_list result ≡ one_told (is_other line.now) answer }
+fn other_answer(line: &Line, answer: Answer) -> Option<Answer>
+    ensures { option_to_list result ≡ other_answer (is_other line.now) answer }
 {
     if is_other(line) { Some(answer) } else { None }
 }
@@ -35,28 +35,28 @@ fn told_of(line: &Line, answer: Answer) -> Option<Answer>
 /// Runs the script as it stands, from these payloads on. Refused `Memory` alone.
 pub fn run_own<C: Crew>(
     setting: &Setting<'_, C>,
-    begins: &Payloads,
+    payloads: &Payloads,
     lines: &[Line],
-) -> Result<Own, Refusal>
-    requires four { length begins.now ≡ 4 }
+) -> Result<OwnRun, Refusal>
+    requires four { length payloads.now ≡ 4 }
     requires ranges { All (IsLineInRange setting.now.shape.now) lines.now }
-    ensures ran { IfOk result (λ own. RanOwn setting.now.shape.now begins.now lines.now own.answers.items) }
+    ensures ran { IfOk result (λ own. RanOwn setting.now.shape.now payloads.now lines.now own.answers.items) }
     ensures count { IfOk result (λ own. length own.answers.items ≡ other_count lines.now) }
     ensures refused { IfErr result (λ e. e ≡ Memory) }
 {
-    let mut live = LiveBench::blank(setting.alloc, setting.shape, begins)?;
+    let mut live = LiveBench::blank(setting.alloc, setting.shape, payloads)?;
     let mut answers = Vec::new(setting.alloc);
     let mut stretches = Stretches::new(setting.alloc);
     let mut place = 0;
     for line in lines {
-        let answer = step(setting, line, &mut live)?;
+        let answer = run_line(setting, line, &mut live)?;
         stretches.note(place, line, &answer)?;
-        if let Some(told) = told_of(line, answer) {
+        if let Some(told) = other_answer(line, answer) {
             answers.push(told)?;
         }
         place += 1;
     }
-    end(live, setting.shape)?;
+    end_run(live, setting.shape)?;
     stretches.close()?;
-    Ok(Own { answers, stretches })
+    Ok(OwnRun { answers, stretches })
 }

@@ -7,7 +7,7 @@ ghost use Rattle.bench_orders.specs.Orders.{is_other};
 ghost use Rattle.bench_report.specs.Bench.{Bench};
 ghost use Rattle.bench_report.specs.Steps.{Moves};
 ghost use Rattle.bench_live.specs.Lives.{IsSound, Shows};
-ghost use Rattle.bench_schedules.specs.Schedules.{IsWant};
+ghost use Rattle.bench_schedules.specs.Schedules.{IsMemoryRefused};
 
 use bench_live::LiveBench;
 use bench_report::{Answer, Printed, Setting};
@@ -16,8 +16,8 @@ use crew::Crew;
 use script_lang::Line;
 
 /// Whether a power-on was refused for want of memory.
-fn is_want(answer: &Answer) -> bool
-    ensures { result ≡ false → IsWant answer.now → ⊥ }
+fn is_memory_refused(answer: &Answer) -> bool
+    ensures { result ≡ false → IsMemoryRefused answer.now → ⊥ }
 {
     match answer.line {
         Printed::OnRefused(number) => number == 11,
@@ -36,7 +36,7 @@ pub fn is_other(line: &Line) -> bool
 }
 
 /// What a line answers, with its turns made in place.
-fn answered<C: Crew>(
+fn answer_line<C: Crew>(
     setting: &Setting<'_, C>,
     line: &Line,
     live: &mut LiveBench,
@@ -68,18 +68,18 @@ pub fn step<C: Crew>(
     ensures sound { OnOk result (IsSound live.new) }
     ensures stepped { IfOk result (λ answer. (b : Bench) → Shows setting.now.shape.now b live.old
         → (new : Bench) × Moves setting.now.shape.now line.now b answer new × Shows setting.now.shape.now new live.new) }
-    ensures well { IfOk result (λ answer. IsWant answer → ⊥) }
+    ensures well { IfOk result (λ answer. IsMemoryRefused answer → ⊥) }
     ensures refused { IfErr result (λ e. e ≡ Memory) }
 {
-    let answer = answered(setting, line, live)?;
-    if is_want(&answer) {
+    let answer = answer_line(setting, line, live)?;
+    if is_memory_refused(&answer) {
         return Err(Refusal::Memory);
     }
     Ok(answer)
 }
 
 /// Ends a run. Refused `Memory` where the disk's record was refused memory in it.
-pub fn end(live: LiveBench, shape: &Shape) -> Result<(), Refusal>
+pub fn end_run(live: LiveBench, shape: &Shape) -> Result<(), Refusal>
     requires { IsSound live }
     ensures well { OnOk result ((b : Bench) → Shows shape.now b live → b.fault_state.own ≡ 0) }
     ensures refused { IfErr result (λ e. e ≡ Memory) }

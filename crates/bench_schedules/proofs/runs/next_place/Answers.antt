@@ -1,7 +1,7 @@
 use Rattle.std.proofs.Common.{◌≡◌, inr, refl, sym, subst, rules, get_or}
 use Rattle.bench_report.specs.declared.printed.Answer.{Answer}
 use Rattle.bench_schedules.proofs.Alike.{answer_same}
-use Rattle.bench_schedules.proofs.runs.behind.Goals as goal
+use Rattle.bench_schedules.proofs.runs.next_place.Goals as goal
 
 pub returns-then-eq-clause-alike : goal.returns-then-eq-clause-alike
 returns-then-eq-clause-alike c =

@@ -1,4 +1,4 @@
-use Rattle.bench_schedules.proofs.benches.run_all.Goals as goal
+use Rattle.bench_schedules.proofs.benches.compare_all.Goals as goal
 
 pub returns-clause-wrote : goal.returns-clause-wrote
 returns-clause-wrote g c =
@@ -9,7 +9,7 @@ returns-clause-wrote g c =
       tight = tight.0;
       first = g.W.Write.contents c.write_all_tight.new.out;
       begun = tight.1;
-      last = g.W.Write.contents c.run_each.new.out;
+      last = g.W.Write.contents c.run_schedules.new.out;
       wrote = c.in_ok-differ.ensures.wrote;
       ended = c.in_ok-write_count.ensures.ok;
     }

@@ -6,12 +6,12 @@ use Rattle.bench_orders.specs.Orders.{is_other}
 use Rattle.bench_schedules.specs.declared.runs.Difference.{Difference}
 
 -- the next place behind a line that made turns, or that answered what stands at this place
-abbrev pub IsBehind : List Answer → ℕ → Line → Answer → ℕ → Type 0
-IsBehind own place line a next =
+abbrev pub IsNextPlace : List Answer → ℕ → Line → Answer → ℕ → Type 0
+IsNextPlace own place line a next =
     ((is_other line ≡ false) × (next ≡ place))
     ⊎ ((is_other line ≡ true) × (get_or own place a ≡ a) × (next ≡ place + 1))
 
 -- it is no line of turns, and answered other than what stands there
-abbrev pub IsApart : List Answer → ℕ → Line → Answer → Difference → Type 0
-IsApart own place line a d =
+abbrev pub IsDifference : List Answer → ℕ → Line → Answer → Difference → Type 0
+IsDifference own place line a d =
     (is_other line ≡ true) × (d.place ≡ place) × (d.own ≡ get_or own place d.own) × (d.answer ≡ a) × (d.own ≢ a)
