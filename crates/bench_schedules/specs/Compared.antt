@@ -5,7 +5,8 @@ use Rattle.bench_report.specs.declared.printed.Answer.{Answer}
 use Rattle.bench_orders.specs.Orders.{is_other}
 use Rattle.bench_schedules.specs.declared.runs.Difference.{Difference}
 
--- the next place behind a line that made turns, or that answered what stands at this place
+-- the place of the next answer to be compared: the same after a `turn` line, and the next one after a line that answered what
+-- stands at this place
 abbrev pub IsNextPlace : List Answer → ℕ → Line → Answer → ℕ → Type 0
 IsNextPlace own place line a next =
     ((is_other line ≡ false) × (next ≡ place))

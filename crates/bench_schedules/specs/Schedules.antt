@@ -20,13 +20,13 @@ use Rattle.bench_orders.specs.Orders.{IsScheduleOf, is_other}
 use Rattle.bench_schedules.specs.declared.runs.Difference.{Difference}
 use lib.Chars.{codes}
 
--- what the lines answered that are no turns, as far as answers go
+-- the answers of the lines that are no `turn`, as far as there are answers
 abbrev pub other_answers : List Line → List Answer → List Answer
 other_answers [] answers = []
 other_answers (line ∷ more) [] = []
 other_answers (line ∷ more) (a ∷ answers) = if is_other line then (a ∷ other_answers more answers) else other_answers more answers
 
--- the answer of one line, where that is no turn
+-- the answer of one line, where that is no `turn`
 abbrev pub other_answer : Bool → Answer → List Answer
 other_answer other a = if other then (a ∷ []) else []
 
@@ -34,14 +34,14 @@ other_answer other a = if other then (a ∷ []) else []
 abbrev pub IsMemoryRefused : Answer → Type 0
 IsMemoryRefused a = a.line ≡ printed.OnRefused 11
 
--- From these payloads on the lines ran, and memory was never seen to be refused: no power-on was refused for want of it, and the disk's record
--- always had it.
+-- With these payloads in the slots the lines ran, and no sign tells that memory was refused: no power-on was refused for want
+-- of it, and the disk always had it for its record.
 pub record RanWell (size : Size) (start : List (List ℕ)) (those : List Line) (answers : List Answer) (end : Bench) : Type 0 where
   pub run : Run size (bench_with start) those answers end
   pub answered : All (λ a. IsMemoryRefused a → ⊥) answers
   pub disk : end.fault_state.own ≡ 0
 
--- The run answered as the script's own run; or up to a place as that, and there otherwise.
+-- The run answered as the script's own run did; or it did so up to a place, and answered otherwise there.
 abbrev pub ToldLike : List Answer → List Answer → Option Difference → Type 0
 ToldLike own ran None = ran ≡ own
 ToldLike own ran (Some d) =
@@ -70,7 +70,7 @@ pub record RanOwn (size : Size) (start : List (List ℕ)) (those : List Line) (o
   pub ran : RanWell size start those answers end
   pub told : own ≡ other_answers those answers
 
--- the first line of the report of an answer that found this and said that, which is another than where the own run found so
+-- the text of the line that is written: what an open found, where the own run found something else; otherwise the line after that
 abbrev pub IsReportedText : Option Durable → Printed → Option Durable → List ℕ → Type 0
 IsReportedText None line own text = text ≡ line_text line
 IsReportedText (Some d) line own text =

@@ -29,7 +29,7 @@ use std::alloc::Global;
 use std::io::Write;
 use std::thread::Threads;
 
-/// How many schedules were run, and how many answered otherwise than the script's own run.
+/// How many schedules were run, and how many of them gave another report than the script's own run.
 #[derive(Clone, Copy, Drop)]
 pub struct Compared {
     pub runs: u64,
@@ -43,15 +43,15 @@ struct Runner<'a, C> {
     setting: Setting<'a, C>,
     /// Its lines.
     lines: &'a [Line],
-    /// What the slots begin with.
+    /// What each slot boots before the first line.
     payloads: &'a Payloads,
     /// The number of its board line, and of each of its lines.
     numbers: &'a [u64],
-    /// What schedules are drawn from.
+    /// The seed from which schedules are drawn.
     seed: u64,
 }
 
-/// Runs a schedule of the script. Refused `Memory` alone.
+/// Runs a schedule of the script, by its lines. Refused `Memory` alone.
 fn run_drawn<C: Crew>(
     runner: &Runner<'_, C>,
     lines: &[Line],
@@ -98,7 +98,7 @@ fn run_schedule<C: Crew>(
     run_drawn(runner, &lines, &own.answers)
 }
 
-/// Writes what the run of schedule k told, and answers 1 where it differed, else 0.
+/// Writes the line of schedule k where its run differs. Answers how many schedules that are: 1, or 0.
 fn write_run<C, W: Write>(
     runner: &Runner<'_, C>,
     k: u64,
@@ -121,7 +121,7 @@ fn write_run<C, W: Write>(
     }
 }
 
-/// Runs that many schedules, from number 1 on, and writes a line for each that differs: how many do.
+/// Runs n schedules, from number 1 on, and writes a line for each that differs. Answers how many do.
 #[tactic(auto, using(crate::proofs::Ledgers::wrote_none, crate::proofs::Ledgers::wrote_more))]
 fn run_schedules<C: Crew, W: Write>(
     runner: &Runner<'_, C>,
@@ -150,7 +150,7 @@ fn run_schedules<C: Crew, W: Write>(
     Ok(differ)
 }
 
-/// Writes a line for the stretch that begins at that place.
+/// Writes the line of a stretch that names few turns, by the place of its first line in the script.
 fn write_one_tight<W: Write>(numbers: &[u64], place: usize, out: &mut W) -> Result<(), Refusal>
     ensures ok { OnOk result ((told : List ℕ) × Appends (W.contents out.old) (W.contents out.new) (tight_text told)) }
     ensures err { IfErr result (λ e. (e ≡ Memory) ⊎ (e ≡ Output)) }
@@ -181,7 +181,8 @@ fn shape_in_range(shape: &Shape)
     let _lanes = shape.lanes();
 }
 
-/// The script's own run, which a second one of it confirms. Refused `Memory` alone.
+/// The script's own run. It is made twice: where the second one answers otherwise, memory was refused in one of them, and so
+/// is the bench. Refused `Memory` alone.
 fn confirmed_own_run<C: Crew>(
     setting: &Setting<'_, C>,
     payloads: &Payloads,
@@ -200,7 +201,8 @@ fn confirmed_own_run<C: Crew>(
     }
 }
 
-/// Runs the script, and then that many schedules of it, and writes what they told.
+/// Runs the script as it stands, and then n schedules of it. Writes which of its stretches name few turns, which schedules
+/// differ, and how many. Answers how many.
 fn compare_all<C: Crew, W: Write>(runner: &Runner<'_, C>, n: u64, out: &mut W) -> Result<u64, Refusal>
     requires size { IsSize runner.now.setting.shape.now }
     requires four { length runner.now.payloads.now ≡ 4 }
@@ -220,7 +222,7 @@ fn compare_all<C: Crew, W: Write>(runner: &Runner<'_, C>, n: u64, out: &mut W) -
     Ok(differ)
 }
 
-/// Runs that many schedules of a script that was read, and the script's own run first.
+/// Compares n schedules of a script that was read with its own run.
 fn compare_script<'a, R: Threads + Sync, W: Write>(
     alloc: Global,
     script: &'a Script,
@@ -257,7 +259,8 @@ fn compare_script<'a, R: Threads + Sync, W: Write>(
     compare_all(&runner, n, out)
 }
 
-/// Writes schedule k of a script that was read, once its own run told where its stretches do something.
+/// Writes schedule k of a script that was read. The script is run first, since a schedule keeps the turns that do something
+/// within each stretch.
 fn show_script<R: Threads + Sync, W: Write>(
     alloc: Global,
     script: &Script,
@@ -289,11 +292,10 @@ fn show_script<R: Threads + Sync, W: Write>(
     write_script(out, &script.shape, &drawn)
 }
 
-/// The schedule bench (docs/SCRIPT.md, "Schedules"): runs a script that begins with these payloads as it stands, and then
-/// so many schedules of it, each with
-/// the turns of each stretch in another order. Where the report of a schedule first differs from the script's own in a
-/// line that is no `turn` line, it writes what was reported there, by the number of the script's line; at the end, how many
-/// differ. Each schedule is drawn from the seed and its number alone.
+/// The schedule bench (docs/SCRIPT.md, "Schedules"). It runs a script as it stands, with these payloads in the slots, and
+/// then n schedules of it: the same lines, but with the turns of each stretch in another order. It compares their reports,
+/// leaving out `turn` lines. Where a schedule's report differs, it writes the first line that does, with the number of the
+/// script's line. At the end it writes how many differ. Each schedule is drawn from the seed and its number alone.
 ///
 /// Refused `BadShape` or `BadScript` where the script has a fault, and then nothing is written; `Memory` where memory was
 /// refused in any run, which is never a difference; `Output` where the writer failed. After the last two any part may stand
@@ -323,8 +325,8 @@ pub fn schedules<R: Threads + Sync, W: Write>(
     Ok(Compared { runs: n, differ })
 }
 
-/// Writes schedule k of a script that begins with these payloads, as a script: the one that [`schedules`] runs by that
-/// number, and whose report it tells. The payloads are no part of it: it is run with the same ones.
+/// Writes schedule k of a script as a script: the one that [`schedules`] runs by that number, with the same seed and the same
+/// payloads. The payloads are no part of what is written.
 ///
 /// Refused as `schedules` is.
 pub fn show<R: Threads + Sync, W: Write>(

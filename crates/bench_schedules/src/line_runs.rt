@@ -1,4 +1,4 @@
-//! A line of a run.
+//! One line of a run, and the end of a run: where want of memory is found.
 
 ghost use Rattle.std.specs.Prelude.{◌≡◌, IfErr, IfOk, OnOk, false};
 ghost use Rattle.board_model.specs.declared.refusal.Refusal.TheVariants.{Memory};
@@ -25,7 +25,7 @@ fn is_memory_refused(answer: &Answer) -> bool
     }
 }
 
-/// Whether a line is no `turn`.
+/// Whether a line is another than `turn`. The answers of these lines are compared.
 pub fn is_other(line: &Line) -> bool
     ensures { result ≡ is_other line.now }
 {
@@ -35,7 +35,7 @@ pub fn is_other(line: &Line) -> bool
     }
 }
 
-/// What a line answers, with its turns made in place.
+/// Runs a line. The turns of a `turn` line are made in place, which is faster.
 fn answer_line<C: Crew>(
     setting: &Setting<'_, C>,
     line: &Line,
@@ -57,7 +57,8 @@ fn answer_line<C: Crew>(
     }
 }
 
-/// Runs a line. Refused `Memory` alone, where it was seen that memory was refused; then the bench is of no use.
+/// Runs a line. Refused `Memory` alone: where the bench was refused memory, or its answer is that a power-on was. The bench
+/// is then of no further use.
 pub fn step<C: Crew>(
     setting: &Setting<'_, C>,
     line: &Line,
@@ -78,7 +79,7 @@ pub fn step<C: Crew>(
     Ok(answer)
 }
 
-/// Ends a run. Refused `Memory` where the disk's record was refused memory in it.
+/// Ends a run. Refused `Memory` where, in this run, the disk was refused memory for its record of what it had to keep.
 pub fn end_run(live: LiveBench, shape: &Shape) -> Result<(), Refusal>
     requires { IsSound live }
     ensures well { OnOk result ((b : Bench) → Shows shape.now b live → b.fault_state.own ≡ 0) }

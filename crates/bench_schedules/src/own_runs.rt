@@ -1,4 +1,4 @@
-//! The script's own run.
+//! The script's own run, with which those of its schedules are compared.
 
 ghost use Rattle.std.specs.Prelude.{◌≡◌, length, All, IfErr, IfOk};
 ghost use Rattle.std.specs.Option.{option_to_list};
@@ -16,23 +16,23 @@ use board_model::Refusal;
 use crew::Crew;
 use script_lang::Line;
 
-/// What the script's own run told.
+/// What is known after the script's own run.
 #[derive(Drop)]
 pub struct OwnRun {
-    /// What its lines answered that are no turns, in order.
+    /// The answers of its lines that are no `turn`, in order.
     pub answers: Vec<Answer>,
-    /// What it made of its stretches.
+    /// What it found of its stretches.
     pub stretches: Stretches,
 }
 
-/// What a line answered, where that is no `turn`.
+/// The answer of a line that is no `turn`; of a `turn` line none.
 fn other_answer(line: &Line, answer: Answer) -> Option<Answer>
     ensures { option_to_list result ≡ other_answer (is_other line.now) answer }
 {
     if is_other(line) { Some(answer) } else { None }
 }
 
-/// Runs the script as it stands, from these payloads on. Refused `Memory` alone.
+/// Runs the script as it stands, with these payloads in the slots. Refused `Memory` alone.
 pub fn run_own<C: Crew>(
     setting: &Setting<'_, C>,
     payloads: &Payloads,

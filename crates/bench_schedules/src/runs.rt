@@ -26,8 +26,8 @@ pub struct Difference {
     pub answer: Answer,
 }
 
-/// The place behind a line: the next one, where it is no `turn` line and answers what the script's own run did. A line that
-/// answers other than that is told.
+/// Compares the answer of a line with that of the script's own run at a place, and answers the place of the next one to be
+/// compared. A `turn` line is not compared. Where the two differ, that is the error.
 fn next_place(own: &[Answer], place: usize, line: &Line, answer: Answer) -> Result<usize, Difference>
     requires { is_other line.now ≡ true → place < length own.now }
     ensures alike { IfOk result (λ next. IsNextPlace own.now place line.now answer next) }
@@ -47,8 +47,8 @@ fn next_place(own: &[Answer], place: usize, line: &Line, answer: Answer) -> Resu
     })
 }
 
-/// Runs lines, from these payloads on, up to the first that is no `turn` and answers other than in the script's own
-/// run. Refused `Memory` alone: where it was refused in a run, that is no difference.
+/// Runs lines, with these payloads in the slots, up to the first that answers other than in the script's own run; `turn`
+/// lines are not compared. Refused `Memory` alone: where a run was refused memory, its answers are not compared.
 pub fn run_until<C: Crew>(
     setting: &Setting<'_, C>,
     payloads: &Payloads,
@@ -78,8 +78,8 @@ pub fn run_until<C: Crew>(
     Ok(None)
 }
 
-/// The same, and what differs a second run of these lines has to confirm: where it tells otherwise, memory was refused to
-/// a guest's suspension, which nothing else tells.
+/// As `run_until`, but where a difference was found, a second run of these lines has to find the same one. Where it does
+/// not, a guest's suspension was refused memory, which no other sign tells: then the run is refused `Memory`.
 pub fn run_confirmed<C: Crew>(
     setting: &Setting<'_, C>,
     payloads: &Payloads,

@@ -1,4 +1,5 @@
-//! The stretches of a script, by what its own run made of them.
+//! The stretches of a script, and in which of their turns its own run did something. A stretch is a row of `turn` lines
+//! with no other line between them.
 
 use bench_orders::{Front, harts, total};
 use bench_report::{Answer, Printed};
@@ -7,25 +8,26 @@ use machine_lines::MachineLine;
 use script_lang::Line;
 use std::alloc::{AllocError, Global};
 
-/// Turns that a stretch named so far.
+/// The turns that the lines of a stretch name, as far as it was read.
 #[derive(Clone, Copy, Drop)]
 struct Stretch {
     /// The place of its first line among the script's lines.
     first: usize,
     /// How many turns of each hart it names.
     named: [u64; 8],
-    /// How many of them up to the last line that did something.
+    /// How many of them stand up to the last line that did something.
     front: [u64; 8],
 }
 
-/// What the script's own run told of its stretches.
+/// What the script's own run found of its stretches.
 #[derive(Drop)]
 pub struct Stretches {
-    /// The one under way.
+    /// The stretch whose lines are being read, where there is one.
     open: Option<Stretch>,
-    /// The front of each, in order; no turns where it has those of one hart alone.
+    /// The front of each: its turns up to the last line that did something. Of a stretch of one hart it is empty, since such
+    /// a stretch has one order alone.
     pub fronts: Vec<Front>,
-    /// The places of the first lines of those that name fewer than three times the turns of their fronts.
+    /// Of each stretch that names fewer than three times the turns of its front: the place of its first line.
     pub tight: Vec<usize>,
 }
 
@@ -39,7 +41,7 @@ fn is_busy(answer: &Answer) -> bool {
 }
 
 impl Stretches {
-    /// None so far.
+    /// No stretch yet.
     pub fn new(alloc: Global) -> Stretches {
         Stretches {
             open: None,
@@ -71,7 +73,7 @@ impl Stretches {
         Ok(())
     }
 
-    /// Ends the stretch under way.
+    /// Ends the stretch whose lines were being read.
     pub fn close(&mut self) -> Result<(), AllocError> {
         let Some(stretch) = self.open else {
             return Ok(());

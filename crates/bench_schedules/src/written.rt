@@ -1,4 +1,4 @@
-//! The lines of the bench.
+//! The lines that the bench writes.
 
 ghost use Rattle.std.specs.Prelude.{◌≡◌, ◌≢◌, ◌⊎◌, None, ◌++◌, ◌∷◌, [], ℕ, List, Some, OnOk, IfErr, codes};
 ghost use Rattle.std.specs.Fmt.{decimal};
@@ -17,12 +17,12 @@ use board_model::{Durable, Refusal};
 use std::fmt;
 use std::io::Write;
 
-/// The first line of a report that is another than in the script's own.
+/// The line that is written of a schedule: the first of its report that differs from the script's own report.
 #[derive(Clone, Copy, Drop)]
 pub enum ReportedLine {
-    /// What an open found.
+    /// What an open found, which its line `found` tells.
     Found(Durable),
-    /// What a line said.
+    /// The answer of a line of the script.
     Line(Printed),
 }
 
@@ -40,8 +40,8 @@ impl fmt::Display for ReportedLine {
     }
 }
 
-/// The first line of the schedule's report there that is another: of what the script's own run found, what the schedule's
-/// found, and the line behind that.
+/// Which line of the schedule's report is written, where the two answers of one line differ. `own` and `found` are what an
+/// open found in the script's own run and in the schedule's. `line` comes after that in the schedule's report.
 fn first_other(own: Option<Durable>, found: Option<Durable>, line: Printed) -> ReportedLine
     ensures { IsReportedText found line own (reported_text result) }
 {
@@ -66,7 +66,7 @@ pub fn write_tight<W: Write>(out: &mut W, number: u64) -> Result<(), Refusal>
     writeln!(out, "line {number} tight").map_err(|error| unwritten(error))
 }
 
-/// Writes the line of schedule k, by the script's line of that number and what was reported there.
+/// Writes the line of schedule k: the number of the script's line, and what the schedule's run reported there.
 fn write_reported<W: Write>(out: &mut W, k: u64, number: u64, apart: ReportedLine) -> Result<(), Refusal>
     ensures ok { OnOk result (Appends (W.contents out.old) (W.contents out.new)
         (codes "schedule " ++ decimal k ++ codes " line " ++ decimal number ++ codes " " ++ reported_text apart ++ 10 ∷ [])) }
@@ -75,7 +75,7 @@ fn write_reported<W: Write>(out: &mut W, k: u64, number: u64, apart: ReportedLin
     writeln!(out, "schedule {k} line {number} {apart}").map_err(|error| unwritten(error))
 }
 
-/// Writes the line of schedule k, whose run answered otherwise at the script's line of that number.
+/// Writes the line of schedule k, whose run differs at the script's line of that number.
 pub fn write_difference<W: Write>(
     out: &mut W,
     k: u64,
