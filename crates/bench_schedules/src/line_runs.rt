@@ -59,7 +59,7 @@ fn answer_line<C: Crew>(
 
 /// Runs a line. Refused `Memory` alone: where the bench was refused memory, or its answer is that a power-on was. The bench
 /// is then of no further use.
-pub fn step<C: Crew>(
+pub fn run_line<C: Crew>(
     setting: &Setting<'_, C>,
     line: &Line,
     live: &mut LiveBench,
