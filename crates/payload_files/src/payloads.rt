@@ -1,4 +1,4 @@
-//! What each slot begins with.
+//! The payloads of the boot slots, from their files.
 
 ghost use Rattle.std.specs.Prelude.{◌≡◌, ◌<◌, ℕ, List, None, map, get_or, slice_set, string_bytes, IfOk, IfErr, IsSome, OnOk};
 ghost use Rattle.std.specs.Option.{option_map};
@@ -13,7 +13,7 @@ use command_line::FileFault;
 use std::alloc::Global;
 use std::io;
 
-/// One byte more than the largest RAM has: a longer file is refused as one of this length is.
+/// One byte more than the largest RAM has. No more of a file is read, since a longer one is refused in the same way.
 const MOST_BYTES: u64 = 1_048_577;
 
 /// A payload file that could not be read.
@@ -25,7 +25,7 @@ pub struct PayloadFault {
     pub error: io::Error,
 }
 
-/// The payload of a slot: the bytes of the file that is named, and none where none is.
+/// The payload of a slot: the bytes of the file that is named for it. Without a file it is empty.
 fn read_named<F: PayloadFiles>(
     alloc: Global,
     files: &F,
@@ -63,11 +63,10 @@ fn read_slot<F: PayloadFiles>(
     }
 }
 
-/// What the four boot slots begin with: each the bytes of the file that is named for it, which may be longer than
-/// any RAM and is then cut to one byte more than the largest, or none. The files are read in the order of their
-/// slots.
+/// Reads the payloads of the four boot slots, each from the file that is named for it, in the order of the slots. Without a
+/// file a payload is empty. A file that is longer than any RAM is cut to one byte more than the largest has.
 ///
-/// Answers the first that could not be read; those after it are not read.
+/// The fault is the first file that could not be read. Those after it are not read.
 pub fn payloads_of<F: PayloadFiles>(
     alloc: Global,
     files: &F,
