@@ -203,7 +203,11 @@ fn confirmed_own_run<C: Crew>(
 
 /// Runs the script as it stands, and then n schedules of it. Writes which of its stretches name few turns, which schedules
 /// differ, and how many. Answers how many.
-fn compare_all<C: Crew, W: Write>(runner: &Runner<'_, C>, n: u64, out: &mut W) -> Result<u64, Refusal>
+fn compare_all<C: Crew, W: Write>(
+    runner: &Runner<'_, C>,
+    n: u64,
+    out: &mut W,
+) -> Result<u64, Refusal>
     requires size { IsSize runner.now.setting.shape.now }
     requires four { length runner.now.payloads.now ≡ 4 }
     requires few { length runner.now.lines.now ≤ 65535 }
@@ -259,8 +263,8 @@ fn compare_script<'a, R: Threads + Sync, W: Write>(
     compare_all(&runner, n, out)
 }
 
-/// Writes schedule k of a script that was read. The script is run first, since a schedule keeps the turns that do something
-/// within each stretch.
+/// Writes schedule k of a script that was read. The script is run first: its own run tells in which part of each stretch the
+/// order of turns matters, and the schedule is drawn from that.
 fn show_script<R: Threads + Sync, W: Write>(
     alloc: Global,
     script: &Script,

@@ -28,7 +28,12 @@ pub struct Difference {
 
 /// Compares the answer of a line with that of the script's own run at a place, and answers the place of the next one to be
 /// compared. A `turn` line is not compared. Where the two differ, that is the error.
-fn next_place(own: &[Answer], place: usize, line: &Line, answer: Answer) -> Result<usize, Difference>
+fn next_place(
+    own: &[Answer],
+    place: usize,
+    line: &Line,
+    answer: Answer,
+) -> Result<usize, Difference>
     requires { is_other line.now ≡ true → place < length own.now }
     ensures alike { IfOk result (λ next. IsNextPlace own.now place line.now answer next) }
     ensures apart { IfErr result (λ d. IsDifference own.now place line.now answer d) }

@@ -67,7 +67,12 @@ pub fn write_tight<W: Write>(out: &mut W, number: u64) -> Result<(), Refusal>
 }
 
 /// Writes the line of schedule k: the number of the script's line, and what the schedule's run reported there.
-fn write_reported<W: Write>(out: &mut W, k: u64, number: u64, apart: ReportedLine) -> Result<(), Refusal>
+fn write_reported<W: Write>(
+    out: &mut W,
+    k: u64,
+    number: u64,
+    apart: ReportedLine,
+) -> Result<(), Refusal>
     ensures ok { OnOk result (Appends (W.contents out.old) (W.contents out.new)
         (codes "schedule " ++ decimal k ++ codes " line " ++ decimal number ++ codes " " ++ reported_text apart ++ 10 ∷ [])) }
     ensures err { IfErr result (λ e. (e ≡ Memory) ⊎ (e ≡ Output)) }

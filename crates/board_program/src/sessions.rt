@@ -95,7 +95,13 @@ pub fn run_session<
     D: Disk + Drop + Send,
     I: Read + Drop,
     O: Answers + Drop,
->(alloc: Global, threads: &R, setup: &BoardSetup<'_>, disk: D, streams: Streams<I, O>) -> EndedSession<D, O>
+>(
+    alloc: Global,
+    threads: &R,
+    setup: &BoardSetup<'_>,
+    disk: D,
+    streams: Streams<I, O>,
+) -> EndedSession<D, O>
     requires { IsIdle (D.facts disk) }
     ensures none_out { IsIdle (D.facts result.disk) }
     ensures run { HasRun setup.now.options.now setup.now.payloads.now (D.facts disk) (D.facts result.disk)

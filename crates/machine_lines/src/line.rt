@@ -216,18 +216,14 @@ impl fmt::Display for MachineLine {
             MachineLine::Reg(hart, register, value) => {
                 write!(f, "reg {} {register} 0x{}", hart.number(), Value(value))
             }
-            MachineLine::Pc(hart, value) => {
-                write!(f, "pc {} 0x{}", hart.number(), Value(value))
-            }
+            MachineLine::Pc(hart, value) => { write!(f, "pc {} 0x{}", hart.number(), Value(value)) }
             MachineLine::Csr(hart, csr, value) => {
                 let name = CsrName(csr);
                 write!(f, "csr {} 0x{name} 0x{}", hart.number(), Value(value))
             }
             MachineLine::Pending(harts) => write!(f, "pending 0x{}", Set(harts)),
             MachineLine::Mem(bytes) => write!(f, "mem {}", Hex(bytes.shown())),
-            MachineLine::Payload(slot, count) => {
-                write!(f, "payload {} {count}", slot.number())
-            }
+            MachineLine::Payload(slot, count) => { write!(f, "payload {} {count}", slot.number()) }
             MachineLine::Busy => write!(f, "busy"),
             MachineLine::Off => write!(f, "off"),
         }
