@@ -1,4 +1,4 @@
-//! Rows of turns of a hart: what came of them, when two are one, and how a history notes them.
+//! Rows of turns of a hart: what a row did, when two rows are one, and how a history notes a row.
 #![tactic(auto)]
 
 mod laws;
