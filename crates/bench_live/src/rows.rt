@@ -8,16 +8,15 @@ ghost use Rattle.bench_report.specs.Happens.{shows};
 ghost use Rattle.bench_report.specs.Steps.{TurnStep};
 ghost use Rattle.bench_report.specs.Views.{machine_in, store_in, store_fault_state};
 ghost use Rattle.bench_live.specs.Lives.{IsOn, stays_on, WentInPlace};
-ghost use Rattle.bench_rows.specs.Rows.{is_idle};
 ghost use Rattle.machine_lines.specs.Shows.{HasHart};
 ghost use Rattle.machine_lines.specs.declared.line.MachineLine.TheVariants as shown;
 
 use bench_report::{Power, Setting, struck};
-use bench_rows::idle_turns_change_nothing;
+use bench_rows::{idle_turns_change_nothing, is_idle};
 use board::Board;
 use board_model::HartId;
 use crew::Crew;
-use machine::{Did, Word};
+use machine::Word;
 use simdisk::SimDisk;
 use std::alloc::Global;
 
@@ -29,13 +28,6 @@ fn stays_on(word: Word) -> bool
         Word::Goes(_) => true,
         Word::Over(_) => false,
     }
-}
-
-/// Whether a hart had nothing to do, and its turn changed nothing.
-fn is_idle(word: Word) -> bool
-    ensures { result ≡ is_idle word }
-{
-    word == Word::Goes(Did::Idle)
 }
 
 /// Turns of a hart of a board that is on: how many were made, and what is said of the last. An idle turn changes nothing, so
