@@ -21,7 +21,7 @@ PowerShows size b (Some power) payloads = IsBench size b power payloads
 abbrev pub Shows : Size → Bench → LiveBench → Type 0
 Shows size b live = PowerShows size b live.power live.payloads
 
--- what the next line needs: nothing of the disk is lent, and every cut that struck was told
+-- what the next line needs: nothing of the disk is lent, and no cut that struck is untold
 abbrev pub IsReady : Option Power → Type 0
 IsReady None = ⊥
 IsReady (Some power) = IsResting power × IsUnstruck power
