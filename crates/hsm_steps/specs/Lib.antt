@@ -1,5 +1,6 @@
 pub mod Words
 pub mod Rule
 pub mod States
+pub mod Truth
 pub mod Outcomes
 pub mod Seating
