@@ -90,7 +90,7 @@ pub fn write_report<C: Crew, W: Write + Drop>(
     out.flush().map_err(|_| Refusal::Output)
 }
 
-/// Runs a bench over the script, with these payloads in the slots. Refused as `bench_sweep::sweep_with` is.
+/// Runs a bench over the script that begins with these payloads. Refused as `bench_sweep::sweep_with` is.
 fn run_bench<R: Threads + Sync, W: Write + Drop>(
     alloc: Global,
     script: &[u8],
@@ -112,7 +112,7 @@ fn run_bench<R: Threads + Sync, W: Write + Drop>(
     }
 }
 
-/// Runs a bench over the script, with these payloads in the slots, and writes its lines to the end.
+/// Runs a bench over the script that begins with these payloads, and writes its lines to the end.
 ///
 /// Refused as `bench_sweep::sweep_with` is, and `Output` also where what the writer held back could not be written.
 pub fn write_bench<R: Threads + Sync, W: Write + Drop>(
@@ -178,7 +178,8 @@ pub fn write_schedules<R: Threads + Sync, W: Write + Drop>(
     }
 }
 
-/// Writes a schedule of the script to the end. The script's own run, from which it is drawn, has these payloads in the slots.
+/// Writes a schedule of the script to the end. The script's own run, from which it is drawn, has these payloads in the
+/// slots.
 ///
 /// Refused as `bench_schedules::show` is, and `Output` also where what the writer held back could not be written.
 pub fn write_schedule<R: Threads + Sync, W: Write + Drop>(

@@ -7,4 +7,4 @@ mod rows;
 
 pub use laws::{idle_turns_change_nothing, rows_join};
 pub use notes::note;
-pub use rows::Row;
+pub use rows::{Row, is_idle};

@@ -97,7 +97,7 @@ impl Row {
 }
 
 /// Whether a hart had nothing to do, and its turn changed nothing.
-fn is_idle(word: Word) -> bool
+pub fn is_idle(word: Word) -> bool
     ensures { result ≡ is_idle word }
 {
     word == Word::Goes(Did::Idle)
