@@ -62,7 +62,7 @@ impl<D: Disk + Drop> Board<D> {
     ghost use Rattle.store.specs.Opens.{ReadsAs, OpenRefused, CausedRefusal, open_calls};
     ghost use Rattle.store.specs.Lives.{Applied};
     ghost use Rattle.store.specs.Asked.{Asked};
-    ghost use Rattle.store.specs.Views.{device_of, disk_of, fault_state_of, arms_of, size_of_store, life_of, found_state, now_state, doubt_of, failures_at_open, view_of, Stands, Doubts};
+    ghost use Rattle.store.specs.Views.{device_of, disk_of, fault_state_of, arms_of, size_of_store, life_of, found_state, now_state, doubt_of, failures_at_open, was_refused_memory, view_of, Stands, Doubts};
     ghost use Rattle.machine.specs.Machine.{hart_at};
     ghost use Rattle.machine.specs.Durables.{StandsAtCall};
     ghost use Rattle.sbi_calls.specs.declared.words.Turned.TheVariants as turns;
@@ -166,6 +166,13 @@ impl<D: Disk + Drop> Board<D> {
         ensures { result ≡ (fault_state_of (store_of self.now)).struck }
     {
         self.store.struck()
+    }
+
+    /// Whether memory was refused to a suspension of this life, whose hart found -1.
+    pub fn was_refused_memory(&self) -> bool
+        ensures { result ≡ was_refused_memory (store_of self.now) }
+    {
+        self.store.was_refused_memory()
     }
 
     /// What comes of what a hart did: where it stands at a durable call, that call is made with the store.
