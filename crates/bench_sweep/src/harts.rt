@@ -7,7 +7,7 @@ ghost use Rattle.script_lang.specs.Lines.{IsLineInRange};
 ghost use Rattle.script_lang.specs.declared.line.Line.TheVariants as lines;
 ghost use Rattle.bench_report.specs.Views.{machine_in};
 ghost use Rattle.bench_report.specs.Bench.{Bench};
-ghost use Rattle.bench_report.specs.Agree.{OnIs, IsResting};
+ghost use Rattle.bench_report.specs.Agree.{OnIs};
 ghost use Rattle.bench_sweep.specs.Runs.{Follows, Runs};
 ghost use Rattle.bench_sweep.specs.Lines.{TurnsOnce, TurnsMany, DoesLine, HartGoes, LineGoes, LineMoves};
 ghost use Rattle.bench_sweep.specs.Told.{moves_harts};
@@ -140,15 +140,13 @@ pub fn moves<C: Crew>(
 ) -> Result<Power, Refusal>
     requires range { IsLineInRange shape.now line.now }
     requires of_harts { moves_harts line.now ≡ true }
-    requires resting { IsResting power }
-    ensures resting { IfOk result (λ power. IsResting power) }
     ensures goes { IfOk result (λ now. (size : Size) (b : Bench) (slots : List (List ℕ)) → Runs size b power slots ledger.old
         → LineMoves size line.now b now slots ledger.new) }
     ensures resumed { ledger.new.resumed ≡ ledger.old.resumed }
     ensures memory { IfErr result (λ e. e ≡ Memory) }
 {
     match power {
-        Power::Off(disk) => Ok(Power::Off(disk)),
+        Power::Off(off) => Ok(Power::Off(off)),
         Power::On(mut board) => {
             match moved(alloc, crew, shape, &mut board, line, ledger)? {
                 None => Ok(Power::On(board)),

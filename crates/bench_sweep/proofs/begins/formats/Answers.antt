@@ -7,10 +7,8 @@ use Rattle.bench_sweep.proofs.begins.formats.Goals as goal
 
 pub loop-line-init : goal.loop-line-init
 loop-line-init g c = record {
-  calm = c.in_ok-power.ensures.calm;
-  resting = c.in_ok-power.ensures.resting;
   four = search rules;
-  begins = record { bench = bench_with (four_of c.args.payloads); answers = []; run = refl; is = (c.in_ok-power.ensures.blank (four_of c.args.payloads), c.in_ok-payloads.ensures.copied, refl) };
+  begins = record { bench = bench_with (four_of c.args.payloads); answers = []; run = refl; is = (c.in_ok-bench.ensures.blank (four_of c.args.payloads), c.in_ok-bench.ensures.slots, refl) };
   count = refl;
 }
 
@@ -18,11 +16,9 @@ pub loop-line-preserved : goal.loop-line-preserved
 loop-line-preserved g c =
     let size = c.args.setting.now.shape.now in
     let i = c.loop-line.invariant in
-    let t = c.in_ok-after.ensures.stepped i.begins.bench i.begins.is in record {
-      calm = c.is_struck.ensures.calm c.if-is_struck.false;
-      resting = c.in_ok-after.ensures.resting;
-      four = search rules;
-      begins = begins_more size (four_of c.args.payloads) c.args.lines.now c.loop-line.line-index c.line-item.result c.line-item.result _ _ i.begins.bench t.1 i.begins.answers t.0 c.loop-line-test.true c.line-item.is i.begins.run t.2 t.3 (sym (c.is_struck.ensures.exact size t.1 t.3.0) ∙ c.if-is_struck.false);
+    let t = c.in_ok-after.ensures.moved i.begins.bench i.begins.is in record {
+      four = c.in_ok-after.ensures.slots ∙ i.four;
+      begins = begins_more size (four_of c.args.payloads) c.args.lines.now c.loop-line.line-index c.line-item.result c.line-item.result _ _ i.begins.bench t.1 i.begins.answers t.0 c.loop-line-test.true c.line-item.is i.begins.run t.2 t.3;
       count = search rules;
     }
 
@@ -30,12 +26,12 @@ pub returns-then-formatted-clause-runs : goal.returns-then-formatted-clause-runs
 returns-then-formatted-clause-runs g c =
     let size = c.args.setting.now.shape.now in
     let i = c.loop-line.invariant in
-    let t = c.in_ok-after.ensures.stepped i.begins.bench i.begins.is in
+    let t = c.in_ok-after.ensures.moved i.begins.bench i.begins.is in
     let count : c.loop-line.line-index + 1 ≡ c.loop-line.count + 1 = omega (arith, i.count) in
-    let P : ℕ → Type 0 = λ n. IsFormattedAt size (four_of c.args.payloads) (take n c.args.lines.now) c.in_ok-site.site.disk c.in_ok-site.site.payloads c.in_ok-site.site.ledger in
+    let P : ℕ → Type 0 = λ n. IsFormattedAt size (four_of c.args.payloads) (take n c.args.lines.now) c.in_ok-site.site in
     subst P count (
     c.in_ok-site.ensures.runs _ _
-    (begun_by size (four_of c.args.payloads) c.args.lines.now c.loop-line.line-index c.line-item.result c.line-item.result _ _ i.begins.bench t.1 i.begins.answers t.0 c.loop-line-test.true c.line-item.is i.begins.run i.begins.is.2 (t.4 c.if-formatted.true) t.2 t.3)
+    (begun_by size (four_of c.args.payloads) c.args.lines.now c.loop-line.line-index c.line-item.result c.line-item.result _ _ i.begins.bench t.1 i.begins.answers t.0 c.loop-line-test.true c.line-item.is i.begins.run (t.4 c.if-formatted.true) t.2 t.3)
     )
 
 pub returns-then-formatted-clause-few : goal.returns-then-formatted-clause-few

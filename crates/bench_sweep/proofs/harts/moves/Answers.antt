@@ -4,7 +4,7 @@ use Rattle.bench_sweep.proofs.Turned.{line_off, line_on}
 use Rattle.bench_sweep.proofs.harts.moves.Goals as goal
 
 pub returns-in-Off-clause-goes : goal.returns-in-Off-clause-goes
-returns-in-Off-clause-goes g c = λ size b slots r. line_off size c.args.line.now b c.args.power c.in-Off.disk slots c.args.ledger.now c.requires.of_harts c.in-Off.is r
+returns-in-Off-clause-goes g c = λ size b slots r. line_off size c.args.line.now b c.args.power c.in-Off.off slots c.args.ledger.now c.requires.of_harts c.in-Off.is r
 
 pub returns-in-None-clause-goes : goal.returns-in-None-clause-goes
 returns-in-None-clause-goes g c = λ size b slots r.
@@ -14,4 +14,4 @@ returns-in-None-clause-goes g c = λ size b slots r.
 pub returns-in-Some-clause-goes : goal.returns-in-Some-clause-goes
 returns-in-Some-clause-goes g c = λ size b slots r.
     line_on size c.args.line.now b c.args.power c.after.result c.in-On.board c.moved.new.board c.in_ok-moved-in-On.field-0 (Some c.in-Some.word) slots c.args.ledger.now c.moved.new.ledger c.in-On.is c.in-Some.is
-    (λ n at. c.after.ensures.reported size n at) (λ x at follows. c.in_ok-moved-in-On.ensures.goes size x at follows) r
+    (λ n at. c.after.ensures size n at) (λ x at follows. c.in_ok-moved-in-On.ensures.goes size x at follows) r

@@ -2,28 +2,20 @@ use Rattle.std.proofs.Common.{rules, refl, sym, ◌∙◌, ◌+◌, ℕ, subst, 
 use Rattle.bench_report.specs.Bench.{Bench}
 use Rattle.script_lang.specs.declared.line.Line.{Line}
 use Rattle.script_lang.specs.declared.line.Line.TheVariants as lines
-use Rattle.bench_report.specs.Agree.{IsResting}
 use Rattle.bench_sweep.specs.Lines.{LineMoves}
-use Rattle.bench_sweep.specs.declared.sites.Going.{Going}
+use Rattle.bench_sweep.specs.declared.site.Going.{Going}
 use Rattle.bench_sweep.specs.Runs.{RunsCalm, RanTo}
 use Rattle.bench_sweep.proofs.Ran.{ran_none, ran_more, ran_struck, ran_calm, struck_stops}
 use Rattle.bench_sweep.proofs.sites.goes_on.Goals.{in-Command+in_ok-issues-in-Command, in_default+in_ok-going-in_default}
 use Rattle.bench_sweep.proofs.sites.goes_on.Goals as goal
 
 pub loop-line-init : goal.loop-line-init
-loop-line-init g c = record { calm = c.requires.calm; resting = c.requires.resting; ran = λ b r. ran_none _ b _ _ _ r; count = refl }
+loop-line-init g c = record { calm = refl; ran = λ b r. ran_none _ b _ _ _ r; count = refl }
 
 pub loop-line-preserved : goal.loop-line-preserved
 loop-line-preserved g c =
     let size = c.args.setting.now.shape.now in
     let i = c.loop-line.invariant in
-    let resting : IsResting c.match-line.going.power =
-    elim c.match-line.branch [
-      | in-Command+in_ok-issues-in-Command w ↦
-          let did = w.issues.ensures.resting i.resting in
-          search rules
-      | in_default+in_ok-going-in_default w ↦ search rules
-    ] in
     let moves : (mid : Bench) → RunsCalm size mid c.loop-line.going.power c.loop-line.going.payloads c.loop-line.going.ledger → LineMoves size c.line-item.result mid c.match-line.going.power c.match-line.going.payloads c.match-line.going.ledger =
     λ mid r. elim c.match-line.branch [
       | in-Command+in_ok-issues-in-Command w ↦
@@ -37,25 +29,12 @@ loop-line-preserved g c =
           subst G (sym w.going-is) did
     ] in record {
       calm = search rules;
-      resting = resting;
       ran = λ b r.
           (let far = i.ran b r in
           let m = moves far.bench far.runs in
           ran_more size b c.args.lines.now c.loop-line.line-index c.line-item.result c.line-item.result _ _ _ _ _ _ c.loop-line-test.true c.line-item.is far m (sym (c.is_struck.ensures.exact size m.bench m.runs.agrees) ∙ c.if-is_struck.false));
       count = search rules;
     }
-
-pub returns-then-is_struck-clause-resting : goal.returns-then-is_struck-clause-resting
-returns-then-is_struck-clause-resting g c =
-    let i = c.loop-line.invariant in
-    let resting : IsResting c.match-line.going.power =
-    elim c.match-line.branch [
-      | in-Command+in_ok-issues-in-Command w ↦
-          let did = w.issues.ensures.resting i.resting in
-          search rules
-      | in_default+in_ok-going-in_default w ↦ search rules
-    ] in
-    resting
 
 pub returns-then-is_struck-clause-ran : goal.returns-then-is_struck-clause-ran
 returns-then-is_struck-clause-ran g c = λ b r.
@@ -84,18 +63,6 @@ returns-then-is_struck-clause-stops g c = λ until less. struck_stops c.match-li
 
 pub returns-then-is_struck-clause-few : goal.returns-then-is_struck-clause-few
 returns-then-is_struck-clause-few g c = let i = c.loop-line.invariant in omega (arith, i.count, c.loop-line-test.true)
-
-pub returns-then-is_off-clause-resting : goal.returns-then-is_off-clause-resting
-returns-then-is_off-clause-resting g c =
-    let i = c.loop-line.invariant in
-    let resting : IsResting c.match-line.going.power =
-    elim c.match-line.branch [
-      | in-Command+in_ok-issues-in-Command w ↦
-          let did = w.issues.ensures.resting i.resting in
-          search rules
-      | in_default+in_ok-going-in_default w ↦ search rules
-    ] in
-    resting
 
 pub returns-then-is_off-clause-ran : goal.returns-then-is_off-clause-ran
 returns-then-is_off-clause-ran g c = λ b r.

@@ -6,5 +6,5 @@ returns-in-On-clause-runs c = λ b r. busy_runs c.args.shape.now c.args.mode b c
 
 pub returns-in_ok-follows_boot-in-Off-clause-runs : goal.returns-in_ok-follows_boot-in-Off-clause-runs
 returns-in_ok-follows_boot-in-Off-clause-runs c = λ b r.
-    power_runs c.args.shape.now c.args.mode b c.args.power c.power_on-power.result.0 c.in-Off.disk c.args.payloads.now c.power_on-power.result.1 c.power_on-power.result.2 c.args.ledger.now _ c.in-Off.is r
-    (λ off same. c.power_on-power.ensures.reported c.args.shape.now b off same) c.in_ok-follows_boot-in-Off.ensures.kept
+    power_runs c.args.shape.now c.args.mode b c.args.power c.power_on-power.result.0 c.in-Off.off c.args.payloads.now c.power_on-power.result.1 c.power_on-power.result.2 c.args.ledger.now _ c.in-Off.is r
+    (λ off same. c.power_on-power.ensures c.args.shape.now b off same) c.in_ok-follows_boot-in-Off.ensures.kept
