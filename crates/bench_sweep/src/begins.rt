@@ -35,7 +35,7 @@ fn is_formatted(line: &Line, answer: &Answer) -> bool
 }
 
 /// Runs a line before the disk is formatted, and answers whether it was by that. Refused `Memory` alone.
-fn tries<C: Crew>(
+fn run_before_format<C: Crew>(
     setting: &Setting<'_, C>,
     line: &Line,
     bench: BenchBoard,
@@ -74,7 +74,7 @@ fn blank(alloc: Global, shape: &Shape, payloads: &Payloads) -> Result<BenchBoard
 }
 
 /// Turns the board off behind the format. Refused `Memory` where the disk's record found none.
-fn begun(alloc: Global, shape: &Shape, bench: BenchBoard) -> Result<Site, Refusal>
+fn formatted_site(alloc: Global, shape: &Shape, bench: BenchBoard) -> Result<Site, Refusal>
     requires four { length bench.payloads ≡ 4 }
     ensures runs { IfOk result (λ site. (start : List (List ℕ)) (lines : List Line)
         → Begun shape.now start lines bench.power bench.payloads → IsFormattedAt shape.now start lines site) }
@@ -109,7 +109,7 @@ fn unformatted(power: Power) -> Refusal
 
 /// Runs a script that begins with these payloads up to the first format that answers Ok: how many lines that were,
 /// and the board then. Refused `NotPlain` where no format does, and `Memory`.
-pub fn formats<C: Crew>(
+pub fn run_to_format<C: Crew>(
     setting: &Setting<'_, C>,
     lines: &[Line],
     payloads: Payloads,
@@ -124,10 +124,10 @@ pub fn formats<C: Crew>(
     let mut bench = blank(alloc, shape, &payloads)?;
     let mut count = 0;
     for line in lines {
-        let (after, formatted) = tries(setting, line, bench)?;
+        let (after, formatted) = run_before_format(setting, line, bench)?;
         count += 1;
         if formatted {
-            let site = begun(alloc, shape, after)?;
+            let site = formatted_site(alloc, shape, after)?;
             return Ok((count, site));
         }
         bench = after;

@@ -120,7 +120,7 @@ fn sizes(shape: &Shape)
 
 /// Powers a board on that keeps its image, and looks what was found. Its slots are empty, whatever the script's are:
 /// it makes no turn, and is not refused for a payload that is longer than RAM. Refused `Memory` alone.
-fn keeps(alloc: Global, shape: &Shape, off: OffDisk) -> Result<Found, Refusal>
+fn look_at(alloc: Global, shape: &Shape, off: OffDisk) -> Result<Found, Refusal>
     ensures finds { IfOk result (λ found. (b : Bench) (slots : List (List ℕ)) (ledger : Ledger)
         → LeftOff shape.now b off slots ledger → Finds ledger found.plain) }
     ensures says { IfOk result (λ found. (b : Bench) → OffIs shape.now b off.disk
@@ -135,7 +135,7 @@ fn keeps(alloc: Global, shape: &Shape, off: OffDisk) -> Result<Found, Refusal>
 }
 
 /// Counts a run that left that disk, and answers what the power-on after it said. Refused `Memory` alone.
-pub fn counts(
+pub fn count_run(
     alloc: Global,
     shape: &Shape,
     off: OffDisk,
@@ -150,7 +150,7 @@ pub fn counts(
     ensures right { OnOk result (sweep.new.wrong ≡ sweep.old.wrong) }
     ensures refused { IfErr result (λ e. e ≡ Memory) }
 {
-    let found = keeps(alloc, shape, off)?;
+    let found = look_at(alloc, shape, off)?;
     ledger.counts(found.plain.as_ref(), sweep);
     Ok(found.left)
 }

@@ -21,8 +21,8 @@ ghost use Rattle.bench_sweep.specs.Swept.{IsPlainLine};
 ghost use Rattle.bench_sweep.specs.Told.{moves_harts, powers_on};
 ghost use Rattle.bench_sweep.specs.declared.points.Caller.{Caller};
 
-use crate::follows::{commands, follows, follows_boot};
-use crate::harts::{is_of_harts, moves};
+use crate::follows::{record_console, record_line, record_power_on};
+use crate::harts::{is_of_harts, run_hart_line};
 use crate::points::{Bench as Kind, Point};
 use crate::site::{Going, Site};
 use bench_judge::Ledger;
@@ -117,7 +117,7 @@ impl Site {
 
 impl Going {
     /// Turns the board off.
-    pub fn ends(self) -> Site
+    pub fn into_site(self) -> Site
         ensures { (size : Size) (b : Bench) → Runs size b self.power self.payloads self.ledger → RunsAt size (off b) result }
     {
         Site {
@@ -148,7 +148,7 @@ impl Going {
 }
 
 /// Runs a line that powers a board on, and the ledger follows it. A board that is on stays as it is.
-fn powers(
+fn run_power_on(
     alloc: Global,
     shape: &Shape,
     mode: BootMode,
@@ -164,14 +164,14 @@ fn powers(
         Power::On(board) => Ok(Power::On(board)),
         Power::Off(off) => {
             let (power, answer, now) = power_on(alloc, mode, off, payloads);
-            follows_boot(ledger, alloc, mode, &answer, now)?;
+            record_power_on(ledger, alloc, mode, &answer, now)?;
             Ok(power)
         }
     }
 }
 
 /// Runs a line that moves no hart and powers no board on, and the ledger follows it.
-fn answers<C: Crew>(
+fn run_still_line<C: Crew>(
     setting: &Setting<'_, C>,
     line: &Line,
     power: Power,
@@ -192,7 +192,7 @@ fn answers<C: Crew>(
     match answer {
         Err(refusal) => Err(refusal),
         Ok(answer) => {
-            follows(ledger, setting.alloc, line, &answer)?;
+            record_line(ledger, setting.alloc, line, &answer)?;
             Ok(power)
         }
     }
@@ -209,7 +209,7 @@ fn boot_of(line: &Line) -> Option<BootMode>
 }
 
 /// Runs a line, and the ledger follows it.
-fn does<C: Crew>(
+fn run_on_power<C: Crew>(
     setting: &Setting<'_, C>,
     line: &Line,
     power: Power,
@@ -226,12 +226,12 @@ fn does<C: Crew>(
 {
     let Setting { alloc, crew, shape } = *setting;
     match boot_of(line) {
-        Some(mode) => powers(alloc, shape, mode, power, payloads, ledger),
+        Some(mode) => run_power_on(alloc, shape, mode, power, payloads, ledger),
         None => {
             if is_of_harts(line) {
-                moves(alloc, crew, shape, line, power, ledger)
+                run_hart_line(alloc, crew, shape, line, power, ledger)
             } else {
-                answers(setting, line, power, payloads, ledger)
+                run_still_line(setting, line, power, payloads, ledger)
             }
         }
     }
@@ -240,7 +240,7 @@ fn does<C: Crew>(
 /// Runs one line, and the ledger follows it. An armed cut that struck within it is not made yet.
 ///
 /// Refused `Memory` where the line was, or the ledger.
-fn goes<C: Crew>(setting: &Setting<'_, C>, line: &Line, going: Going) -> Result<Going, Refusal>
+fn run_line<C: Crew>(setting: &Setting<'_, C>, line: &Line, going: Going) -> Result<Going, Refusal>
     requires range { IsLineInRange setting.now.shape.now line.now }
     requires plain { IsPlainLine line.now }
     requires calm { IsUnstruck going.power }
@@ -254,7 +254,7 @@ fn goes<C: Crew>(setting: &Setting<'_, C>, line: &Line, going: Going) -> Result<
         mut payloads,
         mut ledger,
     } = going;
-    let power = does(setting, line, power, &mut payloads, &mut ledger)?;
+    let power = run_on_power(setting, line, power, &mut payloads, &mut ledger)?;
     Ok(Going {
         power,
         payloads,
@@ -264,14 +264,14 @@ fn goes<C: Crew>(setting: &Setting<'_, C>, line: &Line, going: Going) -> Result<
 
 /// Runs a line of the console, and the ledger follows it. The board stays where it is: a run of many commands would
 /// pay for moving it more than for the commands.
-fn issues(alloc: Global, command: ConsoleCommand, going: &mut Going) -> Result<(), Refusal>
+fn run_command(alloc: Global, command: ConsoleCommand, going: &mut Going) -> Result<(), Refusal>
     ensures runs { OnOk result ((size : Size) (b : Bench)
         → RunsCalm size b going.old.power going.old.payloads going.old.ledger
         → LineMoves size (lines.Command command) b going.new.power going.new.payloads going.new.ledger) }
     ensures refused { IfErr result (λ e. e ≡ Memory) }
 {
     let answer = console(command, &mut going.power);
-    commands(&mut going.ledger, alloc, command, answer.line)
+    record_console(&mut going.ledger, alloc, command, answer.line)
 }
 
 /// Where a run of lines ended.
@@ -284,7 +284,7 @@ pub struct Went {
 
 /// Runs these lines from that site on, no further than to the one in which an armed cut strikes, or where so asked to
 /// the first after which the board is off. Refused `Memory` alone.
-pub fn goes_on<C: Crew>(
+pub fn run_lines<C: Crew>(
     setting: &Setting<'_, C>,
     lines: &[Line],
     until_off: bool,
@@ -308,8 +308,8 @@ pub fn goes_on<C: Crew>(
     let mut count = 0;
     for line in lines {
         match line {
-            Line::Command(command) => issues(setting.alloc, *command, &mut going)?,
-            _ => going = goes(setting, line, going)?,
+            Line::Command(command) => run_command(setting.alloc, *command, &mut going)?,
+            _ => going = run_line(setting, line, going)?,
         }
         count += 1;
         if going.is_struck() {

@@ -15,13 +15,13 @@ ghost use Rattle.bench_sweep.specs.Runs.{Runs, RunsAt, LeftAt, Sits, SitsLeft, I
 ghost use Rattle.bench_sweep.specs.Swept.{IsPlainLine, AreSwept, cell, runs_of, runs_from, all_runs, callers, total, WroteAll, IsBenchOf};
 ghost use Rattle.bench_sweep.specs.Reports.{Reports, IsLeft, RunsRow, IsRow};
 
-use crate::begins::formats;
-use crate::finds::counts;
+use crate::begins::run_to_format;
+use crate::finds::count_run;
 use crate::points::{Bench, CALLERS, Caller, FILLS, Point};
 use crate::rows::{Row, write_row, write_sweep};
 use crate::runner::Runner;
 use crate::site::{Going, Site};
-use crate::sites::{cut_by, goes_on};
+use crate::sites::{cut_by, run_lines};
 use bench_judge::Sweep;
 use bench_report::Setting;
 use board::Payloads;
@@ -58,7 +58,7 @@ fn judge_run<C: Crew, W: Write>(
     ensures refused { IfErr result (λ e. (e ≡ Memory) ⊎ (e ≡ Output)) }
 {
     let off = cut_by(&site.off, fill.unwrap_or(Fill::Byte(0)))?;
-    let left = counts(
+    let left = count_run(
         setting.alloc,
         setting.shape,
         off,
@@ -111,7 +111,7 @@ fn run_to_cut<C: Crew, W: Write>(
     ensures refused { IfErr result (λ e. (e ≡ Memory) ⊎ (e ≡ Output)) }
 {
     let armed = site.armed(Bench::Cuts, point);
-    let went = goes_on(&runner.setting, runner.lines, false, armed)?;
+    let went = run_lines(&runner.setting, runner.lines, false, armed)?;
     if went.going.is_struck() {
         let left = off_whole(went.going)?;
         judge_each_fill(&runner.setting, &left, point, report)
@@ -138,7 +138,7 @@ fn run_past_failure<C: Crew, W: Write>(
 {
     let failed = site.off.disk.failures();
     let armed = site.armed(Bench::Fails, point);
-    let went = goes_on(&runner.setting, runner.lines, false, armed)?;
+    let went = run_lines(&runner.setting, runner.lines, false, armed)?;
     let count = went.count;
     let all = runner.lines.len();
     // No cut is armed that could end the run before its last line.
@@ -160,7 +160,7 @@ fn off_whole(going: Going) -> Result<Site, Refusal>
         → RunsAt size (off b) site) }
     ensures refused { IfErr result (λ e. e ≡ Memory) }
 {
-    let site = going.ends();
+    let site = going.into_site();
     if site.off.disk.refused() != 0 {
         return Err(Refusal::Memory);
     }
@@ -274,7 +274,7 @@ fn stretch_of<C: Crew>(runner: &Runner<'_, C>, site: &Site) -> Result<Stretch, R
     ensures refused { IfErr result (λ e. e ≡ Memory) }
 {
     let plain = site.copy(runner.setting.alloc)?;
-    let went = goes_on(&runner.setting, runner.lines, true, plain)?;
+    let went = run_lines(&runner.setting, runner.lines, true, plain)?;
     let count = went.count;
     let next = turn_off(went.going)?;
     Ok(Stretch { count, next })
@@ -457,7 +457,7 @@ fn sweep_lines<'a, C: Crew, W: Write>(
         ⊎ ((e ≡ NotPlain) × (W.contents out.new ≡ W.contents out.old))) }
 {
     let setting = Setting { alloc, crew, shape };
-    let (count, site) = formats(&setting, lines, payloads)?;
+    let (count, site) = run_to_format(&setting, lines, payloads)?;
     let runner = Runner {
         setting,
         bench,
