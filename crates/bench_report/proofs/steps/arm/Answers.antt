@@ -16,5 +16,5 @@ pub returns-in-On-clause-reported : goal.returns-in-On-clause-reported
 returns-in-On-clause-reported c = λ size b h.
     let P : Power → Type 0 = λ p. Agrees size b p in
     let armed = armed_by c.args.fault in
-    let did = c.arm-in-On.ensures in
-    (armed_with armed b, (c.says-in-On.ensures, refl), armed_on size b armed c.in-On.board c.arm-in-On.new.self (subst P c.in-On.is h) did.machine did.life did.board did.facts did.armed, refl)
+    let did = c.arm.ensures in
+    (armed_with armed b, (c.says-in-On.ensures, refl), armed_on size b armed c.in-On.board c.arm.new.self (subst P c.in-On.is h) did.machine did.life did.board did.facts did.armed, refl)
