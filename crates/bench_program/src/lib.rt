@@ -39,15 +39,15 @@ use std::io::{self, BufWriter, ErrorKind, IsTerminal, Read, Write};
 use std::process::ExitCode;
 use std::thread::Threads;
 
-/// How many bytes of a report are written at once into a pipe or a file. A terminal gets each as it is made.
+/// How many bytes of a report are gathered before they are written into a pipe or a file. A terminal gets each at once.
 const WRITTEN_AT_ONCE: usize = 65_536;
 
-/// One byte more than the longest script has, each line with its line feed: more bytes change nothing of the
-/// first fault.
+/// One byte more than the longest script has. The first fault of a script stands within so many bytes, so no more are
+/// read.
 const READ_AT_MOST: u64 = (MAX_SCRIPT_LINES * (MAX_LINE_BYTES + 1) + 1) as u64;
 
-/// The script: the input to its end, or as much of it as tells its first fault. Answers `Input` where the
-/// input failed, and the refusal `Memory` where memory was refused.
+/// Reads the script: the input to its end, or as much of it as its first fault takes. The fault is `Input` where the input
+/// failed, and the refusal `Memory` where memory was refused.
 pub fn read_script<R: Read + Drop>(alloc: Global, input: R) -> Result<Vec<u8>, BenchFault>
     // It says what the whole input says, where its bytes are known: the script, or its first fault.
     ensures said { IfOk result (λ script. IfSome (R.remaining input) (λ bytes. script_of script.items
@@ -63,7 +63,7 @@ pub fn read_script<R: Read + Drop>(alloc: Global, input: R) -> Result<Vec<u8>, B
     }
 }
 
-/// Runs the script that begins with these payloads, and writes its report to the end.
+/// Runs the script, with these payloads in the slots, and writes its report to the end.
 ///
 /// Refused as `bench_report::run_with` is, and `Output` also where what the writer held back could not be written.
 pub fn write_report<C: Crew, W: Write + Drop>(
@@ -140,7 +140,7 @@ pub fn write_bench<R: Threads + Sync, W: Write + Drop>(
     Ok(done)
 }
 
-/// Runs schedules of the script that begins with these payloads, and writes which differ, to the end.
+/// Runs schedules of the script, with these payloads in the slots, and writes which differ, to the end.
 ///
 /// Refused as `bench_schedules::schedules` is, and `Output` also where what the writer held back could not be written.
 pub fn write_schedules<R: Threads + Sync, W: Write + Drop>(
@@ -178,7 +178,8 @@ pub fn write_schedules<R: Threads + Sync, W: Write + Drop>(
     }
 }
 
-/// Writes a schedule of the script that begins with these payloads, to the end.
+/// Writes a schedule of the script to the end. The script's own run, from which it is drawn, has these payloads in the
+/// slots.
 ///
 /// Refused as `bench_schedules::show` is, and `Output` also where what the writer held back could not be written.
 pub fn write_schedule<R: Threads + Sync, W: Write + Drop>(
@@ -207,7 +208,7 @@ pub fn write_schedule<R: Threads + Sync, W: Write + Drop>(
     }
 }
 
-/// How many bytes of output are written at once: none are held back on a terminal.
+/// How many bytes of output are gathered before they are written. On a terminal none are.
 fn at_once(rt: &HostRuntime) -> usize {
     if rt.stdout().is_terminal() {
         0

@@ -12,7 +12,6 @@ ghost use Rattle.bench_report.specs.Examined.{InspectsOn, InspectStep, AnswersOf
 ghost use Rattle.bench_report.specs.Asides.{AsideStep};
 ghost use Rattle.bench_report.specs.Deeds.{SetSlot, CallWake, WritePast};
 ghost use Rattle.bench_report.specs.Steps.{FormatStep, OnStep, ConsoleStep, TurnStep, CallStep, ArmStep, Step, Moves};
-ghost use Rattle.disk.specs.FaultState.{armed_by};
 ghost use Rattle.simdisk.specs.declared.SimDisk.{SimDisk};
 ghost use Rattle.bench_report.specs.Agree.{HasDisk, IsCutBy, IsArmed, ArmsIts, Pokes, PokesIts, Inspects, InspectsIts, fill_after, EndsBy, Agrees, IsResting, OffIs, OnIs, BoardAfter, IsBench, IsUnstruck, Matches, StepsTo};
 ghost use Rattle.board_model.specs.declared.refusal.Refusal.TheVariants.{Memory};
@@ -159,7 +158,7 @@ fn cut(power: Power, fill: Fill) -> Power
 pub fn arm(power: Power, fault: ArmedFault) -> (Power, Answer)
     requires { IsResting power }
     ensures reported { (size : Size) (b : Bench) → Agrees size b power
-        → StepsTo size b result.0 (ArmStep (armed_by fault) b result.1) }
+        → StepsTo size b result.0 (ArmStep fault b result.1) }
     ensures arms { IsArmed fault result.0 }
     ensures resting { IsResting result.0 }
 {

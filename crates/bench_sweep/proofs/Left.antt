@@ -15,6 +15,7 @@ use Rattle.board_model.specs.declared.durable.Trial.{Trial}
 use Rattle.board_model.specs.declared.plain.Plain.{Plain}
 use Rattle.disk.specs.Facts.{IsLeft}
 use Rattle.disk.specs.FaultState.{Armed, Unarmed, FaultArmed, CutArmed, FaultState, Cause, fault_state_left}
+use Rattle.disk.specs.declared.device.ArmedFault.{ArmedFault}
 use Rattle.simdisk.specs.declared.SimDisk.{SimDisk}
 use Rattle.board_model.specs.declared.console_command.ConsoleCommand.{ConsoleCommand}
 use Rattle.board_model.specs.ConsoleCommands.{console_change}
@@ -78,12 +79,12 @@ pub off_sits : (size : Size) (b : Bench) (disk : SimDisk) (slots : List (List �
 off_sits size b disk slots ledger l = record { agrees = l.off; same = l.same; follows = l.follows }
 
 -- a cut or a failure is armed
-pub armed_off : (size : Size) (b : Bench) (disk : SimDisk) (armed is : Armed) (a : Answer) (power : Power) (slots : List (List ℕ)) (ledger : Ledger) → armed ≡ is → LeftOff size b disk slots ledger → ((z : Size) (c : Bench) → OffIs z c disk → StepsTo z c power (ArmStep armed c a))
+pub armed_off : (size : Size) (b : Bench) (disk : SimDisk) (fault is : ArmedFault) (a : Answer) (power : Power) (slots : List (List ℕ)) (ledger : Ledger) → fault ≡ is → LeftOff size b disk slots ledger → ((z : Size) (c : Bench) → OffIs z c disk → StepsTo z c power (ArmStep fault c a))
     → RunsCalm size (armed_with is b) power slots ledger
-armed_off size b disk armed is a power slots ledger e l arms =
+armed_off size b disk fault is a power slots ledger e l arms =
     let did = arms size b l.off in
     let A : Bench → Type 0 = λ x. Agrees size x power in
-    let B : Armed → Type 0 = λ m. Agrees size (armed_with m b) power in record {
+    let B : ArmedFault → Type 0 = λ f. Agrees size (armed_with f b) power in record {
       agrees = subst B e (subst A did.1.1 did.2);
       same = l.same;
       follows = record { formatted = l.follows.formatted; kept = l.follows.kept };

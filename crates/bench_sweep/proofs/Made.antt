@@ -18,16 +18,20 @@ use Rattle.bench_report.specs.Views.{fault_state}
 use Rattle.bench_judge.specs.declared.ledgers.Ledger.{Ledger}
 use Rattle.bench_sweep.specs.declared.points.Bench.{Bench as Kind}
 use Rattle.bench_sweep.specs.declared.points.Bench.TheVariants.{Cuts, Fails}
+use Rattle.bench_sweep.specs.declared.points.Caller.{Caller}
 use Rattle.bench_sweep.specs.declared.rows.Row.{Row}
-use Rattle.bench_sweep.specs.Made.{LooksAt, Lives, ComesTo, IsPlainRun, EndsAs, RunsWith, armed_of}
+use Rattle.bench_sweep.specs.Made.{LooksAt, Lives, ComesTo, IsPlainRun, EndsAs, RunsWith}
+use Rattle.bench_sweep.specs.Points.{fault_at}
 use Rattle.bench_sweep.specs.Reports.{IsLeft, RunsRow, IsRow}
 use Rattle.bench_sweep.specs.Runs.{Runs, RanTo, IsLife}
 
 -- ---- a run with a fault armed
-module _ (size : Size) (kind : Kind) (b : Bench) (lines : List Line) (count : ℕ) (power : Power) (slots : List (List ℕ)) (ledger : Ledger) (few : count ≤ length lines) (ran : RanTo size (armed_with (armed_of kind) b) (take count lines) power slots ledger) where
+module _ (size : Size) (kind : Kind) (caller : Caller) (call : ℕ) (b : Bench) (lines : List Line) (count : ℕ) (power : Power) (slots : List (List ℕ)) (ledger : Ledger) (few : count ≤ length lines) (ran : RanTo size (armed_with (fault_at kind caller call) b) (take count lines) power slots ledger) where
   made : (row : Row) → unpowered ran.bench ≡ unpowered ran.end → EndsAs kind lines count ran.answers → IsLeft size (off ran.bench) row → RunsRow size kind b lines row
   made row same ends (after, said) =
       let P : Bench → Type 0 = λ x. LooksAt size x row.left after in record {
+        caller = caller;
+        call = call;
         count = count;
         few = few;
         answers = ran.answers;
@@ -39,20 +43,22 @@ module _ (size : Size) (kind : Kind) (b : Bench) (lines : List Line) (count : �
       }
 
 -- up to the line in which a cut struck
-pub to_cut : (size : Size) (b : Bench) (lines : List Line) (count : ℕ) (power : Power) (slots : List (List ℕ)) (ledger : Ledger) → count ≤ length lines → (ran : RanTo size (armed_with (armed_of Cuts) b) (take count lines) power slots ledger)
+pub to_cut : (size : Size) (caller : Caller) (call : ℕ) (b : Bench) (lines : List Line) (count : ℕ) (power : Power) (slots : List (List ℕ)) (ledger : Ledger) → count ≤ length lines → (ran : RanTo size (armed_with (fault_at Cuts caller call) b) (take count lines) power slots ledger)
     → ran.bench.fault_state.struck ≡ true → (row : Row) → IsLeft size (off ran.bench) row → RunsRow size Cuts b lines row
-to_cut size b lines count power slots ledger few ran hit row left = let s = ran.struck hit in made size Cuts b lines count power slots ledger few ran row (ap (λ (x : Bench). unpowered x) s.0) s.1 left
+to_cut size caller call b lines count power slots ledger few ran hit row left = let s = ran.struck hit in made size Cuts caller call b lines count power slots ledger few ran row (ap (λ (x : Bench). unpowered x) s.0) s.1 left
 
 -- or to the last of them
-pub past_failure : (size : Size) (b : Bench) (lines : List Line) (count : ℕ) (power : Power) (slots : List (List ℕ)) (ledger : Ledger) → count ≡ length lines → (ran : RanTo size (armed_with (armed_of Fails) b) (take count lines) power slots ledger)
+pub past_failure : (size : Size) (caller : Caller) (call : ℕ) (b : Bench) (lines : List Line) (count : ℕ) (power : Power) (slots : List (List ℕ)) (ledger : Ledger) → count ≡ length lines → (ran : RanTo size (armed_with (fault_at Fails caller call) b) (take count lines) power slots ledger)
     → ran.bench.fault_state.struck ≡ false → (row : Row) → IsLeft size (off ran.bench) row → RunsRow size Fails b lines row
-past_failure size b lines count power slots ledger all ran calm row left = made size Fails b lines count power slots ledger (omega (arith, all)) ran row (ap (λ (x : Bench). unpowered x) (ran.calm calm)) all left
+past_failure size caller call b lines count power slots ledger all ran calm row left = made size Fails caller call b lines count power slots ledger (omega (arith, all)) ran row (ap (λ (x : Bench). unpowered x) (ran.calm calm)) all left
 
 -- over the first of some lines, of which a cut ended it
 pub over_all : (size : Size) (b : Bench) (lines : List Line) (n : ℕ) → n ≤ length lines → (row : Row) → RunsRow size Cuts b (take n lines) row → RunsRow size Cuts b lines row
 over_all size b lines n few row r =
     let long = length-take-le n lines few in
-    let P : List Line → Type 0 = λ ls. Run size (armed_with (armed_of Cuts) b) ls r.answers r.end in record {
+    let P : List Line → Type 0 = λ ls. Run size (armed_with (fault_at Cuts r.caller r.call) b) ls r.answers r.end in record {
+      caller = r.caller;
+      call = r.call;
       count = r.count;
       few = omega (arith, few, long, r.few);
       answers = r.answers;

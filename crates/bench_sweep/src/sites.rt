@@ -15,7 +15,7 @@ ghost use Rattle.bench_report.specs.Bench.{Bench};
 ghost use Rattle.bench_report.specs.Happens.{armed_with, off, unpowered};
 ghost use Rattle.bench_report.specs.Views.{facts, sim_log_of};
 ghost use Rattle.bench_sweep.specs.Lines.{LineMoves};
-ghost use Rattle.bench_sweep.specs.Made.{armed_of, four_of};
+ghost use Rattle.bench_sweep.specs.Made.{four_of};
 ghost use Rattle.bench_sweep.specs.Points.{calls_of, fault_at};
 ghost use Rattle.bench_sweep.specs.Runs.{Runs, RunsCalm, LeftOff, SitsLeft, RanTo, StopsOff};
 ghost use Rattle.bench_sweep.specs.Swept.{IsPlainLine};
@@ -133,7 +133,7 @@ impl Going {
         ensures calm { (size : Size) → SitsLeft size site.disk site.payloads site.ledger → IsUnstruck result.power }
         ensures resting { IsResting result.power }
         ensures runs { (size : Size) (b : Bench) → LeftOff size b site.disk site.payloads site.ledger
-            → RunsCalm size (armed_with (armed_of bench) b) result.power result.payloads result.ledger }
+            → RunsCalm size (armed_with (fault_at bench point.caller point.call) b) result.power result.payloads result.ledger }
         ensures arms { IsArmed (fault_at bench point.caller point.call) result.power }
     {
         let Site {

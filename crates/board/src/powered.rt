@@ -56,7 +56,7 @@ impl<D: Disk + Drop> Board<D> {
     ghost use Rattle.board_model.specs.Views.{durable_of, change_of, change_in};
     ghost use Rattle.board_model.specs.declared.refusal.Refusal.{Refusal};
     ghost use Rattle.disk.specs.Facts.{LeavesSince, Failed, Unchanged, counted};
-    ghost use Rattle.disk.specs.FaultState.{armed_by};
+    ghost use Rattle.disk.specs.FaultState.{fault_state_armed};
     ghost use Rattle.store.specs.Standing.{StandsFor};
     ghost use Rattle.store.specs.Leaves.{IsIdle, SameLength, Leaves, LeavesOnly, LeavesEither};
     ghost use Rattle.store.specs.Opens.{ReadsAs, OpenRefused, CausedRefusal, open_calls};
@@ -154,7 +154,7 @@ impl<D: Disk + Drop> Board<D> {
         ensures board { size_of_store (store_of self.new) ≡ size_of_store (store_of self.old) }
         ensures facts { Unchanged (disk_of (store_of self.old)) (disk_of (store_of self.new)) }
         ensures armed { fault_state_of (store_of self.new)
-            ≡ record (fault_state_of (store_of self.old)) { armed = armed_by fault } }
+            ≡ fault_state_armed fault (fault_state_of (store_of self.old)) }
         ensures arms { arms_of (store_of self.new) fault }
         ensures opened { failures_at_open (store_of self.new) ≡ failures_at_open (store_of self.old) }
     {

@@ -70,7 +70,7 @@ impl<D: Disk + Drop> Store<D> {
     ghost use Rattle.store.specs.Asked.{Asked};
     ghost use Rattle.store.specs.Frees.{HoldsMemory, WritesFree};
     ghost use Rattle.disk.specs.Facts.{Unchanged, counted};
-    ghost use Rattle.disk.specs.FaultState.{armed_by};
+    ghost use Rattle.disk.specs.FaultState.{fault_state_armed};
     ghost use Rattle.store.specs.Standing.{StandsFor};
     ghost use Rattle.store.specs.Views.{device_of, disk_of, fault_state_of, arms_of, size_of_store, life_of, found_state, journal_of, now_state, receipts, doubt_of, failures_at_open, view_of, Stands, Doubts};
 
@@ -375,7 +375,7 @@ impl<D: Disk + Drop> Store<D> {
     pub fn arm(&mut self, fault: ArmedFault)
         ensures life { life_of self.new ≡ life_of self.old }
         ensures facts { Unchanged (disk_of self.old) (disk_of self.new) }
-        ensures armed { fault_state_of self.new ≡ record (fault_state_of self.old) { armed = armed_by fault } }
+        ensures armed { fault_state_of self.new ≡ fault_state_armed fault (fault_state_of self.old) }
         ensures arms { arms_of self.new fault }
         ensures board { size_of_store self.new ≡ size_of_store self.old }
         ensures opened { failures_at_open self.new ≡ failures_at_open self.old }
