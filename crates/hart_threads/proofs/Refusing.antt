@@ -41,7 +41,7 @@ abbrev Finds : Word → ArchState → Type 0
 Finds word t = finds_failure word (reg t 10) ≡ true
 
 -- ---- no other error reads so
-is_failed : SbiError → Bool
+abbrev is_failed : SbiError → Bool
 is_failed errors.Failed = true
 is_failed errors.NotSupported = false
 is_failed errors.InvalidParam = false
@@ -80,12 +80,12 @@ not_failure e s t word other p finds =
     omega (arith, n, x)
 
 -- ---- what a call came to, by its error
-failed_in : {X : Type 0} → Result X SbiError → Bool
+abbrev failed_in : {X : Type 0} → Result X SbiError → Bool
 failed_in (Ok x) = false
 failed_in (Err e) = is_failed e
 
 clash : {X : Type 0} (r : Result X SbiError) → failed_in r ≡ true → failed_in r ≡ false → ⊥
-clash r yes no = let e : true ≡ false = sym yes ∙ no in let n : ⊥ = cc in n
+clash r this that = let e : true ≡ false = sym this ∙ that in let n : ⊥ = cc in n
 
 -- the life goes on, and -1 was found
 over : (word : Word) (end : LifeEnd) (t : ArchState) → word ≡ Over end → Finds word t → ⊥

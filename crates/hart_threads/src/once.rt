@@ -20,29 +20,25 @@ use disk::Disk;
 use hart::{Hart, Outcome};
 use sbi::Word;
 use sbi_calls::Seats;
-use shared_store::{Locks, Part, Told};
+use shared_store::{BusLock, Locks, Part, Told};
 use std::sync::Wait;
 use turns::MemoryBus;
 
 /// The bus of a board on threads, behind its lock, for a thread that holds none. One step of a hart is one hold of it.
 #[derive(Drop)]
-pub(crate) struct LockedBus<'r, 'a, R, D: Disk + Drop, J: Threaded> {
+pub(crate) struct LockedBus<'r, 'a, R, J: Threaded> {
     pub(crate) rt: &'r R,
-    pub(crate) locks: Locks<'a, D, J>,
-    pub(crate) ghost free: { locks ≡ no_locks },
+    pub(crate) bus: BusLock<'a, J>,
 }
 
-impl<'r, 'a, R: Wait, D: Disk + Drop, J: Threaded> MemoryBus for LockedBus<'r, 'a, R, D, J> {
+impl<'r, 'a, R: Wait, J: Threaded> MemoryBus for LockedBus<'r, 'a, R, J> {
     ghost may_hold = { λ bus memory. StepsMake J.memory memory };
 
     ghost holds_one = { λ bus. (J.memory, λ is keep here. here) };
 
     #[inline(always)]
     fn step(&mut self, hart: &mut Hart, pending: bool) -> Outcome {
-        let mut bus = self.locks.take_bus(self.rt);
-        let outcome = bus.step(hart, pending);
-        self.locks.give_bus(bus);
-        outcome
+        self.bus.step(self.rt, hart, pending)
     }
 }
 

@@ -36,8 +36,8 @@ impl<'a, 'c, D: Disk + Drop, J: Threaded, C> Clone for SharedBoard<'a, 'c, D, J,
 impl<'a, 'c, D: Disk + Drop, J: Threaded, C> SharedBoard<'a, 'c, D, J, C> {
     /// What the loop of a hart has of it.
     pub(crate) fn of_loop(self) -> LoopBoard<'a, 'c, J, C>
-        ensures tables { result.tables.now ≡ self.tables.now }
-        ensures shape { result.shape.now ≡ self.shape.now }
+        ensures tables { result.tables.now ≡ self.entry.tables.now }
+        ensures shape { result.shape.now ≡ self.entry.shape.now }
     {
         LoopBoard {
             saving: self.saving,

@@ -78,7 +78,7 @@ pub(crate) fn tell<'a, G: Gate, D: Disk + Drop, J: Threaded>(
     gate: &G,
     made: TurnMade<'a, D, J>,
 ) -> Locks<'a, D, J>
-    ensures told { G.hears gate.now made.0 made.1 }
+    ensures told { G.hears gate.now made.entry.0 made.entry.1 }
     ensures free { result ≡ no_locks }
 {
     let TurnMade { hart, turn, locks } = made;
@@ -110,7 +110,7 @@ pub(crate) fn whole_turn<'a, R: Wait, D: Disk + Drop, J: Threaded, C: Crew>(
     ensures once { TurnOnce board.entry.shape.now J.memory
         (seated hart.old (known local.seats) local.doze looks.old local.refused)
         (seated hart.new (known result.0.seats) result.0.doze looks.new result.0.refused) result.1 result.2 }
-    ensures made { result.3 ≡ allowed }
+    ensures made { result.3 ≡ allowed.entry }
 {
     let HartLocal {
         seats,
@@ -144,9 +144,11 @@ pub(crate) fn whole_turn<'a, R: Wait, D: Disk + Drop, J: Threaded, C: Crew>(
             },
         );
     }
-    let mut bus = LockedBus { rt, locks };
+    let (bus, apart) = locks.apart();
+    let mut bus = LockedBus { rt, bus };
     let (seats, turned) = turn_by_bus(hart, seats, board.tables, &mut bus, board.shape);
-    let LockedBus { rt: _, mut locks } = bus;
+    let LockedBus { rt: _, bus } = bus;
+    let mut locks = apart.whole(bus);
     match turned {
         Turned::Durable => {
             let (local, word, told) = call_locked(

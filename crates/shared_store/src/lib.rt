@@ -13,7 +13,7 @@ mod unshared;
 
 pub use buses::SharedBus;
 pub use heard::Heard;
-pub use locks::Locks;
+pub use locks::{Apart, BusLock, Locks};
 pub use receipts::{Journal, NewBook, Part};
 pub use shared::SharedStore;
 pub use told::Told;

@@ -1,11 +1,14 @@
 //! The locks of a bus and a store, as one thread takes them: the bus first.
 
-ghost use Rattle.std.specs.Prelude.{◌≡◌, true, false};
+ghost use Rattle.std.specs.Prelude.{◌≡◌, ℕ, List, true, false};
+ghost use Rattle.hart.specs.Means.{Steps};
 ghost use Rattle.shared_store.specs.Locks.{Held, no_locks, with_bus, with_store};
+ghost use Rattle.shared_store.specs.Runs.{StepsMake};
 
 use crate::buses::SharedBus;
 use crate::shared::SharedStore;
 use disk::Disk;
+use hart::{Hart, Outcome};
 use receipts::Journal;
 use std::marker::Model;
 use std::sync::{Mutex, MutexGuard, Wait};
@@ -74,5 +77,54 @@ impl<'a, D: Disk + Drop, J: Journal> Locks<'a, D, J> {
     {
         drop(store);
         self.has_store = false;
+    }
+
+    /// The lock of the bus apart, for steps of a hart, by a holder of none. Until it is back no other lock is taken.
+    #[inline(always)]
+    pub fn apart(self) -> (BusLock<'a, J>, Apart<'a, D, J>)
+        requires { self ≡ no_locks }
+    {
+        let Locks {
+            bus,
+            store,
+            has_bus: _,
+            has_store: _,
+        } = self;
+        (BusLock { bus }, Apart { store })
+    }
+}
+
+/// The lock of a bus, for one step of a hart after another.
+#[derive(Drop)]
+pub struct BusLock<'a, J: Journal> {
+    bus: &'a Mutex<SharedBus<J>>,
+}
+
+impl<'a, J: Journal> BusLock<'a, J> {
+    /// One step of the hart, as `SharedBus::step`, in one hold of the bus.
+    #[inline(always)]
+    pub fn step<R: Wait>(&mut self, rt: &R, hart: &mut Hart, pending: bool) -> Outcome
+        ensures { (found : List ℕ) × (left : List ℕ) × StepsMake J.memory found × StepsMake J.memory left
+            × Steps pending hart.old found hart.new left result }
+    {
+        let mut bus = self.bus.lock(rt);
+        bus.step(hart, pending)
+    }
+}
+
+/// What is left of a thread's locks meanwhile: nothing is taken with it.
+#[derive(Drop)]
+pub struct Apart<'a, D: Disk + Drop, J: Journal> {
+    store: &'a Mutex<SharedStore<D, J>>,
+}
+
+impl<'a, D: Disk + Drop, J: Journal> Apart<'a, D, J> {
+    /// The lock of the bus is back.
+    #[inline(always)]
+    pub fn whole(self, bus: BusLock<'a, J>) -> Locks<'a, D, J>
+        ensures { result ≡ no_locks }
+    {
+        let BusLock { bus } = bus;
+        Locks::new(bus, self.store)
     }
 }

@@ -1,4 +1,4 @@
-use Rattle.std.proofs.Common.{ℕ, ◌+◌, ◌<◌, true, false, arith, ap, refl, sym, ◌∙◌, subst}
+use Rattle.std.proofs.Common.{◌≡◌, ℕ, ◌+◌, ◌<◌, true, false, arith, ap, refl, sym, ◌∙◌, subst}
 use Rattle.sbi_calls.specs.Both.{GivesBack, known}
 use Rattle.turns.proofs.Begun.{gives_then}
 use Rattle.hart_threads.specs.Looks.{Looked, no_looks}
@@ -27,7 +27,7 @@ loop-made-preserved g c =
     let gate = c.args.gate.now in
     let said = subst (λ (k : ℕ). g.G.Gate.answers gate k c.loop-made.made true) (c.id.ensures ∙ i.id) c.in-Some-ask.ensures.asked in
     let is : t.result.3 ≡ (by, c.loop-made.made) = t.ensures.made ∙ (c.in-Some-ask.ensures.turn ∙ ap (λ (k : ℕ). let p : ℕ × ℕ = (k, c.loop-made.made) in p) (c.id.ensures ∙ i.id)) in
-    let heard = subst (λ (p : ℕ × ℕ). g.G.Gate.hears gate p.0 p.1) is c.tell.ensures.told in
+    let heard = subst (λ (p : ℕ × ℕ). g.G.Gate.hears gate p.0 p.1) is c.tell-locks.ensures.told in
     record {
       gives = gives_then c.args.board.tables.now by c.args.local.seats c.loop-made.local.seats t.result.0.seats i.gives (subst (λ (k : ℕ). GivesBack c.args.board.tables.now k c.loop-made.local.seats t.result.0.seats) i.id t.ensures.gives);
       rests = rests_on by t.result.0.seats t.result.1 t.result.0.doze on (subst (λ (k : ℕ). StandsAfterTurn t.result.1 t.result.0.doze k t.result.0.seats) i.id t.ensures.stands);
@@ -36,7 +36,7 @@ loop-made-preserved g c =
       turns = one_more c.args.board.shape.now g.J.Journal.memory (g.G.Gate.answers gate by) (g.G.Gate.hears gate by) c.loop-made.made (seated c.args.hart (known c.args.local.seats) c.args.local.doze no_looks c.args.local.refused) (seated c.loop-made.hart (known c.loop-made.local.seats) c.loop-made.local.doze c.loop-made.looks c.loop-made.local.refused) (seated t.new.hart (known t.result.0.seats) t.result.0.doze t.new.looks t.result.0.refused) t.result.1 t.result.2 i.turns t.ensures.once on said heard;
       few = let f = i.few in let r = t.ensures.range in omega (arith, f, r);
       asked = c.look.ensures ∙ ap (λ (n : ℕ). n + 1) i.asked;
-      free = c.tell.ensures.free;
+      free = c.tell-locks.ensures.free;
     }
 
 pub returns-then-not-goes_on-clause-once : goal.returns-then-not-goes_on-clause-once
@@ -47,7 +47,7 @@ returns-then-not-goes_on-clause-once g c =
     let gate = c.args.gate.now in
     let said = subst (λ (k : ℕ). g.G.Gate.answers gate k c.loop-made.made true) (c.id.ensures ∙ i.id) c.in-Some-ask.ensures.asked in
     let is : t.result.3 ≡ (by, c.loop-made.made) = t.ensures.made ∙ (c.in-Some-ask.ensures.turn ∙ ap (λ (k : ℕ). let p : ℕ × ℕ = (k, c.loop-made.made) in p) (c.id.ensures ∙ i.id)) in
-    let heard = subst (λ (p : ℕ × ℕ). g.G.Gate.hears gate p.0 p.1) is c.tell.ensures.told in
+    let heard = subst (λ (p : ℕ × ℕ). g.G.Gate.hears gate p.0 p.1) is c.tell-locks.ensures.told in
     ended_life c.args.board.shape.now g.J.Journal.memory (g.G.Gate.answers gate by) (g.G.Gate.hears gate by) c.args.turns c.loop-made.made (seated c.args.hart (known c.args.local.seats) c.args.local.doze no_looks c.args.local.refused) (seated c.loop-made.hart (known c.loop-made.local.seats) c.loop-made.local.doze c.loop-made.looks c.loop-made.local.refused) (seated t.new.hart (known t.result.0.seats) t.result.0.doze t.new.looks t.result.0.refused) t.result.1 t.result.2 i.turns t.ensures.once off said heard
 
 pub whole_turn-next-requires-clause-seated : goal.whole_turn-next-requires-clause-seated
