@@ -6,7 +6,7 @@ use Rattle.sbi.specs.declared.words.Word.TheVariants as words
 use Rattle.bench_report.specs.declared.power.Power.{Power}
 use Rattle.bench_report.specs.declared.power.Power.TheVariants.{Off, On}
 use Rattle.bench_report.specs.Bench.{Bench, BenchLife}
-use Rattle.bench_report.specs.Agree.{Agrees, BoardAfter, IsBench, IsResting, IsUnstruck}
+use Rattle.bench_report.specs.Agree.{Agrees, BoardAfter, IsBench, IsUnstruck}
 use Rattle.bench_report.specs.Happens.{unpowered}
 use Rattle.bench_report.specs.Turns.{GuestTurns}
 use Rattle.machine_lines.specs.Shows.{HasHart}
@@ -21,22 +21,22 @@ PowerShows size b (Some power) payloads = IsBench size b power payloads
 abbrev pub Shows : Size → Bench → LiveBench → Type 0
 Shows size b live = PowerShows size b live.power live.payloads
 
--- what the next line needs: nothing of the disk is lent, and no cut that struck is untold
+-- what the next line needs: the board is there, and no cut that struck is untold
 abbrev pub IsReady : Option Power → Type 0
 IsReady None = ⊥
-IsReady (Some power) = IsResting power × IsUnstruck power
+IsReady (Some power) = IsUnstruck power
 
 abbrev pub IsSound : LiveBench → Type 0
 IsSound live = IsReady live.power
 
 -- the board is on
 abbrev pub IsOn : Power → Type 0
-IsOn (Off disk) = ⊥
+IsOn (Off off) = ⊥
 IsOn (On board) = ⊤
 
 -- a board that was on, after a turn with this word
 abbrev pub IsAfter : Size → Word → Bench → Power → Type 0
-IsAfter size word b (Off disk) = ⊥
+IsAfter size word b (Off off) = ⊥
 IsAfter size word b (On board) = BoardAfter size word b board
 
 -- A hart made so many turns, at most n. The last has this word, and the board is as the turns left it.

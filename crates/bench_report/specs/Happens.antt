@@ -24,7 +24,7 @@ shows line = says (printed.Shown line)
 
 -- ---- the bench after one thing that happened
 
--- a power-on was refused memory
+-- memory was refused: to a power-on, a suspension or an examination of the disk
 abbrev pub out_of_memory : Bench → Bench
 out_of_memory b = record b { growths = b.growths + 1 }
 

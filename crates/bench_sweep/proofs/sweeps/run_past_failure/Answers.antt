@@ -7,9 +7,6 @@ use Rattle.bench_sweep.proofs.Made.{past_failure}
 use Rattle.bench_sweep.proofs.Reported.{reports_weaker}
 use Rattle.bench_sweep.proofs.sweeps.run_past_failure.Goals as goal
 
-pub goes_on-requires-clause-calm : goal.goes_on-requires-clause-calm
-goes_on-requires-clause-calm g c κs within = c.armed-armed.ensures.calm c.args.runner.now.setting.shape.now c.requires.sits
-
 pub judge_run-requires-clause-sits : goal.judge_run-requires-clause-sits
 judge_run-requires-clause-sits g c κs within =
     let size = c.args.runner.now.setting.shape.now in

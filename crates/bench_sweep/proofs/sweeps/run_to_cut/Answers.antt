@@ -7,9 +7,6 @@ use Rattle.bench_sweep.proofs.Made.{to_cut}
 use Rattle.bench_sweep.proofs.Reported.{reports_weaker}
 use Rattle.bench_sweep.proofs.sweeps.run_to_cut.Goals as goal
 
-pub goes_on-requires-clause-calm : goal.goes_on-requires-clause-calm
-goes_on-requires-clause-calm g c κs within = c.armed-armed.ensures.calm c.args.runner.now.setting.shape.now c.requires.sits
-
 pub judge_each_fill-requires-clause-sits : goal.judge_each_fill-requires-clause-sits
 judge_each_fill-requires-clause-sits g c κs within =
     let size = c.args.runner.now.setting.shape.now in
