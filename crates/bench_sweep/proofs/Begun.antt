@@ -5,7 +5,9 @@ use Rattle.board_model.specs.Kept.{Kept, nothing_kept}
 use Rattle.board_model.specs.Shapes.{Size}
 use Rattle.script_lang.specs.declared.line.Line.{Line}
 use Rattle.script_lang.specs.declared.line.Line.TheVariants as lines
+use Rattle.bench_report.specs.declared.power.OffDisk.{OffDisk}
 use Rattle.bench_report.specs.declared.power.Power.{Power}
+use Rattle.bench_report.specs.declared.power.Power.TheVariants.{Off}
 use Rattle.bench_report.specs.declared.printed.Answer.{Answer}
 use Rattle.bench_report.specs.declared.printed.Printed.{Printed}
 use Rattle.bench_report.specs.declared.printed.Printed.TheVariants as printed
@@ -17,8 +19,8 @@ use Rattle.bench_report.proofs.RunLines.{run_more}
 use Rattle.bench_report.specs.Agree.{OffIs, Agrees, IsBench}
 use Rattle.bench_judge.specs.declared.ledgers.Ledger.{Ledger}
 use Rattle.bench_judge.specs.Ledgers.{Tells}
-use Rattle.bench_sweep.specs.declared.site.Site.{Site}
-use Rattle.bench_sweep.specs.Runs.{TellsWhole, Begins, Begun, IsFormattedAt, Formats}
+use Rattle.bench_sweep.specs.Made.{IsFormatted}
+use Rattle.bench_sweep.specs.Runs.{TellsWhole, Runs, Begins, Begun, Formats}
 
 -- ---- the line that formats the disk
 abbrev Fresh : Bench → Bench → Type 0
@@ -85,17 +87,17 @@ begins_more size start lines i line d power slots b new answers a less is run mo
     }
 
 -- ---- the site behind it
-pub site_runs : (size : Size) (start : List (List ℕ)) (lines : List Line) (power : Power) (slots : List (List ℕ)) (site : Site) → Begun size start lines power slots → ((z : Size) (b : Bench) → Agrees z b power → OffIs z (off b) site.off.disk)
-    → site.payloads ≡ slots → Tells site.ledger nothing_kept → IsFormattedAt size start lines site
-site_runs size start lines power slots site g ends same tells =
-    let P : Kept → Type 0 = λ k. TellsWhole size site.ledger k in
+pub site_runs : (size : Size) (start : List (List ℕ)) (lines : List Line) (power : Power) (disk : OffDisk) (slots : List (List ℕ)) (ledger : Ledger) → Begun size start lines power slots → ((z : Size) (b : Bench) → Agrees z b power → OffIs z (off b) disk.disk) → Tells ledger nothing_kept
+    → (b : Bench) × IsFormatted size start lines b × Runs size (off b) (Off disk) slots ledger
+site_runs size start lines power disk slots ledger g ends tells =
+    let P : Kept → Type 0 = λ k. TellsWhole size ledger k in
     let doubt : (c : Change) → None ≡ Some c → CarriesWhole size c = λ c e. absurd (let no : ⊥ = cc in no) in
-    let at : OffIs size (off g.bench) site.off.disk = ends size g.bench g.agrees in (
+    let at : OffIs size (off g.bench) disk.disk = ends size g.bench g.agrees in (
       g.bench,
       record { before = g.before; last = g.last; run = g.run; formats = g.formats },
       record {
         agrees = at;
-        same = same ∙ g.same;
+        same = g.same;
         follows = record { formatted = g.formatted; kept = subst P (sym g.kept) (record { tells = tells; whole = tt; doubt = doubt }) };
       },
     )

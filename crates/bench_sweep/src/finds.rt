@@ -142,7 +142,7 @@ pub fn count_run(
     ledger: &Ledger,
     sweep: &mut Sweep,
 ) -> Result<Answer, Refusal>
-    requires left { (slots : List (List ℕ)) × (b : Bench) × LeftOff shape.now b off slots ledger.now }
+    requires { (slots : List (List ℕ)) × (b : Bench) × LeftOff shape.now b off slots ledger.now }
     ensures says { IfOk result (λ left. (b : Bench) → OffIs shape.now b off.disk
         → (after : Bench) × LooksAt shape.now b left after) }
     ensures points { sweep.new.points ≡ sweep.old.points }

@@ -116,6 +116,19 @@ impl Site {
 }
 
 impl Going {
+    /// The run that begins at that site.
+    pub fn from(site: Site) -> Going
+        ensures calm { IsUnstruck result.power }
+        ensures runs { (size : Size) (b : Bench) → RunsCalm size b (Off site.off) site.payloads site.ledger
+            → RunsCalm size b result.power result.payloads result.ledger }
+    {
+        Going {
+            power: Power::Off(site.off),
+            payloads: site.payloads,
+            ledger: site.ledger,
+        }
+    }
+
     /// Turns the board off.
     pub fn into_site(self) -> Site
         ensures { (size : Size) (b : Bench) → Runs size b self.power self.payloads self.ledger → RunsAt size (off b) result }
@@ -300,11 +313,7 @@ pub fn run_lines<C: Crew>(
     ensures some { IfOk result (λ went. 0 < length lines.now → 0 < went.count) }
     ensures refused { IfErr result (λ e. e ≡ Memory) }
 {
-    let mut going = Going {
-        power: Power::Off(site.off),
-        payloads: site.payloads,
-        ledger: site.ledger,
-    };
+    let mut going = Going::from(site);
     let mut count = 0;
     for line in lines {
         match line {
