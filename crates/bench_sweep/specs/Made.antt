@@ -1,5 +1,5 @@
 -- Which runs of a script a bench makes, and what each row of it tells. Source: docs/SCRIPT.md, "The benches".
-use Rattle.std.specs.Prelude.{◌≡◌, ◌≤◌, ℕ, List, [], ◌∷◌, ◌++◌, None, length, take, drop}
+use Rattle.std.specs.Prelude.{◌≡◌, ◌≤◌, ◌+◌, ℕ, List, [], ◌∷◌, ◌++◌, None, length, take, drop}
 use Rattle.std.specs.List.{flat_map}
 use Rattle.board_model.specs.Shapes.{Size}
 use Rattle.board.specs.Boots.{payload_at}
@@ -61,11 +61,12 @@ abbrev pub EndsAs : Kind → List Line → ℕ → List Answer → Type 0
 EndsAs Cuts lines count answers = (before : List Answer) × (answers ≡ before ++ says printed.PowerLost ∷ [])
 EndsAs Fails lines count answers = count ≡ length lines
 
--- Lines are run on a bench that is off, on whose disk that is armed at some call. Then power is cut, and a power-on that
--- keeps the image says that.
-pub record RunsWith (size : Size) (kind : Kind) (b : Bench) (lines : List Line) (left : Answer) : Type 0 where
-  pub caller : Caller
+-- Lines are run on a bench that is off, on whose disk that is armed: at the call of that caller that has that number,
+-- where so many were made before. Then power is cut, and a power-on that keeps the image says that.
+pub record RunsWith (size : Size) (kind : Kind) (caller : Caller) (number : ℕ) (b : Bench) (lines : List Line) (left : Answer) : Type 0 where
+  pub made : ℕ
   pub call : ℕ
+  pub counts : number ≡ made + call
   pub count : ℕ
   pub few : count ≤ length lines
   pub answers : List Answer
@@ -76,8 +77,8 @@ pub record RunsWith (size : Size) (kind : Kind) (b : Bench) (lines : List Line) 
   pub says : LooksAt size (unpowered end) left after
 
 -- A row that says that is such a run: some first lines are run as they are, and those behind them with that armed.
-pub record IsRunOf (size : Size) (kind : Kind) (first : Bench) (lines : List Line) (left : Answer) : Type 0 where
+pub record IsRunOf (size : Size) (kind : Kind) (caller : Caller) (number : ℕ) (first : Bench) (lines : List Line) (left : Answer) : Type 0 where
   pub before : ℕ
   pub bench : Bench
   pub plain : ComesTo size first (take before lines) bench
-  pub run : RunsWith size kind (unpowered bench) (drop before lines) left
+  pub run : RunsWith size kind caller number (unpowered bench) (drop before lines) left
