@@ -27,8 +27,8 @@ use Rattle.bench_sweep.specs.Runs.{RunsAt, RanTo, IsLife}
 
 -- ---- a run with a fault armed
 module _ (size : Size) (kind : Kind) (at : Point) (b : Bench) (lines : List Line) (count : ℕ) (power : Power) (slots : List (List ℕ)) (ledger : Ledger) (few : count ≤ length lines) (ran : RanTo size (armed_with (fault_at kind at.caller at.call) b) (take count lines) power slots ledger) where
-  made : (row : Row) → row.caller ≡ at.caller → row.number ≡ at.number → unpowered ran.bench ≡ unpowered ran.end → EndsAs kind lines count ran.answers → IsLeft size (off ran.bench) row → RunsRow size kind b lines row
-  made row caller number same ends (after, said) =
+  made : (row : Row) → row.caller ≡ at.caller → row.number ≡ at.number → unpowered ran.bench ≡ unpowered ran.end → EndsAs kind lines count ran.answers → ran.bench.fault_state.own ≡ 0 → IsLeft size (off ran.bench) row → RunsRow size kind b lines row
+  made row caller number same ends none (after, said) =
       let P : Bench → Type 0 = λ x. LooksAt size x row.left after in
       let Q : Caller → Type 0 = λ who. Run size (armed_with (fault_at kind who at.call) b) (take count lines) ran.answers ran.end in record {
         made = at.before;
@@ -40,19 +40,20 @@ module _ (size : Size) (kind : Kind) (at : Point) (b : Bench) (lines : List Line
         end = ran.end;
         run = subst Q (sym caller) ran.run;
         ends = ends;
+        refused_none = (ap (λ (x : Bench). x.growths) (sym same) ∙ ran.runs.follows.enough, ap (λ (x : Bench). x.fault_state.own) (sym same) ∙ none);
         after = after;
         says = subst P same said;
       }
 
 -- up to the line in which a cut struck
 pub to_cut : (size : Size) (at : Point) (b : Bench) (lines : List Line) (count : ℕ) (power : Power) (slots : List (List ℕ)) (ledger : Ledger) → count ≤ length lines → (ran : RanTo size (armed_with (fault_at Cuts at.caller at.call) b) (take count lines) power slots ledger)
-    → ran.bench.fault_state.struck ≡ true → (row : Row) → row.caller ≡ at.caller → row.number ≡ at.number → IsLeft size (off ran.bench) row → RunsRow size Cuts b lines row
-to_cut size at b lines count power slots ledger few ran hit row caller number left = let s = ran.struck hit in made size Cuts at b lines count power slots ledger few ran row caller number (ap (λ (x : Bench). unpowered x) s.0) s.1 left
+    → ran.bench.fault_state.struck ≡ true → ran.bench.fault_state.own ≡ 0 → (row : Row) → row.caller ≡ at.caller → row.number ≡ at.number → IsLeft size (off ran.bench) row → RunsRow size Cuts b lines row
+to_cut size at b lines count power slots ledger few ran hit none row caller number left = let s = ran.struck hit in made size Cuts at b lines count power slots ledger few ran row caller number (ap (λ (x : Bench). unpowered x) s.0) s.1 none left
 
 -- or to the last of them
 pub past_failure : (size : Size) (at : Point) (b : Bench) (lines : List Line) (count : ℕ) (power : Power) (slots : List (List ℕ)) (ledger : Ledger) → count ≡ length lines → (ran : RanTo size (armed_with (fault_at Fails at.caller at.call) b) (take count lines) power slots ledger)
-    → ran.bench.fault_state.struck ≡ false → (row : Row) → row.caller ≡ at.caller → row.number ≡ at.number → IsLeft size (off ran.bench) row → RunsRow size Fails b lines row
-past_failure size at b lines count power slots ledger all ran calm row caller number left = made size Fails at b lines count power slots ledger (omega (arith, all)) ran row caller number (ap (λ (x : Bench). unpowered x) (ran.calm calm)) all left
+    → ran.bench.fault_state.struck ≡ false → ran.bench.fault_state.own ≡ 0 → (row : Row) → row.caller ≡ at.caller → row.number ≡ at.number → IsLeft size (off ran.bench) row → RunsRow size Fails b lines row
+past_failure size at b lines count power slots ledger all ran calm none row caller number left = made size Fails at b lines count power slots ledger (omega (arith, all)) ran row caller number (ap (λ (x : Bench). unpowered x) (ran.calm calm)) all none left
 
 -- over the first of some lines, of which a cut ended it
 pub over_all : (size : Size) (b : Bench) (lines : List Line) (n : ℕ) → n ≤ length lines → (row : Row) → RunsRow size Cuts b (take n lines) row → RunsRow size Cuts b lines row
@@ -68,6 +69,7 @@ over_all size b lines n few row r =
       end = r.end;
       run = subst P (take-take r.count n lines (omega (arith, long, r.few))) r.run;
       ends = r.ends;
+      refused_none = r.refused_none;
       after = r.after;
       says = r.says;
     }
@@ -166,7 +168,7 @@ plain_run size first lines n at all none (inl f) = record {
   answers = [];
   end = unpowered f.bench;
   run = let P : List Line → Type 0 = λ ls. Run size (unpowered f.bench) ls [] (unpowered f.bench) in subst P (sym (drop_all n lines all)) refl;
-  refused_none = ap (λ (m : FaultState). m.own) f.site.agrees.2.0 ∙ none;
+  refused_none = (f.site.follows.enough, ap (λ (m : FaultState). m.own) f.site.agrees.2.0 ∙ none);
 }
 plain_run size first lines n at all none (inr (long, f)) = record {
   before = f.before;
@@ -175,7 +177,7 @@ plain_run size first lines n at all none (inr (long, f)) = record {
   answers = f.answers;
   end = f.end;
   run = f.run;
-  refused_none = ap (λ (m : FaultState). m.own) f.site.agrees.2.0 ∙ none;
+  refused_none = (f.site.follows.enough, ap (λ (m : FaultState). m.own) f.site.agrees.2.0 ∙ none);
 }
 
 -- a row behind so many lines
