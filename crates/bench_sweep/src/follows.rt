@@ -318,7 +318,11 @@ pub fn record_line(
 }
 
 /// A hart of that board goes on: a command of it may be in doubt.
-fn record_in_doubt(ledger: &mut Ledger, alloc: Global, board: &Board<SimDisk>) -> Result<(), Refusal>
+fn record_in_doubt(
+    ledger: &mut Ledger,
+    alloc: Global,
+    board: &Board<SimDisk>,
+) -> Result<(), Refusal>
     ensures kept { OnOk result ((size : Size) (b new : Bench) (did : Did) → Follows size b ledger.old
         → HartMoves size b (words.Goes did) new board.now → Follows size new ledger.new) }
     ensures resumed { ledger.new.resumed ≡ ledger.old.resumed }
