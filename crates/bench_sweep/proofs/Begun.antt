@@ -60,8 +60,8 @@ moved_fresh size line b a new is (inr x) = absurd (let no : printed.Formatted �
 
 -- after the lines before it
 pub begun_by : (size : Size) (start : List (List ℕ)) (lines : List Line) (i : ℕ) (line : Line) (d : Line) (power : Power) (slots : List (List ℕ)) (b new : Bench) (answers : List Answer) (a : Answer) → i < length lines → line ≡ get_or lines i d → Run size (bench_with start) (take i lines) answers b
-    → Formats line a → Moves size line b a new → IsBench size new power slots → Begun size start (take (i + 1) lines) power slots
-begun_by size start lines i line d power slots b new answers a less is run did moves matches =
+    → Formats line a → Moves size line b a new → IsBench size new power slots → new.growths ≡ 0 → Begun size start (take (i + 1) lines) power slots
+begun_by size start lines i line d power slots b new answers a less is run did moves matches enough =
     let f = moved_fresh size line b a new did moves in
     let M : Line → Type 0 = λ l. Moves size l b a new in record {
       bench = new;
@@ -73,17 +73,19 @@ begun_by size start lines i line d power slots b new answers a less is run did m
       same = matches.1;
       formatted = f.0;
       kept = f.1;
+      enough = enough;
     }
 
 -- one line more
 pub begins_more : (size : Size) (start : List (List ℕ)) (lines : List Line) (i : ℕ) (line : Line) (d : Line) (power : Power) (slots : List (List ℕ)) (b new : Bench) (answers : List Answer) (a : Answer) → i < length lines → line ≡ get_or lines i d → Run size (bench_with start) (take i lines) answers b
-    → Moves size line b a new → IsBench size new power slots → Begins size start (take (i + 1) lines) power slots
-begins_more size start lines i line d power slots b new answers a less is run moves matches =
+    → Moves size line b a new → IsBench size new power slots → new.growths ≡ 0 → Begins size start (take (i + 1) lines) power slots
+begins_more size start lines i line d power slots b new answers a less is run moves matches enough =
     let M : Line → Type 0 = λ l. Moves size l b a new in record {
       bench = new;
       answers = answers ++ a ∷ [];
       run = run_more size lines i d (bench_with start) answers b a new less run (subst M is moves);
       is = matches;
+      enough = enough;
     }
 
 -- ---- the site behind it
@@ -98,6 +100,6 @@ site_runs size start lines power disk slots ledger g ends tells =
       record {
         agrees = at;
         same = g.same;
-        follows = record { formatted = g.formatted; kept = subst P (sym g.kept) (record { tells = tells; whole = tt; doubt = doubt }) };
+        follows = record { formatted = g.formatted; kept = subst P (sym g.kept) (record { tells = tells; whole = tt; doubt = doubt }); enough = g.enough };
       },
     )
