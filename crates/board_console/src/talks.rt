@@ -3,9 +3,10 @@
 ghost use Rattle.std.specs.Prelude.{◌≡◌, ◌++◌, ◌∷◌, [], OnOk, IfErr};
 ghost use Rattle.std.specs.Io.KnownBytes.{Appends};
 ghost use Rattle.board_model.specs.declared.refusal.Refusal.TheVariants.{Output};
+ghost use Rattle.shared_store.specs.Locks.{no_locks};
 ghost use Rattle.board_console.specs.Commands.{IsAnswerTo, party};
 ghost use Rattle.board_console.specs.Dialogues.{Talks, dialogue_ends, left_after, left_before, left_behind, left_without};
-ghost use Rattle.board_console.specs.Lines.{is_line};
+ghost use Rattle.board_console.specs.Lines.{TakesLine, is_line};
 ghost use Rattle.board_console.specs.Texts.{reply_text};
 
 use crate::commands::{obey, rouse};
@@ -15,9 +16,9 @@ use crate::words::{Said, line_said};
 use arrayvec::ArrayVec;
 use board_model::Refusal;
 use disk::Disk;
-use shared_store::{Heard, Journal, Part, SharedBus, SharedStore};
+use shared_store::{Heard, Journal, Locks, Part};
 use std::io::{Read, Write};
-use std::sync::{Mutex, Wait};
+use std::sync::Wait;
 
 /// Why the console left.
 #[derive(Clone, Copy, PartialEq, Eq, Drop)]
@@ -84,11 +85,30 @@ fn left_behind(ended: LineEnd) -> Option<Left>
     }
 }
 
-/// Writes an answer as a line, so that it is seen at once.
-fn write_answer<W: Write>(out: &mut W, answer: Reply) -> Result<(), Refusal>
+/// Takes the next line of the input, with no lock held.
+fn take_line<I: Read, D: Disk + Drop, J: Journal>(
+    locks: &Locks<'_, D, J>,
+    input: &mut I,
+    line: &mut ArrayVec<u8, 257>,
+) -> LineEnd
+    requires free { locks.now ≡ no_locks }
+    ensures takes { TakesLine (I.remaining input.old) (I.remaining input.new) line.new.items result }
+{
+    let _ = locks;
+    next_line(input, line)
+}
+
+/// Writes an answer as a line, so that it is seen at once, with no lock held.
+fn write_answer<W: Write, D: Disk + Drop, J: Journal>(
+    locks: &Locks<'_, D, J>,
+    out: &mut W,
+    answer: Reply,
+) -> Result<(), Refusal>
+    requires free { locks.now ≡ no_locks }
     ensures written { OnOk result (Appends (W.contents out.old) (W.contents out.new) (reply_text answer ++ 10 ∷ [])) }
     ensures refused { IfErr result (λ e. e ≡ Output) }
 {
+    let _ = locks;
     writeln!(out, "{answer}").map_err(|_| Refusal::Output)?;
     out.flush().map_err(|_| Refusal::Output)
 }
@@ -97,17 +117,28 @@ fn write_answer<W: Write>(out: &mut W, answer: Reply) -> Result<(), Refusal>
 /// with no lock, so that `quit` waits for no suspension. Who holds the store must not wait for the bus.
 fn answer_to<R: Wait, D: Disk + Drop, J: Journal>(
     rt: &R,
-    bus: &Mutex<SharedBus<J>>,
-    store: &Mutex<SharedStore<D, J>>,
+    locks: &mut Locks<'_, D, J>,
     part: Part<J>,
     heard: &mut Heard,
     said: Said,
 ) -> (Part<J>, Reply)
-    ensures { IsAnswerTo J.found J.issued said result.1 (party part.told heard.old) (party result.0.told heard.new) }
+    requires free { locks.old ≡ no_locks }
+    ensures free { locks.new ≡ no_locks }
+    ensures fits { IsAnswerTo J.found J.issued said result.1 (party part.told heard.old) (party result.0.told heard.new) }
 {
     match said {
-        Said::Command(_) | Said::State => obey(&mut store.lock(rt), part, heard, said),
-        Said::Wake => (part, rouse(&mut bus.lock(rt))),
+        Said::Command(_) | Said::State => {
+            let mut store = locks.take_store(rt);
+            let answered = obey(&mut store, part, heard, said);
+            locks.give_store(store);
+            answered
+        }
+        Said::Wake => {
+            let mut bus = locks.take_bus(rt);
+            let answer = rouse(&mut bus);
+            locks.give_bus(bus);
+            (part, answer)
+        }
         Said::Quit => (part, Reply::Quit),
         Said::Other => (part, Reply::Unknown),
     }
@@ -119,29 +150,30 @@ fn answer_to<R: Wait, D: Disk + Drop, J: Journal>(
 /// each refusal and each state that it answers.
 pub fn console<R: Wait, D: Disk + Drop, J: Journal, I: Read, W: Write>(
     rt: &R,
-    bus: &Mutex<SharedBus<J>>,
-    store: &Mutex<SharedStore<D, J>>,
+    locks: &mut Locks<'_, D, J>,
     part: Part<J>,
     heard: &mut Heard,
     input: &mut I,
     out: &mut W,
 ) -> (Part<J>, Left)
-    ensures { Talks J.found J.issued result.1
+    requires free { locks.old ≡ no_locks }
+    ensures free { locks.new ≡ no_locks }
+    ensures talks { Talks J.found J.issued result.1
         (dialogue_ends (I.remaining input.old) (W.contents out.old) (party part.told heard.old))
         (dialogue_ends (I.remaining input.new) (W.contents out.new) (party result.0.told heard.new)) }
 {
     let mut line = ArrayVec::new();
     let mut part = part;
     for _ in rt.forever() {
-        let ended = next_line(input, &mut line);
+        let ended = take_line(locks, input, &mut line);
         let kept = line.as_slice();
         if let Some(left) = left_before(ended, kept) {
             return (part, left);
         }
         let said = line_said(kept);
-        let (told, answer) = answer_to(rt, bus, store, part, heard, said);
+        let (told, answer) = answer_to(rt, locks, part, heard, said);
         part = told;
-        let Ok(()) = write_answer(out, answer) else {
+        let Ok(()) = write_answer(locks, out, answer) else {
             return (part, Left::Unwritten);
         };
         if let Some(left) = left_after(ended, said) {

@@ -48,6 +48,7 @@ fn gather_loops<D: Disk + Drop, J: Threaded>(whole: &mut Unshared<D, J>, loops: 
             seats: _,
             doze: _,
             part,
+            refused: _,
         } = rested.ended.local;
         whole.gather(part);
     }

@@ -35,7 +35,7 @@ use disk::Disk;
 use hart_threads::{
     AfterConsole, Closing, HartEnd, Parted, Rested, SharedBoard, Threaded, Undriven, drive,
 };
-use shared_store::{Heard, Journal, NewBook, Part, SharedBus, SharedStore, Unshared};
+use shared_store::{Heard, Journal, Locks, NewBook, Part, SharedBus, SharedStore, Unshared};
 use std::alloc::Global;
 use std::io::{Read, Write};
 use std::marker::Brand;
@@ -113,7 +113,8 @@ fn attend<'c, R: Wait, D: Disk + Drop, J: Threaded, I: Read + Drop, W: Write + D
     } = ends;
     let Streams { mut input, mut out } = streams;
     let mut heard = heard;
-    let (part, left) = console(rt, bus, store, part, &mut heard, &mut input, &mut out);
+    let mut locks = Locks::new(bus, store);
+    let (part, left) = console(rt, &mut locks, part, &mut heard, &mut input, &mut out);
     let parted = closing.part(rt, harts_after(left));
     Talked {
         ends: Ends {
@@ -191,7 +192,7 @@ fn run_board<
     let ends = Ends {
         streams,
         part,
-        heard: Heard::nothing(),
+        heard: whole.listener(),
     };
     let Ok(room) = Vec::with_capacity(alloc, harts.len()) else {
         return over(
@@ -442,7 +443,7 @@ pub fn session<R: Threads + Wait + Sync, D: Disk + Drop + Send, I: Read + Drop, 
             ran: Err(refusal),
             streams,
             left: None,
-            heard: Heard::nothing(),
+            heard: whole.listener(),
             harts: Vec::new(alloc),
         },
         Ok(board) => {
@@ -468,7 +469,7 @@ pub fn session<R: Threads + Wait + Sync, D: Disk + Drop + Send, I: Read + Drop, 
                         ran: Err(Refusal::Memory),
                         streams,
                         left: None,
-                        heard: Heard::nothing(),
+                        heard: whole.listener(),
                         harts: Vec::new(alloc),
                     }
                 }

@@ -29,8 +29,9 @@ use Rattle.machine.specs.Held.{RestsBy}
 use Rattle.hart.specs.State.{ArchState}
 use Rattle.sbi_calls.specs.Both.{Known}
 use Rattle.hart_threads.specs.Looks.{Looked}
+use Rattle.hart_threads.specs.Refusals.{RefusedCalls}
 use Rattle.hart_threads.specs.Seated.{StandsAfterTurn, StandsAfter}
-use Rattle.hart_threads.specs.Threads.{Seated, seated, HeldOnce, IsDozeBy, ComesOnce, OwnOnce, DozeOnce, TurnOnceBy, TurnOnce, TurnsOn, LoopOnce, loop_goes_on}
+use Rattle.hart_threads.specs.Threads.{Seated, seated, HeldOnce, IsDozeBy, RefusedOnce, ComesOnce, OwnOnce, DozeOnce, TurnOnceBy, TurnOnce, TurnsOn, LoopOnce, loop_goes_on}
 use Rattle.hart_threads.specs.declared.loops.Why.{Why}
 use Rattle.hart_threads.specs.declared.loops.Why.TheVariants as whys
 
@@ -98,26 +99,26 @@ between_after by s whys.Turns doze a = rests_between by s doze a
 
 -- ---- one turn
 -- of a hart that does not doze
-undozed : (size : Size) (begun : List ℕ) (s : ArchState) (k : Known) (doze : Option Doze) (looks : Looked) (b : Seated) (word : Word) (told : Option (ℕ × Entry)) → doze ≡ None → OwnOnce size begun (seated s k None looks) b word told → TurnOnce size begun (seated s k doze looks) b word told
-undozed size begun s k doze looks b word told none own = subst (λ (o : Option Doze). TurnOnce size begun (seated s k o looks) b word told) (sym none) own
+undozed : (size : Size) (begun : List ℕ) (s : ArchState) (k : Known) (doze : Option Doze) (looks : Looked) (r : RefusedCalls) (b : Seated) (word : Word) (told : Option (ℕ × Entry)) → doze ≡ None → OwnOnce size begun (seated s k None looks r) b word told → TurnOnce size begun (seated s k doze looks r) b word told
+undozed size begun s k doze looks r b word told none own = subst (λ (o : Option Doze). TurnOnce size begun (seated s k o looks r) b word told) (sym none) own
 
 -- of one that dozes
-pub dozed : (size : Size) (begun : List ℕ) (s : ArchState) (k : Known) (doze : Option Doze) (d : Doze) (looks : Looked) (b : Seated) (woken : Bool) (word : Word) → doze ≡ Some d → DozeOnce woken d (seated s k (Some d) looks) b word → TurnOnce size begun (seated s k doze looks) b word None
-dozed size begun s k doze d looks b woken word is once = subst (λ (o : Option Doze). TurnOnce size begun (seated s k o looks) b word None) (sym is) (woken, once, refl)
+pub dozed : (size : Size) (begun : List ℕ) (s : ArchState) (k : Known) (doze : Option Doze) (d : Doze) (looks : Looked) (r : RefusedCalls) (b : Seated) (woken : Bool) (word : Word) → doze ≡ Some d → DozeOnce woken d (seated s k (Some d) looks r) b word → TurnOnce size begun (seated s k doze looks r) b word None
+dozed size begun s k doze d looks r b woken word is once = subst (λ (o : Option Doze). TurnOnce size begun (seated s k o looks r) b word None) (sym is) (woken, once, refl)
 
 -- that asked for no durable call
-pub own_once : (size : Size) (begun : List ℕ) (s t : ArchState) (k k' : Known) (doze : Option Doze) (looks : Looked) (found left : List ℕ) (turned : Turned) (did : Did) → StepsMake begun found → StepsMake begun left → doze ≡ None → turned ≡ Made did → TurnOwn size s found t left k k' turned
-    → TurnOnce size begun (seated s k doze looks) (seated t k' None looks) (Goes did) None
-own_once size begun s t k k' doze looks found left turned did before after none is own =
-    undozed size begun s k doze looks (seated t k' None looks) (Goes did) None none
-    (found, left, Made did, seated t k' None looks, subst (λ (w : Turned). TurnOwn size s found t left k k' w) is own, (refl, refl, refl), refl, refl, before, after)
+pub own_once : (size : Size) (begun : List ℕ) (s t : ArchState) (k k' : Known) (doze : Option Doze) (looks : Looked) (r : RefusedCalls) (found left : List ℕ) (turned : Turned) (did : Did) → StepsMake begun found → StepsMake begun left → doze ≡ None → turned ≡ Made did → TurnOwn size s found t left k k' turned
+    → TurnOnce size begun (seated s k doze looks r) (seated t k' None looks r) (Goes did) None
+own_once size begun s t k k' doze looks r found left turned did before after none is own =
+    undozed size begun s k doze looks r (seated t k' None looks r) (Goes did) None none
+    (found, left, Made did, seated t k' None looks r, subst (λ (w : Turned). TurnOwn size s found t left k k' w) is own, (refl, refl, refl), refl, refl, before, after, refl)
 
 -- that asked for one
-pub held_turn : (size : Size) (begun : List ℕ) (s u t : ArchState) (k m k' : Known) (doze after : Option Doze) (looks : Looked) (found left : List ℕ) (turned : Turned) (word : Word) (told : Option (ℕ × Entry)) → StepsMake begun found → StepsMake begun left → doze ≡ None → turned ≡ Durable → TurnOwn size s found u left k m turned
-    → HeldOnce size (call_of u) u t m k' word → IsToldBy size (call_of u) u.id word told → IsDozeBy size (call_of u) u.id word after → TurnOnce size begun (seated s k doze looks) (seated t k' after looks) word told
-held_turn size begun s u t k m k' doze after looks found left turned word told was now none is own once has dozes =
-    undozed size begun s k doze looks (seated t k' after looks) word told none
-    (found, left, Durable, seated u m None looks, subst (λ (w : Turned). TurnOwn size s found u left k m w) is own, (once, has, dozes, refl), refl, refl, was, now)
+pub held_turn : (size : Size) (begun : List ℕ) (s u t : ArchState) (k m k' : Known) (doze after : Option Doze) (looks : Looked) (r r' : RefusedCalls) (found left : List ℕ) (turned : Turned) (word : Word) (told : Option (ℕ × Entry)) → StepsMake begun found → StepsMake begun left → doze ≡ None → turned ≡ Durable → TurnOwn size s found u left k m turned
+    → HeldOnce size (call_of u) u t m k' word → IsToldBy size (call_of u) u.id word told → IsDozeBy size (call_of u) u.id word after → RefusedOnce (call_of u) word t r r' → TurnOnce size begun (seated s k doze looks r) (seated t k' after looks r') word told
+held_turn size begun s u t k m k' doze after looks r r' found left turned word told was now none is own once has dozes refused =
+    undozed size begun s k doze looks r (seated t k' after looks r') word told none
+    (found, left, Durable, seated u m None looks r, subst (λ (w : Turned). TurnOwn size s found u left k m w) is own, (once, has, dozes, refl, refused), refl, refl, was, now, refl)
 
 -- the receipt that a turn has, by whether the life goes on
 held_none : (size : Size) (call : Call) (by : ℕ) (word : Word) (told : Option (ℕ × Entry)) → IsToldBy size call by word told → loop_goes_on word ≡ true → told ≡ None

@@ -6,7 +6,7 @@ use Rattle.board_model.specs.Views.{change_in}
 use Rattle.board_model.specs.declared.durable.Entry.{Entry}
 use Rattle.board_model.specs.Shapes.{Size}
 use Rattle.board_model.specs.declared.durable.Reason.{Reason}
-use Rattle.hart.specs.State.{ArchState, answered, started as fresh}
+use Rattle.hart.specs.State.{ArchState, answered, reg, started as fresh}
 use Rattle.hsm_steps.specs.Words.{HartView}
 use Rattle.hsm_steps.specs.declared.view.Stage.TheVariants.{Running}
 use Rattle.hsm_steps.specs.declared.view.Action.TheVariants.{Quieted, Unquieted}
@@ -39,6 +39,7 @@ use Rattle.sbi.specs.declared.words.Word.{Word}
 use Rattle.sbi.specs.declared.words.Word.TheVariants.{Goes, Over}
 use Rattle.turns.specs.Own.{TurnOwn, ResumesOwn}
 use Rattle.hart_threads.specs.Looks.{Looked, after_look}
+use Rattle.hart_threads.specs.Refusals.{RefusedCalls, finds_failure, after_call}
 use Rattle.hart_threads.specs.declared.loops.Why.{Why}
 use Rattle.hart_threads.specs.declared.loops.Why.TheVariants as whys
 
@@ -86,6 +87,11 @@ HeldOnce size call s t k k' word =
     ⊎ ((sleep : Sleep) × SleepsOnce size s t k k' × (word ≡ word_of_sleep sleep))
     ⊎ ((kind : ResetType) × (t ≡ s) × (k' ≡ k) × (word ≡ Over (ends.Reset kind)))
 
+-- Exactly where the hart then finds -1 in a0, its store refused one call more of it, and this is the last of them. The count
+-- grows by calls of the store alone, so such a call asked the store.
+abbrev pub RefusedOnce : Call → Word → ArchState → RefusedCalls → RefusedCalls → Type 0
+RefusedOnce call word t r r' = r' ≡ after_call (finds_failure word (reg t 10)) call r
+
 -- the doze of which the hart then keeps a copy: the one that its call asked for, with the arguments in order on the
 -- board's size; after any other call none
 abbrev pub IsDozeBy : Size → Call → ℕ → Word → Option Doze → Type 0
@@ -94,15 +100,17 @@ IsDozeBy size call by (Goes Dozing) doze =
 IsDozeBy size call by word doze = doze ≡ None
 
 -- ---- a turn
--- a hart, what its seats know, its copy of its doze, and its looks at the bus in a doze, between two of its turns
+-- a hart, what its seats know, its copy of its doze, its looks at the bus in a doze, and its calls that the store refused,
+-- between two of its turns
 pub record Seated : Type 0 where
   pub hart : ArchState
   pub known : Known
   pub doze : Option Doze
   pub looks : Looked
+  pub refused : RefusedCalls
 
-abbrev pub seated : ArchState → Known → Option Doze → Looked → Seated
-seated s k doze looks = record { hart = s; known = k; doze = doze; looks = looks }
+abbrev pub seated : ArchState → Known → Option Doze → Looked → RefusedCalls → Seated
+seated s k doze looks r = record { hart = s; known = k; doze = doze; looks = looks; refused = r }
 
 -- what comes of what the hart did: a durable call is made, and has the receipt of its command where that was
 -- acknowledged; anything else is the turn's word
@@ -111,6 +119,7 @@ ComesOnce size Durable a b word told =
     HeldOnce size (call_of a.hart) a.hart b.hart a.known b.known word
     × IsToldBy size (call_of a.hart) a.hart.id word told
     × IsDozeBy size (call_of a.hart) a.hart.id word b.doze × (b.looks ≡ a.looks)
+    × RefusedOnce (call_of a.hart) word b.hart a.refused b.refused
 ComesOnce size (Made did) a b word told = (b ≡ a) × (word ≡ Goes did) × (told ≡ None)
 
 -- a turn of a hart that does not doze, with the memory as its one hold of the bus found it and as it left it: both are what
@@ -120,6 +129,7 @@ OwnOnce size begun a b word told =
     (found : List ℕ) × (left : List ℕ) × (did : Turned) × (mid : Seated)
     × TurnOwn size a.hart found mid.hart left a.known mid.known did × ComesOnce size did mid b word told
     × (mid.doze ≡ a.doze) × (mid.looks ≡ a.looks) × StepsMake begun found × StepsMake begun left
+    × (mid.refused ≡ a.refused)
 
 -- A turn of a hart that dozes, by what its one look at the bus found: nothing, until its doze was woken. Then it begins
 -- again at the address of its own copy, with that opaque value; it has taken what was pending for it, and its quiet has
@@ -128,7 +138,7 @@ abbrev pub DozeOnce : Bool → Doze → Seated → Seated → Word → Type 0
 DozeOnce false d a b word = (b ≡ record a { looks = after_look false a.looks }) × (word ≡ Goes Idle)
 DozeOnce true d a b word =
     (b.hart ≡ fresh a.hart.id d.at.address d.at.opaque) × ResumesOwn a.hart.id a.known b.known × (b.doze ≡ None)
-    × (b.looks ≡ after_look true a.looks) × (word ≡ Goes Resumed)
+    × (b.looks ≡ after_look true a.looks) × (word ≡ Goes Resumed) × (b.refused ≡ a.refused)
 
 -- one turn of the hart, by its copy of its doze: no receipt comes of a turn in a doze
 abbrev pub TurnOnceBy : Option Doze → Size → List ℕ → Seated → Seated → Word → Option (ℕ × Entry) → Type 0

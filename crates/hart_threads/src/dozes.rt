@@ -6,6 +6,7 @@ ghost use Rattle.sbi_calls.specs.Both.{AreSeatsOfBoth, GivesBack, Acts, harts_of
 ghost use Rattle.shared_store.specs.Dozes.{is_woken, doze_left};
 ghost use Rattle.shared_store.specs.Views.{bus_in};
 ghost use Rattle.hart_threads.specs.Looks.{Looked, no_looks, after_look, doze_by};
+ghost use Rattle.hart_threads.specs.Refusals.{RefusedCalls};
 ghost use Rattle.hart_threads.specs.Seated.{StandsAfterTurn};
 ghost use Rattle.hart_threads.specs.Threads.{seated, DozeOnce};
 
@@ -102,8 +103,8 @@ pub(crate) fn doze_turn<J: Journal>(
     ensures stands { StandsAfterTurn result.1 result.2 hart.old.id result.0 }
     ensures id { hart.new.id ≡ hart.old.id }
     ensures range { looks.new.made ≡ looks.old.made + 1 }
-    ensures once { DozeOnce (is_woken hart.old.id (bus_in bus.old).doze) doze
-        (seated hart.old (known seats) (Some doze) looks.old) (seated hart.new (known result.0) result.2 looks.new)
+    ensures once { (r : RefusedCalls) → DozeOnce (is_woken hart.old.id (bus_in bus.old).doze) doze
+        (seated hart.old (known seats) (Some doze) looks.old r) (seated hart.new (known result.0) result.2 looks.new r)
         result.1 }
     ensures memory { (bus_in bus.new).ram ≡ (bus_in bus.old).ram }
     ensures left { (bus_in bus.new).doze ≡ doze_left (is_woken hart.old.id (bus_in bus.old).doze) (bus_in bus.old).doze }

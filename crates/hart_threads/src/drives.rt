@@ -10,6 +10,7 @@ use crate::closing::Closing;
 use crate::ends::{Rested, at_rest};
 use crate::gates::Gate;
 use crate::loops::{Why, hart_loop};
+use crate::refusals::Refusals;
 use crate::seated::{Acting, seat_harts};
 use crate::shared::{HartLocal, SharedBoard};
 use crate::threaded::Threaded;
@@ -18,7 +19,7 @@ use board_model::Refusal;
 use disk::Disk;
 use hart::Hart;
 use sbi_calls::{Seats, Tables};
-use shared_store::Part;
+use shared_store::{Locks, Part};
 use std::alloc::{AllocError, Global};
 use std::sync::Wait;
 use std::thread::Threads;
@@ -179,8 +180,14 @@ fn loop_of<
         turns,
     } = work;
     let Acting { hart, seats, doze } = acting;
-    let local = HartLocal { seats, doze, part };
-    let ended = hart_loop(rt, gate, board, hart, local, turns);
+    let local = HartLocal {
+        seats,
+        doze,
+        part,
+        refused: Refusals::none(),
+    };
+    let locks = Locks::new(board.bus, board.store);
+    let ended = hart_loop(rt, gate, board.of_loop(), locks, hart, local, turns);
     if ended.why == Why::Life {
         board.closing.end_life(&ended.told);
     }

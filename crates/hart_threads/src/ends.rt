@@ -164,11 +164,21 @@ pub(crate) fn at_rest<'a, J: Threaded>(ended: Ended<'a, J>, tables: &Tables) -> 
         shut,
         told,
     } = ended;
-    let HartLocal { seats, doze, part } = local;
+    let HartLocal {
+        seats,
+        doze,
+        part,
+        refused,
+    } = local;
     let Seats { harts, pending } = seats;
     let (harts, state) = hsm::status(&tables.harts, harts, hart.id(), hart.id());
     let seats = Seats { harts, pending };
-    let local = HartLocal { seats, doze, part };
+    let local = HartLocal {
+        seats,
+        doze,
+        part,
+        refused,
+    };
     let ended = Ended {
         hart,
         local,

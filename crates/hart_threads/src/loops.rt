@@ -1,28 +1,27 @@
 //! A hart's loop.
 
-ghost use Rattle.std.specs.Prelude.{◌≡◌, ◌≤◌, ◌<◌, ◌+◌, ◌-◌, ◌^◌, ℕ, [], true, false, IsTrue, is_some};
+ghost use Rattle.std.specs.Prelude.{◌≡◌, ◌≤◌, ℕ, [], true, false, IsTrue, is_some};
 ghost use Rattle.std.specs.Option.{option_to_list};
 ghost use Rattle.sbi_calls.specs.Both.{AreTablesOf, GivesBack, known};
+ghost use Rattle.shared_store.specs.Locks.{no_locks};
 ghost use Rattle.shared_store.specs.Noted.{part_after};
 ghost use Rattle.hart_threads.specs.declared.loops.Why.TheVariants.{Life, Closed, Gate as ByGate, Turns};
 ghost use Rattle.hart_threads.specs.Looks.{no_looks};
-ghost use Rattle.hart_threads.specs.Seated.{IsSeated, StandsAfterTurn, StandsAfter};
-ghost use Rattle.hart_threads.specs.Threads.{seated, loop_goes_on, ends_life, TurnOnce, LoopOnce};
+ghost use Rattle.hart_threads.specs.Seated.{IsSeated, StandsAfter};
+ghost use Rattle.hart_threads.specs.Threads.{seated, loop_goes_on, ends_life, LoopOnce};
 
 use crate::closing::{Asked, Shut};
-use crate::dozes::{Looks, doze_turn};
-use crate::gates::{Allowed, Gate, TurnMade, ask, tell};
-use crate::once::{LockedBus, call_locked};
-use crate::shared::{HartLocal, SharedBoard};
+use crate::dozes::Looks;
+use crate::gates::Gate;
+use crate::shared::{HartLocal, LoopBoard};
 use crate::threaded::Threaded;
+use crate::turn::{ask, tell, whole_turn};
 use crew::Crew;
 use disk::Disk;
 use hart::Hart;
 use sbi::Word;
-use sbi_calls::Turned;
-use shared_store::Told;
+use shared_store::{Locks, Told};
 use std::sync::Wait;
-use turns::turn_by_bus;
 
 /// Why a loop ended.
 #[derive(Clone, Copy, PartialEq, Eq, Drop)]
@@ -74,53 +73,10 @@ fn goes_on(word: Word) -> bool
     }
 }
 
-/// One turn of a hart that a gate let begin, and the durable command that it may make: a system reset, or a system
-/// suspend with the memory of that moment. A hart that dozes looks at the bus alone, and no other looks there for a
-/// doze. It gives back the copy of its doze that the hart then keeps.
-fn whole_turn<R: Wait, D: Disk + Drop, J: Threaded, C: Crew>(
-    rt: &R,
-    board: SharedBoard<'_, '_, D, J, C>,
-    hart: &mut Hart,
-    looks: &mut Looks,
-    local: HartLocal<J>,
-    allowed: Allowed,
-) -> (HartLocal<J>, Word, Option<Told<J>>, TurnMade)
-    requires tables { AreTablesOf board.shape.now board.tables.now }
-    requires board { board.shape.now ≡ J.size }
-    requires seated { IsSeated board.tables.now hart.old.id local.seats local.doze }
-    requires few { looks.old.made < 2 ^ 64 - 1 }
-    ensures gives { GivesBack board.entry.tables.now hart.old.id local.seats result.0.seats }
-    ensures stands { StandsAfterTurn result.1 result.0.doze hart.old.id result.0.seats }
-    ensures id { hart.new.id ≡ hart.old.id }
-    ensures noted { result.0.part ≡ part_after result.2 local.part }
-    ensures range { looks.new.made ≤ looks.old.made + 1 }
-    ensures once { TurnOnce board.entry.shape.now J.memory (seated hart.old (known local.seats) local.doze looks.old)
-        (seated hart.new (known result.0.seats) result.0.doze looks.new) result.1 result.2 }
-{
-    let HartLocal { seats, doze, part } = local;
-    if let Some(doze) = doze {
-        let bus = &mut board.bus.lock(rt);
-        let (seats, word, doze) = doze_turn(bus, hart, seats, board.tables, doze, looks);
-        return (HartLocal { seats, doze, part }, word, None, allowed.made());
-    }
-    let mut bus = LockedBus { rt, bus: board.bus };
-    let (seats, turned) = turn_by_bus(hart, seats, board.tables, &mut bus, board.shape);
-    match turned {
-        Turned::Durable => {
-            let (local, word, told) = call_locked(rt, board, hart, seats, part);
-            (local, word, told, allowed.made())
-        }
-        Turned::Made(did) => {
-            let (doze, word) = (None, Word::Goes(did));
-            (HartLocal { seats, doze, part }, word, None, allowed.made())
-        }
-    }
-}
-
 /// The turns of a hart, as many as the life gives it, one after another, until the gate ends them or a reset or a
 /// suspension of this hart was acknowledged, another hart ended the life, or the console halted the harts: that is
 /// asked before each turn. Then the gate is asked; it is told after the turn, also of one that did nothing and of the
-/// one that ended the life. No lock is held then.
+/// one that ended the life. No lock is held then, and none is taken but in a turn that the gate let begin.
 ///
 /// Each turn makes just its own steps on the tables and gives what those found, whatever other threads do; a
 /// step of a STARTED hart is one hold of the bus, and a durable call one of the bus and then of the store.
@@ -134,7 +90,8 @@ fn whole_turn<R: Wait, D: Disk + Drop, J: Threaded, C: Crew>(
 pub fn hart_loop<'c, R: Wait, G: Gate, D: Disk + Drop, J: Threaded, C: Crew>(
     rt: &R,
     gate: &G,
-    board: SharedBoard<'_, 'c, D, J, C>,
+    board: LoopBoard<'_, 'c, J, C>,
+    locks: Locks<'_, D, J>,
     hart: Hart,
     local: HartLocal<J>,
     turns: u64,
@@ -145,16 +102,18 @@ pub fn hart_loop<'c, R: Wait, G: Gate, D: Disk + Drop, J: Threaded, C: Crew>(
     requires fresh { local.part.told ≡ [] }
     requires turns { turns ≡ J.turns }
     requires gated { (h n : ℕ) → G.answers gate.now h n false → J.gated ≡ true }
+    requires free { locks ≡ no_locks }
     ensures gives { GivesBack board.entry.tables.now hart.id local.seats result.local.seats }
     ensures stands { StandsAfter result.why result.local.doze hart.id result.local.seats }
     ensures id { result.hart.id ≡ hart.id }
     ensures noted { result.local.part ≡ part_after result.told local.part }
     ensures range { result.made ≤ turns }
     ensures once { LoopOnce board.entry.shape.now J.memory (G.answers gate.now hart.id) (G.hears gate.now hart.id) turns
-        result.made (seated hart (known local.seats) local.doze no_looks)
-        (seated result.hart (known result.local.seats) result.local.doze result.looks) result.why result.told }
+        result.made (seated hart (known local.seats) local.doze no_looks local.refused)
+        (seated result.hart (known result.local.seats) result.local.doze result.looks result.local.refused) result.why
+        result.told }
 {
-    let (mut hart, mut local) = (hart, local);
+    let (mut hart, mut local, mut locks) = (hart, local, locks);
     let (mut looks, mut asked) = (Looks::none(), Asked::none());
     for made in 0..turns {
         if let Some(shut) = board.closing.look(&mut asked) {
@@ -170,7 +129,7 @@ pub fn hart_loop<'c, R: Wait, G: Gate, D: Disk + Drop, J: Threaded, C: Crew>(
                 told: None,
             };
         }
-        let Some(allowed) = ask(gate, hart.id(), made) else {
+        let Some(allowed) = ask(gate, locks, hart.id(), made) else {
             let (why, shut) = (Why::Gate, None);
             return Ended {
                 hart,
@@ -185,7 +144,7 @@ pub fn hart_loop<'c, R: Wait, G: Gate, D: Disk + Drop, J: Threaded, C: Crew>(
         };
         let (next, word, told, turn) = whole_turn(rt, board, &mut hart, &mut looks, local, allowed);
         local = next;
-        tell(gate, hart.id(), made, turn);
+        locks = tell(gate, turn);
         if !goes_on(word) {
             let (why, shut) = (Why::Life, None);
             return Ended {

@@ -8,54 +8,59 @@ ghost use Rattle.sbi.specs.Words.{stage_told};
 ghost use Rattle.shared_store.specs.Called.{IsToldBy};
 ghost use Rattle.shared_store.specs.Noted.{part_after};
 ghost use Rattle.shared_store.specs.Runs.{StepsMake};
-ghost use Rattle.hart_threads.specs.Threads.{HeldOnce, IsDozeBy};
+ghost use Rattle.shared_store.specs.Locks.{no_locks};
+ghost use Rattle.hart_threads.specs.Threads.{HeldOnce, IsDozeBy, RefusedOnce};
 
 use crate::dozes::doze_by;
-use crate::shared::{HartLocal, SharedBoard};
+use crate::refusals::Refusals;
+use crate::shared::{HartLocal, LoopBoard};
 use crate::threaded::Threaded;
 use crew::Crew;
 use disk::Disk;
 use hart::{Hart, Outcome};
 use sbi::Word;
 use sbi_calls::Seats;
-use shared_store::{Part, SharedBus, Told};
-use std::sync::{Mutex, Wait};
+use shared_store::{BusLock, Locks, Part, Told};
+use std::sync::Wait;
 use turns::MemoryBus;
 
-/// The bus of a board on threads, behind its lock. One step of a hart is one hold of it.
+/// The bus of a board on threads, behind its lock, for a thread that holds none. One step of a hart is one hold of it.
 #[derive(Drop)]
-pub(crate) struct LockedBus<'a, R, J: Threaded> {
-    pub(crate) rt: &'a R,
-    pub(crate) bus: &'a Mutex<SharedBus<J>>,
+pub(crate) struct LockedBus<'r, 'a, R, J: Threaded> {
+    pub(crate) rt: &'r R,
+    pub(crate) bus: BusLock<'a, J>,
 }
 
-impl<'a, R: Wait, J: Threaded> MemoryBus for LockedBus<'a, R, J> {
+impl<'r, 'a, R: Wait, J: Threaded> MemoryBus for LockedBus<'r, 'a, R, J> {
     ghost may_hold = { λ bus memory. StepsMake J.memory memory };
 
     ghost holds_one = { λ bus. (J.memory, λ is keep here. here) };
 
     #[inline(always)]
     fn step(&mut self, hart: &mut Hart, pending: bool) -> Outcome {
-        let mut bus = self.bus.lock(self.rt);
-        bus.step(hart, pending)
+        self.bus.step(self.rt, hart, pending)
     }
 }
 
 /// The durable call at which a hart stands, made in one hold of the bus and of the store. The bus is taken
 /// first: whoever takes both does so, and no thread that holds the store waits for the bus. Where the board then
-/// dozes, the hart has a copy of its doze.
+/// dozes, the hart has a copy of its doze. A call that the store refused is counted.
 pub(crate) fn call_locked<R: Wait, D: Disk + Drop, J: Threaded, C: Crew>(
     rt: &R,
-    board: SharedBoard<'_, '_, D, J, C>,
+    board: LoopBoard<'_, '_, J, C>,
+    locks: &mut Locks<'_, D, J>,
     hart: &mut Hart,
     seats: Seats,
     part: Part<J>,
+    refused: Refusals<J>,
 ) -> (HartLocal<J>, Word, Option<Told<J>>)
     requires tables { AreTablesOf board.shape.now board.tables.now }
     requires seats { AreSeatsOfBoth board.tables.now seats }
     requires hart { hart.old.id < board.shape.now.harts }
     requires board { board.shape.now ≡ J.size }
     requires acts { Acts hart.old.id Running seats }
+    requires free { locks.old ≡ no_locks }
+    ensures free { locks.new ≡ no_locks }
     ensures gives { GivesBack board.entry.tables.now hart.old.id seats result.0.seats }
     ensures acts { Acts hart.old.id (stage_told result.1) result.0.seats }
     ensures id { hart.new.id ≡ hart.old.id }
@@ -63,13 +68,23 @@ pub(crate) fn call_locked<R: Wait, D: Disk + Drop, J: Threaded, C: Crew>(
     ensures noted { result.0.part ≡ part_after result.2 part }
     ensures once { HeldOnce board.entry.shape.now (call_of hart.old) hart.old hart.new (known seats)
         (known result.0.seats) result.1 }
+    ensures refused { RefusedOnce (call_of hart.old) result.1 hart.new refused result.0.refused }
     ensures doze { IsDozeBy board.entry.shape.now (call_of hart.old) hart.old.id result.1 result.0.doze }
 {
-    let mut guard = board.bus.lock(rt);
+    let mut refused = refused;
+    let mut guard = locks.take_bus(rt);
     let bus = &mut *guard;
-    let mut store = board.store.lock(rt);
-    let (seats, word, told, part) = store.call(board.saving, hart, seats, board.tables, bus, part);
+    let mut store = locks.take_store(rt);
+    let (seats, word, told, part) = refused.ask(board, &mut store, bus, hart, seats, part);
     let found = bus.doze();
+    locks.give_store(store);
+    locks.give_bus(guard);
     let doze = doze_by(word, found);
-    (HartLocal { seats, doze, part }, word, told)
+    let local = HartLocal {
+        seats,
+        doze,
+        part,
+        refused,
+    };
+    (local, word, told)
 }

@@ -1,6 +1,9 @@
 //! What the threads of a board's harts share, and what each has of its own.
 
+ghost use Rattle.std.specs.Prelude.{◌≡◌};
+
 use crate::closing::Closing;
+use crate::refusals::Refusals;
 use crate::threaded::Threaded;
 use board_model::Shape;
 use disk::Disk;
@@ -30,6 +33,37 @@ impl<'a, 'c, D: Disk + Drop, J: Threaded, C> Clone for SharedBoard<'a, 'c, D, J,
     }
 }
 
+impl<'a, 'c, D: Disk + Drop, J: Threaded, C> SharedBoard<'a, 'c, D, J, C> {
+    /// What the loop of a hart has of it.
+    pub(crate) fn of_loop(self) -> LoopBoard<'a, 'c, J, C>
+        ensures tables { result.tables.now ≡ self.entry.tables.now }
+        ensures shape { result.shape.now ≡ self.entry.shape.now }
+    {
+        LoopBoard {
+            saving: self.saving,
+            tables: self.tables,
+            shape: self.shape,
+            closing: self.closing,
+        }
+    }
+}
+
+/// A shared board as the loop of a hart has it: without its locks, which the loop reaches by its `Locks` alone.
+pub struct LoopBoard<'a, 'c, J: Threaded, C> {
+    pub saving: Saving<'a, C>,
+    pub tables: &'a Tables,
+    pub shape: &'a Shape,
+    pub closing: &'c Closing<J>,
+}
+
+impl<'a, 'c, J: Threaded, C> Copy for LoopBoard<'a, 'c, J, C> {}
+
+impl<'a, 'c, J: Threaded, C> Clone for LoopBoard<'a, 'c, J, C> {
+    fn clone(&self) -> Result<LoopBoard<'a, 'c, J, C>, AllocError> {
+        Ok(*self)
+    }
+}
+
 /// What a hart has on its thread beside its registers, from one turn to the next.
 #[derive(Drop)]
 pub struct HartLocal<J: Journal> {
@@ -39,4 +73,6 @@ pub struct HartLocal<J: Journal> {
     pub doze: Option<Doze>,
     /// Its part of the journal's receipts.
     pub part: Part<J>,
+    /// Its calls that the store refused.
+    pub refused: Refusals<J>,
 }

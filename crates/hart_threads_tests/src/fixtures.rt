@@ -15,7 +15,7 @@ use board_model::{BootMode, Command, HartId, Shape, Slot};
 use disk::Disk;
 use hart_threads::{AfterConsole, Closing, Ended, Gate, Rested, SharedBoard, Threaded, Why, drive};
 use rv_decode::Reg;
-use shared_store::{Heard, Journal, NewBook, Part, SharedBus, SharedStore, Unshared};
+use shared_store::{Heard, Journal, Locks, NewBook, Part, SharedBus, SharedStore, Unshared};
 use simdisk::SimDisk;
 use std::alloc::{AllocError, Global};
 use std::marker::Brand;
@@ -154,9 +154,13 @@ fn ends_of<J: Threaded>(alloc: Global, loops: &[Rested<'_, J>]) -> Result<Vec<En
 }
 
 /// Issues these commands, whatever they are answered.
-fn issue<J: Journal>(store: &mut SharedStore<SimDisk, J>, part: Part<J>, commands: &[Command]) {
-    let mut part = part;
-    let mut heard = Heard::nothing();
+fn issue<J: Journal>(
+    store: &mut SharedStore<SimDisk, J>,
+    part: Part<J>,
+    heard: Heard,
+    commands: &[Command],
+) {
+    let (mut part, mut heard) = (part, heard);
     for command in commands {
         let (told, _answered) = store.apply(part, &mut heard, *command);
         part = told;
@@ -170,15 +174,16 @@ fn talk<J: Journal, R: Wait + Clock>(
     bus: &Mutex<SharedBus<J>>,
     store: &Mutex<SharedStore<SimDisk, J>>,
     part: Part<J>,
+    heard: Heard,
     trial: Trial<'_>,
 ) -> Vec<u8> {
     let mut out = Vec::new(alloc);
-    let mut input = trial.input;
-    let mut heard = Heard::nothing();
+    let (mut input, mut heard) = (trial.input, heard);
+    let mut locks = Locks::new(bus, store);
     if let Some(gate) = trial.until {
         gate.wait(rt);
     }
-    let (_part, _left) = console(rt, bus, store, part, &mut heard, &mut input, &mut out);
+    let (_part, _left) = console(rt, &mut locks, part, &mut heard, &mut input, &mut out);
     if let Some(gate) = trial.until {
         gate.tell();
     }
@@ -233,9 +238,10 @@ fn driven_as<J: Threaded + Send + Sync, R: Threads + Wait + Clock + Sync>(
     let part = whole.hand_out();
     let given = whole.hand_out_all(alloc, harts.len())?;
     let doze = bus.doze;
+    let (first, heard) = (whole.listener(), whole.listener());
     let bus: Mutex<SharedBus<J>> = Mutex::new(SharedBus::new(bus));
     let mut shared = whole.share();
-    issue(&mut shared, boot, trial.commands);
+    issue(&mut shared, boot, first, trial.commands);
     let store = Mutex::new(shared);
     let closing = Closing::new(lock);
     let crew = crew::Threads::new(rt);
@@ -258,7 +264,7 @@ fn driven_as<J: Threaded + Send + Sync, R: Threads + Wait + Clock + Sync>(
         trial.turns,
         given,
         part,
-        move |part| talk(rt, alloc, rung, told, part, trial),
+        move |part| talk(rt, alloc, rung, told, part, heard, trial),
     );
     let Ok((loops, said)) = done else {
         return Err("a thread was not had".into());

@@ -9,7 +9,7 @@ use crate::fixtures::{parts_of, same};
 use board::Parts;
 use board_console::console;
 use board_model::Shape;
-use shared_store::{Heard, Journal, NewBook, SharedBus, SharedStore, Unshared};
+use shared_store::{Journal, Locks, NewBook, SharedBus, SharedStore, Unshared};
 use simdisk::SimDisk;
 use std::io::{self, Write};
 use std::marker::Brand;
@@ -56,6 +56,7 @@ fn talked<J: Journal, R: Wait>(rt: &R, bus: Bus, store: Store<SimDisk>, book: Ne
     requires book { (id_of book ≡ J.book) × (parts_of book ≡ J.parts) × (J.parts ≡ 1) }
 {
     let (whole, part) = Unshared::<SimDisk, J>::new(store, book);
+    let mut heard = whole.listener();
     let bus: Mutex<SharedBus<J>> = Mutex::new(SharedBus::new(bus));
     let store = Mutex::new(whole.share());
     let mut input = b"slot 1\ndiscard\nstate\nwake\nhello\nquit\n".as_slice();
@@ -65,8 +66,8 @@ fn talked<J: Journal, R: Wait>(rt: &R, bus: Bus, store: Store<SimDisk>, book: Ne
         lines: 0,
         held: 0,
     };
-    let mut heard = Heard::nothing();
-    let (_part, _left) = console(rt, &bus, &store, part, &mut heard, &mut input, &mut out);
+    let mut locks = Locks::new(&bus, &store);
+    let (_part, _left) = console(rt, &mut locks, part, &mut heard, &mut input, &mut out);
     (out.lines, out.held)
 }
 

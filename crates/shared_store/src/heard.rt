@@ -7,8 +7,9 @@ use board_model::{Command, Durable, Refusal};
 use std::marker::Model;
 
 /// How many of a holder's commands were refused, and the last of these with its refusal; how often the holder was
-/// shown the state, and which it was last. Only a shared store adds to it: so one that has more of them asked a store. A
-/// count begins anew at 2^64.
+/// shown the state, and which it was last. Only a shared store adds to it: so one that has more of them asked a store. Only a
+/// store that is not shared yet gives one (`Unshared::listener`): so its holder hears of each refusal there. A count begins
+/// anew at 2^64.
 #[derive(Drop)]
 pub struct Heard {
     refused: u64,
@@ -25,7 +26,7 @@ impl Model for Heard {
 
 impl Heard {
     /// Nothing yet.
-    pub fn nothing() -> Heard
+    pub(crate) fn nothing() -> Heard
         ensures { result ≡ heard_nothing }
     {
         Heard {

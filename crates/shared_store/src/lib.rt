@@ -6,12 +6,14 @@
 
 mod buses;
 mod heard;
+mod locks;
 mod shared;
 mod told;
 mod unshared;
 
 pub use buses::SharedBus;
 pub use heard::Heard;
+pub use locks::{Apart, BusLock, Locks};
 pub use receipts::{Journal, NewBook, Part};
 pub use shared::SharedStore;
 pub use told::Told;

@@ -6,10 +6,12 @@ ghost use Rattle.receipts.specs.Books.{entries_of};
 ghost use Rattle.receipts.specs.Closed.{AreStanding, AreReceiptsOf, told_in};
 ghost use Rattle.receipts.specs.Views.{id_of, parts_of};
 ghost use Rattle.store.specs.Taken.{are_taken};
+ghost use Rattle.shared_store.specs.Heard.{heard_nothing};
 ghost use Rattle.shared_store.specs.Legal.{BeginsWith, IsNamed};
 ghost use Rattle.shared_store.specs.Noted.{boot_told, entries_in};
 ghost use Rattle.shared_store.specs.Runs.{IsCarried};
 
+use crate::heard::Heard;
 use crate::shared::SharedStore;
 use disk::Disk;
 use receipts::{Book, Journal, Keeper, NewBook, Part};
@@ -93,6 +95,14 @@ impl<D: Disk + Drop, J: Journal> Unshared<D, J> {
             parts.push_reserved(part);
         }
         Ok(parts)
+    }
+
+    /// For a holder to be: it heard nothing yet.
+    pub fn listener(&self) -> Heard
+        ensures { result ≡ heard_nothing }
+    {
+        let _ = &self.store;
+        Heard::nothing()
     }
 
     /// The store, to be shared: all parts are handed out.

@@ -1,9 +1,14 @@
+use Rattle.std.proofs.Common.{◌≡◌}
+use Rattle.shared_store.specs.Locks.{no_locks}
 use Rattle.board_console.specs.Commands.{party}
 use Rattle.board_console.specs.Dialogues.{dialogue_ends}
 use Rattle.board_console.proofs.Talking.{Talking}
 use Rattle.board_console.proofs.talks.console.Given as goal
 
 abbrev pub invariant-loop : goal.invariant-loop
-invariant-loop g l = Talking g.J.Journal.found g.J.Journal.issued
-    (dialogue_ends (g.I.Read.remaining l.fn.input) (g.W.Write.contents l.fn.out) (party l.fn.part.told l.fn.heard))
-    (dialogue_ends (g.I.Read.remaining l.input) (g.W.Write.contents l.out) (party l.part.told l.heard))
+invariant-loop g l = record {
+  free : l.locks ≡ no_locks;
+  talks : Talking g.J.Journal.found g.J.Journal.issued
+      (dialogue_ends (g.I.Read.remaining l.fn.input) (g.W.Write.contents l.fn.out) (party l.fn.part.told l.fn.heard))
+      (dialogue_ends (g.I.Read.remaining l.input) (g.W.Write.contents l.out) (party l.part.told l.heard));
+}

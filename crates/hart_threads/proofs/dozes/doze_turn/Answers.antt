@@ -14,10 +14,10 @@ pub returns-then-not-look-clause-range : goal.returns-then-not-look-clause-range
 returns-then-not-look-clause-range g c = one_look c.look.result c.args.looks.now c.look.new.self c.look.ensures.counted
 
 pub returns-then-not-look-clause-once : goal.returns-then-not-look-clause-once
-returns-then-not-look-clause-once g c =
+returns-then-not-look-clause-once g c = λ r.
     let found = c.args.bus.now.bus.doze in
     let asleep : false ≡ is_woken c.args.hart.now.id found = sym c.if-not-look.true ∙ (c.look.ensures.woken ∙ ap (λ (h : ℕ). is_woken h found) c.id.ensures) in
-    idle_once (is_woken c.args.hart.now.id found) c.args.doze c.args.hart.now (known c.args.seats) c.args.looks.now c.look.new.self asleep
+    idle_once (is_woken c.args.hart.now.id found) c.args.doze c.args.hart.now (known c.args.seats) c.args.looks.now c.look.new.self r asleep
     (subst (λ (w : Bool). c.look.new.self ≡ after_look w c.args.looks.now) c.if-not-look.true c.look.ensures.counted)
 
 pub returns-then-not-look-clause-left : goal.returns-then-not-look-clause-left
@@ -35,10 +35,10 @@ pub returns-clause-range : goal.returns-clause-range
 returns-clause-range g c = one_look c.look.result c.args.looks.now c.look.new.self c.look.ensures.counted
 
 pub returns-clause-once : goal.returns-clause-once
-returns-clause-once g c =
+returns-clause-once g c = λ r.
     let found = c.args.bus.now.bus.doze in
     let called : true ≡ is_woken c.args.hart.now.id found = sym c.if-not-look.false ∙ (c.look.ensures.woken ∙ ap (λ (h : ℕ). is_woken h found) c.id.ensures) in
-    woken_once (is_woken c.args.hart.now.id found) c.args.doze c.args.hart.now c.resume-seats.new.hart (known c.args.seats) (known c.resume-seats.result) c.args.looks.now c.look.new.self called
+    woken_once (is_woken c.args.hart.now.id found) c.args.doze c.args.hart.now c.resume-seats.new.hart (known c.args.seats) (known c.resume-seats.result) c.args.looks.now c.look.new.self r called
     c.resume-seats.ensures.hart c.resume-seats.ensures.own
     (subst (λ (w : Bool). c.look.new.self ≡ after_look w c.args.looks.now) c.if-not-look.false c.look.ensures.counted)
 

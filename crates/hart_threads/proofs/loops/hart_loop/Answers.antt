@@ -1,4 +1,4 @@
-use Rattle.std.proofs.Common.{ℕ, ◌+◌, ◌<◌, true, false, arith, ap, refl, sym, ◌∙◌, subst}
+use Rattle.std.proofs.Common.{◌≡◌, ℕ, ◌+◌, ◌<◌, true, false, arith, ap, refl, sym, ◌∙◌, subst}
 use Rattle.sbi_calls.specs.Both.{GivesBack, known}
 use Rattle.turns.proofs.Begun.{gives_then}
 use Rattle.hart_threads.specs.Looks.{Looked, no_looks}
@@ -14,9 +14,10 @@ loop-made-init g c = record {
   rests = c.requires.seated.2;
   id = refl;
   part = refl;
-  turns = ap (λ (l : Looked). seated c.args.hart (known c.args.local.seats) c.args.local.doze l) c.none-looks.ensures;
+  turns = ap (λ (l : Looked). seated c.args.hart (known c.args.local.seats) c.args.local.doze l c.args.local.refused) c.none-looks.ensures;
   few = let e = ap (λ (l : Looked). l.made) c.none-looks.ensures in omega (arith, e);
   asked = c.none-asked.ensures;
+  free = c.requires.free;
 }
 
 pub loop-made-preserved : goal.loop-made-preserved
@@ -24,16 +25,18 @@ loop-made-preserved g c =
     let i = c.loop-made.invariant in let by = c.args.hart.id in let t = c.whole_turn-next in
     let on = sym c.goes_on.ensures ∙ c.if-not-goes_on.false in
     let gate = c.args.gate.now in
-    let said = subst (λ (k : ℕ). g.G.Gate.answers gate k c.loop-made.made true) (c.id.ensures ∙ i.id) c.in-Some-ask.ensures in
-    let heard = subst (λ (k : ℕ). g.G.Gate.hears gate k c.loop-made.made) (c.id-in-loop-made.ensures ∙ (t.ensures.id ∙ i.id)) c.tell.ensures in
+    let said = subst (λ (k : ℕ). g.G.Gate.answers gate k c.loop-made.made true) (c.id.ensures ∙ i.id) c.in-Some-ask.ensures.asked in
+    let is : t.result.3 ≡ (by, c.loop-made.made) = t.ensures.made ∙ (c.in-Some-ask.ensures.turn ∙ ap (λ (k : ℕ). let p : ℕ × ℕ = (k, c.loop-made.made) in p) (c.id.ensures ∙ i.id)) in
+    let heard = subst (λ (p : ℕ × ℕ). g.G.Gate.hears gate p.0 p.1) is c.tell-locks.ensures.told in
     record {
       gives = gives_then c.args.board.tables.now by c.args.local.seats c.loop-made.local.seats t.result.0.seats i.gives (subst (λ (k : ℕ). GivesBack c.args.board.tables.now k c.loop-made.local.seats t.result.0.seats) i.id t.ensures.gives);
       rests = rests_on by t.result.0.seats t.result.1 t.result.0.doze on (subst (λ (k : ℕ). StandsAfterTurn t.result.1 t.result.0.doze k t.result.0.seats) i.id t.ensures.stands);
       id = t.ensures.id ∙ i.id;
-      part = kept_part c.args.board.shape.now g.J.Journal.memory (seated c.loop-made.hart (known c.loop-made.local.seats) c.loop-made.local.doze c.loop-made.looks) (seated t.new.hart (known t.result.0.seats) t.result.0.doze t.new.looks) t.result.1 t.result.2 c.args.local.part c.loop-made.local.part t.result.0.part t.ensures.once on i.part t.ensures.noted;
-      turns = one_more c.args.board.shape.now g.J.Journal.memory (g.G.Gate.answers gate by) (g.G.Gate.hears gate by) c.loop-made.made (seated c.args.hart (known c.args.local.seats) c.args.local.doze no_looks) (seated c.loop-made.hart (known c.loop-made.local.seats) c.loop-made.local.doze c.loop-made.looks) (seated t.new.hart (known t.result.0.seats) t.result.0.doze t.new.looks) t.result.1 t.result.2 i.turns t.ensures.once on said heard;
+      part = kept_part c.args.board.shape.now g.J.Journal.memory (seated c.loop-made.hart (known c.loop-made.local.seats) c.loop-made.local.doze c.loop-made.looks c.loop-made.local.refused) (seated t.new.hart (known t.result.0.seats) t.result.0.doze t.new.looks t.result.0.refused) t.result.1 t.result.2 c.args.local.part c.loop-made.local.part t.result.0.part t.ensures.once on i.part t.ensures.noted;
+      turns = one_more c.args.board.shape.now g.J.Journal.memory (g.G.Gate.answers gate by) (g.G.Gate.hears gate by) c.loop-made.made (seated c.args.hart (known c.args.local.seats) c.args.local.doze no_looks c.args.local.refused) (seated c.loop-made.hart (known c.loop-made.local.seats) c.loop-made.local.doze c.loop-made.looks c.loop-made.local.refused) (seated t.new.hart (known t.result.0.seats) t.result.0.doze t.new.looks t.result.0.refused) t.result.1 t.result.2 i.turns t.ensures.once on said heard;
       few = let f = i.few in let r = t.ensures.range in omega (arith, f, r);
       asked = c.look.ensures ∙ ap (λ (n : ℕ). n + 1) i.asked;
+      free = c.tell-locks.ensures.free;
     }
 
 pub returns-then-not-goes_on-clause-once : goal.returns-then-not-goes_on-clause-once
@@ -42,9 +45,10 @@ returns-then-not-goes_on-clause-once g c =
     let off = sym c.goes_on.ensures ∙ c.if-not-goes_on.true in
     let by = c.args.hart.id in
     let gate = c.args.gate.now in
-    let said = subst (λ (k : ℕ). g.G.Gate.answers gate k c.loop-made.made true) (c.id.ensures ∙ i.id) c.in-Some-ask.ensures in
-    let heard = subst (λ (k : ℕ). g.G.Gate.hears gate k c.loop-made.made) (c.id-in-loop-made.ensures ∙ (t.ensures.id ∙ i.id)) c.tell.ensures in
-    ended_life c.args.board.shape.now g.J.Journal.memory (g.G.Gate.answers gate by) (g.G.Gate.hears gate by) c.args.turns c.loop-made.made (seated c.args.hart (known c.args.local.seats) c.args.local.doze no_looks) (seated c.loop-made.hart (known c.loop-made.local.seats) c.loop-made.local.doze c.loop-made.looks) (seated t.new.hart (known t.result.0.seats) t.result.0.doze t.new.looks) t.result.1 t.result.2 i.turns t.ensures.once off said heard
+    let said = subst (λ (k : ℕ). g.G.Gate.answers gate k c.loop-made.made true) (c.id.ensures ∙ i.id) c.in-Some-ask.ensures.asked in
+    let is : t.result.3 ≡ (by, c.loop-made.made) = t.ensures.made ∙ (c.in-Some-ask.ensures.turn ∙ ap (λ (k : ℕ). let p : ℕ × ℕ = (k, c.loop-made.made) in p) (c.id.ensures ∙ i.id)) in
+    let heard = subst (λ (p : ℕ × ℕ). g.G.Gate.hears gate p.0 p.1) is c.tell-locks.ensures.told in
+    ended_life c.args.board.shape.now g.J.Journal.memory (g.G.Gate.answers gate by) (g.G.Gate.hears gate by) c.args.turns c.loop-made.made (seated c.args.hart (known c.args.local.seats) c.args.local.doze no_looks c.args.local.refused) (seated c.loop-made.hart (known c.loop-made.local.seats) c.loop-made.local.doze c.loop-made.looks c.loop-made.local.refused) (seated t.new.hart (known t.result.0.seats) t.result.0.doze t.new.looks t.result.0.refused) t.result.1 t.result.2 i.turns t.ensures.once off said heard
 
 pub whole_turn-next-requires-clause-seated : goal.whole_turn-next-requires-clause-seated
 whole_turn-next-requires-clause-seated g c κs within =
@@ -66,4 +70,4 @@ pub returns-in_default-ask-clause-once : goal.returns-in_default-ask-clause-once
 returns-in_default-ask-clause-once g c =
     let i = c.loop-made.invariant in
     let within : c.loop-made.made < c.args.turns = omega arith in
-    (i.turns, within, refl, subst (λ (k : ℕ). g.G.Gate.answers c.args.gate.now k c.loop-made.made false) (c.id.ensures ∙ i.id) c.in_default-ask.ensures)
+    (i.turns, within, refl, subst (λ (k : ℕ). g.G.Gate.answers c.args.gate.now k c.loop-made.made false) (c.id.ensures ∙ i.id) c.in_default-ask.ensures.asked)

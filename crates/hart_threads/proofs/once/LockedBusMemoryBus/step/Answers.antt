@@ -1,4 +1,4 @@
 use Rattle.hart_threads.proofs.once.LockedBusMemoryBus.step.Goals as goal
 
 pub returns : goal.returns
-returns g c = let s = c.step.ensures in (_, _, s.found, s.left, s.steps)
+returns g c = c.step.ensures

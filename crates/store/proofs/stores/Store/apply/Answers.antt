@@ -1,4 +1,4 @@
-use Rattle.std.proofs.Common.{◌∙◌, Err, ap, rules}
+use Rattle.std.proofs.Common.{◌∙◌, Err, refl, ap, rules}
 use Rattle.std.proofs.lemmas.Result.{err_from_is_err_and}
 use Rattle.store.specs.Lives.{Applied}
 use Rattle.store.specs.Views.{view_of}

@@ -16,11 +16,6 @@ pub fn blank(alloc: Global, sectors: usize) -> Result<CachedDisk<SimDisk>, Fail>
     Ok(CachedDisk::new(alloc, device)?)
 }
 
-/// These two have to be equal.
-pub fn same<T: PartialEq + Drop>(rt: &impl Abort, found: T, wanted: T) {
-    assert!(rt; found == wanted);
-}
-
 /// Writes one sector full of a byte.
 pub fn write_byte(
     rt: &impl Abort,

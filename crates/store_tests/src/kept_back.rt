@@ -1,7 +1,8 @@
 //! Which sectors the device has, and when.
 ghost use Rattle.std.specs.Prelude.{◌≡◌};
 
-use crate::fixtures::{blank, cut, left_byte, read_byte, same, write_byte};
+use crate::caches::{blank, cut, left_byte, read_byte, write_byte};
+use crate::fixtures::same;
 use cached_disk::CachedDisk;
 use disk::{ArmedFault, Disk, Fault};
 use simdisk::{Fill, SimDisk};

@@ -8,7 +8,7 @@ use Rattle.turns.proofs.Begun.{gives_then}
 use Rattle.sbi_abi.specs.Calls.{call_of}
 use Rattle.hart_threads.specs.Threads.{seated, IsDozeBy}
 use Rattle.hart_threads.proofs.Looping.{stands_told, dozed, own_once, held_turn}
-use Rattle.hart_threads.proofs.loops.whole_turn.Goals as goal
+use Rattle.hart_threads.proofs.turn.whole_turn.Goals as goal
 
 pub call_locked-local-requires-clause-acts : goal.call_locked-local-requires-clause-acts
 call_locked-local-requires-clause-acts g c κs within = subst (λ (k : ℕ). Acts k Running c.turn_by_bus-seats.result.0) (sym c.turn_by_bus-seats.ensures.id) (c.turn_by_bus-seats.ensures.asks c.in-Durable.is)
@@ -32,14 +32,14 @@ pub returns-in-Durable-clause-once : goal.returns-in-Durable-clause-once
 returns-in-Durable-clause-once g c =
     let turn = c.turn_by_bus-seats.ensures.turns in
     let t = c.turn_by_bus-seats in let m = c.call_locked-local in
-    held_turn c.args.board.shape.now g.J.Journal.memory c.args.hart.now t.new.hart m.new.hart (known c.args.local.seats) (known t.result.0) (known m.result.0.seats) c.args.local.doze m.result.0.doze c.args.looks.now
-    turn.0 turn.1 t.result.1 m.result.1 m.result.2 turn.2 turn.3 c.in_default.is c.in-Durable.is turn.4 m.ensures.once m.ensures.told m.ensures.doze
+    held_turn c.args.board.shape.now g.J.Journal.memory c.args.hart.now t.new.hart m.new.hart (known c.args.local.seats) (known t.result.0) (known m.result.0.seats) c.args.local.doze m.result.0.doze c.args.looks.now c.args.local.refused m.result.0.refused
+    turn.0 turn.1 t.result.1 m.result.1 m.result.2 turn.2 turn.3 c.in_default.is c.in-Durable.is turn.4 m.ensures.once m.ensures.told m.ensures.doze m.ensures.refused
 
 pub returns-in-Made-clause-once : goal.returns-in-Made-clause-once
 returns-in-Made-clause-once g c =
     let turn = c.turn_by_bus-seats.ensures.turns in
     let t = c.turn_by_bus-seats in
-    own_once c.args.board.shape.now g.J.Journal.memory c.args.hart.now t.new.hart (known c.args.local.seats) (known t.result.0) c.args.local.doze c.args.looks.now turn.0 turn.1 t.result.1 c.in-Made.did turn.2 turn.3 c.in_default.is c.in-Made.is turn.4
+    own_once c.args.board.shape.now g.J.Journal.memory c.args.hart.now t.new.hart (known c.args.local.seats) (known t.result.0) c.args.local.doze c.args.looks.now c.args.local.refused turn.0 turn.1 t.result.1 c.in-Made.did turn.2 turn.3 c.in_default.is c.in-Made.is turn.4
 
 pub turn_by_bus-seats-requires-clause-hart : goal.turn_by_bus-seats-requires-clause-hart
 turn_by_bus-seats-requires-clause-hart g c = subst (λ (n : ℕ). c.args.hart.now.id < n) c.requires.tables c.requires.seated.1
@@ -57,4 +57,4 @@ doze_turn-seats-requires-clause-quiet g c = subst (λ (o : Option Doze). RestsBy
 pub returns-in-Some-clause-once : goal.returns-in-Some-clause-once
 returns-in-Some-clause-once g c =
     let t = c.doze_turn-seats in
-    dozed c.args.board.shape.now g.J.Journal.memory c.args.hart.now (known c.args.local.seats) c.args.local.doze c.in-Some.doze c.args.looks.now (seated t.new.hart (known t.result.0) t.result.2 t.new.looks) _ t.result.1 c.in-Some.is t.ensures.once
+    dozed c.args.board.shape.now g.J.Journal.memory c.args.hart.now (known c.args.local.seats) c.args.local.doze c.in-Some.doze c.args.looks.now c.args.local.refused (seated t.new.hart (known t.result.0) t.result.2 t.new.looks c.args.local.refused) _ t.result.1 c.in-Some.is (t.ensures.once c.args.local.refused)

@@ -1,7 +1,8 @@
 //! The store over a disk over a device.
 ghost use Rattle.std.specs.Prelude.{◌≡◌, IfOk};
 
-use crate::fixtures::{blank, cut, same};
+use crate::caches::{blank, cut};
+use crate::fixtures::same;
 use board_model::{Command, Refusal, Shape};
 use disk::{ArmedFault, Disk};
 use logged_disk::LoggedDisk;

@@ -2,7 +2,8 @@
 
 ghost use Rattle.store.specs.Leaves.{IsIdle};
 
-use crate::told::{START, Short, in_turn, same};
+use crate::fixtures::same;
+use crate::told::{START, Short, in_turn};
 use bench_report::{Stopped, run, run_left};
 use board::{Board, Payloads};
 use board_model::{BootMode, Refusal};

@@ -9,11 +9,6 @@ use std::thread::Threads;
 /// The lines that lead to a board that is on: their report has 80 bytes.
 pub const START: &[u8] = b"board 1 1 1\nformat\non fresh\n";
 
-/// These two have to be equal.
-pub fn same<T: PartialEq + Drop>(rt: &impl Abort, found: T, wanted: T) {
-    assert!(rt; found == wanted);
-}
-
 /// One lane after another.
 pub fn in_turn<R: Threads + Sync>(_rt: &R) -> Result<Sequential<R>, Fail> {
     let crew = Sequential::new([0, 1, 2, 3])
