@@ -24,8 +24,3 @@ pub added_moments : (h count : ℕ) (joins : Bool) (old new : List Line) → IsA
 added_moments h count joins old new (inl e) = ap moments e ∙ alone_moments h count old
 added_moments h count joins old new (inr (may, (before, n, was, is, few))) =
     ap moments is ∙ joined_moments h n count before ∙ ap (λ (xs : List Line). moments xs ++ replicate count (lines.Turn h 1)) (sym was)
-
--- turns that are not to join the last line are one of their own
-pub added_apart : (h count : ℕ) (joins : Bool) (old new : List Line) → IsAdded h count joins old new → joins ≡ false → new ≡ old ++ lines.Turn h count ∷ []
-added_apart h count joins old new (inl e) apart = e
-added_apart h count joins old new (inr (may, more)) apart = absurd (let no : true ≡ false = sym may ∙ apart in let never : ⊥ = cc in never)

@@ -5,9 +5,10 @@ use Rattle.board_model.specs.declared.refusal.Refusal.{Refusal}
 use Rattle.board_model.specs.declared.refusal.Refusal.TheVariants.{Memory}
 use Rattle.script_lang.specs.declared.line.Line.{Line}
 use Rattle.script_lang.specs.declared.line.Line.TheVariants as lines
+use Rattle.simdisk.specs.declared.fill.Fill.{Fill}
 use Rattle.sbi.specs.declared.words.Word.{Word}
 use Rattle.sbi.specs.declared.words.Word.TheVariants as words
-use Rattle.bench_report.specs.Agree.{Agrees, IsBench, Matches}
+use Rattle.bench_report.specs.Agree.{Agrees, EndsBy, IsBench, Matches}
 use Rattle.bench_report.specs.Bench.{Bench}
 use Rattle.bench_report.specs.Happens.{unpowered}
 use Rattle.bench_report.specs.Steps.{Moves}
@@ -19,11 +20,11 @@ use Rattle.bench_live.proofs.InPlace.{lost_of, row_of}
 use Rattle.bench_report.specs.declared.printed.Answer.{Answer}
 use Rattle.bench_live.specs.Lives.{IsAfter, PowerShows, WentInPlace, stays_on}
 
-pub runs_on : (size : Size) (line : Line) (start : Option Power) (power after : Power) (old new : List (List ℕ)) (r : Result Answer Refusal) → start ≡ Some power
-    → ((b : Bench) → IsBench size b power old → MatchResult r (λ answer. (x : Bench) × Moves size line b answer x × IsBench size x after new) (λ e. (e ≡ Memory) × Matches size b after new))
+pub runs_on : (size : Size) (line : Line) (fill : Fill) (start : Option Power) (power after : Power) (old new : List (List ℕ)) (r : Result Answer Refusal) → start ≡ Some power
+    → ((b : Bench) → IsBench size b power old → MatchResult r (λ answer. (x : Bench) × Moves size line b answer x × EndsBy size line fill b answer after × IsBench size x after new) (λ e. (e ≡ Memory) × Matches size b after new))
     → IfOk r (λ answer. (b : Bench) → PowerShows size b start old → (x : Bench) × Moves size line b answer x × IsBench size x after new)
-runs_on size line start power after old new (Ok answer) is reported = λ b shows. (let P : Option Power → Type 0 = λ p. PowerShows size b p old in reported b (subst P is shows))
-runs_on size line start power after old new (Err e) is reported = tt
+runs_on size line fill start power after old new (Ok answer) is reported = λ b shows. (let P : Option Power → Type 0 = λ p. PowerShows size b p old in let did = reported b (subst P is shows) in (did.0, did.1, did.3))
+runs_on size line fill start power after old new (Err e) is reported = tt
 
 -- turns after which the board is on
 pub stays : (size : Size) (word : Word) (x : Bench) (power : Power) → stays_on word ≡ true → IsAfter size word x power → Agrees size x power

@@ -1,4 +1,4 @@
--- How a bench under way stands for the bench of the model.
+-- How a bench that is run line by line stands for the bench of the model.
 use Rattle.std.specs.Prelude.{◌≡◌, ⊤, ℕ, Bool, true, false, List, Option, Some, None}
 use Rattle.board_model.specs.Shapes.{Size}
 use Rattle.sbi.specs.declared.words.Word.{Word}
@@ -6,7 +6,7 @@ use Rattle.sbi.specs.declared.words.Word.TheVariants as words
 use Rattle.bench_report.specs.declared.power.Power.{Power}
 use Rattle.bench_report.specs.declared.power.Power.TheVariants.{Off, On}
 use Rattle.bench_report.specs.Bench.{Bench, BenchLife}
-use Rattle.bench_report.specs.Agree.{Agrees, BoardAfter, IsBench, IsResting, IsUnstruck}
+use Rattle.bench_report.specs.Agree.{Agrees, BoardAfter, IsBench, IsUnstruck}
 use Rattle.bench_report.specs.Happens.{unpowered}
 use Rattle.bench_report.specs.Turns.{GuestTurns}
 use Rattle.machine_lines.specs.Shows.{HasHart}
@@ -21,31 +21,31 @@ PowerShows size b (Some power) payloads = IsBench size b power payloads
 abbrev pub Shows : Size → Bench → LiveBench → Type 0
 Shows size b live = PowerShows size b live.power live.payloads
 
--- what the next line needs: nothing of the disk is lent, and no cut that struck is untold
+-- what the next line needs: the board is there, and no cut that struck is untold
 abbrev pub IsReady : Option Power → Type 0
 IsReady None = ⊥
-IsReady (Some power) = IsResting power × IsUnstruck power
+IsReady (Some power) = IsUnstruck power
 
 abbrev pub IsSound : LiveBench → Type 0
 IsSound live = IsReady live.power
 
 -- the board is on
 abbrev pub IsOn : Power → Type 0
-IsOn (Off disk) = ⊥
+IsOn (Off off) = ⊥
 IsOn (On board) = ⊤
 
--- a board that is on, after what is said of a turn
+-- a board that was on, after a turn with this word
 abbrev pub IsAfter : Size → Word → Bench → Power → Type 0
-IsAfter size word b (Off disk) = ⊥
+IsAfter size word b (Off off) = ⊥
 IsAfter size word b (On board) = BoardAfter size word b board
 
--- a hart made so many turns of at most n, the last of which is said to be so, and the board is as they left it
+-- A hart made so many turns, at most n. The last has this word, and the board is as the turns left it.
 abbrev pub WentInPlace : Size → ℕ → ℕ → Bench → ℕ → Word → Power → Type 0
 WentInPlace size h n b made word after =
     (new : Bench) × (life : BenchLife) × (b.power ≡ Some life) × HasHart life.machine h × GuestTurns h n b made word new
     × IsAfter size word new after × (new.payloads ≡ b.payloads)
 
--- the board is on after what is said of a turn
+-- the board is still on after a turn with this word
 abbrev pub stays_on : Word → Bool
 stays_on (words.Goes did) = true
 stays_on (words.Over end) = false
@@ -55,7 +55,7 @@ abbrev pub IsThere : Option Power → Type 0
 IsThere None = ⊥
 IsThere (Some power) = IsOn power
 
--- what is left of a board behind its last turn, and whether an armed cut struck
+-- what a board is after its last turn, and whether an armed cut struck in it
 abbrev pub IsSettled : Word → Power → Power → Bool → Type 0
 IsSettled word power left lost =
     (size : Size) (b : Bench) → IsAfter size word b power

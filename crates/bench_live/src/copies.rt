@@ -1,4 +1,4 @@
-//! Copies of what the slots boot.
+//! Copies of payloads.
 
 ghost use Rattle.std.specs.Prelude.{◌≡◌, ◌≤◌, IfOk, OnOk, length, slice_set};
 ghost use Rattle.board.specs.Boots.{payload_at};
@@ -7,7 +7,7 @@ use board::Payloads;
 use board_model::Slot;
 use std::alloc::{AllocError, Global};
 
-/// Copies what a slot boots.
+/// Copies the payload of one slot.
 fn copy_slot(
     alloc: Global,
     from: &Payloads,

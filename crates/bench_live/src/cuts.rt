@@ -2,36 +2,35 @@
 
 ghost use Rattle.std.specs.Prelude.{◌≡◌, true, false};
 ghost use Rattle.board_model.specs.Shapes.{Size};
-ghost use Rattle.bench_report.specs.Agree.{Agrees, IsResting, IsUnstruck};
+ghost use Rattle.bench_report.specs.Agree.{Agrees, IsUnstruck};
 ghost use Rattle.bench_report.specs.Bench.{Bench};
 ghost use Rattle.bench_report.specs.Happens.{unpowered};
 ghost use Rattle.bench_live.specs.Lives.{IsAfter, IsOn};
 
-use bench_report::{Power, after, disk_left, struck};
+use bench_report::{OffDisk, Power, after, disk_left, struck};
 use machine::Word;
 use simdisk::{Fill, SimDisk};
 use store::kept_disks;
 
 /// Takes power; each range that was written since the last sync holds what the fill says.
 fn cut(power: Power, fill: Fill) -> Power
-    requires { IsResting power }
     ensures reported { (size : Size) (b : Bench) → Agrees size b power → Agrees size (unpowered b) result }
-    ensures resting { IsResting result }
     ensures calm { IsUnstruck result }
 {
     kept_disks::<SimDisk>();
-    Power::Off(disk_left(power).after_cut(fill))
+    Power::Off(OffDisk {
+        disk: disk_left(power).after_cut(fill),
+    })
 }
 
 /// What a board is after what is said of its last turn: off where that ended the life.
 fn ended(power: Power, word: Word) -> Power
     requires on { IsOn power }
-    ensures reported { (size : Size) (b : Bench) → IsAfter size word b power → Agrees size b result }
-    ensures resting { IsResting result }
+    ensures { (size : Size) (b : Bench) → IsAfter size word b power → Agrees size b result }
 {
     match power {
         Power::On(board) => after(board, word),
-        Power::Off(disk) => Power::Off(disk),
+        Power::Off(off) => Power::Off(off),
     }
 }
 
@@ -42,7 +41,6 @@ pub fn settled(power: Power, word: Word, fill: Fill) -> (Power, bool)
     ensures kept { (size : Size) (b : Bench) → IsAfter size word b power → result.1 ≡ false → Agrees size b result.0 }
     ensures lost { (size : Size) (b : Bench) → IsAfter size word b power → result.1 ≡ true
         → Agrees size (unpowered b) result.0 }
-    ensures resting { IsResting result.0 }
     ensures calm { IsUnstruck result.0 }
 {
     let left = ended(power, word);

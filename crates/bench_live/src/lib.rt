@@ -1,5 +1,5 @@
-//! A bench under way, line by line: its board stays where it is, so that a line of turns costs little more than its
-//! turns. What a line does is what `bench_report` says of it.
+//! A bench that is run line by line, for the schedule bench and the debugger. Its board is not moved between two lines, so a
+//! line of turns costs little more than its turns. What a line does is what `bench_report` says of it.
 #![tactic(auto)]
 
 mod copies;

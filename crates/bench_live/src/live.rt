@@ -19,7 +19,7 @@ ghost use Rattle.store.specs.Leaves.{IsIdle};
 use crate::copies::copied;
 use crate::cuts::settled;
 use crate::rows::{in_place, is_still_on};
-use bench_report::{Answer, Power, Setting, disk_left, line_with_cuts};
+use bench_report::{Answer, BenchBoard, OffDisk, Power, Setting, disk_left, line_with_cuts};
 use bench_rows::Row;
 use board::Payloads;
 use board_model::{HartId, Refusal, Shape};
@@ -28,6 +28,7 @@ use machine::Word;
 use script_lang::Line;
 use simdisk::{Fill, SimDisk};
 use std::alloc::Global;
+use std::mem::replace;
 use store::blank_disks;
 
 /// The board, off or on, what the slots boot, and what an armed cut is to leave.
@@ -54,7 +55,7 @@ impl LiveBench {
         let disk = SimDisk::blank(alloc, shape.sectors())?;
         let payloads = copied(alloc, begins)?;
         Ok(LiveBench {
-            power: Some(Power::Off(disk)),
+            power: Some(Power::Off(OffDisk { disk })),
             payloads,
             fill: Fill::Old,
         })
@@ -72,14 +73,16 @@ impl LiveBench {
         ensures refused { IfErr result (λ e. e ≡ Memory) }
     {
         let power = self.power.take().unwrap();
-        let (after, answer) = line_with_cuts(
-            setting,
-            line,
+        let payloads = replace(&mut self.payloads, Payloads::new(setting.alloc));
+        let bench = BenchBoard {
             power,
-            &mut self.payloads,
-            &mut self.fill,
-        );
-        self.power = Some(after);
+            payloads,
+            fill: self.fill,
+        };
+        let (after, answer) = line_with_cuts(setting, line, bench);
+        self.power = Some(after.power);
+        self.payloads = after.payloads;
+        self.fill = after.fill;
         answer
     }
 

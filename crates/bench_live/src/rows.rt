@@ -1,4 +1,4 @@
-//! Turns of a hart, made in place.
+//! Turns of a hart of a board that is not moved.
 
 ghost use Rattle.std.specs.Prelude.{◌≡◌, ◌≤◌, true, false, IfSome, IfNone, MatchOption};
 ghost use Rattle.board_model.specs.Shapes.{Size};
@@ -8,20 +8,19 @@ ghost use Rattle.bench_report.specs.Happens.{shows};
 ghost use Rattle.bench_report.specs.Steps.{TurnStep};
 ghost use Rattle.bench_report.specs.Views.{machine_in, store_in, store_fault_state};
 ghost use Rattle.bench_live.specs.Lives.{IsOn, stays_on, WentInPlace};
-ghost use Rattle.bench_rows.specs.Rows.{is_idle};
 ghost use Rattle.machine_lines.specs.Shows.{HasHart};
 ghost use Rattle.machine_lines.specs.declared.line.MachineLine.TheVariants as shown;
 
 use bench_report::{Power, Setting, struck};
-use bench_rows::idle_turns_change_nothing;
+use bench_rows::{idle_turns_change_nothing, is_idle};
 use board::Board;
 use board_model::HartId;
 use crew::Crew;
-use machine::{Did, Word};
+use machine::Word;
 use simdisk::SimDisk;
 use std::alloc::Global;
 
-/// Whether the board is on after what is said of a turn.
+/// Whether the board is still on after a turn, by the turn's word.
 fn stays_on(word: Word) -> bool
     ensures { result ≡ stays_on word }
 {
@@ -31,15 +30,8 @@ fn stays_on(word: Word) -> bool
     }
 }
 
-/// Whether a hart had nothing to do, and its turn changed nothing.
-fn is_idle(word: Word) -> bool
-    ensures { result ≡ is_idle word }
-{
-    word == Word::Goes(Did::Idle)
-}
-
-/// Turns of a hart of a board that is on: how many were made, and what is said of the last. An idle turn changes nothing, so
-/// a row that begins with one is idle to its end, and its other turns need not be made.
+/// Makes turns of a hart of a board that is on. Answers how many, and the word of the last. An idle turn changes nothing: so a
+/// row that begins with one is idle to its end, and its other turns need not be made.
 fn row_on<C: Crew>(
     alloc: Global,
     crew: &C,
@@ -67,8 +59,8 @@ fn row_on<C: Crew>(
     (first + more, word)
 }
 
-/// Turns of a hart, made in place: how many, and what is said of the last. None, and nothing changed, where the board
-/// is off or lacks the hart.
+/// Makes turns of a hart without moving the board. Answers how many, and the word of the last. None where the board is off or
+/// lacks the hart, and then nothing has changed.
 pub fn in_place<C: Crew>(
     setting: &Setting<'_, C>,
     power: &mut Power,
@@ -96,7 +88,7 @@ pub fn in_place<C: Crew>(
     }
 }
 
-/// Whether the board is on after what is said of a turn, and no armed cut struck in it.
+/// Whether the board is still on after a turn, by the turn's word, and no armed cut struck in that turn.
 pub fn is_still_on(power: &Power, word: Word) -> bool
     ensures on { result ≡ true → stays_on word ≡ true }
     ensures calm { result ≡ true → IsUnstruck power.now }

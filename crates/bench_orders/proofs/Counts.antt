@@ -25,15 +25,3 @@ turns_at_most h (lines.Turn by n) is = by_case (by == h)
     by_case true = omega (arith, is)
     by_case false = omega arith
 turns_at_most h line is = absurd is
-
-pub counted : (left : List ℕ) (by n h : ℕ) → by < length left → left_of h (slice_set left by (left_of by left + n)) ≡ left_of h left + turns_in h (lines.Turn by n)
-counted left by n h within = by_case (by == h) refl
-  where
-    by_case : (b : Bool) → (by == h) ≡ b → left_of h (slice_set left by (left_of by left + n)) ≡ left_of h left + (if b then n else 0)
-    by_case true is =
-        let e : by ≡ h = grind (arith, nat_tests, is) in
-        let P : ℕ → Type 0 = λ k. left_of k (slice_set left by (left_of by left + n)) ≡ left_of k left + n in
-        subst P e (get_or-set_same left by (left_of by left + n) 0 within)
-    by_case false is =
-        let e : h ≢ by = grind (arith, nat_tests, is) in
-        omega (arith, get_or-set_other left by h (left_of by left + n) 0 e)

@@ -36,24 +36,3 @@ pub of_options : (words : List (List ℕ)) (input : Option (List ℕ)) (fault : 
 of_options words input fault options named (inl is) = inl (options, named, inl is)
 of_options words input fault options named (inr (inl memory)) = inr (inr memory)
 of_options words input fault options named (inr (inr is)) = inl (options, named, inr is)
-
--- a work that never tells that something is wrong
-pub never_wrong : {X : Type 0} (r : Result (Unit {0}) BenchFault) (work : Work) (script : List ℕ) → (MayTellWrong work → ⊥) → IfErr r (λ fault. IsFaultIn work script fault) → r ≡ Err Wrong → X
-never_wrong r work script never faults is =
-    let P : Result (Unit {0}) BenchFault → Type 0 = λ x. IfErr x (λ fault. IsFaultIn work script fault) in absurd (never (subst P is faults))
-
--- nor do a fault of the input, and a command line that asks for no work
-pub not_wrong : {X : Type 0} (fault : BenchFault) → (fault ≡ Input) ⊎ (fault ≡ Refused Memory) → ◌≡◌ {A = Result (Unit {0}) BenchFault} (Err fault) (Err Wrong) → X
-not_wrong fault (inl is) wrong = let e : ◌≡◌ {A = Result (Unit {0}) BenchFault} (Err Input) (Err Wrong) = ap Err (sym is) ∙ wrong in absurd (let no : ⊥ = cc in no)
-not_wrong fault (inr is) wrong = let e : ◌≡◌ {A = Result (Unit {0}) BenchFault} (Err (Refused Memory)) (Err Wrong) = ap Err (sym is) ∙ wrong in absurd (let no : ⊥ = cc in no)
-
-pub no_work_wrong : {X : Type 0} (why : NoWork) (r : Result (Unit {0}) BenchFault) → r ≡ without_work why → r ≡ Err Wrong → X
-no_work_wrong whys.Shown r is wrong = let e : ◌≡◌ {A = Result (Unit {0}) BenchFault} (Ok tt) (Err Wrong) = sym is ∙ wrong in absurd (let no : ⊥ = cc in no)
-no_work_wrong whys.Usage r is wrong = let e : ◌≡◌ {A = Result (Unit {0}) BenchFault} (Err Usage) (Err Wrong) = sym is ∙ wrong in absurd (let no : ⊥ = cc in no)
-no_work_wrong whys.Memory r is wrong = let e : ◌≡◌ {A = Result (Unit {0}) BenchFault} (Err (Refused Memory)) (Err Wrong) = sym is ∙ wrong in absurd (let no : ⊥ = cc in no)
-
--- as many payloads as paths
-pub files_length : (bytes_at : List ℕ → Option (List ℕ)) (paths : List (Option (List ℕ))) (payloads : List (List ℕ)) → AreFilesOf bytes_at paths payloads → length payloads ≡ length paths
-files_length bytes_at [] payloads are = ap length are
-files_length bytes_at (path ∷ paths) [] are = absurd are
-files_length bytes_at (path ∷ paths) (payload ∷ more) are = ap suc (files_length bytes_at paths more are.1)

@@ -51,9 +51,9 @@ abbrev pub payload_files : Options → List (Option (List ℕ))
 payload_files options = map (option_map string_bytes) options.payloads
 
 -- the crew of a word
-abbrev pub savers_named : Option (List ℕ) → Savers
-savers_named None = Turns
-savers_named (Some word) = if bytes_eq word (codes "threads") then Threads else Turns
+abbrev pub savers_of : Option (List ℕ) → Savers
+savers_of None = Turns
+savers_of (Some word) = if bytes_eq word (codes "threads") then Threads else Turns
 
 -- whether the words have a flag, of which the parser keeps the word `true` or `false`
 pub record IsFlag (f : Found) (id : List ℕ) (b : Bool) : Type 0 where
@@ -62,45 +62,45 @@ pub record IsFlag (f : Found) (id : List ℕ) (b : Bool) : Type 0 where
   pub none : one_text f id ≡ None → b ≡ false
 
 -- what is to be done without schedules, by the flags of the benches and by the crew; not both benches
-abbrev pub flags_named : Bool → Bool → Savers → Option Work
-flags_named true true savers = None
-flags_named true false savers = Some (Judge Sweep)
-flags_named false true savers = Some (Judge Faults)
-flags_named false false savers = Some (Report savers)
+abbrev pub work_of_flags : Bool → Bool → Savers → Option Work
+work_of_flags true true savers = None
+work_of_flags true false savers = Some (Judge Sweep)
+work_of_flags false true savers = Some (Judge Faults)
+work_of_flags false false savers = Some (Report savers)
 
 -- a number from 1 to so many
-abbrev pub bounded_by : ℕ → Option ℕ → Option ℕ
-bounded_by most None = None
-bounded_by most (Some n) = if nat_lt n 1 then None else (if nat_lt most n then None else Some n)
+abbrev pub number_up_to : ℕ → Option ℕ → Option ℕ
+number_up_to most None = None
+number_up_to most (Some n) = if nat_lt n 1 then None else (if nat_lt most n then None else Some n)
 
 -- what schedules are drawn from: 1 if no word says it
-abbrev pub seed_named : Option (List ℕ) → Option ℕ
-seed_named None = Some 1
-seed_named (Some word) = number_of word
+abbrev pub seed_of : Option (List ℕ) → Option ℕ
+seed_of None = Some 1
+seed_of (Some word) = number_of word
 
-abbrev pub shown_by : ℕ → Option ℕ → Option Work
-shown_by seed None = None
-shown_by seed (Some k) = Some (Show (record { seed = seed; number = k }))
+abbrev pub show_number : ℕ → Option ℕ → Option Work
+show_number seed None = None
+show_number seed (Some k) = Some (Show (record { seed = seed; number = k }))
 
 -- so many schedules are compared, or the one that a word names is shown
-abbrev pub shown_named : ℕ → ℕ → Option (List ℕ) → Option Work
-shown_named runs seed None = Some (Compare (record { seed = seed; number = runs }))
-shown_named runs seed (Some word) = shown_by seed (bounded_by runs (number_of word))
+abbrev pub compare_or_show : ℕ → ℕ → Option (List ℕ) → Option Work
+compare_or_show runs seed None = Some (Compare (record { seed = seed; number = runs }))
+compare_or_show runs seed (Some word) = show_number seed (number_up_to runs (number_of word))
 
-abbrev pub orders_by : Option ℕ → Option ℕ → Option (List ℕ) → Option Work
-orders_by None seed show = None
-orders_by (Some runs) None show = None
-orders_by (Some runs) (Some seed) show = shown_named runs seed show
+abbrev pub schedules_by : Option ℕ → Option ℕ → Option (List ℕ) → Option Work
+schedules_by None seed show = None
+schedules_by (Some runs) None show = None
+schedules_by (Some runs) (Some seed) show = compare_or_show runs seed show
 
 -- what is to be done with schedules, by the words of `--schedules`, `--seed` and `--show`
-abbrev pub orders_named : List ℕ → Option (List ℕ) → Option (List ℕ) → Option Work
-orders_named runs seed show = orders_by (bounded_by 1000000 (number_of runs)) (seed_named seed) show
+abbrev pub schedules_named : List ℕ → Option (List ℕ) → Option (List ℕ) → Option Work
+schedules_named runs seed show = schedules_by (number_up_to 1000000 (number_of runs)) (seed_of seed) show
 
 -- no bench is asked for beside it
-abbrev pub unflagged : Bool → Bool → Option Work → Option Work
-unflagged false false work = work
-unflagged true faults work = None
-unflagged false true work = None
+abbrev pub without_benches : Bool → Bool → Option Work → Option Work
+without_benches false false work = work
+without_benches true faults work = None
+without_benches false true work = None
 
 -- an option that goes with schedules stands alone
 abbrev pub without_schedules : Option (List ℕ) → Option (List ℕ) → Option Work → Option Work
@@ -110,13 +110,13 @@ without_schedules None (Some show) work = None
 
 -- what is to be done, by the flags of the benches, the words of schedules, and the crew: one work
 abbrev pub work_named : Bool → Bool → Option (List ℕ) → Option (List ℕ) → Option (List ℕ) → Savers → Option Work
-work_named sweep faults None seed show savers = without_schedules seed show (flags_named sweep faults savers)
-work_named sweep faults (Some runs) seed show savers = unflagged sweep faults (orders_named runs seed show)
+work_named sweep faults None seed show savers = without_schedules seed show (work_of_flags sweep faults savers)
+work_named sweep faults (Some runs) seed show savers = without_benches sweep faults (schedules_named runs seed show)
 
 abbrev pub work_asked : Found → Bool → Bool → Option Work
 work_asked f sweep faults =
     work_named sweep faults (first_value f (codes "schedules")) (first_value f (codes "seed")) (first_value f (codes "show"))
-    (savers_named (first_value f (codes "crew")))
+    (savers_of (first_value f (codes "crew")))
 
 -- the bench of schedules runs at most so many
 abbrev pub IsBounded : Work → Type 0

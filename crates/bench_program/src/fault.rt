@@ -6,10 +6,10 @@ ghost use Rattle.bench_program.specs.Faults.{fault_text, refusal_text, status_af
 use board_model::Refusal;
 use std::fmt;
 
-/// Why the program ends without a whole report. It prints as a whole line, or as nothing.
+/// Why the program ends without a whole report. As a text it is a whole line; of a fault that is told elsewhere, nothing.
 #[derive(Clone, Copy, Drop)]
 pub enum BenchFault {
-    /// The command line has a fault, which was told by the command line's own text.
+    /// The command line has a fault. Its own text has told it already.
     Usage,
     /// The standard input failed.
     Input,
@@ -17,7 +17,7 @@ pub enum BenchFault {
     File,
     /// The script was refused, or its report could not be written.
     Refused(Refusal),
-    /// Nobody reads the standard output any more, and nothing is said of it.
+    /// Nobody reads the standard output any more. Nothing is written about it.
     Closed,
     /// A bench found something wrong, as its last line says.
     Wrong,

@@ -27,7 +27,7 @@ use crate::usage::USAGE;
 pub use crate::usage::{Bench, Drawn, Options, Savers, Work, options_of};
 use bench_report::run_with;
 use bench_schedules::{Compared, schedules, show};
-use bench_sweep::{Sweep, faults_with, sweep_with};
+use bench_sweep::{Sweep, run_bench};
 use board::Payloads;
 use board_model::{MAX_LINE_BYTES, MAX_SCRIPT_LINES, Refusal};
 pub use command_line::Pipe;
@@ -39,15 +39,15 @@ use std::io::{self, BufWriter, ErrorKind, IsTerminal, Read, Write};
 use std::process::ExitCode;
 use std::thread::Threads;
 
-/// How many bytes of a report are written at once into a pipe or a file. A terminal gets each as it is made.
+/// How many bytes of a report are gathered before they are written into a pipe or a file. A terminal gets each at once.
 const WRITTEN_AT_ONCE: usize = 65_536;
 
-/// One byte more than the longest script has, each line with its line feed: more bytes change nothing of the
-/// first fault.
+/// One byte more than the longest script has. The first fault of a script stands within so many bytes, so no more are
+/// read.
 const READ_AT_MOST: u64 = (MAX_SCRIPT_LINES * (MAX_LINE_BYTES + 1) + 1) as u64;
 
-/// The script: the input to its end, or as much of it as tells its first fault. Answers `Input` where the
-/// input failed, and the refusal `Memory` where memory was refused.
+/// Reads the script: the input to its end, or as much of it as its first fault takes. The fault is `Input` where the input
+/// failed, and the refusal `Memory` where memory was refused.
 pub fn read_script<R: Read + Drop>(alloc: Global, input: R) -> Result<Vec<u8>, BenchFault>
     // It says what the whole input says, where its bytes are known: the script, or its first fault.
     ensures said { IfOk result (λ script. IfSome (R.remaining input) (λ bytes. script_of script.items
@@ -63,7 +63,7 @@ pub fn read_script<R: Read + Drop>(alloc: Global, input: R) -> Result<Vec<u8>, B
     }
 }
 
-/// Runs the script that begins with these payloads, and writes its report to the end.
+/// Runs the script, with these payloads in the slots, and writes its report to the end.
 ///
 /// Refused as `bench_report::run_with` is, and `Output` also where what the writer held back could not be written.
 pub fn write_report<C: Crew, W: Write + Drop>(
@@ -90,31 +90,19 @@ pub fn write_report<C: Crew, W: Write + Drop>(
     out.flush().map_err(|_| Refusal::Output)
 }
 
-/// Runs a bench over the script that begins with these payloads. Refused as `bench_sweep::sweep_with` is.
-fn run_bench<R: Threads + Sync, W: Write + Drop>(
-    alloc: Global,
-    script: &[u8],
-    bench: Bench,
-    payloads: Payloads,
-    out: &mut BufWriter<W>,
-) -> Result<Sweep, Refusal>
-    ensures wrote { IfOk result (λ sweep. IsBenchOf (judged bench) (four_of payloads) script.now
-        (writer_contents W.contents out.old) (writer_contents W.contents out.new) sweep) }
-    ensures refused { IfErr result (λ e. (e ≡ Refusal.Memory) ⊎ (e ≡ Refusal.Output) ⊎ (script_of script.now ≡ Err e)
-        ⊎ (e ≡ Refusal.NotPlain)) }
-    ensures nothing { (e : Refusal) → script_of script.now ≡ Err e
-        → (writer_contents W.contents out.new ≡ writer_contents W.contents out.old)
-        × ((result ≡ Err e) ⊎ (result ≡ Err Refusal.Memory)) }
+/// The bench that the command line names, as `bench_sweep` knows it.
+fn judged(bench: Bench) -> bench_sweep::Bench
+    ensures { result ≡ judged bench }
 {
     match bench {
-        Bench::Sweep => sweep_with::<R, BufWriter<W>>(alloc, script, payloads, out),
-        Bench::Faults => faults_with::<R, BufWriter<W>>(alloc, script, payloads, out),
+        Bench::Sweep => bench_sweep::Bench::Cuts,
+        Bench::Faults => bench_sweep::Bench::Fails,
     }
 }
 
 /// Runs a bench over the script that begins with these payloads, and writes its lines to the end.
 ///
-/// Refused as `bench_sweep::sweep_with` is, and `Output` also where what the writer held back could not be written.
+/// Refused as `bench_sweep::run_bench` is, and `Output` also where what the writer held back could not be written.
 pub fn write_bench<R: Threads + Sync, W: Write + Drop>(
     alloc: Global,
     script: &[u8],
@@ -135,12 +123,12 @@ pub fn write_bench<R: Threads + Sync, W: Write + Drop>(
         → (writer_contents W.contents out.new ≡ writer_contents W.contents out.old)
         × ((result ≡ Err e) ⊎ (result ≡ Err Refusal.Memory)) }
 {
-    let done = run_bench::<R, W>(alloc, script, bench, payloads, out)?;
+    let done = run_bench::<R, BufWriter<W>>(alloc, judged(bench), script, payloads, out)?;
     out.flush().map_err(|_| Refusal::Output)?;
     Ok(done)
 }
 
-/// Runs schedules of the script that begins with these payloads, and writes which differ, to the end.
+/// Runs schedules of the script, with these payloads in the slots, and writes which differ, to the end.
 ///
 /// Refused as `bench_schedules::schedules` is, and `Output` also where what the writer held back could not be written.
 pub fn write_schedules<R: Threads + Sync, W: Write + Drop>(
@@ -178,7 +166,8 @@ pub fn write_schedules<R: Threads + Sync, W: Write + Drop>(
     }
 }
 
-/// Writes a schedule of the script that begins with these payloads, to the end.
+/// Writes a schedule of the script to the end. The script's own run, from which it is drawn, has these payloads in the
+/// slots.
 ///
 /// Refused as `bench_schedules::show` is, and `Output` also where what the writer held back could not be written.
 pub fn write_schedule<R: Threads + Sync, W: Write + Drop>(
@@ -207,7 +196,7 @@ pub fn write_schedule<R: Threads + Sync, W: Write + Drop>(
     }
 }
 
-/// How many bytes of output are written at once: none are held back on a terminal.
+/// How many bytes of output are gathered before they are written. On a terminal none are.
 fn at_once(rt: &HostRuntime) -> usize {
     if rt.stdout().is_terminal() {
         0

@@ -1,4 +1,4 @@
-//! The program over any streams: what its command line asks for, from a reader to a writer.
+//! The program over any streams: it does what the command line asks for, from a reader to a writer.
 
 ghost use Rattle.std.specs.Prelude.{◌≡◌, ◌⊎◌, ◌≤◌, length, map, Err, Result, OnOk, IfOk, IfErr, IfSome};
 ghost use Rattle.board_model.specs.declared.refusal.Refusal.TheVariants.{Memory};
@@ -43,7 +43,7 @@ fn input_script<I: Read + Drop>(alloc: Global, input: I) -> Result<Vec<u8>, Benc
     }
 }
 
-/// The fault of a refused work: none is told where the reader of its output is gone.
+/// The fault of a work that was refused. Where the reader of the output is gone, it is `Closed`, which is not told.
 fn fault_of<O: Write + Drop>(refusal: Refusal, out: &BufWriter<Pipe<O>>) -> BenchFault
     ensures { (result ≡ Closed) ⊎ (result ≡ Refused refusal) }
 {
@@ -155,7 +155,7 @@ fn show_schedule<R: Threads + Sync, O: Write + Drop>(
     }
 }
 
-/// What a command line comes to that asks for no work: nothing more where what it asked for was shown.
+/// How the program ends where the command line asks for no work.
 pub fn without_work(why: NoWork) -> Result<(), BenchFault>
     ensures { result ≡ without_work why }
 {
@@ -166,7 +166,7 @@ pub fn without_work(why: NoWork) -> Result<(), BenchFault>
     }
 }
 
-/// The fault of a payload file: a refusal where it was memory that was refused.
+/// The fault of a payload file that could not be read. Where memory was refused, it is that refusal.
 fn unread(fault: &PayloadFault) -> BenchFault
     ensures { (result ≡ File) ⊎ (result ≡ Refused Memory) }
 {
@@ -177,7 +177,7 @@ fn unread(fault: &PayloadFault) -> BenchFault
     }
 }
 
-/// What the slots begin with, from the files that are named.
+/// The payloads, from the files that the command line names.
 fn named_payloads<P: PayloadFiles>(
     alloc: Global,
     files: &P,

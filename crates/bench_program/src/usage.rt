@@ -5,7 +5,7 @@ ghost use Rattle.std.specs.Option.{option_map};
 ghost use Rattle.script_lang.specs.Words.{number_of};
 ghost use Rattle.clap.specs.Words.{app_of, first_value, found_of, kind_of, matches_of, rows_of, rule_of};
 ghost use Rattle.clap.specs.declared.builder.value_parser.ValueParser.{ValueParser};
-ghost use Rattle.bench_program.specs.Usage.{bounded_by, count_rule, crew_rule, flags_named, orders_named, savers_named, sbibench, seed_named, IsBounded, shown_named, unflagged, with_schedules, work_asked, IsFlag, IsNamedBy, NamesConflict, NamesNoWork};
+ghost use Rattle.bench_program.specs.Usage.{number_up_to, count_rule, crew_rule, work_of_flags, schedules_named, savers_of, sbibench, seed_of, IsBounded, compare_or_show, without_benches, with_schedules, work_asked, IsFlag, IsNamedBy, NamesConflict, NamesNoWork};
 
 use board_model::refusal_lines;
 use clap::builder::ValueParser;
@@ -94,7 +94,7 @@ const FAULTS: &str = "faults";
 /// The option that says how many schedules are run.
 const SCHEDULES: &str = "schedules";
 
-/// The option that says from what they are drawn.
+/// The option with the seed from which they are drawn.
 const SEED: &str = "seed";
 
 /// The option that shows one of them.
@@ -110,20 +110,20 @@ pub enum Work {
     Report(Savers),
     /// A bench over the script, whose lanes are written one after another.
     Judge(Bench),
-    /// So many schedules of the script, each compared with its own run.
+    /// Schedules of the script, from number 1 on, each compared with the script's own run. `number` is how many.
     Compare(Drawn),
-    /// The schedule of that number, as a script.
+    /// One schedule, written as a script. `number` is which.
     Show(Drawn),
 }
 
-/// Schedules that are drawn from a seed: how many of them, or which, from 1 on.
+/// Schedules are drawn from a seed, and have numbers from 1 on.
 #[derive(Clone, Copy, Drop)]
 pub struct Drawn {
     pub seed: u64,
     pub number: u64,
 }
 
-/// What is to be done, and what the slots begin with.
+/// What the words of a command line ask for.
 #[derive(Drop)]
 pub struct Options {
     pub work: Work,
@@ -140,7 +140,7 @@ pub enum Bench {
     Faults,
 }
 
-/// Who writes the lanes of an image. The report is the same.
+/// Who writes the lanes of an image. The report does not depend on it.
 #[derive(Clone, Copy, Drop)]
 pub enum Savers {
     /// One thread, one lane after another in rising order.
@@ -202,8 +202,8 @@ fn command<'a>(alloc: Global) -> Result<Command<'a>, AllocError>
 }
 
 /// The crew that was chosen.
-fn chosen(matches: &ArgMatches<'_>) -> Savers
-    ensures { result ≡ savers_named (first_value (found_of matches.now) (codes "crew")) }
+fn savers_of(matches: &ArgMatches<'_>) -> Savers
+    ensures { result ≡ savers_of (first_value (found_of matches.now) (codes "crew")) }
 {
     match matches.get_str(CREW) {
         Some(word) if word == THREADS => Savers::Threads,
@@ -212,8 +212,8 @@ fn chosen(matches: &ArgMatches<'_>) -> Savers
 }
 
 /// A number that a word spells, from 1 to `most`.
-fn bounded(most: u64, word: &str) -> Option<u64>
-    ensures value { result ≡ bounded_by most (number_of word.now) }
+fn number_up_to(most: u64, word: &str) -> Option<u64>
+    ensures value { result ≡ number_up_to most (number_of word.now) }
     ensures most { IfSome result (λ number. number ≤ most) }
 {
     let number = number(word.as_bytes())?;
@@ -223,9 +223,9 @@ fn bounded(most: u64, word: &str) -> Option<u64>
     Some(number)
 }
 
-/// What the schedules are drawn from: 1 if no word says it.
+/// The seed that a word spells; 1 without a word.
 fn seed_of(word: Option<&str>) -> Option<u64>
-    ensures { result ≡ seed_named (option_map (λ s. s.now) word.entry) }
+    ensures { result ≡ seed_of (option_map (λ s. s.now) word.entry) }
 {
     match word {
         None => Some(1),
@@ -233,35 +233,35 @@ fn seed_of(word: Option<&str>) -> Option<u64>
     }
 }
 
-/// What is to be done with so many schedules of that seed, by the word that says which to show: none where there is no
-/// such one.
-fn shown_of(runs: u64, seed: u64, word: Option<&str>) -> Option<Work>
+/// The work over so many schedules of that seed: to compare them all, or to show the one that a word names. None where the
+/// word names none of them.
+fn compare_or_show(runs: u64, seed: u64, word: Option<&str>) -> Option<Work>
     requires { runs ≤ 1000000 }
-    ensures value { result ≡ shown_named runs seed (option_map (λ s. s.now) word.entry) }
+    ensures value { result ≡ compare_or_show runs seed (option_map (λ s. s.now) word.entry) }
     ensures most { IfSome result (λ work. IsBounded work) }
 {
     match word {
         None => Some(Work::Compare(Drawn { seed, number: runs })),
         Some(word) => {
-            let number = bounded(runs, word)?;
+            let number = number_up_to(runs, word)?;
             Some(Work::Show(Drawn { seed, number }))
         }
     }
 }
 
-/// What is to be done with schedules, by the words of their options: none where one of them is out of its range.
-fn orders(runs: &str, seed: Option<&str>, show: Option<&str>) -> Option<Work>
-    ensures value { result ≡ orders_named runs.now (option_map (λ s. s.now) seed.entry) (option_map (λ s. s.now) show.entry) }
+/// The work over schedules that the words of their options ask for. None where a word is out of its range.
+fn schedules_named(runs: &str, seed: Option<&str>, show: Option<&str>) -> Option<Work>
+    ensures value { result ≡ schedules_named runs.now (option_map (λ s. s.now) seed.entry) (option_map (λ s. s.now) show.entry) }
     ensures most { IfSome result (λ work. IsBounded work) }
 {
-    let runs = bounded(MOST_SCHEDULES, runs)?;
+    let runs = number_up_to(MOST_SCHEDULES, runs)?;
     let seed = seed_of(seed)?;
-    shown_of(runs, seed, show)
+    compare_or_show(runs, seed, show)
 }
 
-/// What is to be done without schedules, by the two flags and the crew: none where both benches are asked for.
-fn work_by(sweep: bool, faults: bool, savers: Savers) -> Option<Work>
-    ensures value { result ≡ flags_named sweep faults savers }
+/// The work without schedules, by the two flags and the crew. None where both flags stand there.
+fn work_of_flags(sweep: bool, faults: bool, savers: Savers) -> Option<Work>
+    ensures value { result ≡ work_of_flags sweep faults savers }
     ensures most { IfSome result (λ work. IsBounded work) }
 {
     match (sweep, faults) {
@@ -272,26 +272,26 @@ fn work_by(sweep: bool, faults: bool, savers: Savers) -> Option<Work>
     }
 }
 
-/// What is to be done with schedules, beside the two flags: none where a bench is asked for too.
-fn orders_by(
+/// The work over schedules, which goes with neither of the two flags. None where one of them stands there too.
+fn schedules_alone(
     sweep: bool,
     faults: bool,
     runs: &str,
     seed: Option<&str>,
     show: Option<&str>,
 ) -> Option<Work>
-    ensures value { result ≡ unflagged sweep faults (orders_named runs.now (option_map (λ s. s.now) seed.entry)
+    ensures value { result ≡ without_benches sweep faults (schedules_named runs.now (option_map (λ s. s.now) seed.entry)
         (option_map (λ s. s.now) show.entry)) }
     ensures most { IfSome result (λ work. IsBounded work) }
 {
     if sweep || faults {
         return None;
     }
-    orders(runs, seed, show)
+    schedules_named(runs, seed, show)
 }
 
-/// What is to be done: none where two works are asked for, or an option that goes with schedules stands without them.
-fn work_in(matches: &ArgMatches<'_>) -> Option<Work>
+/// The one work that is asked for. None where there are two, or where `--seed` or `--show` stands without `--schedules`.
+fn work_asked(matches: &ArgMatches<'_>) -> Option<Work>
     ensures value { (sweep faults : Bool) × IsFlag (found_of matches.now) (codes "sweep") sweep
         × IsFlag (found_of matches.now) (codes "faults") faults
         × (result ≡ work_asked (found_of matches.now) sweep faults) }
@@ -302,17 +302,17 @@ fn work_in(matches: &ArgMatches<'_>) -> Option<Work>
     let seed = matches.get_str(SEED);
     let show = matches.get_str(SHOW);
     match matches.get_str(SCHEDULES) {
-        Some(runs) => orders_by(sweep, faults, runs, seed, show),
+        Some(runs) => schedules_alone(sweep, faults, runs, seed, show),
         None => {
             if seed.is_some() || show.is_some() {
                 return None;
             }
-            work_by(sweep, faults, chosen(matches))
+            work_of_flags(sweep, faults, savers_of(matches))
         }
     }
 }
 
-/// What is wrong with words that name no one work.
+/// The text that says why the words name no one work.
 fn conflict(matches: &ArgMatches<'_>) -> &'static str {
     if matches.get_str(SCHEDULES).is_none() {
         if matches.get_str(SEED).is_none() && matches.get_str(SHOW).is_none() {
@@ -336,7 +336,7 @@ fn parsed<'a, S: AsStr>(alloc: Global, words: &'a [S]) -> Result<ArgMatches<'a>,
     command(alloc)?.try_get_matches_from(words)
 }
 
-/// What is to be done; words that name no one work are a fault.
+/// The one work that is asked for. Words that name no one work are a fault.
 fn one_work<'a>(alloc: Global, matches: &ArgMatches<'a>) -> Result<Work, Error>
     ensures named { IfOk result (λ work. (sweep faults : Bool) × IsFlag (found_of matches.now) (codes "sweep") sweep
         × IsFlag (found_of matches.now) (codes "faults") faults
@@ -347,7 +347,7 @@ fn one_work<'a>(alloc: Global, matches: &ArgMatches<'a>) -> Result<Work, Error>
         × IsFlag (found_of matches.now) (codes "faults") faults
         × (work_asked (found_of matches.now) sweep faults ≡ None))) }
 {
-    match work_in(matches) {
+    match work_asked(matches) {
         Some(work) => Ok(work),
         None => {
             let mut again = command(alloc)?;

@@ -2,7 +2,8 @@
 use Rattle.std.proofs.Common.{◌≡◌, ◌≤◌, true, false, ℕ, Option, None, Some, sym, ◌∙◌, ap, subst, length}
 use Rattle.board_model.specs.Shapes.{Size}
 use Rattle.disk.specs.Facts.{Facts, Unchanged}
-use Rattle.disk.specs.FaultState.{Armed, FaultState}
+use Rattle.disk.specs.FaultState.{FaultState, fault_state_armed}
+use Rattle.disk.specs.declared.device.ArmedFault.{ArmedFault}
 use Rattle.simdisk.specs.declared.SimDisk.{SimDisk}
 use Rattle.store.specs.Lives.{Life as StoreLife}
 use Rattle.store.specs.Views.{life_of}
@@ -19,18 +20,18 @@ use Rattle.bench_report.proofs.Ended.{left_on}
 use Rattle.bench_report.proofs.KeptDisks.{GoesOn, less}
 use Rattle.bench_report.proofs.Sides.{sides_stay}
 
-device : (size : Size) (b : Bench) (a : Armed) (m n : FaultState) (old new : Facts) → DeviceIs size b m old → Unchanged old new → n ≡ record m { armed = a } → DeviceIs size (armed_with a b) n new
+device : (size : Size) (b : Bench) (a : ArmedFault) (m n : FaultState) (old new : Facts) → DeviceIs size b m old → Unchanged old new → n ≡ fault_state_armed a m → DeviceIs size (armed_with a b) n new
 device size b a m n old new was same is =
     let P : ℕ → Type 0 = λ k. b.failures ≤ k in
-    (ap (λ (x : FaultState). let y : FaultState = record x { armed = a } in y) was.0 ∙ sym is, subst P (sym same.failures) was.1, ap length same.content ∙ was.2, sides_stay size b old new (λ c may. (same.now c).0 may) was.3)
+    (ap (fault_state_armed a) was.0 ∙ sym is, subst P (sym same.failures) was.1, ap length same.content ∙ was.2, sides_stay size b old new (λ c may. (same.now c).0 may) was.3)
 
-pub armed_off : GoesOn → (size : Size) (b : Bench) (a : Armed) (old new : SimDisk) → OffIs size b old → Unchanged (facts old) (facts new) → fault_state new ≡ record (fault_state old) { armed = a }
+pub armed_off : GoesOn → (size : Size) (b : Bench) (a : ArmedFault) (old new : SimDisk) → OffIs size b old → Unchanged (facts old) (facts new) → fault_state new ≡ fault_state_armed a (fault_state old)
     → OffIs size (armed_with a b) new
 armed_off goes_on size b a old new was same is =
     (was.0, left_on goes_on size b.disk_state b.kept old new was.1 (less old new (λ c l. (same.now c).0 l)), device size b a (fault_state old) (fault_state new) (facts old) (facts new) was.2 same is)
 
-pub armed_on : (size : Size) (b : Bench) (a : Armed) (old new : SimBoard) → OnIs size b old → machine_in new ≡ machine_in old → life_of (store_in new) ≡ life_of (store_in old)
-    → store_size (store_in new) ≡ store_size (store_in old) → Unchanged (store_facts (store_in old)) (store_facts (store_in new)) → store_fault_state (store_in new) ≡ record (store_fault_state (store_in old)) { armed = a }
+pub armed_on : (size : Size) (b : Bench) (a : ArmedFault) (old new : SimBoard) → OnIs size b old → machine_in new ≡ machine_in old → life_of (store_in new) ≡ life_of (store_in old)
+    → store_size (store_in new) ≡ store_size (store_in old) → Unchanged (store_facts (store_in old)) (store_facts (store_in new)) → store_fault_state (store_in new) ≡ fault_state_armed a (store_fault_state (store_in old))
     → OnIs size (armed_with a b) new
 armed_on size b a old new was machine life board same is =
     (by b.power was.0, device size b a (store_fault_state (store_in old)) (store_fault_state (store_in new)) (store_facts (store_in old)) (store_facts (store_in new)) was.1 same is)

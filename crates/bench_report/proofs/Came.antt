@@ -1,7 +1,7 @@
 -- What comes of turns and calls of harts on a board, in the words of the bench.
 use Rattle.std.proofs.Common.{◌≡◌, ◌⊎◌, ℕ, zero, suc, inl, inr, List, true, false, Option, None, Some, Result, Ok, Err, length, slice_set, refl, sym, ◌∙◌, ap, subst, arith}
 use Rattle.std.proofs.lemmas.Bool.{cases_lt}
-use Rattle.board_model.specs.Durable.{Change, Reset, Suspend}
+use Rattle.board_model.specs.Durable.{Change, Reset, Suspend, refusal_of}
 use Rattle.board_model.specs.Shapes.{Size, IsValidAddress, ram_bytes_of}
 use Rattle.board_model.specs.Views.{number_of_refusal}
 use Rattle.board_model.specs.declared.durable.Reason.{Reason}
@@ -13,7 +13,7 @@ use Rattle.hsm.specs.Views.{listed}
 use Rattle.store.specs.Lives.{Life as StoreLife, Applied, Refused, Suspended, SuspendRefused}
 use Rattle.store.specs.Follows.{FitsBoard}
 use Rattle.store.specs.Opens.{CausedRefusal}
-use Rattle.store.specs.Views.{life_of, doubt_of}
+use Rattle.store.specs.Views.{life_of, doubt_of, was_refused_memory}
 use Rattle.store.specs.Answers.{CountedRefusal}
 use Rattle.store.specs.Asked.{Asked}
 use Rattle.susp.specs.Checks.{IsChecked}
@@ -45,8 +45,8 @@ use Rattle.sbi.specs.declared.words.Word.TheVariants as words
 use Rattle.board.specs.Turns as boards
 use Rattle.bench_report.specs.Views.{SimStore, IsLife, IsAs, store_size, store_fault_state, store_facts}
 use Rattle.bench_report.specs.Bench.{BenchLife, Bench}
-use Rattle.bench_report.specs.Happens.{out_of_memory, off, on_with, has_machine, acknowledged}
-use Rattle.bench_report.specs.Commands.{Issued}
+use Rattle.bench_report.specs.Happens.{out_of_memory, failed, off, on_with, has_machine, acknowledged, in_doubt}
+use Rattle.bench_report.specs.Commands.{Writes, IssuedBy, Issued}
 use Rattle.bench_report.specs.Turns.{refused, AnswersError, HartCommand, Resets, SuspendIssued, IsAlone, dozes, BenchSleeps, BenchSleepsBy, BenchMakesCall, ComesTo, GuestTurn, IsLastTurn, GuestTurns}
 use Rattle.bench_report.specs.Sides.{SidesAre}
 use Rattle.bench_report.specs.Agree.{StoreIs, DeviceIs, IsOver}
@@ -72,12 +72,36 @@ answering h e m = record m { harts = slice_set m.harts h (answered (hart_at m h)
 pub has_other : (size : Size) (b : Bench) (life : BenchLife) (m : Machine) (store : SimStore) → m.size ≡ life.machine.size → StoreIs size b.disk_state b.kept life store → StoreIs size b.disk_state b.kept (has_machine m life) store
 has_other size b life m store same is = (follows_with size b.disk_state b.kept life m (store_size store) same is.0, is.1)
 
+-- ---- how often memory was refused
+-- a command that is answered by the disk or by the table asks for no memory
+pub issued_grows : (d : Option Change) (c : Change) (life : BenchLife) (b : Bench) (o : Result ℕ ℕ) (x : Bench) → IssuedBy d c life b o x → x.growths ≡ b.growths
+issued_grows d c life b o x issued = by d issued
+  where
+    grows : (y z : Bench) → y ≡ z → z.growths ≡ b.growths → y.growths ≡ b.growths
+    grows y z e is = ap (λ (k : Bench). k.growths) e ∙ is
+
+    writes : (r : Option ℕ) → Writes r c life b o x → x.growths ≡ b.growths
+    writes (Some n) w = grows x b w.1 refl
+    writes None (inl w) = grows x (acknowledged c life b) w.1 refl
+    writes None (inr (inl (is, m, cause, e))) = grows x (failed m b) e refl
+    writes None (inr (inr (is, m, cause, e))) = grows x (failed m (in_doubt c life b)) e refl
+
+    by : (d : Option Change) → IssuedBy d c life b o x → x.growths ≡ b.growths
+    by (Some e) i = grows x b i.1 refl
+    by None (inl i) = grows x b i.2 refl
+    by None (inr i) = writes (refusal_of life.now c) i.1
+
+-- the store was refused memory, or the bench counts no more refusals of it
+abbrev pub CountsRefused : SimStore → Bench → Bench → Type 0
+CountsRefused store b x = was_refused_memory store ≡ false → x.growths ≡ b.growths
+
 -- a command of hart h, which the store was asked for on a board that is on
 module _ (size : Size) (b : Bench) (life : BenchLife) (h : ℕ) (n : Machine) (old new : SimStore) (on : b.power ≡ Some life) (was : StoreIs size b.disk_state b.kept life old) (device : DeviceIs size b (store_fault_state old) (store_facts old))
     (t : ArchState) (doze : Option Doze) (made : n ≡ record life.machine { doze = doze; harts = slice_set life.machine.harts h t }) where
   -- it came to that
   abbrev pub Came : (Word → Bench → Type 0) → Word → Type 0
-  Came step word = (x : Bench) × step word x × Stands size word x n new × (x.payloads ≡ b.payloads)
+  Came step word =
+      (x : Bench) × step word x × Stands size word x n new × (x.payloads ≡ b.payloads) × CountsRefused new b x
 
   by_held : (step : Word → Bench → Type 0) (held reported : Word) → held ≡ reported → Came step reported → Came step held
   by_held step held reported e came = subst (Came step) (sym e) came
@@ -98,17 +122,17 @@ module _ (size : Size) (b : Bench) (life : BenchLife) (h : ℕ) (n : Machine) (o
       let did = goes e b still (life, on, subst Q (sym same) was, refl, subst S (sym same) device) is in
       let next : did.0 ≡ life = one did.0 did.1 in
       let P : BenchLife → Type 0 = λ l. Running size (on_with (refused h e l) b) n new in
-      by_held (λ word x. AnswersError e h life b word x) held (words.Goes Next) at (on_with (refused h e life) b, (refl, refl), subst P next did.2, refl)
+      by_held (λ word x. AnswersError e h life b word x) held (words.Goes Next) at (on_with (refused h e life) b, (refl, refl), subst P next did.2, refl, λ _. refl)
     where
       one : (l : BenchLife) → b.power ≡ Some l → l ≡ life
       one l f = let g : Some l ≡ Some life = sym f ∙ on in let i : l ≡ life = cc in i
 
   -- its command was refused by the store
-  fails : (n : ℕ) (said : LifeEnd) (mid : Bench) (held : Word) → doze ≡ life.machine.doze → Running size mid life.machine new → mid.payloads ≡ b.payloads → Refused_to Failed (hart_at life.machine h) t held
+  fails : (n : ℕ) (said : LifeEnd) (mid : Bench) (held : Word) → doze ≡ life.machine.doze → Running size mid life.machine new → mid.payloads ≡ b.payloads → CountsRefused new b mid → Refused_to Failed (hart_at life.machine h) t held
       → Came (λ word x. HartCommand (Err n) said h mid word x) held
-  fails n said mid held still is payloads (at, e) =
+  fails n said mid held still is payloads counts (at, e) =
       let did = goes Failed mid still is at in
-      by_held (λ word x. HartCommand (Err n) said h mid word x) held (words.Goes Next) e (on_with (refused h Failed did.0) mid, (did.0, did.1, (refl, refl)), did.2, payloads)
+      by_held (λ word x. HartCommand (Err n) said h mid word x) held (words.Goes Next) e (on_with (refused h Failed did.0) mid, (did.0, did.1, (refl, refl)), did.2, payloads, counts)
 
   calm_life : life.doubt ≡ None → IsLife (life_of old) life.now life.receipts None
   calm_life none = let Q : Option Change → Type 0 = λ d. IsAs old life.now life.receipts d in subst Q none was.1
@@ -119,14 +143,15 @@ module _ (size : Size) (b : Bench) (life : BenchLife) (h : ℕ) (n : Machine) (o
       let did = reported_end size b life (Reset r) old new (life_of old) on was device asked.stays.board asked.stays.length asked.stays.no_fewer calm_life life.doubt refl k
       (λ none. (asked.answered none).life) asked.down (λ none. (asked.answered none).cause) (λ none. ((asked.answered none).written, (asked.answered none).leaves.acknowledged.kept)) in
       let mid = acknowledged (Reset r) life b in
-      by_held (λ word x. Resets (Ok (kind, r)) h life b word x) held (words.Over (life_ends.Reset kind)) e (off mid, (Ok k, mid, did.0, (refl, refl)), (refl, did.1, did.2), refl)
+      by_held (λ word x. Resets (Ok (kind, r)) h life b word x) held (words.Over (life_ends.Reset kind)) e (off mid, (Ok k, mid, did.0, (refl, refl)), (refl, did.1, did.2), refl, λ _. refl)
 
   resets_err : (kind : ResetType) (r : Reason) (e : Refusal) (held : Word) → doze ≡ life.machine.doze → Asked Applied old (Reset r) (Err e) new → Refused_to Failed (hart_at life.machine h) t held → Came (λ word x. Resets (Ok (kind, r)) h life b word x) held
   resets_err kind r e held still asked refused =
       let did = reported_err size b life (Reset r) old new (life_of old) on was device asked.stays.board asked.stays.length asked.stays.no_fewer calm_life life.doubt refl e
       (λ none. (asked.answered none).life) asked.down (λ none. (asked.answered none).cause) (λ none. (asked.answered none).counts) asked.untouched in
-      let last = fails (number_of_refusal e) (life_ends.Reset kind) did.0 held still did.2 did.3 refused in
-      (last.0, (Err (number_of_refusal e), did.0, did.1, last.1), last.2, last.3)
+      let grows = issued_grows life.doubt (Reset r) life b (Err (number_of_refusal e)) did.0 did.1 in
+      let last = fails (number_of_refusal e) (life_ends.Reset kind) did.0 held still did.2 did.3 (λ _. grows) refused in
+      (last.0, (Err (number_of_refusal e), did.0, did.1, last.1), last.2, last.3, last.4)
 
   resets_by : (kind : ResetType) (r : Reason) (o : Result ℕ Refusal) (held : Word) → doze ≡ life.machine.doze → Asked Applied old (Reset r) o new → EndsReset kind o (hart_at life.machine h) t held → Came (λ word x. Resets (Ok (kind, r)) h life b word x) held
   resets_by kind r (Ok k) held still asked ended = resets_ok kind r k held asked ended.1
@@ -162,7 +187,9 @@ module _ (size : Size) (b : Bench) (life : BenchLife) (h : ℕ) (n : Machine) (o
 
     -- the command was refused so, and the life goes on
     abbrev Suspending : ℕ → Type 0
-    Suspending k = (x : Bench) × SuspendIssued Fits command life b (Err k) x × Running size x life.machine new × (x.payloads ≡ b.payloads)
+    Suspending k =
+        (x : Bench) × SuspendIssued Fits command life b (Err k) x × Running size x life.machine new × (x.payloads ≡ b.payloads)
+        × CountsRefused new b x
 
     module _ (r : Result ℕ Refusal) (asked : Asked (Suspended Fits) old command r new) where
       abbrev seen : StoreLife
@@ -185,24 +212,26 @@ module _ (size : Size) (b : Bench) (life : BenchLife) (h : ℕ) (n : Machine) (o
       still unmoved_store = still_sides size b life command old new seen on was device asked.stays.board asked.stays.length asked.stays.no_fewer unmoved_store
 
       unfit : life.doubt ≡ None → (Fits → ⊥) → (e : Refusal) → (e ≡ Down → ⊥) → (e ≡ Device → ⊥) → (e ≡ Memory → ⊥) → Keeps_store e → CausedRefusal (store_fault_state old) e (store_fault_state new) → life_of new ≡ seen → Suspending 3
-      unfit none not e up is room keeps cause same = (b, inr (inr (not, refl, refl)), as_it_was none e up is cause same b refl refl refl refl refl (still (keeps is up room)), refl)
+      unfit none not e up is room keeps cause same = (b, inr (inr (not, refl, refl)), as_it_was none e up is cause same b refl refl refl refl refl (still (keeps is up room)), refl, λ _. refl)
 
       issued : Fits → (e : Refusal) → ((x : Bench) × Issued command life b (Err (number_of_refusal e)) x × Running size x life.machine new × (x.payloads ≡ b.payloads)) → (k : ℕ) × Suspending k
-      issued fits e did = (number_of_refusal e, (did.0, inl (fits, did.1), did.2, did.3))
+      issued fits e did =
+          let grows = issued_grows life.doubt command life b (Err (number_of_refusal e)) did.0 did.1 in
+          (number_of_refusal e, (did.0, inl (fits, did.1), did.2, did.3, λ _. grows))
 
       goes_up : life.doubt ≡ None → Fits → (e : Refusal) → Refused seen command e (life_of new) → CausedRefusal (store_fault_state old) e (store_fault_state new) → CountedRefusal (store_facts old).failures e (store_facts new).failures → Keeps_store e → (k : ℕ) × Suspending k
       goes_up none fits e up cause counts keeps = issued fits e (reported_up size b life command old new seen on was device asked.stays.board asked.stays.length asked.stays.no_fewer seen_as none e up cause counts keeps)
 
       fit_err : life.doubt ≡ None → Fits → (e : Refusal) → SuspendRefused Fits seen command e (life_of new) → CausedRefusal (store_fault_state old) e (store_fault_state new) → CountedRefusal (store_facts old).failures e (store_facts new).failures
-          → Keeps_store e → (k : ℕ) × Suspending k
-      fit_err none fits e (inl x) cause counts keeps = goes_up none fits e x.1 cause counts keeps
-      fit_err none fits e (inr (inl x)) cause counts keeps = absurd (x.1 fits)
-      fit_err none fits e (inr (inr (inl x))) cause counts keeps =
+          → Keeps_store e → (e ≡ Memory → was_refused_memory new ≡ true) → (k : ℕ) × Suspending k
+      fit_err none fits e (inl x) cause counts keeps remembers = goes_up none fits e x.1 cause counts keeps
+      fit_err none fits e (inr (inl x)) cause counts keeps remembers = absurd (x.1 fits)
+      fit_err none fits e (inr (inr (inl x))) cause counts keeps remembers =
           let up : e ≡ Down → ⊥ = λ f. (let g : Memory ≡ Down = sym x.0 ∙ f in let no : ⊥ = cc in no) in
           let is : e ≡ Device → ⊥ = λ f. (let g : Memory ≡ Device = sym x.0 ∙ f in let no : ⊥ = cc in no) in
-          (11, (out_of_memory b, inr (inl (fits, refl, refl)), as_it_was none e up is cause x.3 (out_of_memory b) refl refl refl refl refl (starved_sides size (out_of_memory b) b.growths (store_facts new) refl), refl))
-      fit_err none fits e (inr (inr (inr (inl x)))) cause counts keeps = absurd (let g : true ≡ false = sym x.1 ∙ (seen_as none).3 in let no : ⊥ = cc in no)
-      fit_err none fits e (inr (inr (inr (inr x)))) cause counts keeps = goes_up none fits e (inr (inr (inr (inl (x.0, x.1, x.2, x.3))))) cause counts keeps
+          (11, (out_of_memory b, inr (inl (fits, refl, refl)), as_it_was none e up is cause x.3 (out_of_memory b) refl refl refl refl refl (starved_sides size (out_of_memory b) b.growths (store_facts new) refl), refl, λ none_was. absurd (let g : true ≡ false = sym (remembers x.0) ∙ none_was in let no : ⊥ = cc in no)))
+      fit_err none fits e (inr (inr (inr (inl x)))) cause counts keeps remembers = absurd (let g : true ≡ false = sym x.1 ∙ (seen_as none).3 in let no : ⊥ = cc in no)
+      fit_err none fits e (inr (inr (inr (inr x)))) cause counts keeps remembers = goes_up none fits e (inr (inr (inr (inl (x.0, x.1, x.2, x.3))))) cause counts keeps
 
       unfit_err : life.doubt ≡ None → (Fits → ⊥) → (e : Refusal) → SuspendRefused Fits seen command e (life_of new) → CausedRefusal (store_fault_state old) e (store_fault_state new) → Keeps_store e → (k : ℕ) × Suspending k
       unfit_err none not e (inl x) cause keeps = absurd (not x.0)
@@ -224,12 +253,12 @@ module _ (size : Size) (b : Bench) (life : BenchLife) (h : ℕ) (n : Machine) (o
     suspend_err e asked = by life.doubt refl fits_or_not
       where
         by : (doubt : Option Change) → life.doubt ≡ doubt → Fits ⊎ (Fits → ⊥) → (k : ℕ) × Suspending k
-        by None none (inl fits) = let did = asked.answered (was.1.2 ∙ none) in fit_err (Err e) asked none fits e did.life.told did.cause did.counts asked.untouched
+        by None none (inl fits) = let did = asked.answered (was.1.2 ∙ none) in fit_err (Err e) asked none fits e did.life.told did.cause did.counts asked.untouched (λ f. asked.remembered (ap (λ k. Err k) f))
         by None none (inr not) = let did = asked.answered (was.1.2 ∙ none) in unfit_err (Err e) asked none not e did.life.told did.cause asked.untouched
         by (Some d) at (inl fits) =
             issued (Err e) asked fits e (reported_down size b life command old new (life_of old) on was device asked.stays.board asked.stays.length asked.stays.no_fewer calm_life d at e (asked.down d (was.1.2 ∙ at)))
         by (Some d) at (inr not) =
-            (3, (b, inr (inr (not, refl, refl)), unmoved size b life command old new (life_of old) on was device asked.stays.board asked.stays.length asked.stays.no_fewer (asked.down d (was.1.2 ∙ at)).1, refl))
+            (3, (b, inr (inr (not, refl, refl)), unmoved size b life command old new (life_of old) on was device asked.stays.board asked.stays.length asked.stays.no_fewer (asked.down d (was.1.2 ∙ at)).1, refl, λ _. refl))
 
     -- acknowledged
     suspend_ok : (k : ℕ) → Asked (Suspended Fits) old command (Ok k) new → (x : Bench) × SuspendIssued Fits command life b (Ok k) x × (x ≡ acknowledged command life b) × IsEnded size (off x) new
@@ -264,7 +293,7 @@ module _ (size : Size) (b : Bench) (life : BenchLife) (h : ℕ) (n : Machine) (o
       let Q : SimStore → Type 0 = λ store. StoreIs size b.disk_state b.kept life store in
       let S : SimStore → Type 0 = λ store. DeviceIs size b (store_fault_state store) (store_facts store) in
       by_held (λ word x. BenchSleeps ToRam site opaque h life b word x) held (word_of_sleep ToRam) at
-      (on_with next b, inr (alone, (refl, refl)), (next, refl, has_other size b life next.machine new refl (subst Q (sym same) was), is, subst S (sym same) device), refl)
+      (on_with next b, inr (alone, (refl, refl)), (next, refl, has_other size b life next.machine new refl (subst Q (sym same) was), is, subst S (sym same) device), refl, λ _. refl)
 
   -- to disk
   sleeps_by : (site opaque : ℕ) (r : Result ℕ Refusal) (fell : Result Sleep SbiError) (held : Word) → doze ≡ life.machine.doze → IsValidAddress life.machine.size site → IsAlone the_hart.id life.machine
@@ -273,12 +302,12 @@ module _ (size : Size) (b : Bench) (life : BenchLife) (h : ℕ) (n : Machine) (o
   sleeps_by site opaque (Ok k) fell held still address alone asked e ended =
       let P : Result Sleep SbiError → Type 0 = λ o. EndsSleep o the_hart t held in
       let did = suspend_ok the_hart.id site opaque life.machine.memory address k asked in
-      by_held (λ word x. BenchSleeps ToDisk site opaque h life b word x) held (words.Over life_ends.Asleep) (subst P e ended).1 (off did.0, inr (alone, (Ok k, did.0, did.1, (refl, refl))), did.3, ap (λ (y : Bench). y.payloads) did.2)
+      by_held (λ word x. BenchSleeps ToDisk site opaque h life b word x) held (words.Over life_ends.Asleep) (subst P e ended).1 (off did.0, inr (alone, (Ok k, did.0, did.1, (refl, refl))), did.3, ap (λ (y : Bench). y.payloads) did.2, λ _. ap (λ (y : Bench). y.growths) did.2)
   sleeps_by site opaque (Err f) fell held still address alone asked e ended =
       let P : Result Sleep SbiError → Type 0 = λ o. EndsSleep o the_hart t held in
       let did = suspend_err the_hart.id site opaque life.machine.memory address f asked in
-      let last = fails did.0 life_ends.Asleep did.1.0 held still did.1.2 did.1.3 (subst P e ended) in
-      (last.0, inr (alone, (Err did.0, did.1.0, did.1.1, last.1)), last.2, last.3)
+      let last = fails did.0 life_ends.Asleep did.1.0 held still did.1.2 did.1.3 did.1.4 (subst P e ended) in
+      (last.0, inr (alone, (Err did.0, did.1.0, did.1.1, last.1)), last.2, last.3, last.4)
 
   falls : (sleep : Sleep) (site opaque : ℕ) (fell : Result Sleep SbiError) (held : Word) → IsValidAddress life.machine.size site → IsAlone the_hart.id life.machine
       → FallsAsleepBy sleep the_hart.id site opaque (bus life.machine.doze) old fell (bus doze) new → life.machine.size ≡ store_size old → EndsSleep fell the_hart t held
@@ -299,7 +328,7 @@ module _ (size : Size) (b : Bench) (life : BenchLife) (h : ℕ) (n : Machine) (o
   sleeps kind address opaque (Ok asked) fell held checked (inl (busy, is, kept, same)) sized ended =
       let P : Result Sleep SbiError → Type 0 = λ o. EndsSleep o the_hart t held in
       let did = refuses Denied held (subst P is ended) (same_doze kept) same in
-      (did.0, inl (busy, did.1), did.2, did.3)
+      (did.0, inl (busy, did.1), did.2, did.3, did.4)
   sleeps kind address opaque (Ok asked) fell held checked (inr (alone, so)) sized ended =
       let Q : ℕ → Type 0 = λ a. IsValidAddress life.machine.size a in
       falls asked.0 asked.1 opaque fell held (subst Q (sym checked.1) (valid checked)) alone so sized ended
@@ -314,7 +343,7 @@ module _ (size : Size) (b : Bench) (life : BenchLife) (h : ℕ) (n : Machine) (o
       let P : Size → Type 0 = λ z. IsChecked z kind address alone.asked in
       let checked = subst P (sym sized) alone.checked in
       let did = sleeps kind address opaque alone.asked fell held checked alone.slept sized ended in
-      (did.0, (alone.asked, checked, did.1), did.2, did.3)
+      (did.0, (alone.asked, checked, did.1), did.2, did.3, did.4)
 
   makes : (call : Call) (held : Word) → HeldIn life.machine.size.harts call the_hart t life.machine.table (bus life.machine.doze) (bus doze) old new held → life.machine.size ≡ store_size old → Came (λ word x. BenchMakesCall call h life b word x) held
   makes (calls.SystemReset kind reason) held x sized = resets (reset_of kind reason) held (same_doze x.1) x.0
@@ -325,8 +354,13 @@ module _ (size : Size) (b : Bench) (life : BenchLife) (h : ℕ) (n : Machine) (o
 abbrev Comes_so : Size → (Word → Bench → Type 0) → Bench → Word → Machine → SimStore → Type 0
 Comes_so size step b word n new = (x : Bench) × step word x × Stands size word x n new × (x.payloads ≡ b.payloads)
 
+-- and the bench counts what the store was refused
+abbrev pub Comes_counting : Size → (Word → Bench → Type 0) → Bench → Word → Machine → SimStore → Type 0
+Comes_counting size step b word n new =
+    (x : Bench) × step word x × Stands size word x n new × (x.payloads ≡ b.payloads) × CountsRefused new b x
+
 module _ (size : Size) (b : Bench) (life : BenchLife) (h : ℕ) (n : Machine) (old new : SimStore) (on : b.power ≡ Some life) (was : StoreIs size b.disk_state b.kept life old) (device : DeviceIs size b (store_fault_state old) (store_facts old)) where
-  called : (held : Word) → MachineCall h life.machine n old new held → Comes_so size (λ word x. ComesTo Durable h life b word x) b held n new
+  called : (held : Word) → MachineCall h life.machine n old new held → Comes_counting size (λ word x. ComesTo Durable h life b word x) b held n new
   called held (doze, after, is, e) =
       let F : Machine = record life.machine { doze = doze; harts = slice_set life.machine.harts h after.hart } in
       let made : n ≡ F = e ∙ ap (λ x. record { size = life.machine.size; memory = after.memory; doze = doze; harts = slice_set life.machine.harts h after.hart; table = x }) is.1
@@ -335,13 +369,13 @@ module _ (size : Size) (b : Bench) (life : BenchLife) (h : ℕ) (n : Machine) (o
       (record { ram = life.machine.memory; doze = life.machine.doze }) (record { ram = m; doze = doze }) old new held in
       makes size b life h n old new on was device after.hart doze made (call_of (hart_at life.machine h)) held (subst P is.2 is.0) (sized_for size b.disk_state b.kept life (store_size old) was.0)
 
-  pub comes : (did : Turned) (word : Word) → boards.Comes did h life.machine n old new word → Comes_so size (λ word x. ComesTo did h life b word x) b word n new
+  pub comes : (did : Turned) (word : Word) → boards.Comes did h life.machine n old new word → Comes_counting size (λ word x. ComesTo did h life b word x) b word n new
   comes Durable word made = called word made
   comes (Made did) word (same, still, e) =
-      let P : Word → Type 0 = λ w. Comes_so size (λ word x. ComesTo (Made did) h life b word x) b w n new in
+      let P : Word → Type 0 = λ w. Comes_counting size (λ word x. ComesTo (Made did) h life b word x) b w n new in
       let Q : SimStore → Type 0 = λ store. StoreIs size b.disk_state b.kept life store in
       let S : SimStore → Type 0 = λ store. DeviceIs size b (store_fault_state store) (store_facts store) in
-      subst P (sym e) (b, (refl, refl), (life, on, subst Q (sym still) was, same, subst S (sym still) device), refl)
+      subst P (sym e) (b, (refl, refl), (life, on, subst Q (sym still) was, same, subst S (sym still) device), refl, λ _. refl)
 
 -- ---- turns
 turn : (size : Size) (h : ℕ) (b : Bench) (life : BenchLife) (n : Machine) (old new : SimStore) (word : Word) → b.power ≡ Some life → StoreIs size b.disk_state b.kept life old → DeviceIs size b (store_fault_state old) (store_facts old)

@@ -13,7 +13,6 @@ use Rattle.store.specs.Opens.{IsBoard, CausedRefusal}
 use Rattle.store.specs.Standing.{selected, state_of, image_of, StandsFor}
 use Rattle.store.specs.Inspects.{KeepsImage, IsInspected, InspectRefused}
 use Rattle.store.specs.declared.inspects.Inspection.{Inspection}
-use Rattle.bench_report.specs.declared.power.Power.TheVariants.{Off}
 use Rattle.bench_report.specs.declared.printed.Answer.{Answer}
 use Rattle.bench_report.specs.declared.printed.Printed.TheVariants as printed
 use Rattle.bench_report.specs.Views.{facts, fault_state}
@@ -61,7 +60,7 @@ module _ (goes_on : GoesOn) (size : Size) (b : Bench) (old new : SimDisk) (a : A
   still same = stays size b (fault_state old) (fault_state new) (facts old) (facts new) device same alone.no_fewer (ap length alone.content) (passed old new alone.crash)
 
   abbrev pub Examines : Type 0
-  Examines = StepsTo size b (Off new) (InspectsOn size b a)
+  Examines = (after : Bench) × InspectsOn size b a after × OffIs size after new × (after.payloads ≡ b.payloads)
 
   pub examined : (i : Inspection) → ((z : Size) × IsBoard z (facts old).content × IsInspected z (facts old).content i) → fault_state new ≡ fault_state old → a ≡ says (printed.Inspected i) → Examines
   examined i seen same e = (b, inl ((facts old).content, may_read, inl (printed.Inspected i, seen, e, refl)), (was.0, disk, still same), refl)

@@ -251,7 +251,7 @@ asked_at b a new (inr (inr x)) failure_free = absurd ((of_answer a (printed.Insp
 aside_many : (e : Effect) (b new : Bench) → new ≡ affected e b → AsMany b new
 aside_many Stays b new x = as_many b b new refl refl x
 aside_many (SetsPayloads payloads) b new x = as_many b _ new refl refl x
-aside_many (Arms armed) b new x = as_many b _ new refl refl x
+aside_many (Arms fault) b new x = as_many b _ new refl refl x
 aside_many CutsPower b new x = as_many b _ new refl refl x
 aside_many (WakesBoard life) b new x = as_many b _ new refl refl x
 aside_many WritesPast b new x = as_many b _ new refl refl x

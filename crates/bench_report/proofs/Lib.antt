@@ -36,3 +36,4 @@ pub mod Came
 pub mod Lines
 pub mod RunLines
 pub mod Found
+pub mod Cuts

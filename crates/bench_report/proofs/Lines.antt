@@ -18,6 +18,7 @@ use Rattle.machine_lines.specs.Shows.{HasHart, own_line, made_line, called_line}
 use Rattle.machine_lines.specs.declared.line.MachineLine.{MachineLine}
 use Rattle.machine_lines.specs.declared.line.MachineLine.TheVariants as shown
 use Rattle.bench_report.specs.declared.power.Power.{Power}
+use Rattle.bench_report.specs.declared.power.OffDisk.{OffDisk}
 use Rattle.bench_report.specs.declared.power.Power.TheVariants.{Off, On}
 use Rattle.bench_report.specs.declared.printed.Answer.{Answer}
 use Rattle.bench_report.specs.Views.{SimStore, SimBoard, store_in, machine_in, store_facts, store_fault_state}
@@ -175,15 +176,15 @@ module _ (size : Size) (b : Bench) (life : BenchLife) (old new : SimBoard) (on :
 abbrev pub Keeps : Size → Bench → Power → ℕ → List ℕ → MachineLine → List (List ℕ) → Type 0
 Keeps size b power slot bytes line payloads = (new : Bench) × AsideStep (SetSlot slot bytes) b.power b (shows line) new × Matches size new power payloads
 
-pub keeps_off : (size : Size) (b : Bench) (power : Power) (disk : SimDisk) (slot : ℕ) (bytes : List ℕ) (old new : List (List ℕ)) → power ≡ Off disk → IsBench size b power old → new ≡ slice_set old slot bytes
+pub keeps_off : (size : Size) (b : Bench) (power : Power) (disk : OffDisk) (slot : ℕ) (bytes : List ℕ) (old new : List (List ℕ)) → power ≡ Off disk → IsBench size b power old → new ≡ slice_set old slot bytes
     → Keeps size b power slot bytes (shown.Payload slot (length bytes)) new
 keeps_off size b power disk slot bytes old new at was set =
     let next : Bench = record b { payloads = slice_set b.payloads slot bytes } in
     let P : Option BenchLife → Type 0 = λ p. AsideStep (SetSlot slot bytes) p b (shows (shown.Payload slot (length bytes))) next in
     let Q : Power → Type 0 = λ p. Agrees size b p in
     let R : Power → Type 0 = λ p. Agrees size next p in
-    let off : OffIs size b disk = subst Q at was.0 in
-    let next_off : OffIs size next disk = off in
+    let off : OffIs size b disk.disk = subst Q at was.0 in
+    let next_off : OffIs size next disk.disk = off in
     (next, subst P (sym off.0) (refl, refl), (subst R (sym at) next_off, set ∙ ap (λ ps. slice_set ps slot bytes) was.1))
 
 busy_on : (size : Size) (b : Bench) (power : Power) (board : SimBoard) (p : Option BenchLife) (slot : ℕ) (bytes : List ℕ) (old : List (List ℕ)) → BoardIs size b.disk_state b.kept p board → IsBench size b power old

@@ -8,7 +8,6 @@ use Rattle.disk.specs.Facts.{Facts, Unchanged}
 use Rattle.simdisk.specs.declared.SimDisk.{SimDisk}
 use Rattle.store.specs.Leaves.{SameLength}
 use Rattle.bench_report.specs.declared.power.Power.{Power}
-use Rattle.bench_report.specs.declared.power.Power.TheVariants.{Off}
 use Rattle.bench_report.specs.declared.printed.Answer.{Answer}
 use Rattle.bench_report.specs.declared.printed.Printed.TheVariants as printed
 use Rattle.bench_report.specs.Views.{facts, fault_state}
@@ -32,7 +31,7 @@ past_firmware : (size : Size) (b : Bench) (disk : Facts) → SidesAre size (writ
 past_firmware size b disk clean c may = absurd (let no : true ≡ false = clean.1 in let never : ⊥ = cc in never)
 
 pub poked_off : (size : Size) (b : Bench) (old new : SimDisk) (a : Answer) → OffIs size b old → NoCall (facts old) (facts new) (fault_state old) (fault_state new) → SameLength (facts old) (facts new)
-    → a ≡ says printed.Poked → StepsTo size b (Off new) (AsideStep WritePast b.power b a)
+    → a ≡ says printed.Poked → (after : Bench) × AsideStep WritePast b.power b a after × OffIs size after new × (after.payloads ≡ b.payloads)
 poked_off size b old new a was same long e =
     let x : Bench = written_past b in
     let P : Option BenchLife → Type 0 = λ p. AsideStep WritePast p b a x in

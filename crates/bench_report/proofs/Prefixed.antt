@@ -275,7 +275,7 @@ asked_at b a new sound (inr (inr x)) = same Nothing b a (printed.InspectRefused 
 aside_at : (said : Printed) (e : Effect) (b : Bench) (a : Answer) (new : Bench) → OfFirmware e → FitsPower b.power e → TellsNothing said e → IsSound b → a ≡ says said → new ≡ affected e b → Tell Nothing b a new
 aside_at said Stays b a new by fits tells sound h x = stays Nothing b a said new h x sound (λ s t e. tells s t (is_up b.power) e)
 aside_at said (SetsPayloads payloads) b a new by fits tells sound h x = same Nothing b a said new _ h x refl refl refl sound.1 sound (λ s t e. tells s t (is_up b.power) e)
-aside_at said (Arms armed) b a new by fits tells sound h x = same Nothing b a said new (armed_with armed b) h x refl refl refl sound.1 sound (λ s t e. tells s t (is_up b.power) e)
+aside_at said (Arms fault) b a new by fits tells sound h x = same Nothing b a said new (armed_with fault b) h x refl refl refl sound.1 sound (λ s t e. tells s t (is_up b.power) e)
 aside_at said CutsPower b a new by fits tells sound h x =
     by_eqs Nothing b a (says printed.Cut) new (unpowered b) (h ∙ ap says tells) x ((sound.0, tt), λ t f. (t, f, (tt, (refl, refl))))
 aside_at said (WakesBoard life) b a new by fits tells sound h x =

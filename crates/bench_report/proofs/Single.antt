@@ -76,7 +76,7 @@ asked_fair b a new (inr (inr x)) = spoils b new (fails b new x.1)
 aside_fair : (e : Effect) (b new : Bench) → OfFirmware e → new ≡ affected e b → Fair b new
 aside_fair Stays b new by x = unmoved b new x
 aside_fair (SetsPayloads payloads) b new by x = fair_to b new _ x (λ s. s, λ c. inr c, λ s. s)
-aside_fair (Arms armed) b new by x = fair_to b new _ x (λ s. s, λ c. inr c, λ s. s)
+aside_fair (Arms fault) b new by x = fair_to b new _ x (λ s. s, λ c. inr c, λ s. s)
 aside_fair CutsPower b new by x = fair_to b new (unpowered b) x (λ s. s, λ c. inr (c.0, refl, c.2), λ s. s)
 aside_fair (WakesBoard life) b new by x = fair_to b new _ x (λ s. s, λ c. inr c, λ s. s)
 aside_fair WritesPast b new by x = absurd by

@@ -257,7 +257,7 @@ module _ (size : Size) where
   aside_line : (e : Effect) (b new : Bench) → OfFirmware e → FitsPower b.power e → IsKeptWhole size b → new ≡ affected e b → IsKeptWhole size new
   aside_line Stays b new by fits k x = same_as b new x k
   aside_line (SetsPayloads payloads) b new by fits k x = same_as _ new x k
-  aside_line (Arms armed) b new by fits k x = same_as (armed_with armed b) new x k
+  aside_line (Arms fault) b new by fits k x = same_as (armed_with fault b) new x k
   aside_line CutsPower b new by fits k x = same_as (unpowered b) new x (k.0, k.1, k.2, tt)
   aside_line (WakesBoard life) b new by fits k x = same_as _ new x (k.0, k.1, k.2, sized life b fits k)
   aside_line WritesPast b new by fits k x = absurd by

@@ -1,5 +1,5 @@
 -- How the code's disk and board stand for the bench of the model.
-use Rattle.std.specs.Prelude.{◌≡◌, false, ◌⊎◌, true, false, ℕ, List, [], ◌∷◌, All, ◌≤◌, Option, Some, None, Result, OnOk, IfOk, length, ⊤}
+use Rattle.std.specs.Prelude.{◌≡◌, false, ◌⊎◌, Bool, true, false, ℕ, List, [], ◌∷◌, All, ◌≤◌, Option, Some, None, Result, OnOk, IfOk, length, ⊤}
 use Rattle.board_model.specs.Durable.{DurableState}
 use Rattle.board_model.specs.Kept.{Kept, MayFind, found_of}
 use Rattle.board_model.specs.Shapes.{Size, sectors_of}
@@ -14,7 +14,7 @@ use Rattle.write_log.specs.WriteLog.{synced}
 use Rattle.simdisk.specs.Pokes.{PokeFits, StandsSo, poked}
 use Rattle.script_lang.specs.declared.line.Line.{Line}
 use Rattle.script_lang.specs.declared.line.Line.TheVariants as lines
-use Rattle.store.specs.Leaves.{Leaves, IsBlank, IsKept, IsIdle}
+use Rattle.store.specs.Leaves.{Leaves, IsBlank, IsKept}
 use Rattle.sbi.specs.declared.words.Word.{Word}
 use Rattle.sbi.specs.declared.words.Word.TheVariants as words
 use Rattle.bench_report.specs.declared.power.Power.{Power}
@@ -85,7 +85,7 @@ BoardAfter size (words.Goes did) b board = OnIs size b board
 BoardAfter size (words.Over end) b board = OverIs size b board
 
 abbrev pub Agrees : Size → Bench → Power → Type 0
-Agrees size b (Off disk) = OffIs size b disk
+Agrees size b (Off off) = OffIs size b off.disk
 Agrees size b (On board) = OnIs size b board
 
 -- the code's board and payloads stand for the bench, within a line
@@ -98,18 +98,18 @@ IsBench size b power payloads = Agrees size b power × (payloads ≡ b.payloads)
 
 -- the disk of a board that is off, or the one that the store of a board holds that is on
 abbrev pub HasDisk : Power → SimDisk → Type 0
-HasDisk (Off disk) d = d ≡ disk
+HasDisk (Off off) d = d ≡ off.disk
 HasDisk (On board) d = d ≡ disk_in board
 
 -- power was cut, and the disk holds exactly what the fill says of what was written since the last sync
 abbrev pub IsCutBy : Fill → SimDisk → Power → Type 0
 IsCutBy fill d (Off left) =
-    (facts left).content ≡ left_by_fill fill (synced (sim_log_of d)) (sim_log_of d).written
+    (facts left.disk).content ≡ left_by_fill fill (synced (sim_log_of d)) (sim_log_of d).written
 IsCutBy fill d (On board) = ⊥
 
 -- that fault is armed on the disk, whether the board is off or on, and each call of it is still to come
 abbrev pub IsArmed : ArmedFault → Power → Type 0
-IsArmed fault (Off disk) = arms disk fault
+IsArmed fault (Off off) = arms off.disk fault
 IsArmed fault (On board) = store_arms (store_in board) fault
 
 -- what a line arms
@@ -121,8 +121,8 @@ ArmsIts line power = ⊤
 -- else has changed.
 abbrev pub Pokes : ℕ → ℕ → List ℕ → Power → Power → Type 0
 Pokes k offset bytes (Off old) (Off new) =
-    PokeFits k offset bytes (facts old).content
-    → StandsSo k (poked k offset bytes (facts old).content) (facts old) (facts new)
+    PokeFits k offset bytes (facts old.disk).content
+    → StandsSo k (poked k offset bytes (facts old.disk).content) (facts old.disk) (facts new.disk)
 Pokes k offset bytes (Off old) (On board) = ⊥
 Pokes k offset bytes (On board) after = ⊤
 
@@ -133,7 +133,7 @@ PokesIts line before did after = ⊤
 
 -- what is said of the disk of a board that is off, by its content itself
 abbrev pub Inspects : Power → Answer → Type 0
-Inspects (Off disk) answer = AnswersOf (facts disk).content answer
+Inspects (Off off) answer = AnswersOf (facts off.disk).content answer
 Inspects (On board) answer = ⊤
 
 -- what a line says that examines the disk
@@ -159,14 +159,12 @@ EndsBy size line fill b answer left =
     × (mid.fault_state.struck ≡ true) × Agrees size mid after × HasDisk after disk × IsCutBy fill disk left)
 
 -- no armed cut has struck the disk of a board that is on
-abbrev pub IsUnstruck : Power → Type 0
-IsUnstruck (Off disk) = ⊤
-IsUnstruck (On board) = (store_fault_state (store_in board)).struck ≡ false
+abbrev pub is_struck : Power → Bool
+is_struck (Off off) = false
+is_struck (On board) = (store_fault_state (store_in board)).struck
 
--- nothing of a disk that no store holds is lent
-abbrev pub IsResting : Power → Type 0
-IsResting (Off disk) = IsIdle (facts disk)
-IsResting (On board) = ⊤
+abbrev pub IsUnstruck : Power → Type 0
+IsUnstruck power = is_struck power ≡ false
 
 -- what a function that neither keeps a payload nor speaks of one says of a line: there is a bench after it by
 -- this step

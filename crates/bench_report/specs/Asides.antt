@@ -1,6 +1,6 @@
 -- Deeds that ask nothing of the disk and of no hart: what is said of each, and what it does to the bench.
 use Rattle.std.specs.Prelude.{◌≡◌, Bool, true, false, List, ℕ, Option, Some, None, length, slice_set}
-use Rattle.disk.specs.FaultState.{Armed, armed_by}
+use Rattle.disk.specs.declared.device.ArmedFault.{ArmedFault}
 use Rattle.susp.specs.Dozes.{can_wake, after_wake}
 use Rattle.machine_lines.specs.declared.line.MachineLine.TheVariants as shown
 use Rattle.bench_report.specs.declared.printed.Printed.{Printed}
@@ -11,12 +11,12 @@ use Rattle.bench_report.specs.Deeds.{Aside, SetSlot, ArmFault, CutPower, CallWak
 use Rattle.bench_report.specs.Happens.{says, on_with, unpowered, armed_with, written_past, has_machine}
 use Rattle.bench_report.specs.Armings.{fault_of}
 
--- it leaves the bench as it was; the slots boot these from now on; a fault is armed; power is cut; the board of that
+-- it leaves the bench as it was; the slots boot these from now on; that fault is armed; power is cut; the board of that
 -- life is woken; or the disk is written past the firmware
 pub data Effect : Type 0 where
   Stays : Effect
   SetsPayloads : List (List ℕ) → Effect
-  Arms : Armed → Effect
+  Arms : ArmedFault → Effect
   CutsPower : Effect
   WakesBoard : BenchLife → Effect
   WritesPast : Effect
@@ -24,7 +24,7 @@ pub data Effect : Type 0 where
 abbrev pub affected : Effect → Bench → Bench
 affected Stays b = b
 affected (SetsPayloads payloads) b = record b { payloads = payloads }
-affected (Arms armed) b = armed_with armed b
+affected (Arms fault) b = armed_with fault b
 affected CutsPower b = unpowered b
 affected (WakesBoard life) b =
     on_with (has_machine (record life.machine { doze = after_wake life.machine.doze }) life) b
@@ -41,7 +41,7 @@ abbrev pub aside : Aside → Option BenchLife → List (List ℕ) → Printed ×
 aside (SetSlot slot bytes) None payloads =
     (printed.Shown (shown.Payload slot (length bytes)), SetsPayloads (slice_set payloads slot bytes))
 aside (SetSlot slot bytes) (Some life) payloads = (printed.Shown shown.Busy, Stays)
-aside (ArmFault arming) p payloads = (printed.Armed, Arms (armed_by (fault_of arming)))
+aside (ArmFault arming) p payloads = (printed.Armed, Arms (fault_of arming))
 aside CutPower p payloads = (printed.Cut, CutsPower)
 aside CallWake None payloads = (printed.Off, Stays)
 aside CallWake (Some life) payloads = wakes (can_wake life.machine.doze) life

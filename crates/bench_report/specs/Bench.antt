@@ -21,9 +21,10 @@ pub record BenchLife : Type 0 where
   pub machine : Machine
 
 -- The disk and, once it was formatted, the commands that it keeps; the board where it is on; what the slots
--- boot; how often a power-on was refused memory (11), how often a failure of the disk was answered (each 5,
--- and each 6 that begins a doubt), the fault state of the disk: what is armed, whether an armed cut has
--- struck, and how often it failed by itself; and whether the disk was ever written past the firmware.
+-- boot; how often memory was refused (11), to a power-on, to a suspension, whose hart finds -1, or to an
+-- examination of the disk; how often a failure of the disk was answered (each 5, and each 6 that begins a
+-- doubt), the fault state of the disk: what is armed, whether an armed cut has struck, how often it failed by
+-- itself, and all that the lines armed; and whether the disk was ever written past the firmware.
 pub record Bench : Type 0 where
   pub disk_state : DiskState
   pub kept : Kept

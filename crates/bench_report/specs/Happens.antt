@@ -3,7 +3,8 @@ use Rattle.std.specs.Prelude.{◌≡◌, ◌+◌, true, List, [], ◌∷◌, ◌
 use Rattle.board_model.specs.Durable.{Change, after, fold}
 use Rattle.board_model.specs.Kept.{nothing_kept}
 use Rattle.disk.specs.Facts.{counted}
-use Rattle.disk.specs.FaultState.{Armed, FaultState, Cause, fault_state_left}
+use Rattle.disk.specs.FaultState.{FaultState, Cause, fault_state_armed, fault_state_left}
+use Rattle.disk.specs.declared.device.ArmedFault.{ArmedFault}
 use Rattle.machine.specs.Machine.{Machine}
 use Rattle.machine_lines.specs.declared.line.MachineLine.{MachineLine}
 use Rattle.bench_report.specs.declared.printed.Printed.{Printed}
@@ -23,7 +24,7 @@ shows line = says (printed.Shown line)
 
 -- ---- the bench after one thing that happened
 
--- a power-on was refused memory
+-- memory was refused: to a power-on, a suspension or an examination of the disk
 abbrev pub out_of_memory : Bench → Bench
 out_of_memory b = record b { growths = b.growths + 1 }
 
@@ -45,9 +46,9 @@ on_with life b = record b { power = Some life }
 abbrev pub unpowered : Bench → Bench
 unpowered b = record b { power = None; fault_state = fault_state_left b.fault_state }
 
--- a cut or a failure is armed, in the place of an older one
-abbrev pub armed_with : Armed → Bench → Bench
-armed_with armed b = record b { fault_state = record b.fault_state { armed = armed } }
+-- that fault is armed, in the place of an older one
+abbrev pub armed_with : ArmedFault → Bench → Bench
+armed_with fault b = record b { fault_state = fault_state_armed fault b.fault_state }
 
 -- nothing is known of the disk any more
 abbrev pub unknown : Bench → Bench

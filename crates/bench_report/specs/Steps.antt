@@ -1,7 +1,7 @@
 -- What a line of a script may answer, and what the bench then is; whole runs. Source: docs/SCRIPT.md.
 use Rattle.std.specs.Prelude.{◌≡◌, ℕ, ◌⊎◌, Bool, true, false, List, [], ◌∷◌, Option, Some, None, Result, Ok, Err, length, slice_set}
 use Rattle.board_model.specs.Shapes.{Size}
-use Rattle.disk.specs.FaultState.{Armed}
+use Rattle.disk.specs.declared.device.ArmedFault.{ArmedFault}
 use Rattle.board_model.specs.declared.boot_mode.BootMode.{BootMode}
 use Rattle.machine.specs.Machine.{Machine, hart_at}
 use Rattle.script_lang.specs.declared.line.Line.{Line}
@@ -79,9 +79,9 @@ ReadStep None says_so b answer new = (answer ≡ shows shown.Off) × (new ≡ b)
 ReadStep (Some life) says_so b answer new =
     (line : MachineLine) × says_so life.machine line × (answer ≡ shows line) × (new ≡ b)
 
--- a line that arms a cut or a failure, of the disk or of one of its lanes, with the board on or off
-abbrev pub ArmStep : Armed → Bench → Answer → Bench → Type 0
-ArmStep armed b answer new = (answer ≡ says printed.Armed) × (new ≡ armed_with armed b)
+-- a line that arms that fault, of the disk or of one of its lanes, with the board on or off
+abbrev pub ArmStep : ArmedFault → Bench → Answer → Bench → Type 0
+ArmStep fault b answer new = (answer ≡ says printed.Armed) × (new ≡ armed_with fault b)
 
 -- a question
 abbrev pub QuestionStep : Size → Question → Option BenchLife → Bench → Answer → Bench → Type 0

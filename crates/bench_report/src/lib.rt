@@ -3,6 +3,7 @@
 #![tactic(auto)]
 
 mod armings;
+mod bench_board;
 mod laws;
 mod looks;
 mod power;
@@ -11,9 +12,12 @@ mod runs;
 mod setting;
 mod steps;
 
+pub use bench_board::BenchBoard;
 pub use laws::{all_are_found, inspections, one_report, power_ons, prefix_law, reports_split};
-pub use power::Power;
+pub use power::{OffDisk, Power};
 pub use printed::{Answer, Printed};
 pub use runs::{Report, Stopped, run, run_left, run_left_with, run_with, unwritten};
 pub use setting::Setting;
-pub use steps::{after, arm, console, disk_left, line_alone, line_with_cuts, power_on, struck};
+pub use steps::{
+    after, arm_disk, console, disk_left, line_alone, line_with_cuts, power_on, struck,
+};

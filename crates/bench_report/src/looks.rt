@@ -3,7 +3,7 @@
 ghost use Rattle.std.specs.Prelude.{◌≡◌, ◌<◌, ◌≤◌, ◌+◌, ◌*◌, ◌^◌, if◌then◌else◌};
 ghost use Rattle.board_model.specs.Shapes.{Size};
 ghost use Rattle.machine_lines.specs.Shows.{waits, CsrLine, pending_line};
-ghost use Rattle.bench_report.specs.Agree.{Agrees, IsResting, StepsTo};
+ghost use Rattle.bench_report.specs.Agree.{Agrees, StepsTo};
 ghost use Rattle.bench_report.specs.Bench.{Bench};
 ghost use Rattle.bench_report.specs.Happens.{shows};
 ghost use Rattle.bench_report.specs.Looks.{IsShown};
@@ -85,10 +85,8 @@ fn shown(board: &mut Board<SimDisk>, look: Look) -> MachineLine
 
 /// A line that shows memory or harts, where the board is on.
 pub fn look_line(look: Look, power: Power) -> (Power, MachineLine)
-    requires { IsResting power }
-    ensures reported { (size : Size) (b : Bench) → Agrees size b power
+    ensures { (size : Size) (b : Bench) → Agrees size b power
         → StepsTo size b result.0 (ReadStep b.power (IsShown look) b (shows result.1)) }
-    ensures resting { IsResting result.0 }
 {
     match power {
         Power::Off(disk) => (Power::Off(disk), MachineLine::Off),

@@ -13,14 +13,15 @@ ghost use Rattle.bench_report.specs.Counts.{Adds, Reported};
 ghost use Rattle.bench_report.specs.Prefix.{KeepsPrefixLaw};
 ghost use Rattle.bench_report.specs.Bench.{Bench, bench_with};
 ghost use Rattle.bench_report.specs.Views.{facts};
-ghost use Rattle.bench_report.specs.Agree.{ArmsIts, fill_after, fills_after, EndsBy, Agrees, IsResting, OffIs, IsBench, IsUnstruck};
+ghost use Rattle.bench_report.specs.Agree.{ArmsIts, fill_after, fills_after, EndsBy, Agrees, OffIs, IsBench};
 ghost use Rattle.bench_report.specs.Laws.{KeepsLaws};
 ghost use Rattle.bench_report.specs.declared.printed.Answer.{Answer};
 ghost use Rattle.board_model.specs.declared.refusal.Refusal.{Refusal};
 ghost use Rattle.bench_report.specs.Happens.{off};
 ghost use Rattle.bench_report.specs.Steps.{Moves, Run};
 
-use crate::power::Power;
+use crate::bench_board::BenchBoard;
+use crate::power::{OffDisk, Power};
 use crate::printed::{Answer, Printed};
 use crate::setting::Setting;
 use crate::steps::{disk_left, line_with_cuts};
@@ -134,31 +135,26 @@ impl From<AllocError> for Stopped {
 fn run_line<C: Crew, W: Write>(
     setting: &Setting<'_, C>,
     line: &Line,
-    power: Power,
-    payloads: &mut Payloads,
-    fill: &mut Fill,
+    bench: BenchBoard,
     out: &mut W,
     report: &mut Report,
-) -> (Power, Result<(), Refusal>)
+) -> (BenchBoard, Result<(), Refusal>)
     requires few { report.old.lines < 2 ^ 40 }
     requires range { IsLineInRange setting.now.shape.now line.now }
-    requires resting { IsResting power }
-    requires calm { IsUnstruck power }
-    ensures resting { IsResting result.0 }
-    ensures ok { OnOk result.1 ((b : Bench) → IsBench setting.now.shape.now b power payloads.old
+    ensures ok { OnOk result.1 ((b : Bench) → IsBench setting.now.shape.now b bench.power bench.payloads
         → (answer : Answer) × (new : Bench) × Moves setting.now.shape.now line.now b answer new
-        × EndsBy setting.now.shape.now line.now fill.new b answer result.0 × IsBench setting.now.shape.now new result.0 payloads.new
+        × EndsBy setting.now.shape.now line.now result.0.fill b answer result.0.power
+        × IsBench setting.now.shape.now new result.0.power result.0.payloads
         × Adds (W.contents out.old) (W.contents out.new) report.old report.new answer) }
-    ensures arms { OnOk result.1 ((b : Bench) → IsBench setting.now.shape.now b power payloads.old
-        → ArmsIts line.now result.0) }
-    ensures fill { fill.new ≡ fill_after line.now fill.old }
+    ensures arms { OnOk result.1 ((b : Bench) → IsBench setting.now.shape.now b bench.power bench.payloads
+        → ArmsIts line.now result.0.power) }
+    ensures fill { result.0.fill ≡ fill_after line.now bench.fill }
     ensures few { OnOk result.1 (report.new.lines ≤ report.old.lines + 2) }
-    ensures calm { OnOk result.1 (IsUnstruck result.0) }
-    ensures stopped { OnErr result.1 ((b : Bench) → IsBench setting.now.shape.now b power payloads.old → Agrees setting.now.shape.now b result.0
-        ⊎ ((answer : Answer) × (new : Bench) × Moves setting.now.shape.now line.now b answer new × Agrees setting.now.shape.now new result.0)) }
+    ensures stopped { OnErr result.1 ((b : Bench) → IsBench setting.now.shape.now b bench.power bench.payloads → Agrees setting.now.shape.now b result.0.power
+        ⊎ ((answer : Answer) × (new : Bench) × Moves setting.now.shape.now line.now b answer new × Agrees setting.now.shape.now new result.0.power)) }
     ensures err { IfErr result.1 (λ e. (e ≡ Refusal.Output) ⊎ (e ≡ Refusal.Memory)) }
 {
-    let (after, answer) = line_with_cuts(setting, line, power, payloads, fill);
+    let (after, answer) = line_with_cuts(setting, line, bench);
     match answer {
         Ok(answer) => {
             let added = add(out, report, &answer);
@@ -172,38 +168,33 @@ fn run_line<C: Crew, W: Write>(
 fn run_lines<C: Crew, W: Write>(
     setting: &Setting<'_, C>,
     lines: &[Line],
-    power: Power,
-    payloads: &mut Payloads,
-    fill: &mut Fill,
+    bench: BenchBoard,
     out: &mut W,
     report: &mut Report,
-) -> (Power, Result<(), Refusal>)
+) -> (BenchBoard, Result<(), Refusal>)
     requires few { length lines.now ≤ 65535 }
     requires ranges { All (IsLineInRange setting.now.shape.now) lines.now }
     requires first { report.old.lines ≤ 1 }
-    requires resting { IsResting power }
-    requires calm { IsUnstruck power }
-    ensures resting { IsResting result.0 }
-    ensures fill { OnOk result.1 (fill.new ≡ fills_after lines.now fill.old) }
-    ensures ok { OnOk result.1 ((b : Bench) → IsBench setting.now.shape.now b power payloads.old
+    ensures fill { OnOk result.1 (result.0.fill ≡ fills_after lines.now bench.fill) }
+    ensures ok { OnOk result.1 ((b : Bench) → IsBench setting.now.shape.now b bench.power bench.payloads
         → (answers : List Answer) × (new : Bench) × Run setting.now.shape.now b lines.now answers new
-        × Agrees setting.now.shape.now new result.0
+        × Agrees setting.now.shape.now new result.0.power
         × ((before : List Answer) (start : Option (List ℕ)) → Reported start (W.contents out.old) report.old before
         → Reported start (W.contents out.new) report.new (before ++ answers))) }
-    ensures stopped { OnErr result.1 ((b : Bench) → IsBench setting.now.shape.now b power payloads.old
+    ensures stopped { OnErr result.1 ((b : Bench) → IsBench setting.now.shape.now b bench.power bench.payloads
         → (n : ℕ) × (answers : List Answer) × (new : Bench) × Run setting.now.shape.now b (take n lines.now) answers new
-        × Agrees setting.now.shape.now new result.0) }
+        × Agrees setting.now.shape.now new result.0.power) }
     ensures err { IfErr result.1 (λ e. (e ≡ Refusal.Output) ⊎ (e ≡ Refusal.Memory)) }
 {
-    let mut power = power;
+    let mut bench = bench;
     for line in lines {
-        let (after, ran) = run_line(setting, line, power, payloads, fill, out, report);
+        let (after, ran) = run_line(setting, line, bench, out, report);
         if let Err(refusal) = ran {
             return (after, Err(refusal));
         }
-        power = after;
+        bench = after;
     }
-    (power, Ok(()))
+    (bench, Ok(()))
 }
 
 /// Runs a script that begins with these payloads, over a blank disk of the size that its board needs.
@@ -241,23 +232,18 @@ fn run_script<C: Crew, W: Write>(
     if let Err(refusal) = add(out, &mut report, &board) {
         return (disk, Err(refusal));
     }
-    let mut payloads = payloads;
-    let mut fill = Fill::Old;
+    let bench = BenchBoard {
+        power: Power::Off(OffDisk { disk }),
+        payloads,
+        fill: Fill::Old,
+    };
     let setting = Setting {
         alloc,
         crew,
         shape: &shape,
     };
-    let (power, ran) = run_lines(
-        &setting,
-        &script.lines,
-        Power::Off(disk),
-        &mut payloads,
-        &mut fill,
-        out,
-        &mut report,
-    );
-    let left = disk_left(power);
+    let (bench, ran) = run_lines(&setting, &script.lines, bench, out, &mut report);
+    let left = disk_left(bench.power);
     match ran {
         Ok(()) => (left, Ok(report)),
         Err(refusal) => (left, Err(refusal)),

@@ -4,22 +4,22 @@ ghost use Rattle.std.specs.Prelude.{◌≡◌, false, ◌<◌, ◌≤◌, ℕ, L
 ghost use Rattle.board_model.specs.Shapes.{Size};
 ghost use Rattle.script_lang.specs.Lines.{IsLineInRange};
 ghost use Rattle.store.specs.Leaves.{IsIdle};
-ghost use Rattle.bench_report.specs.Views.{store_in, machine_in, facts, store_fault_state};
+ghost use Rattle.bench_report.specs.Views.{arms, store_in, machine_in, facts, store_fault_state};
 ghost use Rattle.bench_report.specs.Bench.{Bench, BenchLife};
-ghost use Rattle.bench_report.specs.Happens.{off, unpowered, says, shows};
+ghost use Rattle.bench_report.specs.Happens.{armed_with, off, unpowered, says, shows};
 ghost use Rattle.bench_report.specs.PowerOns.{FormatsOn, PowersOn, TellsNow};
 ghost use Rattle.bench_report.specs.Examined.{InspectsOn, InspectStep, AnswersOf};
 ghost use Rattle.bench_report.specs.Asides.{AsideStep};
 ghost use Rattle.bench_report.specs.Deeds.{SetSlot, CallWake, WritePast};
 ghost use Rattle.bench_report.specs.Steps.{FormatStep, OnStep, ConsoleStep, TurnStep, CallStep, ArmStep, Step, Moves};
-ghost use Rattle.disk.specs.FaultState.{armed_by};
 ghost use Rattle.simdisk.specs.declared.SimDisk.{SimDisk};
-ghost use Rattle.bench_report.specs.Agree.{HasDisk, IsCutBy, IsArmed, ArmsIts, Pokes, PokesIts, Inspects, InspectsIts, fill_after, EndsBy, Agrees, IsResting, OffIs, OnIs, BoardAfter, IsBench, IsUnstruck, Matches, StepsTo};
+ghost use Rattle.bench_report.specs.Agree.{HasDisk, IsCutBy, IsArmed, ArmsIts, Pokes, PokesIts, Inspects, InspectsIts, fill_after, EndsBy, Agrees, OffIs, OnIs, BoardAfter, IsBench, IsUnstruck, Matches, StepsTo};
 ghost use Rattle.board_model.specs.declared.refusal.Refusal.TheVariants.{Memory};
 
 use crate::armings::{fault_of, newest_fill};
+use crate::bench_board::BenchBoard;
 use crate::looks::look_line;
-use crate::power::Power;
+use crate::power::{OffDisk, Power};
 use crate::printed::{Answer, Printed};
 use crate::setting::Setting;
 use board::{Board, Payloads};
@@ -40,18 +40,20 @@ fn says(line: Printed) -> Answer
 }
 
 /// Formats the disk of a board that is off.
-fn format_disk(shape: &Shape, mut disk: SimDisk) -> (Power, Answer)
-    requires { IsIdle (facts disk) }
-    ensures reported { (b : Bench) → OffIs shape.now b disk
+fn format_disk(shape: &Shape, off: OffDisk) -> (Power, Answer)
+    ensures { (b : Bench) → OffIs shape.now b off.disk
         → StepsTo shape.now b result.0 (FormatsOn b.disk_state b result.1) }
-    ensures resting { IsResting result.0 }
 {
     kept_disks::<SimDisk>();
     blank_disks::<SimDisk>();
     one_standing();
+    let OffDisk { mut disk } = off;
     match format(&mut disk, shape) {
-        Ok(()) => (Power::Off(disk), says(Printed::Formatted)),
-        Err(e) => (Power::Off(disk), says(Printed::FormatRefused(e.code()))),
+        Ok(()) => (Power::Off(OffDisk { disk }), says(Printed::Formatted)),
+        Err(e) => (
+            Power::Off(OffDisk { disk }),
+            says(Printed::FormatRefused(e.code())),
+        ),
     }
 }
 
@@ -60,18 +62,16 @@ fn format_disk(shape: &Shape, mut disk: SimDisk) -> (Power, Answer)
 pub fn power_on(
     alloc: Global,
     mode: BootMode,
-    disk: SimDisk,
+    off: OffDisk,
     payloads: &Payloads,
 ) -> (Power, Answer, Option<Durable>)
-    requires idle { IsIdle (facts disk) }
-    ensures reported { (size : Size) (b : Bench) → OffIs size b disk → payloads.now ≡ b.payloads
+    ensures { (size : Size) (b : Bench) → OffIs size b off.disk → payloads.now ≡ b.payloads
         → StepsTo size b result.0
         (λ new. PowersOn size mode b result.1 new × TellsNow result.1.found result.2 new) }
-    ensures resting { IsResting result.0 }
 {
     kept_disks::<SimDisk>();
     blank_disks::<SimDisk>();
-    match Board::power_on(alloc, disk, mode, payloads) {
+    match Board::power_on(alloc, off.disk, mode, payloads) {
         Ok(board) => {
             let booted = Answer {
                 found: Some(board.found()),
@@ -85,23 +85,34 @@ pub fn power_on(
                 found: unpowered.found,
                 line: Printed::OnRefused(unpowered.refusal.code()),
             };
-            (Power::Off(unpowered.disk), refused, unpowered.now)
+            (
+                Power::Off(OffDisk {
+                    disk: unpowered.disk,
+                }),
+                refused,
+                unpowered.now,
+            )
         }
     }
 }
 
 /// Examines the disk of a board that is off.
-fn inspect_disk(alloc: Global, mut disk: SimDisk) -> (Power, Answer)
-    requires { IsIdle (facts disk) }
-    ensures reported { (size : Size) (b : Bench) → OffIs size b disk
+fn inspect_disk(alloc: Global, off: OffDisk) -> (Power, Answer)
+    ensures reported { (size : Size) (b : Bench) → OffIs size b off.disk
         → StepsTo size b result.0 (InspectsOn size b result.1) }
-    ensures exact { AnswersOf (facts disk).content result.1 }
-    ensures resting { IsResting result.0 }
+    ensures exact { AnswersOf (facts off.disk).content result.1 }
 {
     kept_disks::<SimDisk>();
+    let OffDisk { mut disk } = off;
     match inspect(alloc, &mut disk) {
-        Ok(inspection) => (Power::Off(disk), says(Printed::Inspected(inspection))),
-        Err(e) => (Power::Off(disk), says(Printed::InspectRefused(e.code()))),
+        Ok(inspection) => (
+            Power::Off(OffDisk { disk }),
+            says(Printed::Inspected(inspection)),
+        ),
+        Err(e) => (
+            Power::Off(OffDisk { disk }),
+            says(Printed::InspectRefused(e.code())),
+        ),
     }
 }
 
@@ -131,44 +142,48 @@ fn wake(board: &mut Board<SimDisk>) -> Answer
 
 /// The disk of a board whose life ends here, with nothing of it lent.
 pub fn disk_left(power: Power) -> SimDisk
-    requires { IsResting power }
     ensures reported { (size : Size) (b : Bench) → Agrees size b power → OffIs size (off b) result }
     ensures resting { IsIdle (facts result) }
     ensures disk { HasDisk power result }
 {
     match power {
-        Power::Off(disk) => disk,
+        Power::Off(off) => off.disk,
         Power::On(board) => board.into_disk(),
     }
 }
 
 /// Takes power; each range that was written since the last sync holds what the fill says.
 fn cut(power: Power, fill: Fill) -> Power
-    requires { IsResting power }
     ensures reported { (size : Size) (b : Bench) → Agrees size b power → Agrees size (unpowered b) result }
     ensures exact { (disk : SimDisk) × HasDisk power disk × IsCutBy fill disk result }
-    ensures resting { IsResting result }
     ensures calm { IsUnstruck result }
 {
     kept_disks::<SimDisk>();
-    Power::Off(disk_left(power).after_cut(fill))
+    Power::Off(OffDisk {
+        disk: disk_left(power).after_cut(fill),
+    })
 }
 
-/// Arms a cut or a failure of the disk, or of one of its lanes, in the place of an older one, with the board
-/// on or off.
-pub fn arm(power: Power, fault: ArmedFault) -> (Power, Answer)
-    requires { IsResting power }
-    ensures reported { (size : Size) (b : Bench) → Agrees size b power
-        → StepsTo size b result.0 (ArmStep (armed_by fault) b result.1) }
-    ensures arms { IsArmed fault result.0 }
-    ensures resting { IsResting result.0 }
+/// Arms a cut or a failure of a disk of a board that is off, or of one of its lanes, in the place of an older one.
+pub fn arm_disk(off: OffDisk, fault: ArmedFault) -> OffDisk
+    ensures reported { (size : Size) (b : Bench) → OffIs size b off.disk
+        → OffIs size (armed_with fault b) result.disk }
+    ensures arms { arms result.disk fault }
 {
     kept_disks::<SimDisk>();
+    let OffDisk { mut disk } = off;
+    disk.arm(fault);
+    OffDisk { disk }
+}
+
+/// The same, with the board on or off.
+fn arm(power: Power, fault: ArmedFault) -> (Power, Answer)
+    ensures reported { (size : Size) (b : Bench) → Agrees size b power
+        → StepsTo size b result.0 (ArmStep fault b result.1) }
+    ensures arms { IsArmed fault result.0 }
+{
     match power {
-        Power::Off(mut disk) => {
-            disk.arm(fault);
-            (Power::Off(disk), says(Printed::Armed))
-        }
+        Power::Off(off) => (Power::Off(arm_disk(off, fault)), says(Printed::Armed)),
         Power::On(mut board) => {
             board.arm(fault);
             (Power::On(board), says(Printed::Armed))
@@ -192,16 +207,14 @@ pub fn struck(power: &Power) -> bool
     ensures calm { result ≡ false → IsUnstruck power.now }
 {
     match power {
-        Power::Off(disk) => disk.struck(),
+        Power::Off(off) => off.disk.struck(),
         Power::On(board) => board.struck(),
     }
 }
 
 fn format_line(shape: &Shape, power: Power) -> (Power, Answer)
-    requires { IsResting power }
-    ensures reported { (b : Bench) → Agrees shape.now b power
+    ensures { (b : Bench) → Agrees shape.now b power
         → StepsTo shape.now b result.0 (FormatStep b.power b result.1) }
-    ensures resting { IsResting result.0 }
 {
     match power {
         Power::Off(disk) => format_disk(shape, disk),
@@ -210,11 +223,9 @@ fn format_line(shape: &Shape, power: Power) -> (Power, Answer)
 }
 
 fn inspect_line(alloc: Global, power: Power) -> (Power, Answer)
-    requires { IsResting power }
     ensures reported { (size : Size) (b : Bench) → Agrees size b power
         → StepsTo size b result.0 (InspectStep size b.power b result.1) }
     ensures exact { Inspects power result.1 }
-    ensures resting { IsResting result.0 }
 {
     match power {
         Power::Off(disk) => inspect_disk(alloc, disk),
@@ -223,10 +234,8 @@ fn inspect_line(alloc: Global, power: Power) -> (Power, Answer)
 }
 
 fn on_line(alloc: Global, mode: BootMode, power: Power, payloads: &Payloads) -> (Power, Answer)
-    requires resting { IsResting power }
-    ensures reported { (size : Size) (b : Bench) → IsBench size b power payloads.now
+    ensures { (size : Size) (b : Bench) → IsBench size b power payloads.now
         → StepsTo size b result.0 (OnStep size b.power mode b result.1) }
-    ensures resting { IsResting result.0 }
 {
     match power {
         Power::Off(disk) => {
@@ -239,9 +248,8 @@ fn on_line(alloc: Global, mode: BootMode, power: Power, payloads: &Payloads) -> 
 
 /// Issues a command of the console, where the board is on.
 pub fn console(command: ConsoleCommand, power: &mut Power) -> Answer
-    ensures reported { (size : Size) (b : Bench) → Agrees size b power.old
+    ensures { (size : Size) (b : Bench) → Agrees size b power.old
         → StepsTo size b power.new (ConsoleStep command b.power b result) }
-    ensures resting { IsResting power.old → IsResting power.new }
 {
     match power {
         Power::Off(_) => says(Printed::Off),
@@ -250,10 +258,8 @@ pub fn console(command: ConsoleCommand, power: &mut Power) -> Answer
 }
 
 fn console_line(command: ConsoleCommand, power: Power) -> (Power, Answer)
-    requires resting { IsResting power }
-    ensures reported { (size : Size) (b : Bench) → Agrees size b power
+    ensures { (size : Size) (b : Bench) → Agrees size b power
         → StepsTo size b result.0 (ConsoleStep command b.power b result.1) }
-    ensures resting { IsResting result.0 }
 {
     let mut power = power;
     let answer = console(command, &mut power);
@@ -261,10 +267,8 @@ fn console_line(command: ConsoleCommand, power: Power) -> (Power, Answer)
 }
 
 fn wake_line(power: Power) -> (Power, Answer)
-    requires { IsResting power }
-    ensures reported { (size : Size) (b : Bench) → Agrees size b power
+    ensures { (size : Size) (b : Bench) → Agrees size b power
         → StepsTo size b result.0 (AsideStep CallWake b.power b result.1) }
-    ensures resting { IsResting result.0 }
 {
     match power {
         Power::Off(disk) => (Power::Off(disk), says(Printed::Off)),
@@ -305,12 +309,13 @@ fn payload_line(
 /// A board after what is said of a turn or a call of a hart: off where that ended the life. A board that dozes
 /// is on.
 pub fn after(board: Board<SimDisk>, word: Word) -> Power
-    ensures reported { (size : Size) (b : Bench) → BoardAfter size word b board → Agrees size b result }
-    ensures resting { IsResting result }
+    ensures { (size : Size) (b : Bench) → BoardAfter size word b board → Agrees size b result }
 {
     match word {
         Word::Goes(_) => Power::On(board),
-        Word::Over(_) => Power::Off(board.into_disk()),
+        Word::Over(_) => Power::Off(OffDisk {
+            disk: board.into_disk(),
+        }),
     }
 }
 
@@ -324,9 +329,8 @@ fn turn<C: Crew>(
 ) -> (Power, MachineLine)
     requires some { 0 < count }
     requires calm { (store_fault_state (store_in board)).struck ≡ false }
-    ensures reported { (size : Size) (b : Bench) → OnIs size b board
+    ensures { (size : Size) (b : Bench) → OnIs size b board
         → StepsTo size b result.0 (TurnStep b.power hart count b (shows result.1)) }
-    ensures resting { IsResting result.0 }
 {
     if !board.machine().has(hart) {
         return (Power::On(board), MachineLine::Off);
@@ -343,11 +347,9 @@ fn turn_line<C: Crew>(
     power: Power,
 ) -> (Power, MachineLine)
     requires some { 0 < count }
-    requires resting { IsResting power }
     requires calm { IsUnstruck power }
-    ensures reported { (size : Size) (b : Bench) → Agrees size b power
+    ensures { (size : Size) (b : Bench) → Agrees size b power
         → StepsTo size b result.0 (TurnStep b.power hart count b (shows result.1)) }
-    ensures resting { IsResting result.0 }
 {
     match power {
         Power::Off(disk) => (Power::Off(disk), MachineLine::Off),
@@ -363,9 +365,8 @@ fn call<C: Crew>(
     hart: HartId,
     words: CallWords,
 ) -> (Power, MachineLine)
-    ensures reported { (size : Size) (b : Bench) → OnIs size b board
+    ensures { (size : Size) (b : Bench) → OnIs size b board
         → StepsTo size b result.0 (CallStep b.power hart words b (shows result.1)) }
-    ensures resting { IsResting result.0 }
 {
     if !board.machine().has(hart) {
         return (Power::On(board), MachineLine::Off);
@@ -385,10 +386,8 @@ fn call_line<C: Crew>(
     words: CallWords,
     power: Power,
 ) -> (Power, MachineLine)
-    requires { IsResting power }
-    ensures reported { (size : Size) (b : Bench) → Agrees size b power
+    ensures { (size : Size) (b : Bench) → Agrees size b power
         → StepsTo size b result.0 (CallStep b.power hart words b (shows result.1)) }
-    ensures resting { IsResting result.0 }
 {
     match power {
         Power::Off(disk) => (Power::Off(disk), MachineLine::Off),
@@ -404,20 +403,19 @@ fn poke_line(
     bytes: &Bytes,
     power: Power,
 ) -> (Power, Result<Answer, Refusal>)
-    requires { IsResting power }
     ensures reported { (size : Size) (b : Bench) → Agrees size b power → MatchResult result.1
         (λ answer. StepsTo size b result.0 (AsideStep WritePast b.power b answer)) (λ e. (e ≡ Memory) × Agrees size b result.0) }
     ensures pokes { OnOk result.1 (Pokes sector offset bytes.now power result.0) }
-    ensures resting { IsResting result.0 }
     ensures refused { OnErr result.1 (result.1 ≡ Err Memory) }
 {
     kept_disks::<SimDisk>();
     match power {
         Power::On(board) => (Power::On(board), Ok(says(Printed::Busy))),
-        Power::Off(mut disk) => {
+        Power::Off(off) => {
+            let OffDisk { mut disk } = off;
             match disk.poke(sector as usize, offset as usize, bytes.as_slice()) {
-                Ok(()) => (Power::Off(disk), Ok(says(Printed::Poked))),
-                Err(_refused) => (Power::Off(disk), Err(Refusal::Memory)),
+                Ok(()) => (Power::Off(OffDisk { disk }), Ok(says(Printed::Poked))),
+                Err(_refused) => (Power::Off(OffDisk { disk }), Err(Refusal::Memory)),
             }
         }
     }
@@ -450,7 +448,6 @@ pub fn line_alone<C: Crew>(
     payloads: &mut Payloads,
 ) -> (Power, Result<Answer, Refusal>)
     requires range { IsLineInRange setting.now.shape.now line.now }
-    requires resting { IsResting power }
     requires calm { IsUnstruck power }
     ensures reported { (b : Bench) → IsBench setting.now.shape.now b power payloads.old → MatchResult result.1
         (λ answer. (new : Bench) × Step setting.now.shape.now line.now b answer new
@@ -459,7 +456,6 @@ pub fn line_alone<C: Crew>(
     ensures arms { ArmsIts line.now result.0 }
     ensures pokes { PokesIts line.now power result.1 result.0 }
     ensures inspects { InspectsIts line.now power result.1 }
-    ensures resting { IsResting result.0 }
     ensures slots { length payloads.new ≡ length payloads.old }
     ensures refused { OnErr result.1 (result.1 ≡ Err Memory) }
 {
@@ -492,34 +488,45 @@ pub fn line_alone<C: Crew>(
 pub fn line_with_cuts<C: Crew>(
     setting: &Setting<'_, C>,
     line: &Line,
-    power: Power,
-    payloads: &mut Payloads,
-    fill: &mut Fill,
-) -> (Power, Result<Answer, Refusal>)
+    bench: BenchBoard,
+) -> (BenchBoard, Result<Answer, Refusal>)
     requires range { IsLineInRange setting.now.shape.now line.now }
-    requires resting { IsResting power }
-    requires calm { IsUnstruck power }
-    ensures reported { (b : Bench) → IsBench setting.now.shape.now b power payloads.old → MatchResult result.1
+    ensures reported { (b : Bench) → IsBench setting.now.shape.now b bench.power bench.payloads → MatchResult result.1
         (λ answer. (new : Bench) × Moves setting.now.shape.now line.now b answer new
-        × IsBench setting.now.shape.now new result.0 payloads.new)
-        (λ e. (e ≡ Memory) × Matches setting.now.shape.now b result.0 payloads.new) }
-    ensures fill { fill.new ≡ fill_after line.now fill.old }
-    ensures exact { (b : Bench) → IsBench setting.now.shape.now b power payloads.old
-        → IfOk result.1 (λ answer. EndsBy setting.now.shape.now line.now fill.new b answer result.0) }
-    ensures arms { (b : Bench) → IsBench setting.now.shape.now b power payloads.old
-        → OnOk result.1 (ArmsIts line.now result.0) }
-    ensures resting { IsResting result.0 }
-    ensures calm { OnOk result.1 (IsUnstruck result.0) }
+        × EndsBy setting.now.shape.now line.now result.0.fill b answer result.0.power
+        × IsBench setting.now.shape.now new result.0.power result.0.payloads)
+        (λ e. (e ≡ Memory) × Matches setting.now.shape.now b result.0.power result.0.payloads) }
+    ensures fill { result.0.fill ≡ fill_after line.now bench.fill }
+    ensures arms { (b : Bench) → IsBench setting.now.shape.now b bench.power bench.payloads
+        → OnOk result.1 (ArmsIts line.now result.0.power) }
+    ensures slots { length result.0.payloads ≡ length bench.payloads }
     ensures refused { OnErr result.1 (result.1 ≡ Err Memory) }
 {
-    *fill = fill_after(line, *fill);
-    let (after, answer) = line_alone(setting, line, power, payloads);
-    let Ok(answer) = answer else {
-        return (after, answer);
-    };
+    let BenchBoard {
+        power,
+        mut payloads,
+        fill,
+    } = bench;
+    let fill = fill_after(line, fill);
+    let (after, answer) = line_alone(setting, line, power, &mut payloads);
     if struck(&after) {
-        (cut(after, *fill), Ok(says(Printed::PowerLost)))
+        let power = cut(after, fill);
+        (
+            BenchBoard {
+                power,
+                payloads,
+                fill,
+            },
+            Ok(says(Printed::PowerLost)),
+        )
     } else {
-        (after, Ok(answer))
+        (
+            BenchBoard {
+                power: after,
+                payloads,
+                fill,
+            },
+            answer,
+        )
     }
 }

@@ -89,9 +89,6 @@ pub loss_of : (size : Size) (h n : ℕ) (b new : Bench) → Struck h n b new →
 loss_of size h n b new struck = inr (shows (shown.Turn h struck.made struck.word), struck.mid, went_step struck.went, struck.hit, refl, struck.off)
 
 -- ---- rows
-abbrev pub Turns : ℕ → ℕ → Bench → ℕ → Word → Bench → Type 0
-Turns h n b made word new = GuestTurns h n b made word new
-
 as_many : (h n m : ℕ) (b : Bench) (made k : ℕ) (word : Word) (new : Bench) → n ≡ m → made ≡ k → GuestTurns h n b made word new → GuestTurns h m b k word new
 as_many h n m b made k word new e f guest = subst (λ (x : ℕ). GuestTurns h m b x word new) f (subst (λ (x : ℕ). GuestTurns h x b made word new) e guest)
 

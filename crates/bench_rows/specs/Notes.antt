@@ -17,7 +17,7 @@ use Rattle.bench_rows.specs.Rows.{RowMoves}
 abbrev pub Leaves : Size → Bench → List Line → Bench → Type 0
 Leaves size start past b = (answers : List Answer) × Run size start past answers b
 
--- The last line is a row of turns of which all were made, and a further turn of the hart is one row with it.
+-- The last line is a row of turns, all of which were made, and a further turn of the hart belongs to that row.
 abbrev pub Joins : Size → Bench → Bool → List Line → Bench → Type 0
 Joins size start false past b = ⊤
 Joins size start true past b =
@@ -28,7 +28,7 @@ Joins size start true past b =
 abbrev pub AreInRange : Size → List Line → Type 0
 AreInRange size past = All (IsLineInRange size) past
 
--- Noting these turns made a history that may leave a bench one that may leave the bench behind them.
+-- The history could leave a bench; with these turns noted in it, it can leave the bench that comes after them.
 abbrev pub NotesRow : Size → ℕ → Row → Bool → Bool → List Line → List Line → Type 0
 NotesRow size h row joins next old new =
     (start b after : Bench) → Leaves size start old b → Joins size start joins old b → RowMoves size h row b after

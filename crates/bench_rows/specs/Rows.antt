@@ -43,7 +43,7 @@ abbrev pub is_idle : Word → Bool
 is_idle (words.Goes did) = is_idle_did did
 is_idle (words.Over end) = false
 
--- The line of as many turns as were made may answer so. Where the board is off, or lacks the hart, none were, and
+-- A line `turn` of as many turns as were made may answer so. Where the board is off, or lacks the hart, no turn was made, and
 -- nothing changed.
 abbrev pub RowMoves : Size → ℕ → Row → Bench → Bench → Type 0
 RowMoves size h rows.Off b new = new ≡ b
@@ -61,7 +61,7 @@ is_idle_row rows.Off = false
 is_idle_row (rows.Made n word) = is_idle word
 is_idle_row (rows.Lost n) = false
 
--- a further turn of the hart is one row with these
+-- a further turn of the hart belongs to this row
 abbrev pub goes_on : Row → Bool
 goes_on rows.Off = false
 goes_on (rows.Made n word) = not (ends word)
@@ -85,7 +85,7 @@ IsOpenRow rows.Off = ⊤
 IsOpenRow (rows.Made n word) = ends word ≡ false
 IsOpenRow (rows.Lost n) = ⊥
 
--- two rows of turns of a hart, one behind the other, are one row, where the first goes on
+-- two rows of turns of a hart, one after the other, are one row, unless the first has ended
 abbrev pub RowsJoin : Type 0
 RowsJoin = (size : Size) (h : ℕ) (first next : Row) (b mid new : Bench) → IsOpenRow first
     → RowMoves size h first b mid → RowMoves size h next mid new → RowMoves size h (row_then first next) b new

@@ -2,13 +2,12 @@
 
 ghost use Rattle.bench_rows.specs.Rows.{IdleTurnStays, RowsJoin};
 
-/// Two rows of turns of one hart, one behind the other, are one row of as many turns as both, where the first goes
-/// on.
+/// Two rows of turns of one hart, one after the other, are one row with all of their turns, unless the first row has ended.
 pub fn rows_join()
     ensures { RowsJoin }
 {}
 
-/// An idle turn of a hart changes nothing.
+/// An idle turn of a hart leaves the bench as it was.
 pub fn idle_turns_change_nothing()
     ensures { IdleTurnStays }
 {}

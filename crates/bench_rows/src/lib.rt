@@ -1,4 +1,4 @@
-//! Rows of turns of a hart: what came of them, when two are one, and how a history notes them.
+//! Rows of turns of a hart: what a row did, when two rows are one, and how a history notes a row.
 #![tactic(auto)]
 
 mod laws;
@@ -7,4 +7,4 @@ mod rows;
 
 pub use laws::{idle_turns_change_nothing, rows_join};
 pub use notes::note;
-pub use rows::Row;
+pub use rows::{Row, is_idle};

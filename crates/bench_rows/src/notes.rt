@@ -1,4 +1,4 @@
-//! Turns that become part of a history.
+//! A row of turns becomes part of a history.
 
 ghost use Rattle.std.specs.Prelude.{◌≡◌, ◌<◌, ◌++◌, replicate, IfOk, IfErr, OnOk};
 ghost use Rattle.board_model.specs.Shapes.{Size};
@@ -14,14 +14,14 @@ use crate::rows::Row;
 use bench_history::History;
 use board_model::{HartId, Refusal};
 
-/// Notes turns of a hart in a history whose last line, where `joins`, is a row with which they are one: whether a further
-/// turn of the hart is one row with them. Where none were made nothing is noted. Refused `Memory` alone, and then the
-/// history is of no use.
+/// Notes a row of turns of a hart in a history. `joins` says that the history's last line is a row of the same hart that has not
+/// ended: then the two become one line. Answers the same of the history after it: whether a further turn of the hart would
+/// join its last line. A row of no turns notes nothing. Refused `Memory` alone: the history is then of no further use.
 pub fn note(history: &mut History, joins: bool, hart: HartId, row: Row) -> Result<bool, Refusal>
     requires within { IsWithin 1000000 row }
-    // It is a history that may leave the bench behind the turns.
+    // Its lines may leave the bench as it is after the turns.
     ensures left { IfOk result (λ next. (size : Size) → NotesRow size hart row joins next history.old history.new) }
-    // Its moments are as many more turns of that hart.
+    // It has as many more moments, each a turn of that hart.
     ensures moments { OnOk result (moments history.new ≡ moments history.old ++ replicate (made_in row) (lines.Turn hart 1)) }
     ensures ranges { OnOk result ((size : Size) → hart < size.harts → AreInRange size history.old → AreInRange size history.new) }
     ensures fill { OnOk result ((fill : Fill) → fills_after history.new fill ≡ fills_after history.old fill) }

@@ -1,4 +1,4 @@
-//! What came of turns of a hart.
+//! A row of turns of a hart, by what it did.
 
 ghost use Rattle.std.specs.Prelude.{◌≡◌, ◌<◌, ◌+◌, ◌^◌};
 ghost use Rattle.bench_rows.specs.Rows.{goes_on, is_idle, is_idle_row, is_off, last_of, made_in, row_answer, row_then};
@@ -8,14 +8,14 @@ use board_model::HartId;
 use machine::{Did, Word};
 use machine_lines::MachineLine;
 
-/// What came of turns of a hart.
+/// What a row of turns of a hart did.
 #[derive(Clone, Copy, PartialEq, Eq, Drop)]
 pub enum Row {
     /// The board is off, or has no such hart, and nothing was done.
     Off,
-    /// So many were made, and this is said of the last.
+    /// So many turns were made. The word says what the last one did.
     Made(u32, Word),
-    /// So many were made, an armed cut struck in the last, and power is lost.
+    /// So many turns were made. In the last one an armed cut struck, and power is lost.
     Lost(u32),
 }
 
@@ -52,7 +52,7 @@ impl Row {
         }
     }
 
-    /// Whether a further turn of the hart is one row with these.
+    /// Whether a further turn of the hart belongs to this row: the row has not ended.
     pub fn goes_on(self) -> bool
         ensures { result ≡ goes_on self }
     {
@@ -73,7 +73,7 @@ impl Row {
         }
     }
 
-    /// These turns, and then those, as one row.
+    /// This row and the next one, as one row.
     pub fn then(self, next: Row) -> Row
         requires { made_in self + made_in next < 2 ^ 32 }
         ensures { result ≡ row_then self next }
@@ -97,7 +97,7 @@ impl Row {
 }
 
 /// Whether a hart had nothing to do, and its turn changed nothing.
-fn is_idle(word: Word) -> bool
+pub fn is_idle(word: Word) -> bool
     ensures { result ≡ is_idle word }
 {
     word == Word::Goes(Did::Idle)

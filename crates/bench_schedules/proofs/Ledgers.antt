@@ -5,20 +5,11 @@ use Rattle.std.proofs.lemmas.List.Elements.{All-append, All-cons, All-nil}
 use Rattle.std.specs.Fmt.{decimal}
 use Rattle.std.specs.Io.KnownBytes.{Appends}
 use Rattle.script_lang.specs.Scripts.{Script}
+use Rattle.bench_report.proofs.Written.{appended, unwritten}
 use Rattle.bench_report.specs.declared.printed.Answer.{Answer}
 use Rattle.bench_schedules.specs.declared.runs.Difference.{Difference}
 use Rattle.bench_schedules.specs.Schedules.{Ran, RunText, RunsText, Wrote, differing, tight_text}
 use lib.Chars.{codes}
-
-pub appended : (a b c : Option (List ℕ)) (x y : List ℕ) → Appends a b x → Appends b c y → Appends a c (x ++ y)
-appended None b c x y h g = tt
-appended (Some a) (Some b) (Some c) x y h g = g ∙ ap (λ z. z ++ y) h ∙ append_assoc a x y
-appended (Some a) None c x y h g = absurd h
-appended (Some a) (Some b) None x y h g = absurd g
-
-pub nothing : (a : Option (List ℕ)) → Appends a a []
-nothing None = tt
-nothing (Some a) = sym (append-nil a)
 
 texts_more : (number : ℕ → ℕ) (k : ℕ) (runs : List (Option Difference)) (text : List ℕ) (run : Option Difference) (more : List ℕ) → RunsText number k runs text
     → RunText number (k + length runs) run more → RunsText number k (runs ++ run ∷ []) (text ++ more)
@@ -53,7 +44,7 @@ wrote_none said start number own now = record {
   count = refl;
   text = [];
   tells = refl;
-  written = nothing now;
+  written = unwritten now;
 }
 
 pub wrote_more : (said : Script) (start : List (List ℕ)) (number : ℕ → ℕ) (own : List Answer) (n differ m : ℕ) (old mid new : Option (List ℕ)) (run : Option Difference)

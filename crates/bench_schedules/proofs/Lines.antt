@@ -13,9 +13,9 @@ use Rattle.bench_orders.specs.Orders.{IsOrderFor, is_other, other_count}
 use Rattle.bench_live.specs.Lives.{Shows}
 use Rattle.bench_live.specs.declared.live.LiveBench.{LiveBench}
 use Rattle.bench_schedules.specs.declared.runs.Difference.{Difference}
-use Rattle.bench_schedules.specs.Schedules.{IsWant, one_told, told, Ran, RanLike, RanOwn}
-use Rattle.bench_schedules.specs.Behind.{IsApart, IsBehind}
-use Rattle.bench_schedules.specs.Goes.{Goes}
+use Rattle.bench_schedules.specs.Schedules.{IsMemoryRefused, other_answer, other_answers, Ran, RanLike, RanOwn}
+use Rattle.bench_schedules.specs.Compared.{IsDifference, IsNextPlace}
+use Rattle.bench_schedules.specs.RunSoFar.{RunSoFar}
 
 run_snoc : (size : Size) (ls : List Line) (b : Bench) (answers : List Answer) (mid : Bench) (line : Line) (a : Answer) (new : Bench)
     → Run size b ls answers mid → Moves size line mid a new → Run size b (ls ++ line ∷ []) (answers ++ a ∷ []) new
@@ -25,23 +25,23 @@ run_snoc size (l ∷ ls) b [] mid line a new run moves = absurd run
 run_snoc size (l ∷ ls) b (c ∷ answers) mid line a new run moves = (run.0, run.1, run_snoc size ls run.0 answers mid line a new run.2 moves)
 
 told_snoc : (size : Size) (ls : List Line) (b : Bench) (answers : List Answer) (mid : Bench) (line : Line) (a : Answer)
-    → Run size b ls answers mid → told (ls ++ line ∷ []) (answers ++ a ∷ []) ≡ told ls answers ++ one_told (is_other line) a
+    → Run size b ls answers mid → other_answers (ls ++ line ∷ []) (answers ++ a ∷ []) ≡ other_answers ls answers ++ other_answer (is_other line) a
 told_snoc size [] b [] mid line a run = by_case (is_other line)
   where
-    by_case : (o : Bool) → (if o then (a ∷ []) else []) ≡ [] ++ one_told o a
+    by_case : (o : Bool) → (if o then (a ∷ []) else []) ≡ [] ++ other_answer o a
     by_case true = refl
     by_case false = refl
 told_snoc size [] b (c ∷ answers) mid line a run = absurd run
 told_snoc size (l ∷ ls) b [] mid line a run = absurd run
 told_snoc size (l ∷ ls) b (c ∷ answers) mid line a run = by_case (is_other l) (told_snoc size ls run.0 answers mid line a run.2)
   where
-    by_case : (o : Bool) → told (ls ++ line ∷ []) (answers ++ a ∷ []) ≡ told ls answers ++ one_told (is_other line) a
-        → (if o then (c ∷ told (ls ++ line ∷ []) (answers ++ a ∷ [])) else told (ls ++ line ∷ []) (answers ++ a ∷ []))
-        ≡ (if o then (c ∷ told ls answers) else told ls answers) ++ one_told (is_other line) a
+    by_case : (o : Bool) → other_answers (ls ++ line ∷ []) (answers ++ a ∷ []) ≡ other_answers ls answers ++ other_answer (is_other line) a
+        → (if o then (c ∷ other_answers (ls ++ line ∷ []) (answers ++ a ∷ [])) else other_answers (ls ++ line ∷ []) (answers ++ a ∷ []))
+        ≡ (if o then (c ∷ other_answers ls answers) else other_answers ls answers) ++ other_answer (is_other line) a
     by_case true more = ap (λ x. c ∷ x) more
     by_case false more = more
 
-told_length : (size : Size) (ls : List Line) (b : Bench) (answers : List Answer) (end : Bench) → Run size b ls answers end → length (told ls answers) ≡ other_count ls
+told_length : (size : Size) (ls : List Line) (b : Bench) (answers : List Answer) (end : Bench) → Run size b ls answers end → length (other_answers ls answers) ≡ other_count ls
 told_length size [] b [] end run = refl
 told_length size [] b (c ∷ answers) end run = absurd run
 told_length size (l ∷ ls) b [] end run = absurd run
@@ -54,59 +54,59 @@ count_append (lines.Turn h n ∷ xs) ys = count_append xs ys
 count_append (x ∷ xs) ys = omega (arith, count_append xs ys)
 
 -- before the first line
-pub goes_begun : (size : Size) (start : List (List ℕ)) (ls : List Line) (live : LiveBench) → Shows size (bench_with start) live → Goes size start (take 0 ls) [] live
+pub goes_begun : (size : Size) (start : List (List ℕ)) (ls : List Line) (live : LiveBench) → Shows size (bench_with start) live → RunSoFar size start (take 0 ls) [] live
 goes_begun size start ls live shows = record {
   answers = [];
   bench = bench_with start;
   run = refl;
   shows = shows;
-  answered = All-nil (λ (x : Answer). IsWant x → ⊥);
+  answered = All-nil (λ (x : Answer). IsMemoryRefused x → ⊥);
   told = refl;
 }
 
 -- one line more
-goes_snoc : (size : Size) (start : List (List ℕ)) (ls : List Line) (said : List Answer) (old new : LiveBench) (line : Line) (a : Answer) → Goes size start ls said old
+goes_snoc : (size : Size) (start : List (List ℕ)) (ls : List Line) (said : List Answer) (old new : LiveBench) (line : Line) (a : Answer) → RunSoFar size start ls said old
     → ((b : Bench) → Shows size b old → (c : Bench) × Moves size line b a c × Shows size c new)
-    → (IsWant a → ⊥) → Goes size start (ls ++ line ∷ []) (said ++ one_told (is_other line) a) new
+    → (IsMemoryRefused a → ⊥) → RunSoFar size start (ls ++ line ∷ []) (said ++ other_answer (is_other line) a) new
 goes_snoc size start ls said old new line a so_far moves well =
     let did = moves so_far.bench so_far.shows in record {
       answers = so_far.answers ++ a ∷ [];
       bench = did.0;
       run = run_snoc size ls (bench_with start) so_far.answers so_far.bench line a did.0 so_far.run did.1;
       shows = did.2;
-      answered = All-append (λ (x : Answer). IsWant x → ⊥) so_far.answers (a ∷ []) so_far.answered (All-cons (λ (x : Answer). IsWant x → ⊥) a [] well (All-nil (λ (x : Answer). IsWant x → ⊥)));
-      told = told_snoc size ls (bench_with start) so_far.answers so_far.bench line a so_far.run ∙ ap (λ x. x ++ one_told (is_other line) a) so_far.told;
+      answered = All-append (λ (x : Answer). IsMemoryRefused x → ⊥) so_far.answers (a ∷ []) so_far.answered (All-cons (λ (x : Answer). IsMemoryRefused x → ⊥) a [] well (All-nil (λ (x : Answer). IsMemoryRefused x → ⊥)));
+      told = told_snoc size ls (bench_with start) so_far.answers so_far.bench line a so_far.run ∙ ap (λ x. x ++ other_answer (is_other line) a) so_far.told;
     }
 
 -- the same by places
 pub goes_more : (size : Size) (start : List (List ℕ)) (ls : List Line) (i : ℕ) (said : List Answer) (old new : LiveBench) (line : Line) (a : Answer) → i < length ls → line ≡ get_or ls i line
-    → Goes size start (take i ls) said old
+    → RunSoFar size start (take i ls) said old
     → ((b : Bench) → Shows size b old → (c : Bench) × Moves size line b a c × Shows size c new)
-    → (IsWant a → ⊥) → Goes size start (take (i + 1) ls) (said ++ one_told (is_other line) a) new
+    → (IsMemoryRefused a → ⊥) → RunSoFar size start (take (i + 1) ls) (said ++ other_answer (is_other line) a) new
 goes_more size start ls i said old new line a less is so_far moves well =
-    let P : List Line → Type 0 = λ xs. Goes size start xs (said ++ one_told (is_other line) a) new in
-    let Q : Line → Type 0 = λ l. Goes size start (take i ls ++ l ∷ []) (said ++ one_told (is_other line) a) new in
+    let P : List Line → Type 0 = λ xs. RunSoFar size start xs (said ++ other_answer (is_other line) a) new in
+    let Q : Line → Type 0 = λ l. RunSoFar size start (take i ls ++ l ∷ []) (said ++ other_answer (is_other line) a) new in
     subst P (sym (take_more ls i line less)) (subst Q is (goes_snoc size start (take i ls) said old new line a so_far moves well))
 
 pub goes_past : (size : Size) (start : List (List ℕ)) (ls : List Line) (i : ℕ) (said : List Answer) (old new : LiveBench) (line : Line) (a : Answer) → i < length ls → line ≡ get_or ls i line
-    → Goes size start (take i ls) said old
+    → RunSoFar size start (take i ls) said old
     → ((b : Bench) → Shows size b old → (c : Bench) × Moves size line b a c × Shows size c new)
-    → (IsWant a → ⊥) → is_other line ≡ false → Goes size start (take (i + 1) ls) said new
+    → (IsMemoryRefused a → ⊥) → is_other line ≡ false → RunSoFar size start (take (i + 1) ls) said new
 goes_past size start ls i said old new line a less is so_far moves well turns =
-    let P : List Answer → Type 0 = λ x. Goes size start (take (i + 1) ls) x new in
-    subst P (ap (λ o. said ++ one_told o a) turns ∙ append-nil said) (goes_more size start ls i said old new line a less is so_far moves well)
+    let P : List Answer → Type 0 = λ x. RunSoFar size start (take (i + 1) ls) x new in
+    subst P (ap (λ o. said ++ other_answer o a) turns ∙ append-nil said) (goes_more size start ls i said old new line a less is so_far moves well)
 
 pub goes_told : (size : Size) (start : List (List ℕ)) (ls : List Line) (i : ℕ) (said : List Answer) (old new : LiveBench) (line : Line) (a : Answer) → i < length ls → line ≡ get_or ls i line
-    → Goes size start (take i ls) said old
+    → RunSoFar size start (take i ls) said old
     → ((b : Bench) → Shows size b old → (c : Bench) × Moves size line b a c × Shows size c new)
-    → (IsWant a → ⊥) → is_other line ≡ true → Goes size start (take (i + 1) ls) (said ++ a ∷ []) new
+    → (IsMemoryRefused a → ⊥) → is_other line ≡ true → RunSoFar size start (take (i + 1) ls) (said ++ a ∷ []) new
 goes_told size start ls i said old new line a less is so_far moves well other =
-    let P : List Answer → Type 0 = λ x. Goes size start (take (i + 1) ls) x new in
-    subst P (ap (λ o. said ++ one_told o a) other) (goes_more size start ls i said old new line a less is so_far moves well)
+    let P : List Answer → Type 0 = λ x. RunSoFar size start (take (i + 1) ls) x new in
+    subst P (ap (λ o. said ++ other_answer o a) other) (goes_more size start ls i said old new line a less is so_far moves well)
 
 -- how many answers were compared is how many lines are no turns
 counted_so_far : (size : Size) (start : List (List ℕ)) (ls : List Line) (i : ℕ) (own : List Answer) (place : ℕ) (going : LiveBench) → place ≤ length own
-    → Goes size start (take i ls) (take place own) going → place ≡ other_count (take i ls)
+    → RunSoFar size start (take i ls) (take place own) going → place ≡ other_count (take i ls)
 counted_so_far size start ls i own place going few so_far =
     sym (length-take-le place own few) ∙ ap length (sym so_far.told) ∙ told_length size (take i ls) (bench_with start) so_far.answers so_far.bench so_far.run
 
@@ -115,7 +115,7 @@ count_other (lines.Turn h n) other = absurd (let never : ⊥ = cc in never)
 count_other line other = refl
 
 pub place_within : (size : Size) (start : List (List ℕ)) (ls : List Line) (i : ℕ) (own : List Answer) (place : ℕ) (going : LiveBench) (line : Line) → i < length ls → line ≡ get_or ls i line
-    → length own ≡ other_count ls → place ≤ length own → Goes size start (take i ls) (take place own) going → is_other line ≡ true → place < length own
+    → length own ≡ other_count ls → place ≤ length own → RunSoFar size start (take i ls) (take place own) going → is_other line ≡ true → place < length own
 place_within size start ls i own place going line less is all few so_far other =
     let here = counted_so_far size start ls i own place going few so_far in
     let next : other_count (take (i + 1) ls) ≡ other_count (take i ls) + other_count (line ∷ []) =
@@ -126,18 +126,18 @@ place_within size start ls i own place going line less is all few so_far other =
 
 -- the answer is the own one
 pub goes_alike : (size : Size) (start : List (List ℕ)) (ls : List Line) (i : ℕ) (own : List Answer) (place : ℕ) (old new : LiveBench) (line : Line) (a d : Answer) → i < length ls → line ≡ get_or ls i line
-    → Goes size start (take i ls) (take place own) old
+    → RunSoFar size start (take i ls) (take place own) old
     → ((b : Bench) → Shows size b old → (c : Bench) × Moves size line b a c × Shows size c new)
-    → (IsWant a → ⊥) → is_other line ≡ true → place < length own → get_or own place d ≡ a → Goes size start (take (i + 1) ls) (take (place + 1) own) new
+    → (IsMemoryRefused a → ⊥) → is_other line ≡ true → place < length own → get_or own place d ≡ a → RunSoFar size start (take (i + 1) ls) (take (place + 1) own) new
 goes_alike size start ls i own place old new line a d less is so_far moves well other within same =
-    let P : List Answer → Type 0 = λ x. Goes size start (take (i + 1) ls) x new in
+    let P : List Answer → Type 0 = λ x. RunSoFar size start (take (i + 1) ls) x new in
     subst P (ap (λ x. take place own ++ x ∷ []) (sym same) ∙ sym (take_more own place d within)) (goes_told size start ls i (take place own) old new line a less is so_far moves well other)
 
 -- the answer is another one
 pub ran_apart : (size : Size) (start : List (List ℕ)) (ls : List Line) (i : ℕ) (own : List Answer) (place : ℕ) (old new : LiveBench) (line : Line) (a said : Answer) → i < length ls → line ≡ get_or ls i line
-    → Goes size start (take i ls) (take place own) old
+    → RunSoFar size start (take i ls) (take place own) old
     → ((b : Bench) → Shows size b old → (c : Bench) × Moves size line b a c × Shows size c new)
-    → (IsWant a → ⊥) → is_other line ≡ true → place < length own → said ≡ get_or own place said → said ≢ a
+    → (IsMemoryRefused a → ⊥) → is_other line ≡ true → place < length own → said ≡ get_or own place said → said ≢ a
     → ((b : Bench) → Shows size b new → b.fault_state.own ≡ 0)
     → RanLike size start ls own (Some (record { place = place; own = said; answer = a }))
 ran_apart size start ls i own place old new line a said less is so_far moves well sort within at other disk =
@@ -162,23 +162,23 @@ ran_apart size start ls i own place old new line a said less is so_far moves wel
     joined (y ∷ xs) x ys = ap (λ z. y ∷ z) (joined xs x ys)
 
 -- a line behind which the run goes on
-pub goes_behind : (size : Size) (start : List (List ℕ)) (ls : List Line) (i : ℕ) (own : List Answer) (place next : ℕ) (old new : LiveBench) (line : Line) (a : Answer) → i < length ls → line ≡ get_or ls i line
-    → length own ≡ other_count ls → place ≤ length own → Goes size start (take i ls) (take place own) old
+pub goes_next : (size : Size) (start : List (List ℕ)) (ls : List Line) (i : ℕ) (own : List Answer) (place next : ℕ) (old new : LiveBench) (line : Line) (a : Answer) → i < length ls → line ≡ get_or ls i line
+    → length own ≡ other_count ls → place ≤ length own → RunSoFar size start (take i ls) (take place own) old
     → ((b : Bench) → Shows size b old → (c : Bench) × Moves size line b a c × Shows size c new)
-    → (IsWant a → ⊥) → IsBehind own place line a next → (next ≤ length own) × Goes size start (take (i + 1) ls) (take next own) new
-goes_behind size start ls i own place next old new line a less is all few so_far moves well (inl turn) =
-    let P : ℕ → Type 0 = λ k. (k ≤ length own) × Goes size start (take (i + 1) ls) (take k own) new in
+    → (IsMemoryRefused a → ⊥) → IsNextPlace own place line a next → (next ≤ length own) × RunSoFar size start (take (i + 1) ls) (take next own) new
+goes_next size start ls i own place next old new line a less is all few so_far moves well (inl turn) =
+    let P : ℕ → Type 0 = λ k. (k ≤ length own) × RunSoFar size start (take (i + 1) ls) (take k own) new in
     subst P (sym turn.1) (few, goes_past size start ls i (take place own) old new line a less is so_far moves well turn.0)
-goes_behind size start ls i own place next old new line a less is all few so_far moves well (inr same) =
-    let P : ℕ → Type 0 = λ k. (k ≤ length own) × Goes size start (take (i + 1) ls) (take k own) new in
+goes_next size start ls i own place next old new line a less is all few so_far moves well (inr same) =
+    let P : ℕ → Type 0 = λ k. (k ≤ length own) × RunSoFar size start (take (i + 1) ls) (take k own) new in
     let within = place_within size start ls i own place old line less is all few so_far same.0 in
     subst P (sym same.2) (omega (arith, within), goes_alike size start ls i own place old new line a a less is so_far moves well same.0 within same.1)
 
 -- a line behind which it does not
 pub ran_to : (size : Size) (start : List (List ℕ)) (ls : List Line) (i : ℕ) (own : List Answer) (place : ℕ) (old new : LiveBench) (line : Line) (a : Answer) (d : Difference) → i < length ls → line ≡ get_or ls i line
-    → length own ≡ other_count ls → place ≤ length own → Goes size start (take i ls) (take place own) old
+    → length own ≡ other_count ls → place ≤ length own → RunSoFar size start (take i ls) (take place own) old
     → ((b : Bench) → Shows size b old → (c : Bench) × Moves size line b a c × Shows size c new)
-    → (IsWant a → ⊥) → IsApart own place line a d → ((b : Bench) → Shows size b new → b.fault_state.own ≡ 0)
+    → (IsMemoryRefused a → ⊥) → IsDifference own place line a d → ((b : Bench) → Shows size b new → b.fault_state.own ≡ 0)
     → RanLike size start ls own (Some d)
 ran_to size start ls i own place old new line a d less is all few so_far moves well apart disk =
     let within = place_within size start ls i own place old line less is all few so_far apart.0 in
@@ -188,7 +188,7 @@ ran_to size start ls i own place old new line a d less is all few so_far moves w
 
 -- no answer is another one
 pub ran_alike : (size : Size) (start : List (List ℕ)) (ls : List Line) (i : ℕ) (own : List Answer) (place : ℕ) (going : LiveBench) → length ls ≤ i → length own ≡ other_count ls → place ≤ length own
-    → Goes size start (take i ls) (take place own) going → ((b : Bench) → Shows size b going → b.fault_state.own ≡ 0) → RanLike size start ls own None
+    → RunSoFar size start (take i ls) (take place own) going → ((b : Bench) → Shows size b going → b.fault_state.own ≡ 0) → RanLike size start ls own None
 ran_alike size start ls i own place going past all few so_far disk =
     let whole : take i ls ≡ ls = take_past i ls past in
     let here : place ≡ length own = counted_so_far size start ls i own place going few so_far ∙ ap other_count whole ∙ sym all in
@@ -206,11 +206,11 @@ ran_alike size start ls i own place going past all few so_far disk =
     take_past (suc n) [] few = refl
     take_past (suc n) (x ∷ xs) few = ap (λ y. x ∷ y) (take_past n xs (omega (arith, few)))
 
-pub ran_own : (size : Size) (start : List (List ℕ)) (ls : List Line) (i : ℕ) (own : List Answer) (going : LiveBench) → length ls ≤ i → Goes size start (take i ls) own going
+pub ran_own : (size : Size) (start : List (List ℕ)) (ls : List Line) (i : ℕ) (own : List Answer) (going : LiveBench) → length ls ≤ i → RunSoFar size start (take i ls) own going
     → ((b : Bench) → Shows size b going → b.fault_state.own ≡ 0) → RanOwn size start ls own × (length own ≡ other_count ls)
 ran_own size start ls i own going past so_far disk =
     let whole : take i ls ≡ ls = take_past i ls past in
-    let P : List Line → Type 0 = λ xs. Goes size start xs own going in
+    let P : List Line → Type 0 = λ xs. RunSoFar size start xs own going in
     let goes = subst P whole so_far in (
       record {
         answers = goes.answers;

@@ -1,5 +1,5 @@
-pub mod Apart
-pub mod Behind
-pub mod Goes
+pub mod Reported
+pub mod Compared
+pub mod RunSoFar
 pub mod Numbers
 pub mod Schedules

@@ -11,7 +11,7 @@ numbers_from n [] = []
 numbers_from n (line ∷ more) =
     if is_passed line then numbers_from (n + 1) more else (n ∷ numbers_from (n + 1) more)
 
--- of a script: that of the board line, and then of each line behind it
+-- of a script: that of the board line, and then of each line after it
 abbrev pub numbers_of : List ℕ → List ℕ
 numbers_of bytes = numbers_from 1 (slice_split (λ b. b == 10) bytes)
 

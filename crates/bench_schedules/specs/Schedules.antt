@@ -20,28 +20,28 @@ use Rattle.bench_orders.specs.Orders.{IsScheduleOf, is_other}
 use Rattle.bench_schedules.specs.declared.runs.Difference.{Difference}
 use lib.Chars.{codes}
 
--- what the lines answered that are no turns, as far as answers go
-abbrev pub told : List Line → List Answer → List Answer
-told [] answers = []
-told (line ∷ more) [] = []
-told (line ∷ more) (a ∷ answers) = if is_other line then (a ∷ told more answers) else told more answers
+-- the answers of the lines that are no `turn`, as far as there are answers
+abbrev pub other_answers : List Line → List Answer → List Answer
+other_answers [] answers = []
+other_answers (line ∷ more) [] = []
+other_answers (line ∷ more) (a ∷ answers) = if is_other line then (a ∷ other_answers more answers) else other_answers more answers
 
--- the answer of one line, where that is no turn
-abbrev pub one_told : Bool → Answer → List Answer
-one_told other a = if other then (a ∷ []) else []
+-- the answer of one line, where that is no `turn`
+abbrev pub other_answer : Bool → Answer → List Answer
+other_answer other a = if other then (a ∷ []) else []
 
 -- a power-on was refused for want of memory
-abbrev pub IsWant : Answer → Type 0
-IsWant a = a.line ≡ printed.OnRefused 11
+abbrev pub IsMemoryRefused : Answer → Type 0
+IsMemoryRefused a = a.line ≡ printed.OnRefused 11
 
--- From these payloads on the lines ran, and memory was never seen to be refused: no power-on was refused for want of it, and the disk's record
--- always had it.
+-- With these payloads in the slots the lines ran, and no sign tells that memory was refused: no power-on was refused for want
+-- of it, and the disk always had it for its record.
 pub record RanWell (size : Size) (start : List (List ℕ)) (those : List Line) (answers : List Answer) (end : Bench) : Type 0 where
   pub run : Run size (bench_with start) those answers end
-  pub answered : All (λ a. IsWant a → ⊥) answers
+  pub answered : All (λ a. IsMemoryRefused a → ⊥) answers
   pub disk : end.fault_state.own ≡ 0
 
--- The run answered as the script's own run; or up to a place as that, and there otherwise.
+-- The run answered as the script's own run did; or it did so up to a place, and answered otherwise there.
 abbrev pub ToldLike : List Answer → List Answer → Option Difference → Type 0
 ToldLike own ran None = ran ≡ own
 ToldLike own ran (Some d) =
@@ -54,7 +54,7 @@ pub record RanLike (size : Size) (start : List (List ℕ)) (those : List Line) (
   pub answers : List Answer
   pub end : Bench
   pub ran : RanWell size start (take n those) answers end
-  pub like : ToldLike own (told (take n those) answers) differs
+  pub like : ToldLike own (other_answers (take n those) answers) differs
 
 -- a schedule of the script was run, which began with these payloads as the script did
 pub record Ran (said : Script) (start : List (List ℕ)) (own : List Answer) (differs : Option Difference) : Type 0 where
@@ -68,19 +68,19 @@ pub record RanOwn (size : Size) (start : List (List ℕ)) (those : List Line) (o
   pub answers : List Answer
   pub end : Bench
   pub ran : RanWell size start those answers end
-  pub told : own ≡ told those answers
+  pub told : own ≡ other_answers those answers
 
--- the first line of the report of an answer that found this and said that, which is another than where the own run found so
-abbrev pub apart_text : Option Durable → Printed → Option Durable → List ℕ → Type 0
-apart_text None line own text = text ≡ line_text line
-apart_text (Some d) line own text =
+-- the text of the line that is written: what an open found, where the own run found something else; otherwise the line after that
+abbrev pub IsReportedText : Option Durable → Printed → Option Durable → List ℕ → Type 0
+IsReportedText None line own text = text ≡ line_text line
+IsReportedText (Some d) line own text =
     ((own ≡ Some d) × (text ≡ line_text line)) ⊎ ((own ≢ Some d) × (text ≡ codes "found " ++ state_text d))
 
 -- what is written of schedule k, where `number` gives the script's line at a place
 abbrev pub RunText : (ℕ → ℕ) → ℕ → Option Difference → List ℕ → Type 0
 RunText number k None text = text ≡ []
 RunText number k (Some d) text =
-    (apart : List ℕ) × apart_text d.answer.found d.answer.line d.own.found apart
+    (apart : List ℕ) × IsReportedText d.answer.found d.answer.line d.own.found apart
     × (text ≡ codes "schedule " ++ decimal k ++ codes " line " ++ decimal (number d.place) ++ codes " " ++ apart ++ 10 ∷ [])
 
 -- what is written of the schedules from number k on

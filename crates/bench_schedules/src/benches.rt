@@ -15,9 +15,9 @@ ghost use Rattle.std.specs.Prelude.{List, ◌∷◌, []};
 
 use crate::lines_fit::fits;
 use crate::numbers::{number_at, number_of_other, numbers};
-use crate::own::{Own, run_own};
+use crate::own_runs::{OwnRun, run_own};
 use crate::runs::{Difference, run_confirmed, run_until};
-use crate::shown::write_script;
+use crate::scripts::write_script;
 use crate::written::{write_count, write_difference, write_tight};
 use bench_orders::{generator, orders_keep_lines, schedule};
 use bench_report::{Answer, Setting};
@@ -29,7 +29,7 @@ use std::alloc::Global;
 use std::io::Write;
 use std::thread::Threads;
 
-/// How many schedules were run, and how many answered otherwise than the script's own run.
+/// How many schedules were run, and how many of them gave another report than the script's own run.
 #[derive(Clone, Copy, Drop)]
 pub struct Compared {
     pub runs: u64,
@@ -43,48 +43,48 @@ struct Runner<'a, C> {
     setting: Setting<'a, C>,
     /// Its lines.
     lines: &'a [Line],
-    /// What the slots begin with.
-    begins: &'a Payloads,
+    /// What each slot boots before the first line.
+    payloads: &'a Payloads,
     /// The number of its board line, and of each of its lines.
     numbers: &'a [u64],
-    /// What schedules are drawn from.
+    /// The seed from which schedules are drawn.
     seed: u64,
 }
 
-/// Runs a schedule of the script. Refused `Memory` alone.
+/// Runs a schedule of the script, by its lines. Refused `Memory` alone.
 fn run_drawn<C: Crew>(
     runner: &Runner<'_, C>,
     lines: &[Line],
     own: &[Answer],
 ) -> Result<Option<Difference>, Refusal>
     requires size { IsSize runner.now.setting.shape.now }
-    requires four { length runner.now.begins.now ≡ 4 }
+    requires four { length runner.now.payloads.now ≡ 4 }
     requires ranges { All (IsLineInRange runner.now.setting.shape.now) runner.now.lines.now }
     requires fits { All FitsLine runner.now.lines.now }
     requires order { IsOrderFor runner.now.lines.now lines.now }
     requires few { length lines.now ≤ 65535 }
     requires count { length own.now ≡ other_count lines.now }
     ensures ran { IfOk result (λ differs.
-        Ran (record { size = runner.now.setting.shape.now; lines = runner.now.lines.now }) runner.now.begins.now own.now differs) }
+        Ran (record { size = runner.now.setting.shape.now; lines = runner.now.lines.now }) runner.now.payloads.now own.now differs) }
     ensures refused { IfErr result (λ e. e ≡ Memory) }
 {
-    run_confirmed(&runner.setting, runner.begins, lines, own)
+    run_confirmed(&runner.setting, runner.payloads, lines, own)
 }
 
 /// Runs schedule k of the script. Refused `Memory` alone.
 fn run_schedule<C: Crew>(
     runner: &Runner<'_, C>,
-    own: &Own,
+    own: &OwnRun,
     k: u64,
 ) -> Result<Option<Difference>, Refusal>
     requires size { IsSize runner.now.setting.shape.now }
-    requires four { length runner.now.begins.now ≡ 4 }
+    requires four { length runner.now.payloads.now ≡ 4 }
     requires few { length runner.now.lines.now ≤ 65535 }
     requires ranges { All (IsLineInRange runner.now.setting.shape.now) runner.now.lines.now }
     requires fits { All FitsLine runner.now.lines.now }
     requires count { length own.now.answers.items ≡ other_count runner.now.lines.now }
     ensures ran { IfOk result (λ differs.
-        Ran (record { size = runner.now.setting.shape.now; lines = runner.now.lines.now }) runner.now.begins.now own.now.answers.items differs) }
+        Ran (record { size = runner.now.setting.shape.now; lines = runner.now.lines.now }) runner.now.payloads.now own.now.answers.items differs) }
     ensures refused { IfErr result (λ e. e ≡ Memory) }
 {
     orders_keep_lines();
@@ -98,7 +98,7 @@ fn run_schedule<C: Crew>(
     run_drawn(runner, &lines, &own.answers)
 }
 
-/// Writes what the run of schedule k told, and answers 1 where it differed, else 0.
+/// Writes the line of schedule k where its run differs. Answers how many schedules that are: 1, or 0.
 fn write_run<C, W: Write>(
     runner: &Runner<'_, C>,
     k: u64,
@@ -121,23 +121,23 @@ fn write_run<C, W: Write>(
     }
 }
 
-/// Runs that many schedules, from number 1 on, and writes a line for each that differs: how many do.
+/// Runs n schedules, from number 1 on, and writes a line for each that differs. Answers how many do.
 #[tactic(auto, using(crate::proofs::Ledgers::wrote_none, crate::proofs::Ledgers::wrote_more))]
-fn run_each<C: Crew, W: Write>(
+fn run_schedules<C: Crew, W: Write>(
     runner: &Runner<'_, C>,
-    own: &Own,
+    own: &OwnRun,
     n: u64,
     out: &mut W,
 ) -> Result<u64, Refusal>
     requires size { IsSize runner.now.setting.shape.now }
-    requires four { length runner.now.begins.now ≡ 4 }
+    requires four { length runner.now.payloads.now ≡ 4 }
     requires few { length runner.now.lines.now ≤ 65535 }
     requires ranges { All (IsLineInRange runner.now.setting.shape.now) runner.now.lines.now }
     requires fits { All FitsLine runner.now.lines.now }
     requires count { length own.now.answers.items ≡ other_count runner.now.lines.now }
     requires most { n ≤ 1000000 }
     ensures wrote { IfOk result (λ differ. Wrote (record { size = runner.now.setting.shape.now; lines = runner.now.lines.now })
-        runner.now.begins.now (λ place. slice_index_or runner.now.numbers.now (1 + place_of_other place runner.now.lines.now) 0)
+        runner.now.payloads.now (λ place. slice_index_or runner.now.numbers.now (1 + place_of_other place runner.now.lines.now) 0)
         own.now.answers.items 1 n (W.contents out.old) (W.contents out.new) differ) }
     ensures err { IfErr result (λ e. (e ≡ Memory) ⊎ (e ≡ Output)) }
 {
@@ -150,7 +150,7 @@ fn run_each<C: Crew, W: Write>(
     Ok(differ)
 }
 
-/// Writes a line for the stretch that begins at that place.
+/// Writes the line of a stretch that names few turns, by the place of its first line in the script.
 fn write_one_tight<W: Write>(numbers: &[u64], place: usize, out: &mut W) -> Result<(), Refusal>
     ensures ok { OnOk result ((told : List ℕ) × Appends (W.contents out.old) (W.contents out.new) (tight_text told)) }
     ensures err { IfErr result (λ e. (e ≡ Memory) ⊎ (e ≡ Output)) }
@@ -173,7 +173,7 @@ fn write_all_tight<W: Write>(numbers: &[u64], tight: &[usize], out: &mut W) -> R
 }
 
 /// Each number of a shape is within its range.
-fn sizes(shape: &Shape)
+fn shape_in_range(shape: &Shape)
     ensures { IsSize shape.now }
 {
     let _harts = shape.harts();
@@ -181,66 +181,72 @@ fn sizes(shape: &Shape)
     let _lanes = shape.lanes();
 }
 
-/// The script's own run, which a second one of it confirms. Refused `Memory` alone.
-fn own_of<C: Crew>(
+/// The script's own run. It is made twice: where the second one answers otherwise, memory was refused in one of them, and so
+/// is the bench. Refused `Memory` alone.
+fn confirmed_own_run<C: Crew>(
     setting: &Setting<'_, C>,
-    begins: &Payloads,
+    payloads: &Payloads,
     lines: &[Line],
-) -> Result<Own, Refusal>
-    requires four { length begins.now ≡ 4 }
+) -> Result<OwnRun, Refusal>
+    requires four { length payloads.now ≡ 4 }
     requires ranges { All (IsLineInRange setting.now.shape.now) lines.now }
-    ensures ran { IfOk result (λ own. RanOwn setting.now.shape.now begins.now lines.now own.answers.items) }
+    ensures ran { IfOk result (λ own. RanOwn setting.now.shape.now payloads.now lines.now own.answers.items) }
     ensures count { IfOk result (λ own. length own.answers.items ≡ other_count lines.now) }
     ensures refused { IfErr result (λ e. e ≡ Memory) }
 {
-    let own = run_own(setting, begins, lines)?;
-    match run_until(setting, begins, lines, &own.answers)? {
+    let own = run_own(setting, payloads, lines)?;
+    match run_until(setting, payloads, lines, &own.answers)? {
         None => Ok(own),
         Some(_) => Err(Refusal::Memory),
     }
 }
 
-/// Runs the script, and then that many schedules of it, and writes what they told.
-fn run_all<C: Crew, W: Write>(runner: &Runner<'_, C>, n: u64, out: &mut W) -> Result<u64, Refusal>
+/// Runs the script as it stands, and then n schedules of it. Writes which of its stretches name few turns, which schedules
+/// differ, and how many. Answers how many.
+fn compare_all<C: Crew, W: Write>(
+    runner: &Runner<'_, C>,
+    n: u64,
+    out: &mut W,
+) -> Result<u64, Refusal>
     requires size { IsSize runner.now.setting.shape.now }
-    requires four { length runner.now.begins.now ≡ 4 }
+    requires four { length runner.now.payloads.now ≡ 4 }
     requires few { length runner.now.lines.now ≤ 65535 }
     requires ranges { All (IsLineInRange runner.now.setting.shape.now) runner.now.lines.now }
     requires fits { All FitsLine runner.now.lines.now }
     requires most { n ≤ 1000000 }
     ensures wrote { IfOk result (λ differ. WroteSchedules (record { size = runner.now.setting.shape.now; lines = runner.now.lines.now })
-        runner.now.begins.now (λ place. slice_index_or runner.now.numbers.now (1 + place_of_other place runner.now.lines.now) 0) n
+        runner.now.payloads.now (λ place. slice_index_or runner.now.numbers.now (1 + place_of_other place runner.now.lines.now) 0) n
         (W.contents out.old) (W.contents out.new) differ) }
     ensures err { IfErr result (λ e. (e ≡ Memory) ⊎ (e ≡ Output)) }
 {
-    let own = own_of(&runner.setting, runner.begins, runner.lines)?;
+    let own = confirmed_own_run(&runner.setting, runner.payloads, runner.lines)?;
     write_all_tight(runner.numbers, &own.stretches.tight, out)?;
-    let differ = run_each(runner, &own, n, out)?;
+    let differ = run_schedules(runner, &own, n, out)?;
     write_count(out, n, differ)?;
     Ok(differ)
 }
 
-/// Runs that many schedules of a script that was read, and the script's own run first.
-fn run_script<'a, R: Threads + Sync, W: Write>(
+/// Compares n schedules of a script that was read with its own run.
+fn compare_script<'a, R: Threads + Sync, W: Write>(
     alloc: Global,
     script: &'a Script,
-    begins: &'a Payloads,
+    payloads: &'a Payloads,
     numbers: &'a [u64],
     n: u64,
     seed: u64,
     out: &mut W,
 ) -> Result<u64, Refusal>
-    requires four { length begins.now ≡ 4 }
+    requires four { length payloads.now ≡ 4 }
     requires few { length script.now.lines.items ≤ 65535 }
     requires ranges { All (IsLineInRange script.now.shape) script.now.lines.items }
     requires most { n ≤ 1000000 }
-    ensures wrote { IfOk result (λ differ. WroteSchedules (view script.now) begins.now
+    ensures wrote { IfOk result (λ differ. WroteSchedules (view script.now) payloads.now
         (λ place. slice_index_or numbers.now (1 + place_of_other place script.now.lines.items) 0) n
         (W.contents out.old) (W.contents out.new) differ) }
     ensures err { IfErr result (λ e. (e ≡ Memory) ⊎ (e ≡ Output)) }
 {
     let lines = script.lines.as_slice();
-    sizes(&script.shape);
+    shape_in_range(&script.shape);
     fits(lines);
     let crew = Sequential::<R>::new([0, 1, 2, 3])?;
     let runner = Runner {
@@ -250,23 +256,24 @@ fn run_script<'a, R: Threads + Sync, W: Write>(
             shape: &script.shape,
         },
         lines,
-        begins,
+        payloads,
         numbers,
         seed,
     };
-    run_all(&runner, n, out)
+    compare_all(&runner, n, out)
 }
 
-/// Writes schedule k of a script that was read, once its own run told where its stretches do something.
+/// Writes schedule k of a script that was read. The script is run first: its own run tells in which part of each stretch the
+/// order of turns matters, and the schedule is drawn from that.
 fn show_script<R: Threads + Sync, W: Write>(
     alloc: Global,
     script: &Script,
-    begins: &Payloads,
+    payloads: &Payloads,
     seed: u64,
     k: u64,
     out: &mut W,
 ) -> Result<(), Refusal>
-    requires four { length begins.now ≡ 4 }
+    requires four { length payloads.now ≡ 4 }
     requires few { length script.now.lines.items ≤ 65535 }
     requires ranges { All (IsLineInRange script.now.shape) script.now.lines.items }
     ensures shown { OnOk result (Shown (view script.now) (W.contents out.old) (W.contents out.new)) }
@@ -275,7 +282,7 @@ fn show_script<R: Threads + Sync, W: Write>(
     orders_keep_lines();
     scripts_read_as_written();
     let lines = script.lines.as_slice();
-    sizes(&script.shape);
+    shape_in_range(&script.shape);
     fits(lines);
     let crew = Sequential::<R>::new([0, 1, 2, 3])?;
     let setting = Setting {
@@ -283,17 +290,16 @@ fn show_script<R: Threads + Sync, W: Write>(
         crew: &crew,
         shape: &script.shape,
     };
-    let own = own_of(&setting, begins, lines)?;
+    let own = confirmed_own_run(&setting, payloads, lines)?;
     let mut rng = generator(seed, k);
     let drawn = schedule(alloc, &mut rng, lines, &own.stretches.fronts)?;
     write_script(out, &script.shape, &drawn)
 }
 
-/// The schedule bench (docs/SCRIPT.md, "Schedules"): runs a script that begins with these payloads as it stands, and then
-/// so many schedules of it, each with
-/// the turns of each stretch in another order. Where the report of a schedule first differs from the script's own in a
-/// line that is no `turn` line, it writes what was reported there, by the number of the script's line; at the end, how many
-/// differ. Each schedule is drawn from the seed and its number alone.
+/// The schedule bench (docs/SCRIPT.md, "Schedules"). It runs a script as it stands, with these payloads in the slots, and
+/// then n schedules of it: the same lines, but with the turns of each stretch in another order. It compares their reports,
+/// leaving out `turn` lines. Where a schedule's report differs, it writes the first line that does, with the number of the
+/// script's line. At the end it writes how many differ. Each schedule is drawn from the seed and its number alone.
 ///
 /// Refused `BadShape` or `BadScript` where the script has a fault, and then nothing is written; `Memory` where memory was
 /// refused in any run, which is never a difference; `Output` where the writer failed. After the last two any part may stand
@@ -301,16 +307,16 @@ fn show_script<R: Threads + Sync, W: Write>(
 pub fn schedules<R: Threads + Sync, W: Write>(
     alloc: Global,
     script: &[u8],
-    begins: &Payloads,
+    payloads: &Payloads,
     n: u64,
     seed: u64,
     out: &mut W,
 ) -> Result<Compared, Refusal>
-    requires four { length begins.now ≡ 4 }
+    requires four { length payloads.now ≡ 4 }
     requires most { n ≤ 1000000 }
     // All schedules were run and compared with the script's own run, and those that differ were written and counted.
     ensures wrote { IfOk result (λ count. (count.runs ≡ n) × (said : Said) × (script_of script.now ≡ Ok said)
-        × WroteSchedules said begins.now (number_of_other script.now said.lines) n (W.contents out.old) (W.contents out.new) count.differ) }
+        × WroteSchedules said payloads.now (number_of_other script.now said.lines) n (W.contents out.old) (W.contents out.new) count.differ) }
     // A refusal is the script's fault, or want of memory, or the writer's.
     ensures refused { IfErr result (λ e. (e ≡ Memory) ⊎ (e ≡ Output) ⊎ (script_of script.now ≡ Err e)) }
     // A script with a fault runs nothing.
@@ -319,23 +325,23 @@ pub fn schedules<R: Threads + Sync, W: Write>(
 {
     let read = parse_script(alloc, script)?;
     let numbers = numbers(alloc, script)?;
-    let differ = run_script::<R, W>(alloc, &read, begins, &numbers, n, seed, out)?;
+    let differ = compare_script::<R, W>(alloc, &read, payloads, &numbers, n, seed, out)?;
     Ok(Compared { runs: n, differ })
 }
 
-/// Writes schedule k of a script that begins with these payloads, as a script: the one that [`schedules`] runs by that
-/// number, and whose report it tells. The payloads are no part of it: it is run with the same ones.
+/// Writes schedule k of a script as a script: the one that [`schedules`] runs by that number, with the same seed and the same
+/// payloads. The payloads are no part of what is written.
 ///
 /// Refused as `schedules` is.
 pub fn show<R: Threads + Sync, W: Write>(
     alloc: Global,
     script: &[u8],
-    begins: &Payloads,
+    payloads: &Payloads,
     seed: u64,
     k: u64,
     out: &mut W,
 ) -> Result<(), Refusal>
-    requires four { length begins.now ≡ 4 }
+    requires four { length payloads.now ≡ 4 }
     // What was written is a schedule of the script, and is read back as it.
     ensures shown { OnOk result ((said : Said) × (script_of script.now ≡ Ok said)
         × Shown said (W.contents out.old) (W.contents out.new)) }
@@ -346,5 +352,5 @@ pub fn show<R: Threads + Sync, W: Write>(
         → (W.contents out.new ≡ W.contents out.old) × ((result ≡ Err e) ⊎ (result ≡ Err Memory)) }
 {
     let read = parse_script(alloc, script)?;
-    show_script::<R, W>(alloc, &read, begins, seed, k, out)
+    show_script::<R, W>(alloc, &read, payloads, seed, k, out)
 }

@@ -3,13 +3,13 @@
 #![tactic(auto)]
 
 mod benches;
-mod going;
+mod line_runs;
 mod lines_fit;
 mod numbers;
-mod own;
+mod own_runs;
 mod runs;
-mod shown;
-mod tight;
+mod scripts;
+mod stretches;
 mod written;
 
 pub use benches::{Compared, schedules, show};

@@ -1,29 +1,29 @@
-//! The numbers of a script's lines.
+//! The numbers of a script's lines, as an editor counts them.
 
 ghost use Rattle.std.specs.Prelude.{◌≡◌, ◌+◌, ◌≤◌, ◌==◌, ℕ, List, length, map, IfOk, slice_index_or};
 ghost use Rattle.std.specs.List.{slice_split};
 ghost use Rattle.script_lang.specs.Scripts.{is_passed};
 ghost use Rattle.bench_schedules.specs.Numbers.{numbers_from, numbers_of, number_of_other, place_of_other};
 
-use crate::going::is_other;
+use crate::line_runs::is_other;
 use script_lang::Line;
 use std::alloc::{AllocError, Global};
 
-/// Whether a line is passed over: an empty one, and one that begins with `#`.
+/// Whether a line is no line of the script: it is empty, or a comment, which begins with `#`.
 fn is_passed(line: &[u8]) -> bool
     ensures { result ≡ is_passed line.now }
 {
     line.is_empty() || line[0] == b'#'
 }
 
-/// The lines of a script, and an empty one behind a last line feed.
+/// The lines of a script. After a line feed at its end there is one more, which is empty.
 fn parts(alloc: Global, script: &[u8]) -> Result<Vec<&[u8]>, AllocError>
     ensures { IfOk result (λ v. map (λ w. w.now) v.items ≡ slice_split (λ b. b == 10) script.now) }
 {
     script.split(|b| *b == b'\n').collect(alloc)
 }
 
-/// The numbers of those lines that are not passed over.
+/// The numbers of the lines that are not passed over, where the first of these lines has number 1.
 fn numbers_in(alloc: Global, lines: &[&[u8]]) -> Result<Vec<u64>, AllocError>
     ensures { IfOk result (λ v. v.items ≡ numbers_from 1 (map (λ w. w.now) lines.now)) }
 {
@@ -36,7 +36,7 @@ fn numbers_in(alloc: Global, lines: &[&[u8]]) -> Result<Vec<u64>, AllocError>
     Ok(found)
 }
 
-/// The numbers, from 1, of the lines that are not passed over: of the board line, and then of each behind it.
+/// The numbers of the lines of a script that are not passed over, counted from 1: first that of the board line.
 pub fn numbers(alloc: Global, script: &[u8]) -> Result<Vec<u64>, AllocError>
     ensures { IfOk result (λ v. v.items ≡ numbers_of script.now) }
 {

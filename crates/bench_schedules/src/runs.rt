@@ -4,10 +4,10 @@ ghost use Rattle.std.specs.Prelude.{◌≡◌, ◌<◌, length, true, All, IfErr
 ghost use Rattle.board_model.specs.declared.refusal.Refusal.TheVariants.{Memory};
 ghost use Rattle.script_lang.specs.Lines.{IsLineInRange};
 ghost use Rattle.bench_orders.specs.Orders.{is_other, other_count};
-ghost use Rattle.bench_schedules.specs.Behind.{IsApart, IsBehind};
+ghost use Rattle.bench_schedules.specs.Compared.{IsDifference, IsNextPlace};
 ghost use Rattle.bench_schedules.specs.Schedules.{RanLike};
 
-use crate::going::{end, is_other, step};
+use crate::line_runs::{end_run, is_other, run_line};
 use bench_live::LiveBench;
 use bench_report::{Answer, Setting};
 use board::Payloads;
@@ -26,12 +26,17 @@ pub struct Difference {
     pub answer: Answer,
 }
 
-/// The place behind a line: the next one, where it is no `turn` line and answers what the script's own run did. A line that
-/// answers other than that is told.
-fn behind(own: &[Answer], place: usize, line: &Line, answer: Answer) -> Result<usize, Difference>
+/// Compares the answer of a line with that of the script's own run at a place, and answers the place of the next one to be
+/// compared. A `turn` line is not compared. Where the two differ, that is the error.
+fn next_place(
+    own: &[Answer],
+    place: usize,
+    line: &Line,
+    answer: Answer,
+) -> Result<usize, Difference>
     requires { is_other line.now ≡ true → place < length own.now }
-    ensures alike { IfOk result (λ next. IsBehind own.now place line.now answer next) }
-    ensures apart { IfErr result (λ d. IsApart own.now place line.now answer d) }
+    ensures alike { IfOk result (λ next. IsNextPlace own.now place line.now answer next) }
+    ensures apart { IfErr result (λ d. IsDifference own.now place line.now answer d) }
 {
     if !is_other(line) {
         return Ok(place);
@@ -47,56 +52,56 @@ fn behind(own: &[Answer], place: usize, line: &Line, answer: Answer) -> Result<u
     })
 }
 
-/// Runs lines, from these payloads on, up to the first that is no `turn` and answers other than in the script's own
-/// run. Refused `Memory` alone: where it was refused in a run, that is no difference.
+/// Runs lines, with these payloads in the slots, up to the first that answers other than in the script's own run; `turn`
+/// lines are not compared. Refused `Memory` alone: where a run was refused memory, its answers are not compared.
 pub fn run_until<C: Crew>(
     setting: &Setting<'_, C>,
-    begins: &Payloads,
+    payloads: &Payloads,
     lines: &[Line],
     own: &[Answer],
 ) -> Result<Option<Difference>, Refusal>
-    requires four { length begins.now ≡ 4 }
+    requires four { length payloads.now ≡ 4 }
     requires ranges { All (IsLineInRange setting.now.shape.now) lines.now }
     requires count { length own.now ≡ other_count lines.now }
-    ensures ran { IfOk result (λ differs. RanLike setting.now.shape.now begins.now lines.now own.now differs) }
+    ensures ran { IfOk result (λ differs. RanLike setting.now.shape.now payloads.now lines.now own.now differs) }
     ensures refused { IfErr result (λ e. e ≡ Memory) }
 {
-    let mut live = LiveBench::blank(setting.alloc, setting.shape, begins)?;
+    let mut live = LiveBench::blank(setting.alloc, setting.shape, payloads)?;
     let mut place = 0;
     for line in lines {
-        let answer = step(setting, line, &mut live)?;
-        let next = match behind(own, place, line, answer) {
+        let answer = run_line(setting, line, &mut live)?;
+        let next = match next_place(own, place, line, answer) {
             Ok(next) => next,
             Err(difference) => {
-                end(live, setting.shape)?;
+                end_run(live, setting.shape)?;
                 return Ok(Some(difference));
             }
         };
         place = next;
     }
-    end(live, setting.shape)?;
+    end_run(live, setting.shape)?;
     Ok(None)
 }
 
-/// The same, and what differs a second run of these lines has to confirm: where it tells otherwise, memory was refused to
-/// a guest's suspension, which nothing else tells.
+/// As `run_until`, but where a difference was found, a second run of these lines has to find the same one. Where it does
+/// not, a guest's suspension was refused memory, which no other sign tells: then the run is refused `Memory`.
 pub fn run_confirmed<C: Crew>(
     setting: &Setting<'_, C>,
-    begins: &Payloads,
+    payloads: &Payloads,
     lines: &[Line],
     own: &[Answer],
 ) -> Result<Option<Difference>, Refusal>
-    requires four { length begins.now ≡ 4 }
+    requires four { length payloads.now ≡ 4 }
     requires ranges { All (IsLineInRange setting.now.shape.now) lines.now }
     requires count { length own.now ≡ other_count lines.now }
-    ensures ran { IfOk result (λ differs. RanLike setting.now.shape.now begins.now lines.now own.now differs) }
+    ensures ran { IfOk result (λ differs. RanLike setting.now.shape.now payloads.now lines.now own.now differs) }
     ensures refused { IfErr result (λ e. e ≡ Memory) }
 {
-    let differs = run_until(setting, begins, lines, own)?;
+    let differs = run_until(setting, payloads, lines, own)?;
     if differs.is_none() {
         return Ok(differs);
     }
-    let again = run_until(setting, begins, lines, own)?;
+    let again = run_until(setting, payloads, lines, own)?;
     if again != differs {
         return Err(Refusal::Memory);
     }

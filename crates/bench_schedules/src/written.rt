@@ -1,4 +1,4 @@
-//! The lines of the bench.
+//! The lines that the bench writes.
 
 ghost use Rattle.std.specs.Prelude.{◌≡◌, ◌≢◌, ◌⊎◌, None, ◌++◌, ◌∷◌, [], ℕ, List, Some, OnOk, IfErr, codes};
 ghost use Rattle.std.specs.Fmt.{decimal};
@@ -7,8 +7,8 @@ ghost use Rattle.board_model.specs.declared.refusal.Refusal.TheVariants.{Memory,
 ghost use Rattle.board_model.specs.declared.durable.Durable.{Durable as Found};
 ghost use Rattle.board_console.specs.Texts.{state_text};
 ghost use Rattle.bench_report.specs.Texts.{line_text};
-ghost use Rattle.bench_schedules.specs.Apart.{apart_said};
-ghost use Rattle.bench_schedules.specs.Schedules.{apart_text, count_text, tight_text};
+ghost use Rattle.bench_schedules.specs.Reported.{reported_text};
+ghost use Rattle.bench_schedules.specs.Schedules.{IsReportedText, count_text, tight_text};
 
 use crate::runs::Difference;
 use bench_report::{Printed, unwritten};
@@ -17,42 +17,42 @@ use board_model::{Durable, Refusal};
 use std::fmt;
 use std::io::Write;
 
-/// The first line of a report that is another than in the script's own.
+/// The line that is written of a schedule: the first of its report that differs from the script's own report.
 #[derive(Clone, Copy, Drop)]
-pub enum Apart {
-    /// What an open found.
+pub enum ReportedLine {
+    /// What an open found, which its line `found` tells.
     Found(Durable),
-    /// What a line said.
+    /// The answer of a line of the script.
     Line(Printed),
 }
 
-impl fmt::Display for Apart {
-    ghost output = { λ a. Some (apart_said a) };
+impl fmt::Display for ReportedLine {
+    ghost output = { λ a. Some (reported_text a) };
 
     fn fmt<W: fmt::Write>(&self, f: &mut fmt::Formatter<W>) -> fmt::Result {
         match *self {
-            Apart::Found(durable) => {
+            ReportedLine::Found(durable) => {
                 let state = StateText(durable);
                 write!(f, "found {state}")
             }
-            Apart::Line(line) => write!(f, "{line}"),
+            ReportedLine::Line(line) => write!(f, "{line}"),
         }
     }
 }
 
-/// The first line of the schedule's report there that is another: of what the script's own run found, what the schedule's
-/// found, and the line behind that.
-fn line_apart(own: Option<Durable>, found: Option<Durable>, line: Printed) -> Apart
-    ensures { apart_text found line own (apart_said result) }
+/// Which line of the schedule's report is written, where the two answers of one line differ. `own` and `found` are what an
+/// open found in the script's own run and in the schedule's. `line` comes after that in the schedule's report.
+fn first_other(own: Option<Durable>, found: Option<Durable>, line: Printed) -> ReportedLine
+    ensures { IsReportedText found line own (reported_text result) }
 {
     let same = own == found;
     match found {
-        None => Apart::Line(line),
+        None => ReportedLine::Line(line),
         Some(durable) => {
             if same {
-                Apart::Line(line)
+                ReportedLine::Line(line)
             } else {
-                Apart::Found(durable)
+                ReportedLine::Found(durable)
             }
         }
     }
@@ -66,30 +66,35 @@ pub fn write_tight<W: Write>(out: &mut W, number: u64) -> Result<(), Refusal>
     writeln!(out, "line {number} tight").map_err(|error| unwritten(error))
 }
 
-/// Writes the line of schedule k, by the script's line of that number and what was reported there.
-fn write_apart<W: Write>(out: &mut W, k: u64, number: u64, apart: Apart) -> Result<(), Refusal>
+/// Writes the line of schedule k: the number of the script's line, and what the schedule's run reported there.
+fn write_reported<W: Write>(
+    out: &mut W,
+    k: u64,
+    number: u64,
+    apart: ReportedLine,
+) -> Result<(), Refusal>
     ensures ok { OnOk result (Appends (W.contents out.old) (W.contents out.new)
-        (codes "schedule " ++ decimal k ++ codes " line " ++ decimal number ++ codes " " ++ apart_said apart ++ 10 ∷ [])) }
+        (codes "schedule " ++ decimal k ++ codes " line " ++ decimal number ++ codes " " ++ reported_text apart ++ 10 ∷ [])) }
     ensures err { IfErr result (λ e. (e ≡ Memory) ⊎ (e ≡ Output)) }
 {
     writeln!(out, "schedule {k} line {number} {apart}").map_err(|error| unwritten(error))
 }
 
-/// Writes the line of schedule k, whose run answered otherwise at the script's line of that number.
+/// Writes the line of schedule k, whose run differs at the script's line of that number.
 pub fn write_difference<W: Write>(
     out: &mut W,
     k: u64,
     number: u64,
     differs: &Difference,
 ) -> Result<(), Refusal>
-    ensures ok { OnOk result ((said : List ℕ) × apart_text differs.now.answer.found differs.now.answer.line differs.now.own.found said
+    ensures ok { OnOk result ((said : List ℕ) × IsReportedText differs.now.answer.found differs.now.answer.line differs.now.own.found said
         × Appends (W.contents out.old) (W.contents out.new)
         (codes "schedule " ++ decimal k ++ codes " line " ++ decimal number ++ codes " " ++ said ++ 10 ∷ [])) }
     ensures err { IfErr result (λ e. (e ≡ Memory) ⊎ (e ≡ Output)) }
 {
     let Difference { own, answer, .. } = *differs;
-    let apart = line_apart(own.found, answer.found, answer.line);
-    write_apart(out, k, number, apart)
+    let apart = first_other(own.found, answer.found, answer.line);
+    write_reported(out, k, number, apart)
 }
 
 /// Writes the last line of the bench.

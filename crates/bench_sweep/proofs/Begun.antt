@@ -3,11 +3,9 @@ use Rattle.std.proofs.Common.{◌≡◌, ◌⊎◌, ◌<◌, ◌+◌, ◌++◌, 
 use Rattle.board_model.specs.Durable.{DurableState, Change, CarriesWhole}
 use Rattle.board_model.specs.Kept.{Kept, nothing_kept}
 use Rattle.board_model.specs.Shapes.{Size}
-use Rattle.simdisk.specs.declared.SimDisk.{SimDisk}
 use Rattle.script_lang.specs.declared.line.Line.{Line}
 use Rattle.script_lang.specs.declared.line.Line.TheVariants as lines
 use Rattle.bench_report.specs.declared.power.Power.{Power}
-use Rattle.bench_report.specs.declared.power.Power.TheVariants.{Off}
 use Rattle.bench_report.specs.declared.printed.Answer.{Answer}
 use Rattle.bench_report.specs.declared.printed.Printed.{Printed}
 use Rattle.bench_report.specs.declared.printed.Printed.TheVariants as printed
@@ -16,17 +14,18 @@ use Rattle.bench_report.specs.Happens.{says, off, formatted_anew}
 use Rattle.bench_report.specs.PowerOns.{FormatsOn}
 use Rattle.bench_report.specs.Steps.{FormatStep, Step, Moves, Run}
 use Rattle.bench_report.proofs.RunLines.{run_more}
-use Rattle.bench_report.specs.Agree.{OffIs, Agrees, Matches}
+use Rattle.bench_report.specs.Agree.{OffIs, Agrees, IsBench}
 use Rattle.bench_judge.specs.declared.ledgers.Ledger.{Ledger}
 use Rattle.bench_judge.specs.Ledgers.{Tells}
+use Rattle.bench_sweep.specs.declared.site.Site.{Site}
 use Rattle.bench_sweep.specs.Runs.{TellsWhole, Begins, Begun, IsFormattedAt, Formats}
 
 -- ---- the line that formats the disk
 abbrev Fresh : Bench → Bench → Type 0
-Fresh b new = (new.disk_state ≡ Formatted) × (new.kept ≡ nothing_kept) × (new.fault_state.struck ≡ b.fault_state.struck)
+Fresh b new = (new.disk_state ≡ Formatted) × (new.kept ≡ nothing_kept)
 
 anew : (b new : Bench) → new ≡ formatted_anew b → Fresh b new
-anew b new e = (ap (λ (x : Bench). x.disk_state) e, ap (λ (x : Bench). x.kept) e, ap (λ (x : Bench). x.fault_state.struck) e)
+anew b new e = (ap (λ (x : Bench). x.disk_state) e, ap (λ (x : Bench). x.kept) e)
 
 other : {A : Type 0} (a : Answer) (line : Printed) → a ≡ says line → a.line ≡ printed.Formatted → (line ≡ printed.Formatted → ⊥) → A
 other a line e is not = absurd (not (sym (ap (λ (x : Answer). x.line) e) ∙ is))
@@ -52,17 +51,21 @@ said : (line : Line) (a : Answer) → Formats line a → a.line ≡ printed.Form
 said lines.Format a is = is
 said line a is = absurd is
 
+-- a line within which a cut struck formatted nothing
+moved_fresh : (size : Size) (line : Line) (b : Bench) (a : Answer) (new : Bench) → Formats line a → Moves size line b a new → Fresh b new
+moved_fresh size line b a new is (inl x) = fresh_by size line b a new is x.0
+moved_fresh size line b a new is (inr x) = absurd (let no : printed.Formatted ≡ printed.PowerLost = sym (said line a is) ∙ ap (λ (y : Answer). y.line) x.4 in let never : ⊥ = cc in never)
+
 -- after the lines before it
 pub begun_by : (size : Size) (start : List (List ℕ)) (lines : List Line) (i : ℕ) (line : Line) (d : Line) (power : Power) (slots : List (List ℕ)) (b new : Bench) (answers : List Answer) (a : Answer) → i < length lines → line ≡ get_or lines i d → Run size (bench_with start) (take i lines) answers b
-    → b.fault_state.struck ≡ false → Formats line a → Step size line b a new → Matches size new power slots → Begun size start (take (i + 1) lines) power slots
-begun_by size start lines i line d power slots b new answers a less is run quiet did step matches =
-    let f = fresh_by size line b a new did step in
-    let calm : new.fault_state.struck ≡ false = f.2 ∙ quiet in
+    → Formats line a → Moves size line b a new → IsBench size new power slots → Begun size start (take (i + 1) lines) power slots
+begun_by size start lines i line d power slots b new answers a less is run did moves matches =
+    let f = moved_fresh size line b a new did moves in
     let M : Line → Type 0 = λ l. Moves size l b a new in record {
       bench = new;
       before = answers;
       last = a;
-      run = run_more size lines i d (bench_with start) answers b a new less run (subst M is (inl (step, calm)));
+      run = run_more size lines i d (bench_with start) answers b a new less run (subst M is moves);
       formats = said line a did;
       agrees = matches.0;
       same = matches.1;
@@ -72,27 +75,27 @@ begun_by size start lines i line d power slots b new answers a less is run quiet
 
 -- one line more
 pub begins_more : (size : Size) (start : List (List ℕ)) (lines : List Line) (i : ℕ) (line : Line) (d : Line) (power : Power) (slots : List (List ℕ)) (b new : Bench) (answers : List Answer) (a : Answer) → i < length lines → line ≡ get_or lines i d → Run size (bench_with start) (take i lines) answers b
-    → Step size line b a new → Matches size new power slots → new.fault_state.struck ≡ false → Begins size start (take (i + 1) lines) power slots
-begins_more size start lines i line d power slots b new answers a less is run step matches calm =
+    → Moves size line b a new → IsBench size new power slots → Begins size start (take (i + 1) lines) power slots
+begins_more size start lines i line d power slots b new answers a less is run moves matches =
     let M : Line → Type 0 = λ l. Moves size l b a new in record {
       bench = new;
       answers = answers ++ a ∷ [];
-      run = run_more size lines i d (bench_with start) answers b a new less run (subst M is (inl (step, calm)));
-      is = (matches.0, matches.1, calm);
+      run = run_more size lines i d (bench_with start) answers b a new less run (subst M is moves);
+      is = matches;
     }
 
 -- ---- the site behind it
-pub site_runs : (size : Size) (start : List (List ℕ)) (lines : List Line) (power : Power) (disk : SimDisk) (slots : List (List ℕ)) (ledger : Ledger) → Begun size start lines power slots → ((z : Size) (b : Bench) → Agrees z b power → OffIs z (off b) disk) → Tells ledger nothing_kept
-    → IsFormattedAt size start lines disk slots ledger
-site_runs size start lines power disk slots ledger g ends tells =
-    let P : Kept → Type 0 = λ k. TellsWhole size ledger k in
+pub site_runs : (size : Size) (start : List (List ℕ)) (lines : List Line) (power : Power) (slots : List (List ℕ)) (site : Site) → Begun size start lines power slots → ((z : Size) (b : Bench) → Agrees z b power → OffIs z (off b) site.off.disk)
+    → site.payloads ≡ slots → Tells site.ledger nothing_kept → IsFormattedAt size start lines site
+site_runs size start lines power slots site g ends same tells =
+    let P : Kept → Type 0 = λ k. TellsWhole size site.ledger k in
     let doubt : (c : Change) → None ≡ Some c → CarriesWhole size c = λ c e. absurd (let no : ⊥ = cc in no) in
-    let at : OffIs size (off g.bench) disk = ends size g.bench g.agrees in (
+    let at : OffIs size (off g.bench) site.off.disk = ends size g.bench g.agrees in (
       g.bench,
       record { before = g.before; last = g.last; run = g.run; formats = g.formats },
       record {
         agrees = at;
-        same = g.same;
+        same = same ∙ g.same;
         follows = record { formatted = g.formatted; kept = subst P (sym g.kept) (record { tells = tells; whole = tt; doubt = doubt }) };
       },
     )

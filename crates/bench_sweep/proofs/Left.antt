@@ -15,6 +15,7 @@ use Rattle.board_model.specs.declared.durable.Trial.{Trial}
 use Rattle.board_model.specs.declared.plain.Plain.{Plain}
 use Rattle.disk.specs.Facts.{IsLeft}
 use Rattle.disk.specs.FaultState.{Armed, Unarmed, FaultArmed, CutArmed, FaultState, Cause, fault_state_left}
+use Rattle.disk.specs.declared.device.ArmedFault.{ArmedFault}
 use Rattle.simdisk.specs.declared.SimDisk.{SimDisk}
 use Rattle.board_model.specs.declared.console_command.ConsoleCommand.{ConsoleCommand}
 use Rattle.board_model.specs.ConsoleCommands.{console_change}
@@ -22,6 +23,7 @@ use Rattle.board_model.specs.declared.durable.Command.TheVariants as commands
 use Rattle.std.proofs.lemmas.List.Elements.{All-cons, All-nil}
 use Rattle.board.specs.Boots.{PayloadsFit}
 use Rattle.board.specs.Moments.{attempts_of}
+use Rattle.bench_report.specs.declared.power.OffDisk.{OffDisk}
 use Rattle.bench_report.specs.declared.power.Power.{Power}
 use Rattle.bench_report.specs.declared.power.Power.TheVariants.{Off, On}
 use Rattle.bench_report.specs.declared.printed.Answer.{Answer}
@@ -31,7 +33,7 @@ use Rattle.bench_report.specs.Views.{SimBoard, store_in, facts, fault_state, sto
 use Rattle.bench_report.specs.Bench.{DiskState, Formatted, BenchLife, Bench, no_payloads}
 use Rattle.bench_report.specs.Happens.{FailsByFault, acknowledged, armed_with, in_doubt, off, on_with, says, settled, unpowered, has_machine}
 use Rattle.bench_report.specs.Commands.{Writes, Issued, IssuesAll}
-use Rattle.bench_report.specs.Steps.{ArmStep, ConsoleStep, OnStep, Step}
+use Rattle.bench_report.specs.Steps.{ConsoleStep, OnStep, Step}
 use Rattle.bench_report.specs.PowerOns.{life_begun, IsBooted, Boots, Opens, ShowsFound, IsOpenRefusal, PowersOn, TellsNow}
 use Rattle.bench_report.specs.Agree.{BoardIs, OffIs, OnIs, Agrees, Matches, StepsTo}
 use Rattle.bench_report.proofs.Ended.{left_on, cut_leaves}
@@ -58,7 +60,7 @@ left_off goes_on size b old new off left m = (
 )
 
 -- of the disk of a run, with a ledger that tells the same
-pub left_by : (size : Size) (b : Bench) (old new : SimDisk) (slots now : List (List ℕ)) (was ledger : Ledger) → Runs size b (Off old) slots was → OffIs size (unpowered b) new → now ≡ slots → ((kept : Kept) → Tells was kept → Tells ledger kept)
+pub left_by : (size : Size) (b : Bench) (old new : OffDisk) (slots now : List (List ℕ)) (was ledger : Ledger) → Runs size b (Off old) slots was → OffIs size (unpowered b) new.disk → now ≡ slots → ((kept : Kept) → Tells was kept → Tells ledger kept)
     → LeftOff size (unpowered b) new now ledger
 left_by size b old new slots now was ledger r cut same tells = record {
   off = cut;
@@ -71,27 +73,25 @@ left_by size b old new slots now was ledger r cut same tells = record {
 }
 
 -- nothing has struck it
-pub calm_off : (size : Size) (b : Bench) (disk : SimDisk) (slots : List (List ℕ)) (ledger : Ledger) → LeftOff size b disk slots ledger → RunsCalm size b (Off disk) slots ledger
+pub calm_off : (size : Size) (b : Bench) (disk : OffDisk) (slots : List (List ℕ)) (ledger : Ledger) → LeftOff size b disk slots ledger → RunsCalm size b (Off disk) slots ledger
 calm_off size b disk slots ledger l = record { agrees = l.off; same = l.same; follows = l.follows; calm = ap (λ (m : FaultState). m.struck) l.left }
 
-pub off_sits : (size : Size) (b : Bench) (disk : SimDisk) (slots : List (List ℕ)) (ledger : Ledger) → LeftOff size b disk slots ledger → Runs size b (Off disk) slots ledger
+pub off_sits : (size : Size) (b : Bench) (disk : OffDisk) (slots : List (List ℕ)) (ledger : Ledger) → LeftOff size b disk slots ledger → Runs size b (Off disk) slots ledger
 off_sits size b disk slots ledger l = record { agrees = l.off; same = l.same; follows = l.follows }
 
 -- a cut or a failure is armed
-pub armed_off : (size : Size) (b : Bench) (disk : SimDisk) (armed is : Armed) (a : Answer) (power : Power) (slots : List (List ℕ)) (ledger : Ledger) → armed ≡ is → LeftOff size b disk slots ledger → ((z : Size) (c : Bench) → OffIs z c disk → StepsTo z c power (ArmStep armed c a))
-    → RunsCalm size (armed_with is b) power slots ledger
-armed_off size b disk armed is a power slots ledger e l arms =
-    let did = arms size b l.off in
-    let A : Bench → Type 0 = λ x. Agrees size x power in
-    let B : Armed → Type 0 = λ m. Agrees size (armed_with m b) power in record {
-      agrees = subst B e (subst A did.1.1 did.2);
+pub armed_off : (size : Size) (b : Bench) (old new : OffDisk) (fault is : ArmedFault) (slots : List (List ℕ)) (ledger : Ledger) → fault ≡ is → LeftOff size b old slots ledger
+    → ((z : Size) (c : Bench) → OffIs z c old.disk → OffIs z (armed_with fault c) new.disk) → RunsCalm size (armed_with is b) (Off new) slots ledger
+armed_off size b old new fault is slots ledger e l arms =
+    let B : ArmedFault → Type 0 = λ f. OffIs size (armed_with f b) new.disk in record {
+      agrees = subst B e (arms size b l.off);
       same = l.same;
       follows = record { formatted = l.follows.formatted; kept = l.follows.kept };
       calm = ap (λ (m : FaultState). m.struck) l.left;
     }
 
 -- the board is off
-pub off_runs : (size : Size) (b : Bench) (power : Power) (disk : SimDisk) (slots : List (List ℕ)) (ledger : Ledger) → Runs size b power slots ledger → ((z : Size) (c : Bench) → Agrees z c power → OffIs z (off c) disk) → Runs size (off b) (Off disk) slots ledger
+pub off_runs : (size : Size) (b : Bench) (power : Power) (disk : OffDisk) (slots : List (List ℕ)) (ledger : Ledger) → Runs size b power slots ledger → ((z : Size) (c : Bench) → Agrees z c power → OffIs z (off c) disk.disk) → Runs size (off b) (Off disk) slots ledger
 off_runs size b power disk slots ledger r ends = record {
   agrees = ends size b r.agrees;
   same = r.same;
@@ -120,12 +120,12 @@ line_runs size line b old new slots now answer was ledger plain none unasked r (
     }
 
 -- a line that powers a board on, which was off
-pub power_runs : (size : Size) (mode : BootMode) (b : Bench) (old new : Power) (disk : SimDisk) (slots : List (List ℕ)) (answer : Answer) (now : Option Durable) (was ledger : Ledger) → old ≡ Off disk → RunsCalm size b old slots was
-    → (OffIs size b disk → slots ≡ b.payloads → StepsTo size b new (λ x. PowersOn size mode b answer x × TellsNow answer.found now x))
+pub power_runs : (size : Size) (mode : BootMode) (b : Bench) (old new : Power) (disk : OffDisk) (slots : List (List ℕ)) (answer : Answer) (now : Option Durable) (was ledger : Ledger) → old ≡ Off disk → RunsCalm size b old slots was
+    → (OffIs size b disk.disk → slots ≡ b.payloads → StepsTo size b new (λ x. PowersOn size mode b answer x × TellsNow answer.found now x))
     → ((z : Size) (k n : Kept) → TellsWhole z was k → PowerTold mode answer.found answer.line now k n → TellsWhole z ledger n) → LineMoves size (lines.On mode) b new slots ledger
 power_runs size mode b old new disk slots answer now was ledger is r powers_it follows =
     let A : Power → Type 0 = λ p. Agrees size b p in
-    let off : OffIs size b disk = subst A is r.agrees in
+    let off : OffIs size b disk.disk = subst A is r.agrees in
     let did = powers_it off r.same in
     let told = power_tells size mode b answer now did.0 r.follows.formatted did.1.0 did.1.1 in
     let P : Option BenchLife → Type 0 = λ p. OnStep size p mode b answer did.0 in record {
@@ -332,9 +332,9 @@ module _ (size : Size) (b : Bench) (a : Answer) (new : Bench) (formatted : b.dis
 
   -- what was found is what the ledger tells
   pub finds : (ledger : Ledger) (power : Power) (found : Option Plain) → IsSize size → TellsWhole size ledger b.kept → PowersOn size modes.Keep b a new → Agrees size new power → PowerFinds size power a.found a.line found → Finds ledger found
-  finds ledger (Off disk) found is_size tells did agrees sees = elim (powers did) [
+  finds ledger (Off off) found is_size tells did agrees sees = elim (powers did) [
     | inl k ↦ absurd (let e : None ≡ Some k.life = sym agrees.0 ∙ k.on in let no : ⊥ = cc in no)
-    | inr u ↦ absurd (sees (spoilt disk u agrees))
+    | inr u ↦ absurd (sees (spoilt off.disk u agrees))
   ]
   finds ledger (On board) found is_size tells did agrees sees = elim (powers did) [
     | inr u ↦ (let P : Option BenchLife → Type 0 = λ p. BoardIs size new.disk_state new.kept p board in absurd (subst P u.off agrees.0))

@@ -1,5 +1,5 @@
 -- An image that stands is loaded, unless the disk's record was refused memory.
-use Rattle.std.proofs.Common.{◌≡◌, ◌⊎◌, ℕ, List, Option, Some, Result, Ok, Err, IfOk, refl, sym, ◌∙◌, ap, subst}
+use Rattle.std.proofs.Common.{◌≡◌, ◌⊎◌, ℕ, List, Option, Some, Result, Ok, Err, IfOk, refl, sym, subst}
 use Rattle.board_model.specs.Durable.{DurableState, Image}
 use Rattle.board_model.specs.Plains.{HasMemory, state_in, IsPlainOf}
 use Rattle.board_model.specs.Shapes.{Size}
@@ -7,16 +7,12 @@ use Rattle.board_model.specs.Views.{durable_of}
 use Rattle.board_model.specs.declared.durable.Durable.{Durable}
 use Rattle.board_model.specs.declared.plain.Plain.{Plain}
 use Rattle.board_model.specs.declared.refusal.Refusal.{Refusal}
-use Rattle.disk.specs.FaultState.{FaultState}
 use Rattle.store.specs.Lives.{IsLoaded}
 use Rattle.bench_report.specs.declared.power.Power.{Power}
-use Rattle.bench_report.specs.declared.power.Power.TheVariants.{Off, On}
-use Rattle.bench_report.specs.Agree.{IsUnstruck}
-use Rattle.bench_report.specs.Bench.{Bench}
-use Rattle.bench_judge.specs.declared.ledgers.Ledger.{Ledger}
+use Rattle.bench_report.specs.declared.power.Power.TheVariants.{On}
 use Rattle.bench_report.specs.declared.printed.Printed.{Printed}
 use Rattle.bench_report.specs.Views.{SimStore, SimBoard, store_now}
-use Rattle.bench_sweep.specs.Runs.{RunsCalm, FindsState, PowerFinds}
+use Rattle.bench_sweep.specs.Runs.{FindsState, PowerFinds}
 use Rattle.bench_sweep.proofs.Left.{plain_is, has_loaded}
 
 -- the state found with its memory, of a store whose image is that one
@@ -36,8 +32,3 @@ pub on_found : (r : Result (Option Plain) Refusal) (power : Power) (board : SimB
     → IfOk r (λ plain. (size : Size) → PowerFinds size power found said plain)
 on_found (Err e) power board found said is told = tt
 on_found (Ok plain) power board found said is told = λ size. (let P : Power → Type 0 = λ p. PowerFinds size p found said plain in subst P (sym is) (told size said))
-
--- ---- no armed cut has struck the disk of a board that stands so
-pub unstruck : (size : Size) (b : Bench) (power : Power) (slots : List (List ℕ)) (ledger : Ledger) → RunsCalm size b power slots ledger → IsUnstruck power
-unstruck size b (Off disk) slots ledger r = tt
-unstruck size b (On board) slots ledger r = ap (λ (m : FaultState). m.struck) (sym r.agrees.1.0) ∙ r.calm

@@ -6,10 +6,8 @@ use Rattle.std.proofs.lemmas.Grind.{flat_map-append}
 use Rattle.std.specs.List.{flat_map, AllZip}
 use Rattle.board_model.specs.Shapes.{Size}
 use Rattle.disk.specs.FaultState.{FaultState}
-use Rattle.simdisk.specs.declared.SimDisk.{SimDisk}
 use Rattle.script_lang.specs.declared.line.Line.{Line}
 use Rattle.bench_report.specs.declared.power.Power.{Power}
-use Rattle.bench_report.specs.declared.power.Power.TheVariants.{Off}
 use Rattle.bench_report.specs.declared.printed.Answer.{Answer}
 use Rattle.bench_report.specs.Bench.{Bench}
 use Rattle.bench_report.specs.Happens.{off, unpowered, armed_with}
@@ -18,16 +16,21 @@ use Rattle.bench_report.specs.Views.{fault_state}
 use Rattle.bench_judge.specs.declared.ledgers.Ledger.{Ledger}
 use Rattle.bench_sweep.specs.declared.points.Bench.{Bench as Kind}
 use Rattle.bench_sweep.specs.declared.points.Bench.TheVariants.{Cuts, Fails}
+use Rattle.bench_sweep.specs.declared.points.Caller.{Caller}
 use Rattle.bench_sweep.specs.declared.rows.Row.{Row}
-use Rattle.bench_sweep.specs.Made.{LooksAt, Lives, ComesTo, IsPlainRun, EndsAs, RunsWith, armed_of}
+use Rattle.bench_sweep.specs.declared.site.Site.{Site}
+use Rattle.bench_sweep.specs.Made.{LooksAt, Lives, ComesTo, IsPlainRun, EndsAs, RunsWith}
+use Rattle.bench_sweep.specs.Points.{fault_at}
 use Rattle.bench_sweep.specs.Reports.{IsLeft, RunsRow, IsRow}
-use Rattle.bench_sweep.specs.Runs.{Runs, RanTo, IsLife}
+use Rattle.bench_sweep.specs.Runs.{RunsAt, RanTo, IsLife}
 
 -- ---- a run with a fault armed
-module _ (size : Size) (kind : Kind) (b : Bench) (lines : List Line) (count : ℕ) (power : Power) (slots : List (List ℕ)) (ledger : Ledger) (few : count ≤ length lines) (ran : RanTo size (armed_with (armed_of kind) b) (take count lines) power slots ledger) where
+module _ (size : Size) (kind : Kind) (caller : Caller) (call : ℕ) (b : Bench) (lines : List Line) (count : ℕ) (power : Power) (slots : List (List ℕ)) (ledger : Ledger) (few : count ≤ length lines) (ran : RanTo size (armed_with (fault_at kind caller call) b) (take count lines) power slots ledger) where
   made : (row : Row) → unpowered ran.bench ≡ unpowered ran.end → EndsAs kind lines count ran.answers → IsLeft size (off ran.bench) row → RunsRow size kind b lines row
   made row same ends (after, said) =
       let P : Bench → Type 0 = λ x. LooksAt size x row.left after in record {
+        caller = caller;
+        call = call;
         count = count;
         few = few;
         answers = ran.answers;
@@ -39,20 +42,22 @@ module _ (size : Size) (kind : Kind) (b : Bench) (lines : List Line) (count : �
       }
 
 -- up to the line in which a cut struck
-pub to_cut : (size : Size) (b : Bench) (lines : List Line) (count : ℕ) (power : Power) (slots : List (List ℕ)) (ledger : Ledger) → count ≤ length lines → (ran : RanTo size (armed_with (armed_of Cuts) b) (take count lines) power slots ledger)
+pub to_cut : (size : Size) (caller : Caller) (call : ℕ) (b : Bench) (lines : List Line) (count : ℕ) (power : Power) (slots : List (List ℕ)) (ledger : Ledger) → count ≤ length lines → (ran : RanTo size (armed_with (fault_at Cuts caller call) b) (take count lines) power slots ledger)
     → ran.bench.fault_state.struck ≡ true → (row : Row) → IsLeft size (off ran.bench) row → RunsRow size Cuts b lines row
-to_cut size b lines count power slots ledger few ran hit row left = let s = ran.struck hit in made size Cuts b lines count power slots ledger few ran row (ap (λ (x : Bench). unpowered x) s.0) s.1 left
+to_cut size caller call b lines count power slots ledger few ran hit row left = let s = ran.struck hit in made size Cuts caller call b lines count power slots ledger few ran row (ap (λ (x : Bench). unpowered x) s.0) s.1 left
 
 -- or to the last of them
-pub past_failure : (size : Size) (b : Bench) (lines : List Line) (count : ℕ) (power : Power) (slots : List (List ℕ)) (ledger : Ledger) → count ≡ length lines → (ran : RanTo size (armed_with (armed_of Fails) b) (take count lines) power slots ledger)
+pub past_failure : (size : Size) (caller : Caller) (call : ℕ) (b : Bench) (lines : List Line) (count : ℕ) (power : Power) (slots : List (List ℕ)) (ledger : Ledger) → count ≡ length lines → (ran : RanTo size (armed_with (fault_at Fails caller call) b) (take count lines) power slots ledger)
     → ran.bench.fault_state.struck ≡ false → (row : Row) → IsLeft size (off ran.bench) row → RunsRow size Fails b lines row
-past_failure size b lines count power slots ledger all ran calm row left = made size Fails b lines count power slots ledger (omega (arith, all)) ran row (ap (λ (x : Bench). unpowered x) (ran.calm calm)) all left
+past_failure size caller call b lines count power slots ledger all ran calm row left = made size Fails caller call b lines count power slots ledger (omega (arith, all)) ran row (ap (λ (x : Bench). unpowered x) (ran.calm calm)) all left
 
 -- over the first of some lines, of which a cut ended it
 pub over_all : (size : Size) (b : Bench) (lines : List Line) (n : ℕ) → n ≤ length lines → (row : Row) → RunsRow size Cuts b (take n lines) row → RunsRow size Cuts b lines row
 over_all size b lines n few row r =
     let long = length-take-le n lines few in
-    let P : List Line → Type 0 = λ ls. Run size (armed_with (armed_of Cuts) b) ls r.answers r.end in record {
+    let P : List Line → Type 0 = λ ls. Run size (armed_with (fault_at Cuts r.caller r.call) b) ls r.answers r.end in record {
+      caller = r.caller;
+      call = r.call;
       count = r.count;
       few = omega (arith, few, long, r.few);
       answers = r.answers;
@@ -84,37 +89,36 @@ pub rest_is : (n : ℕ) (lines : List Line) → take (length lines - n) (drop n 
 rest_is n lines = let long = length-drop n lines in take_all (length lines - n) (drop n lines) (omega (arith, long))
 
 -- the lives up to a site of the plain run, and the site
-pub record SoFar (size : Size) (first : Bench) (lines : List Line) (disk : SimDisk) (slots : List (List ℕ)) (ledger : Ledger) : Type 0 where
+pub record SoFar (size : Size) (first : Bench) (lines : List Line) (at : Site) : Type 0 where
   pub bench : Bench
   pub comes : ComesTo size first lines bench
-  pub site : Runs size bench (Off disk) slots ledger
+  pub site : RunsAt size bench at
 
 -- the last life too, to the end of the lines
-pub record AllRan (size : Size) (first : Bench) (lines : List Line) (disk : SimDisk) (slots : List (List ℕ)) (ledger : Ledger) : Type 0 where
+pub record AllRan (size : Size) (first : Bench) (lines : List Line) (at : Site) : Type 0 where
   pub before : ℕ
   pub bench : Bench
   pub lives : ComesTo size first (take before lines) bench
   pub answers : List Answer
   pub end : Bench
   pub run : Run size (unpowered bench) (drop before lines) answers end
-  pub site : Runs size (off end) (Off disk) slots ledger
+  pub site : RunsAt size (off end) at
 
 -- one or the other, behind so many lines
-abbrev pub Went : Size → Bench → List Line → ℕ → SimDisk → List (List ℕ) → Ledger → Type 0
-Went size first lines n disk slots ledger =
-    SoFar size first (take n lines) disk slots ledger ⊎ ((length lines ≤ n) × AllRan size first lines disk slots ledger)
+abbrev pub Went : Size → Bench → List Line → ℕ → Site → Type 0
+Went size first lines n at = SoFar size first (take n lines) at ⊎ ((length lines ≤ n) × AllRan size first lines at)
 
-pub none_yet : (size : Size) (first : Bench) (lines : List Line) (disk : SimDisk) (slots : List (List ℕ)) (ledger : Ledger) → Runs size first (Off disk) slots ledger → Went size first lines 0 disk slots ledger
-none_yet size first lines disk slots ledger r = inl (record { bench = first; comes = record { lives = []; all = refl; run = refl }; site = r })
+pub none_yet : (size : Size) (first : Bench) (lines : List Line) (at : Site) → RunsAt size first at → Went size first lines 0 at
+none_yet size first lines at r = inl (record { bench = first; comes = record { lives = []; all = refl; run = refl }; site = r })
 
 -- there are lines behind them
-pub sits_at : (size : Size) (first : Bench) (lines : List Line) (n : ℕ) (disk : SimDisk) (slots : List (List ℕ)) (ledger : Ledger) → n < length lines → Went size first lines n disk slots ledger → SoFar size first (take n lines) disk slots ledger
-sits_at size first lines n disk slots ledger less (inl f) = f
-sits_at size first lines n disk slots ledger less (inr (all, f)) = absurd (omega (arith, less, all))
+pub sits_at : (size : Size) (first : Bench) (lines : List Line) (n : ℕ) (at : Site) → n < length lines → Went size first lines n at → SoFar size first (take n lines) at
+sits_at size first lines n at less (inl f) = f
+sits_at size first lines n at less (inr (all, f)) = absurd (omega (arith, less, all))
 
-one_life : (size : Size) (first : Bench) (lines rest : List Line) (n m : ℕ) (disk next : SimDisk) (slots now : List (List ℕ)) (was ledger : Ledger) → rest ≡ drop n lines → (f : SoFar size first (take n lines) disk slots was) → (l : IsLife size f.bench rest m next now ledger)
-    → l.end.power ≡ None → SoFar size first (take (n + m) lines) next now ledger
-one_life size first lines rest n m disk next slots now was ledger is f l none = record {
+one_life : (size : Size) (first : Bench) (lines rest : List Line) (n m : ℕ) (at next : Site) → rest ≡ drop n lines → (f : SoFar size first (take n lines) at) → (l : IsLife size f.bench rest m next)
+    → l.end.power ≡ None → SoFar size first (take (n + m) lines) next
+one_life size first lines rest n m at next is f l none = record {
   bench = off l.end;
   comes = record {
     lives = f.comes.lives ++ take m rest ∷ [];
@@ -124,9 +128,9 @@ one_life size first lines rest n m disk next slots now was ledger is f l none = 
   site = l.left;
 }
 
-last_life : (size : Size) (first : Bench) (lines rest : List Line) (n m : ℕ) (disk next : SimDisk) (slots now : List (List ℕ)) (was ledger : Ledger) → rest ≡ drop n lines → length rest ≤ m → (f : SoFar size first (take n lines) disk slots was)
-    → IsLife size f.bench rest m next now ledger → AllRan size first lines next now ledger
-last_life size first lines rest n m disk next slots now was ledger is all f l =
+last_life : (size : Size) (first : Bench) (lines rest : List Line) (n m : ℕ) (at next : Site) → rest ≡ drop n lines → length rest ≤ m → (f : SoFar size first (take n lines) at)
+    → IsLife size f.bench rest m next → AllRan size first lines next
+last_life size first lines rest n m at next is all f l =
     let P : List Line → Type 0 = λ ls. Run size (unpowered f.bench) ls l.answers l.end in record {
       before = n;
       bench = f.bench;
@@ -141,17 +145,17 @@ long_rest : (n : ℕ) (lines rest : List Line) → rest ≡ drop n lines → n �
 long_rest n lines rest is few = let long = length-drop n lines in let same : length rest ≡ length (drop n lines) = ap (λ (ls : List Line). length ls) is in omega (arith, long, same, few)
 
 -- one stretch more
-pub went_more : (size : Size) (first : Bench) (lines rest : List Line) (n m : ℕ) (disk next : SimDisk) (slots now : List (List ℕ)) (was ledger : Ledger) → rest ≡ drop n lines → n ≤ length lines → (f : SoFar size first (take n lines) disk slots was)
-    → IsLife size f.bench rest m next now ledger → Went size first lines (n + m) next now ledger
-went_more size first lines rest n m disk next slots now was ledger is few f l = by (cases_lt m (length rest))
+pub went_more : (size : Size) (first : Bench) (lines rest : List Line) (n m : ℕ) (at next : Site) → rest ≡ drop n lines → n ≤ length lines → (f : SoFar size first (take n lines) at)
+    → IsLife size f.bench rest m next → Went size first lines (n + m) next
+went_more size first lines rest n m at next is few f l = by (cases_lt m (length rest))
   where
-    by : (m < length rest) ⊎ (length rest ≤ m) → Went size first lines (n + m) next now ledger
-    by (inl less) = inl (one_life size first lines rest n m disk next slots now was ledger is f l (l.stops less))
-    by (inr all) = inr (let long = long_rest n lines rest is few in omega (arith, all, long), last_life size first lines rest n m disk next slots now was ledger is all f l)
+    by : (m < length rest) ⊎ (length rest ≤ m) → Went size first lines (n + m) next
+    by (inl less) = inl (one_life size first lines rest n m at next is f l (l.stops less))
+    by (inr all) = inr (let long = long_rest n lines rest is few in omega (arith, all, long), last_life size first lines rest n m at next is all f l)
 
 -- the last of them was run
-pub plain_run : (size : Size) (first : Bench) (lines : List Line) (n : ℕ) (disk : SimDisk) (slots : List (List ℕ)) (ledger : Ledger) → length lines ≤ n → (fault_state disk).own ≡ 0 → Went size first lines n disk slots ledger → IsPlainRun size first lines
-plain_run size first lines n disk slots ledger all none (inl f) = record {
+pub plain_run : (size : Size) (first : Bench) (lines : List Line) (n : ℕ) (at : Site) → length lines ≤ n → (fault_state at.off.disk).own ≡ 0 → Went size first lines n at → IsPlainRun size first lines
+plain_run size first lines n at all none (inl f) = record {
   before = n;
   bench = f.bench;
   lives = f.comes;
@@ -160,7 +164,7 @@ plain_run size first lines n disk slots ledger all none (inl f) = record {
   run = let P : List Line → Type 0 = λ ls. Run size (unpowered f.bench) ls [] (unpowered f.bench) in subst P (sym (drop_all n lines all)) refl;
   refused_none = ap (λ (m : FaultState). m.own) f.site.agrees.2.0 ∙ none;
 }
-plain_run size first lines n disk slots ledger all none (inr (long, f)) = record {
+plain_run size first lines n at all none (inr (long, f)) = record {
   before = f.before;
   bench = f.bench;
   lives = f.lives;
@@ -171,9 +175,9 @@ plain_run size first lines n disk slots ledger all none (inr (long, f)) = record
 }
 
 -- a row behind so many lines
-pub row_of : (size : Size) (kind : Kind) (first : Bench) (lines rest : List Line) (n : ℕ) (disk : SimDisk) (slots : List (List ℕ)) (ledger : Ledger) → rest ≡ drop n lines → (f : SoFar size first (take n lines) disk slots ledger) → (row : Row) → RunsRow size kind (unpowered f.bench) rest row
+pub row_of : (size : Size) (kind : Kind) (first : Bench) (lines rest : List Line) (n : ℕ) (at : Site) → rest ≡ drop n lines → (f : SoFar size first (take n lines) at) → (row : Row) → RunsRow size kind (unpowered f.bench) rest row
     → IsRow size kind first lines row
-row_of size kind first lines rest n disk slots ledger is f row r =
+row_of size kind first lines rest n at is f row r =
     let P : List Line → Type 0 = λ ls. RunsWith size kind (unpowered f.bench) ls row.left in record { before = n; bench = f.bench; plain = f.comes; run = subst P is r }
 
 -- ---- counts of callers

@@ -7,14 +7,13 @@ use Rattle.bench_report.specs.Bench.{Bench}
 use Rattle.bench_report.specs.Happens.{says, off, unpowered}
 use Rattle.bench_report.specs.Steps.{Moves, Run}
 use Rattle.bench_report.specs.declared.power.Power.{Power}
-use Rattle.bench_report.specs.declared.power.Power.TheVariants.{Off}
 use Rattle.bench_report.specs.declared.printed.Answer.{Answer}
 use Rattle.bench_report.specs.declared.printed.Printed.TheVariants as printed
 use Rattle.script_lang.specs.declared.line.Line.{Line}
 use Rattle.bench_judge.specs.declared.ledgers.Ledger.{Ledger}
-use Rattle.simdisk.specs.declared.SimDisk.{SimDisk}
+use Rattle.bench_sweep.specs.declared.site.Site.{Site}
 use Rattle.bench_sweep.specs.Lines.{LineMoves}
-use Rattle.bench_sweep.specs.Runs.{Runs, RunsCalm, RanTo, IsLife, StopsOff}
+use Rattle.bench_sweep.specs.Runs.{RunsAt, RunsCalm, RanTo, IsLife, StopsOff}
 
 -- the lines so far were run to their end, and no armed cut has struck
 pub record Runs_to (size : Size) (b : Bench) (lines : List Line) (power : Power) (slots : List (List ℕ)) (ledger : Ledger) : Type 0 where
@@ -67,10 +66,10 @@ ran_calm size b lines power slots ledger r = record {
 }
 
 -- the board was turned off behind lines in which nothing was armed
-pub life_of : (size : Size) (b : Bench) (lines : List Line) (count : ℕ) (power : Power) (slots after : List (List ℕ)) (ledger now : Ledger) (disk : SimDisk) → (r : RanTo size (unpowered b) (take count lines) power slots ledger)
-    → (r.bench.fault_state.struck ≡ false) × Runs size (off r.bench) (Off disk) after now → (count < length lines → StopsOff power) → IsLife size b lines count disk after now
-life_of size b lines count power slots after ledger now disk r (calm, left) stops =
-    let P : Bench → Type 0 = λ x. Runs size (off x) (Off disk) after now in
+pub life_of : (size : Size) (b : Bench) (lines : List Line) (count : ℕ) (power : Power) (slots : List (List ℕ)) (ledger : Ledger) (site : Site) → (r : RanTo size (unpowered b) (take count lines) power slots ledger)
+    → (r.bench.fault_state.struck ≡ false) × RunsAt size (off r.bench) site → (count < length lines → StopsOff power) → IsLife size b lines count site
+life_of size b lines count power slots ledger site r (calm, left) stops =
+    let P : Bench → Type 0 = λ x. RunsAt size (off x) site in
     let same = r.calm calm in record {
       answers = r.answers;
       end = r.end;

@@ -30,7 +30,6 @@ use Rattle.machine_lines.specs.declared.line.MachineLine.TheVariants as shown
 use Rattle.script_lang.specs.declared.line.Line.{Line}
 use Rattle.script_lang.specs.declared.line.Line.TheVariants as lines
 use Rattle.disk.specs.FaultState.{FaultState}
-use Rattle.simdisk.specs.declared.SimDisk.{SimDisk}
 use Rattle.board.specs.Turns as boards
 use Rattle.bench_report.specs.Views.{SimStore, SimBoard, store_in, machine_in, store_size, store_facts, store_fault_state}
 use Rattle.bench_report.specs.Bench.{DiskState, Formatted, BenchLife, Bench}
@@ -46,6 +45,7 @@ use Rattle.bench_report.proofs.Dozed.{turn_size, call_size}
 use Rattle.bench_report.proofs.Issues.{GoesOn}
 use Rattle.bench_judge.specs.Ledgers.{in_doubt}
 use Rattle.bench_report.specs.declared.power.Power.{Power}
+use Rattle.bench_report.specs.declared.power.OffDisk.{OffDisk}
 use Rattle.bench_report.specs.declared.power.Power.TheVariants.{Off, On}
 use Rattle.bench_judge.specs.declared.ledgers.Ledger.{Ledger}
 use Rattle.bench_sweep.specs.Runs.{Follows, Runs, HartMoves}
@@ -369,8 +369,8 @@ off_does size (lines.Turn h n) b of_harts off = let P : Option BenchLife → Typ
 off_does size (lines.Call h asked) b of_harts off = let P : Option BenchLife → Type 0 = λ p. CallStep p h asked b (shows shown.Off) b in (shows shown.Off, subst P (sym off) (refl, refl))
 off_does size line b of_harts off = absurd (let no : ⊥ = cc in no)
 
-pub line_off : (size : Size) (line : Line) (b : Bench) (power : Power) (disk : SimDisk) (slots : List (List ℕ)) (l : Ledger) → moves_harts line ≡ true → power ≡ Off disk → Runs size b power slots l → LineMoves size line b (Off disk) slots l
+pub line_off : (size : Size) (line : Line) (b : Bench) (power : Power) (disk : OffDisk) (slots : List (List ℕ)) (l : Ledger) → moves_harts line ≡ true → power ≡ Off disk → Runs size b power slots l → LineMoves size line b (Off disk) slots l
 line_off size line b power disk slots l of_harts is r =
     let P : Power → Type 0 = λ p. Agrees size b p in
-    let off : OffIs size b disk = subst P is r.agrees in
+    let off : OffIs size b disk.disk = subst P is r.agrees in
     record { bench = b; does = off_does size line b of_harts off.0; runs = record { agrees = off; same = r.same; follows = r.follows } }

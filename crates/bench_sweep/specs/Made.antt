@@ -4,7 +4,6 @@ use Rattle.std.specs.List.{flat_map}
 use Rattle.board_model.specs.Shapes.{Size}
 use Rattle.board.specs.Boots.{payload_at}
 use Rattle.board_model.specs.declared.boot_mode.BootMode.TheVariants as modes
-use Rattle.disk.specs.FaultState.{Armed, FaultArmed, CutArmed}
 use Rattle.script_lang.specs.declared.line.Line.{Line}
 use Rattle.bench_report.specs.declared.printed.Answer.{Answer}
 use Rattle.bench_report.specs.declared.printed.Printed.TheVariants as printed
@@ -14,6 +13,8 @@ use Rattle.bench_report.specs.PowerOns.{PowersOn}
 use Rattle.bench_report.specs.Steps.{Run}
 use Rattle.bench_sweep.specs.declared.points.Bench.{Bench as Kind}
 use Rattle.bench_sweep.specs.declared.points.Bench.TheVariants.{Cuts, Fails}
+use Rattle.bench_sweep.specs.declared.points.Caller.{Caller}
+use Rattle.bench_sweep.specs.Points.{fault_at}
 
 -- ---- the script as it is
 -- The first lines of a script that begins with these payloads, the last of which formatted the disk, come to that bench.
@@ -55,23 +56,21 @@ four_of payloads = payload_at payloads 0 ∷ payload_at payloads 1 ∷ payload_a
 abbrev pub LooksAt : Size → Bench → Answer → Bench → Type 0
 LooksAt size b left after = PowersOn size modes.Keep (record b { payloads = no_payloads }) left after
 
--- what is armed at a point
-abbrev pub armed_of : Kind → Armed
-armed_of Cuts = CutArmed
-armed_of Fails = FaultArmed
-
 -- a run with a cut ends with the line within which it struck, and one with a failure with the script
 abbrev pub EndsAs : Kind → List Line → ℕ → List Answer → Type 0
 EndsAs Cuts lines count answers = (before : List Answer) × (answers ≡ before ++ says printed.PowerLost ∷ [])
 EndsAs Fails lines count answers = count ≡ length lines
 
--- Lines are run with that armed on a bench that is off. Then power is cut, and a power-on that keeps the image says that.
+-- Lines are run on a bench that is off, on whose disk that is armed at some call. Then power is cut, and a power-on that
+-- keeps the image says that.
 pub record RunsWith (size : Size) (kind : Kind) (b : Bench) (lines : List Line) (left : Answer) : Type 0 where
+  pub caller : Caller
+  pub call : ℕ
   pub count : ℕ
   pub few : count ≤ length lines
   pub answers : List Answer
   pub end : Bench
-  pub run : Run size (armed_with (armed_of kind) b) (take count lines) answers end
+  pub run : Run size (armed_with (fault_at kind caller call) b) (take count lines) answers end
   pub ends : EndsAs kind lines count answers
   pub after : Bench
   pub says : LooksAt size (unpowered end) left after

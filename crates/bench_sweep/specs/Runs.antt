@@ -8,13 +8,13 @@ use Rattle.board_model.specs.Shapes.{Size, IsSize}
 use Rattle.board_model.specs.Views.{durable_of}
 use Rattle.board_model.specs.declared.durable.Durable.{Durable}
 use Rattle.disk.specs.FaultState.{FaultState, fault_state_left}
-use Rattle.simdisk.specs.declared.SimDisk.{SimDisk}
 use Rattle.sbi.specs.declared.words.Word.{Word}
 use Rattle.script_lang.specs.declared.line.Line.{Line}
 use Rattle.script_lang.specs.declared.line.Line.TheVariants as lines
 use Rattle.bench_report.specs.declared.printed.Answer.{Answer}
 use Rattle.bench_report.specs.declared.printed.Printed.{Printed}
 use Rattle.bench_report.specs.declared.printed.Printed.TheVariants as printed
+use Rattle.bench_report.specs.declared.power.OffDisk.{OffDisk}
 use Rattle.bench_report.specs.declared.power.Power.{Power}
 use Rattle.bench_report.specs.declared.power.Power.TheVariants.{Off, On}
 use Rattle.bench_report.specs.Bench.{Formatted, Bench, bench_with}
@@ -25,6 +25,7 @@ use Rattle.bench_report.specs.Views.{SimStore, SimBoard, machine_in, fault_state
 use Rattle.bench_judge.specs.Ledgers.{Tells}
 use Rattle.bench_judge.specs.declared.ledgers.Ledger.{Ledger}
 use Rattle.bench_sweep.specs.declared.points.Bench.TheVariants.{Cuts}
+use Rattle.bench_sweep.specs.declared.site.Site.{Site}
 use Rattle.bench_sweep.specs.Made.{IsFormatted, EndsAs}
 use Rattle.bench_sweep.specs.Told.{HartTold}
 
@@ -53,19 +54,26 @@ pub record RunsCalm (size : Size) (b : Bench) (power : Power) (slots : List (Lis
   pub calm : b.fault_state.struck ≡ false
 
 -- the same of a disk that a power cut has left: nothing is armed
-pub record LeftOff (size : Size) (b : Bench) (disk : SimDisk) (slots : List (List ℕ)) (ledger : Ledger) : Type 0 where
-  pub off : OffIs size b disk
+pub record LeftOff (size : Size) (b : Bench) (disk : OffDisk) (slots : List (List ℕ)) (ledger : Ledger) : Type 0 where
+  pub off : OffIs size b disk.disk
   pub same : slots ≡ b.payloads
   pub follows : Follows size b ledger
   pub left : b.fault_state ≡ fault_state_left b.fault_state
 
--- a site stands for some bench
-abbrev pub Sits : Size → SimDisk → List (List ℕ) → Ledger → Type 0
-Sits size disk slots ledger = (b : Bench) × Runs size b (Off disk) slots ledger
+-- a site stands for that bench
+abbrev pub RunsAt : Size → Bench → Site → Type 0
+RunsAt size b site = Runs size b (Off site.off) site.payloads site.ledger
 
 -- the same of one that a power cut has left
-abbrev pub SitsLeft : Size → SimDisk → List (List ℕ) → Ledger → Type 0
-SitsLeft size disk slots ledger = (b : Bench) × LeftOff size b disk slots ledger
+abbrev pub LeftAt : Size → Bench → Site → Type 0
+LeftAt size b site = LeftOff size b site.off site.payloads site.ledger
+
+-- they stand for some bench
+abbrev pub Sits : Size → Site → Type 0
+Sits size site = (b : Bench) × RunsAt size b site
+
+abbrev pub SitsLeft : Size → Site → Type 0
+SitsLeft size site = (b : Bench) × LeftAt size b site
 
 -- Lines were run from that bench: to their end, or an armed cut struck in the last of them, and power is still to be
 -- taken.
@@ -81,13 +89,12 @@ pub record RanTo (size : Size) (b : Bench) (lines : List Line) (power : Power) (
 
 -- The first of some lines were run from that site on, with nothing armed, up to the first that left the board off, or to
 -- the last; and then the board was turned off.
-pub record IsLife (size : Size) (b : Bench) (lines : List Line) (count : ℕ) (disk : SimDisk) (slots : List (List ℕ))
-    (ledger : Ledger) : Type 0 where
+pub record IsLife (size : Size) (b : Bench) (lines : List Line) (count : ℕ) (site : Site) : Type 0 where
   pub answers : List Answer
   pub end : Bench
   pub run : Run size (unpowered b) (take count lines) answers end
   pub stops : count < length lines → end.power ≡ None
-  pub left : Runs size (off end) (Off disk) slots ledger
+  pub left : RunsAt size (off end) site
 
 -- a board that stands for a bench in which no cut has struck is off
 abbrev pub StopsOff : Power → Type 0
@@ -121,9 +128,8 @@ pub record Begun (size : Size) (start : List (List ℕ)) (lines : List Line) (po
   pub kept : bench.kept ≡ nothing_kept
 
 -- the board is off behind it
-abbrev pub IsFormattedAt : Size → List (List ℕ) → List Line → SimDisk → List (List ℕ) → Ledger → Type 0
-IsFormattedAt size start lines disk slots ledger =
-    (b : Bench) × IsFormatted size start lines b × Runs size (off b) (Off disk) slots ledger
+abbrev pub IsFormattedAt : Size → List (List ℕ) → List Line → Site → Type 0
+IsFormattedAt size start lines site = (b : Bench) × IsFormatted size start lines b × RunsAt size (off b) site
 
 -- the line formatted the disk
 abbrev pub Formats : Line → Answer → Type 0
@@ -153,7 +159,7 @@ pub record Finds (ledger : Ledger) (found : Option Plain) : Type 0 where
 -- Of a power-on that found and said so: the state that its open found was found with its memory, where the board's
 -- image is the one found; or memory was refused.
 abbrev pub PowerFinds : Size → Power → Option Durable → Printed → Option Plain → Type 0
-PowerFinds size (Off disk) shown said plain = (said ≡ printed.OnRefused 11) ⊎ IsSpoilt (fault_state disk) → ⊥
+PowerFinds size (Off off) shown said plain = (said ≡ printed.OnRefused 11) ⊎ IsSpoilt (fault_state off.disk) → ⊥
 PowerFinds size (On board) shown said plain =
     (found : Durable) (s : DurableState) → shown ≡ Some found → found ≡ durable_of s
     → s.image ≡ (store_now (store_in board)).image → FindsState size (store_in board)

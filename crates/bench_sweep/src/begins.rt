@@ -4,20 +4,23 @@ ghost use Rattle.std.specs.Prelude.{◌≡◌, ◌≤◌, ◌⊎◌, ℕ, List, 
 ghost use Rattle.board_model.specs.Shapes.{Size};
 ghost use Rattle.board_model.specs.declared.refusal.Refusal.TheVariants.{Memory, NotPlain};
 ghost use Rattle.script_lang.specs.Lines.{IsLineInRange};
-ghost use Rattle.bench_report.specs.Agree.{Agrees, IsBench, IsResting, IsUnstruck, Matches};
+ghost use Rattle.bench_report.specs.Agree.{Agrees, IsBench};
 ghost use Rattle.bench_report.specs.Bench.{Bench, bench_with};
-ghost use Rattle.bench_report.specs.Steps.{Step};
+ghost use Rattle.bench_report.specs.Steps.{Moves};
 ghost use Rattle.bench_sweep.specs.Made.{four_of};
 ghost use Rattle.bench_sweep.specs.Runs.{Begun, IsFormattedAt, Formats};
 
-use crate::sites::{Site, copy_payloads};
+use crate::site::Site;
+use crate::sites::copy_payloads;
 use bench_judge::Ledger;
-use bench_report::{Answer, Power, Printed, Setting, disk_left, line_alone, struck};
+use bench_report::{
+    Answer, BenchBoard, OffDisk, Power, Printed, Setting, disk_left, line_with_cuts,
+};
 use board::Payloads;
 use board_model::{Refusal, Shape};
 use crew::Crew;
 use script_lang::{Line, Script};
-use simdisk::SimDisk;
+use simdisk::{Fill, SimDisk};
 use std::alloc::Global;
 use store::blank_disks;
 
@@ -32,66 +35,62 @@ fn is_formatted(line: &Line, answer: &Answer) -> bool
 }
 
 /// Runs a line before the disk is formatted, and answers whether it was by that. Refused `Memory` alone.
-fn tries<C: Crew>(
+fn run_before_format<C: Crew>(
     setting: &Setting<'_, C>,
     line: &Line,
-    power: Power,
-    payloads: &mut Payloads,
-) -> Result<(Power, bool), Refusal>
+    bench: BenchBoard,
+) -> Result<(BenchBoard, bool), Refusal>
     requires range { IsLineInRange setting.now.shape.now line.now }
-    requires calm { IsUnstruck power }
-    requires resting { IsResting power }
-    ensures resting { IfOk result (λ did. IsResting did.0) }
-    ensures slots { length payloads.new ≡ length payloads.old }
-    ensures stepped { IfOk result (λ did. (b : Bench) → IsBench setting.now.shape.now b power payloads.old
-        → (answer : Answer) × (new : Bench) × Step setting.now.shape.now line.now b answer new
-        × Matches setting.now.shape.now new did.0 payloads.new × (did.1 ≡ true → Formats line.now answer)) }
+    ensures slots { IfOk result (λ did. length did.0.payloads ≡ length bench.payloads) }
+    ensures moved { IfOk result (λ did. (b : Bench) → IsBench setting.now.shape.now b bench.power bench.payloads
+        → (answer : Answer) × (new : Bench) × Moves setting.now.shape.now line.now b answer new
+        × IsBench setting.now.shape.now new did.0.power did.0.payloads × (did.1 ≡ true → Formats line.now answer)) }
     ensures refused { IfErr result (λ e. e ≡ Memory) }
 {
-    let (power, answer) = line_alone(setting, line, power, payloads);
+    let (after, answer) = line_with_cuts(setting, line, bench);
     match answer {
         Err(refusal) => Err(refusal),
         Ok(answer) => {
             let formatted = is_formatted(line, &answer);
-            Ok((power, formatted))
+            Ok((after, formatted))
         }
     }
 }
 
-/// Whether an armed cut has struck, with nothing armed.
-fn is_struck(power: &Power) -> bool
-    ensures calm { result ≡ false → IsUnstruck power.now }
-    ensures exact { (size : Size) (b : Bench) → Agrees size b power.now → result ≡ b.fault_state.struck }
-{
-    struck(power)
-}
-
-/// Makes a blank disk of the size that the board needs.
-fn blank(alloc: Global, shape: &Shape) -> Result<Power, Refusal>
-    ensures calm { IfOk result (λ power. IsUnstruck power) }
-    ensures resting { IfOk result (λ power. IsResting power) }
-    ensures blank { IfOk result (λ power. (start : List (List ℕ)) → Agrees shape.now (bench_with start) power) }
+/// A board over a blank disk of the size that it needs, whose slots boot copies of these.
+fn blank(alloc: Global, shape: &Shape, payloads: &Payloads) -> Result<BenchBoard, Refusal>
+    ensures slots { IfOk result (λ bench. bench.payloads ≡ four_of payloads.now) }
+    ensures blank { IfOk result (λ bench. (start : List (List ℕ)) → Agrees shape.now (bench_with start) bench.power) }
     ensures refused { IfErr result (λ e. e ≡ Memory) }
 {
     blank_disks::<SimDisk>();
     let disk = SimDisk::blank(alloc, shape.sectors())?;
-    Ok(Power::Off(disk))
+    let payloads = copy_payloads(alloc, payloads)?;
+    Ok(BenchBoard {
+        power: Power::Off(OffDisk { disk }),
+        payloads,
+        fill: Fill::Old,
+    })
 }
 
 /// Turns the board off behind the format. Refused `Memory` where the disk's record found none.
-fn begun(alloc: Global, shape: &Shape, power: Power, payloads: Payloads) -> Result<Site, Refusal>
-    requires resting { IsResting power }
-    requires four { length payloads ≡ 4 }
-    ensures runs { IfOk result (λ site. (start : List (List ℕ)) (lines : List Line) → Begun shape.now start lines power payloads
-        → IsFormattedAt shape.now start lines site.disk site.payloads site.ledger) }
+fn formatted_site(alloc: Global, shape: &Shape, bench: BenchBoard) -> Result<Site, Refusal>
+    requires four { length bench.payloads ≡ 4 }
+    ensures runs { IfOk result (λ site. (start : List (List ℕ)) (lines : List Line)
+        → Begun shape.now start lines bench.power bench.payloads → IsFormattedAt shape.now start lines site) }
     ensures refused { IfErr result (λ e. e ≡ Memory) }
 {
+    let BenchBoard {
+        power,
+        payloads,
+        ..
+    } = bench;
     let disk = disk_left(power);
     if disk.refused() != 0 {
         return Err(Refusal::Memory);
     }
     Ok(Site {
-        disk,
+        off: OffDisk { disk },
         payloads,
         ledger: Ledger::formatted(alloc),
     })
@@ -99,7 +98,6 @@ fn begun(alloc: Global, shape: &Shape, power: Power, payloads: Payloads) -> Resu
 
 /// Why no line formatted the disk: the disk's record found no memory, or the script formats none.
 fn unformatted(power: Power) -> Refusal
-    requires { IsResting power }
     ensures { (result ≡ Memory) ⊎ (result ≡ NotPlain) }
 {
     if disk_left(power).refused() == 0 {
@@ -111,33 +109,28 @@ fn unformatted(power: Power) -> Refusal
 
 /// Runs a script that begins with these payloads up to the first format that answers Ok: how many lines that were,
 /// and the board then. Refused `NotPlain` where no format does, and `Memory`.
-pub fn formats<C: Crew>(
+pub fn run_to_format<C: Crew>(
     setting: &Setting<'_, C>,
     lines: &[Line],
     payloads: Payloads,
 ) -> Result<(usize, Site), Refusal>
     requires { All (IsLineInRange setting.now.shape.now) lines.now }
     ensures few { IfOk result (λ did. did.0 ≤ length lines.now) }
-    ensures runs { IfOk result (λ did. IsFormattedAt setting.now.shape.now (four_of payloads) (take did.0 lines.now) did.1.disk
-        did.1.payloads did.1.ledger) }
+    ensures runs { IfOk result (λ did. IsFormattedAt setting.now.shape.now (four_of payloads) (take did.0 lines.now) did.1) }
     ensures refused { IfErr result (λ e. (e ≡ Memory) ⊎ (e ≡ NotPlain)) }
 {
     let alloc = setting.alloc;
     let shape = setting.shape;
-    let mut power = blank(alloc, shape)?;
-    let mut payloads = copy_payloads(alloc, &payloads)?;
+    let mut bench = blank(alloc, shape, &payloads)?;
     let mut count = 0;
     for line in lines {
-        let (after, formatted) = tries(setting, line, power, &mut payloads)?;
+        let (after, formatted) = run_before_format(setting, line, bench)?;
         count += 1;
         if formatted {
-            let site = begun(alloc, shape, after, payloads)?;
+            let site = formatted_site(alloc, shape, after)?;
             return Ok((count, site));
         }
-        if is_struck(&after) {
-            return Err(Refusal::Memory);
-        }
-        power = after;
+        bench = after;
     }
-    Err(unformatted(power))
+    Err(unformatted(bench.power))
 }

@@ -10,19 +10,18 @@ ghost use Rattle.board_model.specs.declared.plain.Plain.{Plain as State};
 ghost use Rattle.board_model.specs.declared.refusal.Refusal.TheVariants.{Memory, Device};
 ghost use Rattle.disk.specs.Facts.{counted};
 ghost use Rattle.disk.specs.FaultState.{fault_state_left};
-ghost use Rattle.store.specs.Leaves.{IsIdle};
 ghost use Rattle.bench_report.specs.declared.power.Power.TheVariants.{On};
 ghost use Rattle.bench_report.specs.declared.printed.Printed.{Printed as Said};
 ghost use Rattle.bench_report.specs.declared.printed.Printed.TheVariants.{OnRefused};
 ghost use Rattle.bench_report.specs.Agree.{OffIs};
 ghost use Rattle.bench_report.specs.Bench.{Bench, Formatted};
-ghost use Rattle.bench_report.specs.Views.{facts, fault_state, store_in, store_size, store_now, store_fault_state};
+ghost use Rattle.bench_report.specs.Views.{fault_state, store_in, store_size, store_now, store_fault_state};
 ghost use Rattle.bench_sweep.specs.Made.{LooksAt};
-ghost use Rattle.bench_sweep.specs.Runs.{LeftOff, SitsLeft, Finds, FindsState, IsSpoilt, PowerFinds};
+ghost use Rattle.bench_sweep.specs.Runs.{LeftOff, Finds, FindsState, IsSpoilt, PowerFinds};
 
 use crate::follows::is_of_memory;
 use bench_judge::{Ledger, Sweep};
-use bench_report::{Answer, Power, Printed, power_on};
+use bench_report::{Answer, OffDisk, Power, Printed, power_on};
 use board::{Board, Parts, Payloads};
 use board_model::{BootMode, Durable, Plain, Refusal, Shape};
 use ram::Ram;
@@ -105,7 +104,7 @@ fn found_by(
     ensures refused { IfErr result (λ e. e ≡ Memory) }
 {
     match power {
-        Power::Off(disk) => unbooted(disk, said),
+        Power::Off(off) => unbooted(off.disk, said),
         Power::On(board) => found_on(alloc, board, found),
     }
 }
@@ -121,39 +120,37 @@ fn sizes(shape: &Shape)
 
 /// Powers a board on that keeps its image, and looks what was found. Its slots are empty, whatever the script's are:
 /// it makes no turn, and is not refused for a payload that is longer than RAM. Refused `Memory` alone.
-fn keeps(alloc: Global, shape: &Shape, disk: SimDisk) -> Result<Found, Refusal>
-    requires idle { IsIdle (facts disk) }
+fn look_at(alloc: Global, shape: &Shape, off: OffDisk) -> Result<Found, Refusal>
     ensures finds { IfOk result (λ found. (b : Bench) (slots : List (List ℕ)) (ledger : Ledger)
-        → LeftOff shape.now b disk slots ledger → Finds ledger found.plain) }
-    ensures says { IfOk result (λ found. (b : Bench) → OffIs shape.now b disk
+        → LeftOff shape.now b off slots ledger → Finds ledger found.plain) }
+    ensures says { IfOk result (λ found. (b : Bench) → OffIs shape.now b off.disk
         → (after : Bench) × LooksAt shape.now b found.left after) }
     ensures refused { IfErr result (λ e. e ≡ Memory) }
 {
     sizes(shape);
     let empty = Payloads::new(alloc);
-    let (power, left, _now) = power_on(alloc, BootMode::Keep, disk, &empty);
+    let (power, left, _now) = power_on(alloc, BootMode::Keep, off, &empty);
     let plain = found_by(alloc, power, left.found, left.line)?;
     Ok(Found { plain, left })
 }
 
 /// Counts a run that left that disk, and answers what the power-on after it said. Refused `Memory` alone.
-pub fn counts(
+pub fn count_run(
     alloc: Global,
     shape: &Shape,
-    disk: SimDisk,
+    off: OffDisk,
     ledger: &Ledger,
     sweep: &mut Sweep,
 ) -> Result<Answer, Refusal>
-    requires idle { IsIdle (facts disk) }
-    requires left { (slots : List (List ℕ)) × SitsLeft shape.now disk slots ledger.now }
-    ensures says { IfOk result (λ left. (b : Bench) → OffIs shape.now b disk
+    requires left { (slots : List (List ℕ)) × (b : Bench) × LeftOff shape.now b off slots ledger.now }
+    ensures says { IfOk result (λ left. (b : Bench) → OffIs shape.now b off.disk
         → (after : Bench) × LooksAt shape.now b left after) }
     ensures points { sweep.new.points ≡ sweep.old.points }
     ensures runs { OnOk result (sweep.new.runs ≡ counted sweep.old.runs 1) }
     ensures right { OnOk result (sweep.new.wrong ≡ sweep.old.wrong) }
     ensures refused { IfErr result (λ e. e ≡ Memory) }
 {
-    let found = keeps(alloc, shape, disk)?;
+    let found = look_at(alloc, shape, off)?;
     ledger.counts(found.plain.as_ref(), sweep);
     Ok(found.left)
 }

@@ -30,7 +30,7 @@ use std::alloc::Global;
 
 /// Want of memory alone stops a bench. A ledger also refuses what the table of commands refuses, and of that nothing
 /// changed, whatever was answered.
-fn heeded(refusal: Refusal) -> Result<(), Refusal>
+fn only_memory(refusal: Refusal) -> Result<(), Refusal>
     ensures other { OnOk result (refusal ≡ Memory → ⊥) }
     ensures memory { IfErr result (λ e. e ≡ Memory) }
 {
@@ -41,7 +41,7 @@ fn heeded(refusal: Refusal) -> Result<(), Refusal>
 }
 
 /// A command was answered, by its receipt or by the number with which it was refused. Refused `Memory` alone.
-fn issued(
+fn record_command(
     ledger: &mut Ledger,
     alloc: Global,
     entry: Entry,
@@ -58,12 +58,12 @@ fn issued(
 {
     match ledger.answered(alloc, entry, memory, refused) {
         Ok(()) => Ok(()),
-        Err(refusal) => heeded(refusal),
+        Err(refusal) => only_memory(refusal),
     }
 }
 
 /// The image that stands was resumed. Refused `Memory` alone.
-fn resumed(ledger: &mut Ledger, alloc: Global) -> Result<(), Refusal>
+fn record_resume(ledger: &mut Ledger, alloc: Global) -> Result<(), Refusal>
     ensures kept { OnOk result ((size : Size) (old new : Kept) → TellsWhole size ledger.old old
         → IssuedTold None Consume old new → TellsWhole size ledger.new new) }
     ensures serial { OnOk result (Resumes ledger.old ledger.new (serial_of (image_told ledger.old))) }
@@ -71,29 +71,29 @@ fn resumed(ledger: &mut Ledger, alloc: Global) -> Result<(), Refusal>
 {
     match ledger.resumes(alloc) {
         Ok(()) => Ok(()),
-        Err(refusal) => heeded(refusal),
+        Err(refusal) => only_memory(refusal),
     }
 }
 
 /// The Consume of a resume was acknowledged, or refused by that number.
-fn consumes(ledger: &mut Ledger, alloc: Global, refused: Option<u32>) -> Result<(), Refusal>
+fn record_consume(ledger: &mut Ledger, alloc: Global, refused: Option<u32>) -> Result<(), Refusal>
     ensures kept { OnOk result ((size : Size) (old new : Kept) → TellsWhole size ledger.old old
         → IssuedTold refused Consume old new → TellsWhole size ledger.new new) }
     ensures serial { OnOk result (Resumes ledger.old ledger.new (consumed refused (image_told ledger.old))) }
     ensures memory { IfErr result (λ e. e ≡ Memory) }
 {
     match refused {
-        None => resumed(ledger, alloc),
+        None => record_resume(ledger, alloc),
         Some(_) => {
             let entry = Entry::Command(Command::Consume);
-            issued(ledger, alloc, entry, &[], refused)
+            record_command(ledger, alloc, entry, &[], refused)
         }
     }
 }
 
 /// The attempt of a boot was acknowledged, or refused by that number, where the slot is on trial so. Refused `Memory`
 /// alone.
-fn attempts(
+fn record_attempt(
     ledger: &mut Ledger,
     alloc: Global,
     trial: Option<Trial>,
@@ -108,7 +108,7 @@ fn attempts(
         None => Ok(()),
         Some(_) => {
             let entry = Entry::Command(Command::Attempt);
-            issued(ledger, alloc, entry, &[], refused)
+            record_command(ledger, alloc, entry, &[], refused)
         }
     }
 }
@@ -124,7 +124,7 @@ fn is_dropped(found: &Durable, now: Option<Durable>) -> bool
 }
 
 /// A boot that drops the image was refused by that number, at its first command or behind it, by the state then.
-fn stops(
+fn record_stopped_discard(
     ledger: &mut Ledger,
     alloc: Global,
     found: &Durable,
@@ -140,15 +140,15 @@ fn stops(
 {
     let entry = Entry::Command(Command::Discard);
     if is_dropped(found, now) {
-        issued(ledger, alloc, entry, &[], None)?;
-        attempts(ledger, alloc, found.trial, Some(number))
+        record_command(ledger, alloc, entry, &[], None)?;
+        record_attempt(ledger, alloc, found.trial, Some(number))
     } else {
-        issued(ledger, alloc, entry, &[], Some(number))
+        record_command(ledger, alloc, entry, &[], Some(number))
     }
 }
 
 /// A boot that drops the image was made, or refused by that number.
-fn discards(
+fn record_discard(
     ledger: &mut Ledger,
     alloc: Global,
     found: &Durable,
@@ -165,16 +165,16 @@ fn discards(
     match refused {
         None => {
             let entry = Entry::Command(Command::Discard);
-            issued(ledger, alloc, entry, &[], None)?;
-            attempts(ledger, alloc, found.trial, None)
+            record_command(ledger, alloc, entry, &[], None)?;
+            record_attempt(ledger, alloc, found.trial, None)
         }
-        Some(number) => stops(ledger, alloc, found, now, number),
+        Some(number) => record_stopped_discard(ledger, alloc, found, now, number),
     }
 }
 
 /// A boot by that mode was made, or refused by that number, of the state that its open found, and the state is then
 /// that one.
-fn boots(
+fn record_boot(
     ledger: &mut Ledger,
     alloc: Global,
     mode: BootMode,
@@ -190,14 +190,14 @@ fn boots(
     ensures memory { IfErr result (λ e. e ≡ Memory) }
 {
     match mode {
-        BootMode::Fresh | BootMode::Keep => attempts(ledger, alloc, found.trial, refused),
-        BootMode::Discard => discards(ledger, alloc, found, now, refused),
-        BootMode::Resume => consumes(ledger, alloc, refused),
+        BootMode::Fresh | BootMode::Keep => record_attempt(ledger, alloc, found.trial, refused),
+        BootMode::Discard => record_discard(ledger, alloc, found, now, refused),
+        BootMode::Resume => record_consume(ledger, alloc, refused),
     }
 }
 
 /// What a power-on by that mode said behind its found line. Refused `Memory` where it was.
-fn begins(
+fn record_answer(
     ledger: &mut Ledger,
     alloc: Global,
     mode: BootMode,
@@ -213,12 +213,12 @@ fn begins(
     ensures memory { IfErr result (λ e. e ≡ Memory) }
 {
     match said {
-        Printed::On(_) => boots(ledger, alloc, mode, found, now, None),
+        Printed::On(_) => record_boot(ledger, alloc, mode, found, now, None),
         Printed::OnRefused(number) => {
             if number == 11 {
                 Err(Refusal::Memory)
             } else {
-                boots(ledger, alloc, mode, found, now, Some(number))
+                record_boot(ledger, alloc, mode, found, now, Some(number))
             }
         }
         _ => Ok(()),
@@ -237,7 +237,7 @@ pub fn is_of_memory(said: Printed) -> bool
 
 /// A power-on by that mode gave that answer, and the state is then that one: what the open found settles the command
 /// in doubt. Refused `Memory` where the power-on was, or the ledger is; then the ledger is of no use.
-pub fn follows_boot(
+pub fn record_power_on(
     ledger: &mut Ledger,
     alloc: Global,
     mode: BootMode,
@@ -261,13 +261,13 @@ pub fn follows_boot(
         }
         Some(found) => {
             ledger.settles(&found);
-            begins(ledger, alloc, mode, &found, answer.line, now)
+            record_answer(ledger, alloc, mode, &found, answer.line, now)
         }
     }
 }
 
 /// A command of the console gave that answer.
-pub fn commands(
+pub fn record_console(
     ledger: &mut Ledger,
     alloc: Global,
     command: ConsoleCommand,
@@ -281,11 +281,11 @@ pub fn commands(
     match said {
         Printed::Acknowledged(_, _) => {
             let entry = Entry::Command(command.command());
-            issued(ledger, alloc, entry, &[], None)
+            record_command(ledger, alloc, entry, &[], None)
         }
         Printed::CommandRefused(_, number) => {
             let entry = Entry::Command(command.command());
-            issued(ledger, alloc, entry, &[], Some(number))
+            record_command(ledger, alloc, entry, &[], Some(number))
         }
         _ => Ok(()),
     }
@@ -293,7 +293,7 @@ pub fn commands(
 
 /// A line that moves no hart and powers no board on gave that answer. Refused `Memory` where the ledger is; then the
 /// ledger is of no use.
-pub fn follows(
+pub fn record_line(
     ledger: &mut Ledger,
     alloc: Global,
     line: &Line,
@@ -305,13 +305,13 @@ pub fn follows(
     ensures memory { IfErr result (λ e. e ≡ Memory) }
 {
     match line {
-        Line::Command(command) => commands(ledger, alloc, *command, answer.line),
+        Line::Command(command) => record_console(ledger, alloc, *command, answer.line),
         _ => Ok(()),
     }
 }
 
 /// A hart of that board goes on: a command of it may be in doubt.
-fn goes_on(ledger: &mut Ledger, alloc: Global, board: &Board<SimDisk>) -> Result<(), Refusal>
+fn record_in_doubt(ledger: &mut Ledger, alloc: Global, board: &Board<SimDisk>) -> Result<(), Refusal>
     ensures kept { OnOk result ((size : Size) (b new : Bench) (did : Did) → Follows size b ledger.old
         → HartMoves size b (words.Goes did) new board.now → Follows size new ledger.new) }
     ensures resumed { ledger.new.resumed ≡ ledger.old.resumed }
@@ -321,7 +321,7 @@ fn goes_on(ledger: &mut Ledger, alloc: Global, board: &Board<SimDisk>) -> Result
         None => Ok(()),
         Some(entry) => {
             let memory = board.ram().bytes();
-            issued(ledger, alloc, entry, memory, Some(6))
+            record_command(ledger, alloc, entry, memory, Some(6))
         }
     }
 }
@@ -336,7 +336,7 @@ fn suspension_in(now: Durable) -> Option<Entry>
 }
 
 /// That board sleeps; the memory of its suspension is still the one of the call.
-fn sleeps(ledger: &mut Ledger, alloc: Global, board: &Board<SimDisk>) -> Result<(), Refusal>
+fn record_sleep(ledger: &mut Ledger, alloc: Global, board: &Board<SimDisk>) -> Result<(), Refusal>
     ensures kept { OnOk result ((size : Size) (b new : Bench) → Follows size b ledger.old
         → HartMoves size b (words.Over life_ends.Asleep) new board.now → Follows size new ledger.new) }
     ensures resumed { ledger.new.resumed ≡ ledger.old.resumed }
@@ -346,24 +346,24 @@ fn sleeps(ledger: &mut Ledger, alloc: Global, board: &Board<SimDisk>) -> Result<
         None => Ok(()),
         Some(entry) => {
             let memory = board.ram().bytes();
-            issued(ledger, alloc, entry, memory, None)
+            record_command(ledger, alloc, entry, memory, None)
         }
     }
 }
 
 /// That board was reset.
-fn resets(ledger: &mut Ledger, alloc: Global, board: &Board<SimDisk>) -> Result<(), Refusal>
+fn record_reset(ledger: &mut Ledger, alloc: Global, board: &Board<SimDisk>) -> Result<(), Refusal>
     ensures kept { OnOk result ((size : Size) (b new : Bench) (kind : ResetType) → Follows size b ledger.old
         → HartMoves size b (words.Over (life_ends.Reset kind)) new board.now → Follows size new ledger.new) }
     ensures resumed { ledger.new.resumed ≡ ledger.old.resumed }
     ensures memory { IfErr result (λ e. e ≡ Memory) }
 {
     let entry = Entry::Command(Command::Reset(board.now().reason));
-    issued(ledger, alloc, entry, &[], None)
+    record_command(ledger, alloc, entry, &[], None)
 }
 
 /// A hart of that board ended the life so.
-fn ended(
+fn record_end(
     ledger: &mut Ledger,
     alloc: Global,
     board: &Board<SimDisk>,
@@ -375,14 +375,14 @@ fn ended(
     ensures memory { IfErr result (λ e. e ≡ Memory) }
 {
     match end {
-        LifeEnd::Asleep => sleeps(ledger, alloc, board),
-        LifeEnd::Reset(_) => resets(ledger, alloc, board),
+        LifeEnd::Asleep => record_sleep(ledger, alloc, board),
+        LifeEnd::Reset(_) => record_reset(ledger, alloc, board),
     }
 }
 
 /// A turn of a hart of that board, or its call, ended so. The hart asked for one command at most, and the memory
 /// is still the one that the command found.
-pub fn follows_hart(
+pub fn record_hart(
     ledger: &mut Ledger,
     alloc: Global,
     board: &Board<SimDisk>,
@@ -394,7 +394,7 @@ pub fn follows_hart(
     ensures memory { IfErr result (λ e. e ≡ Memory) }
 {
     match word {
-        Word::Goes(_) => goes_on(ledger, alloc, board),
-        Word::Over(end) => ended(ledger, alloc, board, end),
+        Word::Goes(_) => record_in_doubt(ledger, alloc, board),
+        Word::Over(end) => record_end(ledger, alloc, board, end),
     }
 }

@@ -7,12 +7,12 @@ ghost use Rattle.script_lang.specs.Lines.{IsLineInRange};
 ghost use Rattle.script_lang.specs.declared.line.Line.TheVariants as lines;
 ghost use Rattle.bench_report.specs.Views.{machine_in};
 ghost use Rattle.bench_report.specs.Bench.{Bench};
-ghost use Rattle.bench_report.specs.Agree.{OnIs, IsResting};
+ghost use Rattle.bench_report.specs.Agree.{OnIs};
 ghost use Rattle.bench_sweep.specs.Runs.{Follows, Runs};
 ghost use Rattle.bench_sweep.specs.Lines.{TurnsOnce, TurnsMany, DoesLine, HartGoes, LineGoes, LineMoves};
 ghost use Rattle.bench_sweep.specs.Told.{moves_harts};
 
-use crate::follows::follows_hart;
+use crate::follows::record_hart;
 use bench_judge::Ledger;
 use bench_report::{Power, after};
 use board::Board;
@@ -24,7 +24,7 @@ use simdisk::SimDisk;
 use std::alloc::Global;
 
 /// One turn of a hart, and the ledger follows it.
-fn turned_once<C: Crew>(
+fn turn_once<C: Crew>(
     alloc: Global,
     crew: &C,
     board: &mut Board<SimDisk>,
@@ -39,12 +39,12 @@ fn turned_once<C: Crew>(
     ensures memory { IfErr result (λ e. e ≡ Memory) }
 {
     let word = board.turn(alloc, crew, hart);
-    follows_hart(ledger, alloc, board, word)?;
+    record_hart(ledger, alloc, board, word)?;
     Ok(word)
 }
 
 /// Turns of a hart, as `Board::turns` makes them; the ledger follows each.
-fn turned<C: Crew>(
+fn turn_many<C: Crew>(
     alloc: Global,
     crew: &C,
     board: &mut Board<SimDisk>,
@@ -59,17 +59,17 @@ fn turned<C: Crew>(
     ensures resumed { ledger.new.resumed ≡ ledger.old.resumed }
     ensures memory { IfErr result (λ e. e ≡ Memory) }
 {
-    let mut word = turned_once(alloc, crew, board, hart, ledger)?;
+    let mut word = turn_once(alloc, crew, board, hart, ledger)?;
     let mut left = count - 1;
     while 0 < left && !word.ends_row() && !board.struck() {
-        word = turned_once(alloc, crew, board, hart, ledger)?;
+        word = turn_once(alloc, crew, board, hart, ledger)?;
         left -= 1;
     }
     Ok(word)
 }
 
 /// A call in the place of a hart, and the ledger follows it. None where the hart is not started, or dozes.
-fn called<C: Crew>(
+fn call_once<C: Crew>(
     alloc: Global,
     crew: &C,
     board: &mut Board<SimDisk>,
@@ -86,14 +86,14 @@ fn called<C: Crew>(
     match board.call(alloc, crew, hart, words) {
         None => Ok(None),
         Some(word) => {
-            follows_hart(ledger, alloc, board, word)?;
+            record_hart(ledger, alloc, board, word)?;
             Ok(Some(word))
         }
     }
 }
 
 /// What a line of harts did: none where the board has not the hart, or it makes no call.
-fn moved<C: Crew>(
+fn run_in_place<C: Crew>(
     alloc: Global,
     crew: &C,
     shape: &Shape,
@@ -111,7 +111,7 @@ fn moved<C: Crew>(
     match line {
         Line::Turn(hart, count) => {
             if board.machine().has(*hart) {
-                let word = turned(alloc, crew, board, *hart, *count, ledger)?;
+                let word = turn_many(alloc, crew, board, *hart, *count, ledger)?;
                 Ok(Some(word))
             } else {
                 Ok(None)
@@ -119,7 +119,7 @@ fn moved<C: Crew>(
         }
         Line::Call(hart, words) => {
             if board.machine().has(*hart) {
-                called(alloc, crew, board, *hart, *words, ledger)
+                call_once(alloc, crew, board, *hart, *words, ledger)
             } else {
                 Ok(None)
             }
@@ -130,7 +130,7 @@ fn moved<C: Crew>(
 
 /// Runs a line of harts, and the ledger follows each turn of it. On a board that is off it does nothing. Refused
 /// `Memory` where the ledger is; then the ledger is of no use.
-pub fn moves<C: Crew>(
+pub fn run_hart_line<C: Crew>(
     alloc: Global,
     crew: &C,
     shape: &Shape,
@@ -140,17 +140,15 @@ pub fn moves<C: Crew>(
 ) -> Result<Power, Refusal>
     requires range { IsLineInRange shape.now line.now }
     requires of_harts { moves_harts line.now ≡ true }
-    requires resting { IsResting power }
-    ensures resting { IfOk result (λ power. IsResting power) }
     ensures goes { IfOk result (λ now. (size : Size) (b : Bench) (slots : List (List ℕ)) → Runs size b power slots ledger.old
         → LineMoves size line.now b now slots ledger.new) }
     ensures resumed { ledger.new.resumed ≡ ledger.old.resumed }
     ensures memory { IfErr result (λ e. e ≡ Memory) }
 {
     match power {
-        Power::Off(disk) => Ok(Power::Off(disk)),
+        Power::Off(off) => Ok(Power::Off(off)),
         Power::On(mut board) => {
-            match moved(alloc, crew, shape, &mut board, line, ledger)? {
+            match run_in_place(alloc, crew, shape, &mut board, line, ledger)? {
                 None => Ok(Power::On(board)),
                 Some(word) => Ok(after(board, word)),
             }

@@ -9,8 +9,10 @@ mod harts;
 mod points;
 mod rows;
 mod runner;
+mod site;
 mod sites;
 mod sweeps;
 
 pub use bench_judge::{Sweep, judge};
-pub use sweeps::{faults, faults_with, sweep, sweep_with};
+pub use points::Bench;
+pub use sweeps::run_bench;

@@ -1,4 +1,4 @@
-//! A bench between two lines of its script, and how it goes on.
+//! How a run goes on from a site.
 
 ghost use Rattle.std.specs.Prelude.{◌≡◌, ◌≤◌, ◌<◌, Some, None, true, false, length, take, slice_set, All, IfOk, IfErr, OnOk, MatchOption};
 ghost use Rattle.board.specs.Boots.{payload_at};
@@ -8,25 +8,27 @@ ghost use Rattle.script_lang.specs.Lines.{IsLineInRange};
 ghost use Rattle.script_lang.specs.declared.line.Line.TheVariants as lines;
 ghost use Rattle.simdisk.specs.Views.{left_by_fill};
 ghost use Rattle.write_log.specs.WriteLog.{synced};
-ghost use Rattle.store.specs.Leaves.{IsIdle};
 ghost use Rattle.bench_report.specs.declared.power.Power.TheVariants.{Off};
-ghost use Rattle.bench_report.specs.Agree.{Agrees, IsArmed, OffIs, IsResting, IsUnstruck};
+ghost use Rattle.bench_report.specs.Agree.{Agrees, OffIs, IsUnstruck};
 ghost use Rattle.bench_report.specs.Bench.{Bench};
 ghost use Rattle.bench_report.specs.Happens.{armed_with, off, unpowered};
-ghost use Rattle.bench_report.specs.Views.{facts, sim_log_of};
+ghost use Rattle.bench_report.specs.Views.{arms, facts, sim_log_of};
 ghost use Rattle.bench_sweep.specs.Lines.{LineMoves};
-ghost use Rattle.bench_sweep.specs.Made.{armed_of, four_of};
+ghost use Rattle.bench_sweep.specs.Made.{four_of};
 ghost use Rattle.bench_sweep.specs.Points.{calls_of, fault_at};
-ghost use Rattle.bench_sweep.specs.Runs.{Runs, RunsCalm, LeftOff, SitsLeft, RanTo, StopsOff};
+ghost use Rattle.bench_sweep.specs.Runs.{Runs, RunsAt, RunsCalm, LeftAt, RanTo, StopsOff};
 ghost use Rattle.bench_sweep.specs.Swept.{IsPlainLine};
 ghost use Rattle.bench_sweep.specs.Told.{moves_harts, powers_on};
 ghost use Rattle.bench_sweep.specs.declared.points.Caller.{Caller};
 
-use crate::follows::{commands, follows, follows_boot};
-use crate::harts::{is_of_harts, moves};
+use crate::follows::{record_console, record_line, record_power_on};
+use crate::harts::{is_of_harts, run_hart_line};
 use crate::points::{Bench as Kind, Point};
+use crate::site::{Going, Site};
 use bench_judge::Ledger;
-use bench_report::{Power, Setting, arm, console, disk_left, line_alone, power_on, struck};
+use bench_report::{
+    OffDisk, Power, Setting, arm_disk, console, disk_left, line_alone, power_on, struck,
+};
 use board::Payloads;
 use board_model::{BootMode, ConsoleCommand, Refusal, Shape, Slot};
 use crew::Crew;
@@ -37,27 +39,17 @@ use store::kept_disks;
 
 /// The disk that a power cut leaves of that one, with that fill in the place of what was written since the last sync.
 /// That one stays as it is.
-pub fn cut_by(disk: &SimDisk, fill: Fill) -> Result<SimDisk, Refusal>
-    ensures idle { IfOk result (λ left. IsIdle (facts left)) }
-    ensures left { IfOk result (λ left. (size : Size) (b : Bench) → OffIs size b disk.now
-        → OffIs size (unpowered b) left) }
-    ensures exact { IfOk result (λ left. (facts left).content
-        ≡ left_by_fill fill (synced (sim_log_of disk.now)) (sim_log_of disk.now).written) }
-    ensures calls { IfOk result (λ left. (caller : Caller) → calls_of caller left ≡ calls_of caller disk.now) }
+pub fn cut_by(off: &OffDisk, fill: Fill) -> Result<OffDisk, Refusal>
+    ensures left { IfOk result (λ left. (size : Size) (b : Bench) → OffIs size b off.now.disk
+        → OffIs size (unpowered b) left.disk) }
+    ensures exact { IfOk result (λ left. (facts left.disk).content
+        ≡ left_by_fill fill (synced (sim_log_of off.now.disk)) (sim_log_of off.now.disk).written) }
+    ensures calls { IfOk result (λ left. (caller : Caller) → calls_of caller left.disk ≡ calls_of caller off.now.disk) }
     ensures refused { IfErr result (λ e. e ≡ Memory) }
 {
     kept_disks::<SimDisk>();
-    Ok(disk.left(fill)?)
-}
-
-/// A board that is off, with all that a run goes on from.
-#[derive(Drop)]
-pub struct Site {
-    pub disk: SimDisk,
-    pub payloads: Payloads,
-    pub ledger: Ledger,
-    ghost idle: { IsIdle (facts disk) },
-    ghost four: { length payloads ≡ 4 },
+    let disk = off.disk.left(fill)?;
+    Ok(OffDisk { disk })
 }
 
 /// Copies what one slot boots.
@@ -87,77 +79,51 @@ pub fn copy_payloads(alloc: Global, from: &Payloads) -> Result<Payloads, Refusal
 impl Site {
     /// A site to run from: its disk is the one that a power cut leaves of this one's, of which all is durable.
     pub fn copy(&self, alloc: Global) -> Result<Site, Refusal>
-        ensures runs { IfOk result (λ copy. (size : Size) (b : Bench)
-            → Runs size b (Off self.now.disk) self.now.payloads self.now.ledger
-            → LeftOff size (unpowered b) copy.disk copy.payloads copy.ledger) }
-        ensures calls { IfOk result (λ copy. (caller : Caller) → calls_of caller copy.disk ≡ calls_of caller self.now.disk) }
+        ensures runs { IfOk result (λ copy. (size : Size) (b : Bench) → RunsAt size b self.now
+            → LeftAt size (unpowered b) copy) }
+        ensures calls { IfOk result (λ copy. (caller : Caller)
+            → calls_of caller copy.off.disk ≡ calls_of caller self.now.off.disk) }
         ensures refused { IfErr result (λ e. e ≡ Memory) }
     {
-        let disk = cut_by(&self.disk, Fill::Old)?;
+        let off = cut_by(&self.off, Fill::Old)?;
         let payloads = copy_payloads(alloc, &self.payloads)?;
         let ledger = self.ledger.copy(alloc)?;
         Ok(Site {
-            disk,
+            off,
             payloads,
             ledger,
         })
     }
-}
 
-/// A run that is under way.
-#[derive(Drop)]
-pub struct Going {
-    pub power: Power,
-    pub payloads: Payloads,
-    pub ledger: Ledger,
-    ghost four: { length payloads ≡ 4 },
+    /// The site with what a bench of that kind does at the point armed on its disk.
+    pub fn armed(self, bench: Kind, point: Point) -> Site
+        ensures runs { (size : Size) (b : Bench) → LeftAt size b self
+            → RunsCalm size (armed_with (fault_at bench point.caller point.call) b) (Off result.off) result.payloads result.ledger }
+        ensures arms { arms result.off.disk (fault_at bench point.caller point.call) }
+    {
+        let Site {
+            off,
+            payloads,
+            ledger,
+        } = self;
+        let fault = bench.fault_at(point.caller, point.call);
+        Site {
+            off: arm_disk(off, fault),
+            payloads,
+            ledger,
+        }
+    }
 }
 
 impl Going {
-    /// Goes on from there.
-    pub fn from(site: Site) -> Going
-        ensures calm { IsUnstruck result.power }
-        ensures resting { IsResting result.power }
-        ensures runs { (size : Size) (b : Bench) → LeftOff size b site.disk site.payloads site.ledger
-            → RunsCalm size b result.power result.payloads result.ledger }
-    {
-        Going {
-            power: Power::Off(site.disk),
-            payloads: site.payloads,
-            ledger: site.ledger,
-        }
-    }
-
-    /// Goes on from there with what a bench of that kind does at the point.
-    pub fn armed(site: Site, bench: Kind, point: Point) -> Going
-        ensures calm { (size : Size) → SitsLeft size site.disk site.payloads site.ledger → IsUnstruck result.power }
-        ensures resting { IsResting result.power }
-        ensures runs { (size : Size) (b : Bench) → LeftOff size b site.disk site.payloads site.ledger
-            → RunsCalm size (armed_with (armed_of bench) b) result.power result.payloads result.ledger }
-        ensures arms { IsArmed (fault_at bench point.caller point.call) result.power }
-    {
-        let Site {
-            disk,
-            payloads,
-            ledger,
-        } = site;
-        let fault = bench.fault_at(point.caller, point.call);
-        let (power, _answer) = arm(Power::Off(disk), fault);
-        Going {
-            power,
-            payloads,
-            ledger,
-        }
-    }
-
     /// Turns the board off.
-    pub fn ends(self) -> Site
-        requires { IsResting self.power }
-        ensures { (size : Size) (b : Bench) → Runs size b self.power self.payloads self.ledger
-            → Runs size (off b) (Off result.disk) result.payloads result.ledger }
+    pub fn into_site(self) -> Site
+        ensures { (size : Size) (b : Bench) → Runs size b self.power self.payloads self.ledger → RunsAt size (off b) result }
     {
         Site {
-            disk: disk_left(self.power),
+            off: OffDisk {
+                disk: disk_left(self.power),
+            },
             payloads: self.payloads,
             ledger: self.ledger,
         }
@@ -182,7 +148,7 @@ impl Going {
 }
 
 /// Runs a line that powers a board on, and the ledger follows it. A board that is on stays as it is.
-fn powers(
+fn run_power_on(
     alloc: Global,
     shape: &Shape,
     mode: BootMode,
@@ -190,24 +156,22 @@ fn powers(
     payloads: &Payloads,
     ledger: &mut Ledger,
 ) -> Result<Power, Refusal>
-    requires resting { IsResting power }
-    ensures resting { IfOk result (λ power. IsResting power) }
     ensures runs { IfOk result (λ now. (b : Bench) → RunsCalm shape.now b power payloads.now ledger.old
         → LineMoves shape.now (lines.On mode) b now payloads.now ledger.new) }
     ensures refused { IfErr result (λ e. e ≡ Memory) }
 {
     match power {
         Power::On(board) => Ok(Power::On(board)),
-        Power::Off(disk) => {
-            let (power, answer, now) = power_on(alloc, mode, disk, payloads);
-            follows_boot(ledger, alloc, mode, &answer, now)?;
+        Power::Off(off) => {
+            let (power, answer, now) = power_on(alloc, mode, off, payloads);
+            record_power_on(ledger, alloc, mode, &answer, now)?;
             Ok(power)
         }
     }
 }
 
 /// Runs a line that moves no hart and powers no board on, and the ledger follows it.
-fn answers<C: Crew>(
+fn run_still_line<C: Crew>(
     setting: &Setting<'_, C>,
     line: &Line,
     power: Power,
@@ -219,8 +183,6 @@ fn answers<C: Crew>(
     requires of_none { moves_harts line.now ≡ false }
     requires no_boot { powers_on line.now ≡ false }
     requires calm { IsUnstruck power }
-    requires resting { IsResting power }
-    ensures resting { IfOk result (λ power. IsResting power) }
     ensures slots { length payloads.new ≡ length payloads.old }
     ensures runs { IfOk result (λ now. (b : Bench) → RunsCalm setting.now.shape.now b power payloads.old ledger.old
         → LineMoves setting.now.shape.now line.now b now payloads.new ledger.new) }
@@ -230,7 +192,7 @@ fn answers<C: Crew>(
     match answer {
         Err(refusal) => Err(refusal),
         Ok(answer) => {
-            follows(ledger, setting.alloc, line, &answer)?;
+            record_line(ledger, setting.alloc, line, &answer)?;
             Ok(power)
         }
     }
@@ -247,7 +209,7 @@ fn boot_of(line: &Line) -> Option<BootMode>
 }
 
 /// Runs a line, and the ledger follows it.
-fn does<C: Crew>(
+fn run_on_power<C: Crew>(
     setting: &Setting<'_, C>,
     line: &Line,
     power: Power,
@@ -257,8 +219,6 @@ fn does<C: Crew>(
     requires range { IsLineInRange setting.now.shape.now line.now }
     requires plain { IsPlainLine line.now }
     requires calm { IsUnstruck power }
-    requires resting { IsResting power }
-    ensures resting { IfOk result (λ power. IsResting power) }
     ensures slots { length payloads.new ≡ length payloads.old }
     ensures runs { IfOk result (λ now. (b : Bench) → RunsCalm setting.now.shape.now b power payloads.old ledger.old
         → LineMoves setting.now.shape.now line.now b now payloads.new ledger.new) }
@@ -266,12 +226,12 @@ fn does<C: Crew>(
 {
     let Setting { alloc, crew, shape } = *setting;
     match boot_of(line) {
-        Some(mode) => powers(alloc, shape, mode, power, payloads, ledger),
+        Some(mode) => run_power_on(alloc, shape, mode, power, payloads, ledger),
         None => {
             if is_of_harts(line) {
-                moves(alloc, crew, shape, line, power, ledger)
+                run_hart_line(alloc, crew, shape, line, power, ledger)
             } else {
-                answers(setting, line, power, payloads, ledger)
+                run_still_line(setting, line, power, payloads, ledger)
             }
         }
     }
@@ -280,12 +240,10 @@ fn does<C: Crew>(
 /// Runs one line, and the ledger follows it. An armed cut that struck within it is not made yet.
 ///
 /// Refused `Memory` where the line was, or the ledger.
-fn goes<C: Crew>(setting: &Setting<'_, C>, line: &Line, going: Going) -> Result<Going, Refusal>
+fn run_line<C: Crew>(setting: &Setting<'_, C>, line: &Line, going: Going) -> Result<Going, Refusal>
     requires range { IsLineInRange setting.now.shape.now line.now }
     requires plain { IsPlainLine line.now }
     requires calm { IsUnstruck going.power }
-    requires resting { IsResting going.power }
-    ensures resting { IfOk result (λ now. IsResting now.power) }
     ensures runs { IfOk result (λ now. (b : Bench)
         → RunsCalm setting.now.shape.now b going.power going.payloads going.ledger
         → LineMoves setting.now.shape.now line.now b now.power now.payloads now.ledger) }
@@ -296,7 +254,7 @@ fn goes<C: Crew>(setting: &Setting<'_, C>, line: &Line, going: Going) -> Result<
         mut payloads,
         mut ledger,
     } = going;
-    let power = does(setting, line, power, &mut payloads, &mut ledger)?;
+    let power = run_on_power(setting, line, power, &mut payloads, &mut ledger)?;
     Ok(Going {
         power,
         payloads,
@@ -306,15 +264,14 @@ fn goes<C: Crew>(setting: &Setting<'_, C>, line: &Line, going: Going) -> Result<
 
 /// Runs a line of the console, and the ledger follows it. The board stays where it is: a run of many commands would
 /// pay for moving it more than for the commands.
-fn issues(alloc: Global, command: ConsoleCommand, going: &mut Going) -> Result<(), Refusal>
-    ensures resting { IsResting going.old.power → IsResting going.new.power }
+fn run_command(alloc: Global, command: ConsoleCommand, going: &mut Going) -> Result<(), Refusal>
     ensures runs { OnOk result ((size : Size) (b : Bench)
         → RunsCalm size b going.old.power going.old.payloads going.old.ledger
         → LineMoves size (lines.Command command) b going.new.power going.new.payloads going.new.ledger) }
     ensures refused { IfErr result (λ e. e ≡ Memory) }
 {
     let answer = console(command, &mut going.power);
-    commands(&mut going.ledger, alloc, command, answer.line)
+    record_console(&mut going.ledger, alloc, command, answer.line)
 }
 
 /// Where a run of lines ended.
@@ -325,33 +282,34 @@ pub struct Went {
     pub going: Going,
 }
 
-/// Runs these lines, no further than to the one in which an armed cut strikes, or where so asked to the first after
-/// which the board is off. Refused `Memory` alone.
-pub fn goes_on<C: Crew>(
+/// Runs these lines from that site on, no further than to the one in which an armed cut strikes, or where so asked to
+/// the first after which the board is off. Refused `Memory` alone.
+pub fn run_lines<C: Crew>(
     setting: &Setting<'_, C>,
     lines: &[Line],
     until_off: bool,
-    going: Going,
+    site: Site,
 ) -> Result<Went, Refusal>
     requires ranges { All (IsLineInRange setting.now.shape.now) lines.now }
     requires plain { All IsPlainLine lines.now }
-    requires calm { IsUnstruck going.power }
-    requires resting { IsResting going.power }
-    ensures resting { IfOk result (λ went. IsResting went.going.power) }
     ensures ran { IfOk result (λ went. (b : Bench)
-        → RunsCalm setting.now.shape.now b going.power going.payloads going.ledger
+        → RunsCalm setting.now.shape.now b (Off site.off) site.payloads site.ledger
         → RanTo setting.now.shape.now b (take went.count lines.now) went.going.power went.going.payloads went.going.ledger) }
     ensures stops { IfOk result (λ went. until_off ≡ true → went.count < length lines.now → StopsOff went.going.power) }
     ensures few { IfOk result (λ went. went.count ≤ length lines.now) }
     ensures some { IfOk result (λ went. 0 < length lines.now → 0 < went.count) }
     ensures refused { IfErr result (λ e. e ≡ Memory) }
 {
-    let mut going = going;
+    let mut going = Going {
+        power: Power::Off(site.off),
+        payloads: site.payloads,
+        ledger: site.ledger,
+    };
     let mut count = 0;
     for line in lines {
         match line {
-            Line::Command(command) => issues(setting.alloc, *command, &mut going)?,
-            _ => going = goes(setting, line, going)?,
+            Line::Command(command) => run_command(setting.alloc, *command, &mut going)?,
+            _ => going = run_line(setting, line, going)?,
         }
         count += 1;
         if going.is_struck() {

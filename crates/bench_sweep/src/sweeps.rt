@@ -7,22 +7,21 @@ ghost use Rattle.board_model.specs.declared.refusal.Refusal.{Refusal};
 ghost use Rattle.board_model.specs.declared.refusal.Refusal.TheVariants.{Memory, Output, NotPlain};
 ghost use Rattle.script_lang.specs.Lines.{IsLineInRange};
 ghost use Rattle.script_lang.specs.Scripts.{script_of, Script as Said};
-ghost use Rattle.bench_report.specs.declared.power.Power.TheVariants.{Off};
-ghost use Rattle.bench_report.specs.Agree.{IsResting};
-ghost use Rattle.bench_report.specs.Bench.{Bench as ModelBench, no_payloads};
+ghost use Rattle.bench_report.specs.Bench.{Bench as ModelBench};
 ghost use Rattle.bench_report.specs.Happens.{off, unpowered};
 ghost use Rattle.bench_sweep.specs.Made.{IsPlainRun, four_of};
 ghost use Rattle.bench_sweep.specs.Points.{calls_of, MadeCalls};
-ghost use Rattle.bench_sweep.specs.Runs.{Runs, LeftOff, Sits, SitsLeft, IsLife};
+ghost use Rattle.bench_sweep.specs.Runs.{Runs, RunsAt, LeftAt, Sits, SitsLeft, IsLife};
 ghost use Rattle.bench_sweep.specs.Swept.{IsPlainLine, AreSwept, cell, runs_of, runs_from, all_runs, callers, total, WroteAll, IsBenchOf};
 ghost use Rattle.bench_sweep.specs.Reports.{Reports, IsLeft, RunsRow, IsRow};
 
-use crate::begins::formats;
-use crate::finds::counts;
+use crate::begins::run_to_format;
+use crate::finds::count_run;
 use crate::points::{Bench, CALLERS, Caller, FILLS, Point};
 use crate::rows::{Row, write_row, write_sweep};
 use crate::runner::Runner;
-use crate::sites::{Going, Site, cut_by, goes_on};
+use crate::site::{Going, Site};
+use crate::sites::{cut_by, run_lines};
 use bench_judge::Sweep;
 use bench_report::Setting;
 use board::Payloads;
@@ -51,18 +50,18 @@ fn judge_run<C: Crew, W: Write>(
     fill: Option<Fill>,
     report: &mut Report<'_, W>,
 ) -> Result<(), Refusal>
-    requires sits { Sits setting.now.shape.now site.now.disk site.now.payloads site.now.ledger }
+    requires sits { Sits setting.now.shape.now site.now }
     ensures wrote { OnOk result ((b : ModelBench)
-        → Runs setting.now.shape.now b (Off site.now.disk) site.now.payloads site.now.ledger
+        → RunsAt setting.now.shape.now b site.now
         → Reports W.contents (IsLeft setting.now.shape.now b) report.old report.new
         (cell point.caller point.number fill ∷ []) 0) }
     ensures refused { IfErr result (λ e. (e ≡ Memory) ⊎ (e ≡ Output)) }
 {
-    let disk = cut_by(&site.disk, fill.unwrap_or(Fill::Byte(0)))?;
-    let left = counts(
+    let off = cut_by(&site.off, fill.unwrap_or(Fill::Byte(0)))?;
+    let left = count_run(
         setting.alloc,
         setting.shape,
-        disk,
+        off,
         &site.ledger,
         &mut report.sweep,
     )?;
@@ -82,9 +81,9 @@ fn judge_each_fill<C: Crew, W: Write>(
     point: Point,
     report: &mut Report<'_, W>,
 ) -> Result<(), Refusal>
-    requires sits { Sits setting.now.shape.now site.now.disk site.now.payloads site.now.ledger }
+    requires sits { Sits setting.now.shape.now site.now }
     ensures wrote { OnOk result ((b : ModelBench)
-        → Runs setting.now.shape.now b (Off site.now.disk) site.now.payloads site.now.ledger
+        → RunsAt setting.now.shape.now b site.now
         → Reports W.contents (IsLeft setting.now.shape.now b) report.old report.new
         (runs_of Bench.Cuts point.caller point.number) 0) }
     ensures refused { IfErr result (λ e. (e ≡ Memory) ⊎ (e ≡ Output)) }
@@ -104,15 +103,15 @@ fn run_to_cut<C: Crew, W: Write>(
     report: &mut Report<'_, W>,
 ) -> Result<(), Refusal>
     requires lines { AreSwept runner.now.setting.shape.now runner.now.lines.now }
-    requires sits { SitsLeft runner.now.setting.shape.now site.disk site.payloads site.ledger }
+    requires sits { SitsLeft runner.now.setting.shape.now site }
     ensures wrote { OnOk result ((b : ModelBench)
-        → LeftOff runner.now.setting.shape.now b site.disk site.payloads site.ledger
+        → LeftAt runner.now.setting.shape.now b site
         → Reports W.contents (RunsRow runner.now.setting.shape.now Bench.Cuts b runner.now.lines.now)
         report.old report.new (runs_of Bench.Cuts point.caller point.number) 0) }
     ensures refused { IfErr result (λ e. (e ≡ Memory) ⊎ (e ≡ Output)) }
 {
-    let armed = Going::armed(site, Bench::Cuts, point);
-    let went = goes_on(&runner.setting, runner.lines, false, armed)?;
+    let armed = site.armed(Bench::Cuts, point);
+    let went = run_lines(&runner.setting, runner.lines, false, armed)?;
     if went.going.is_struck() {
         let left = off_whole(went.going)?;
         judge_each_fill(&runner.setting, &left, point, report)
@@ -130,16 +129,16 @@ fn run_past_failure<C: Crew, W: Write>(
     report: &mut Report<'_, W>,
 ) -> Result<(), Refusal>
     requires lines { AreSwept runner.now.setting.shape.now runner.now.lines.now }
-    requires sits { SitsLeft runner.now.setting.shape.now site.disk site.payloads site.ledger }
+    requires sits { SitsLeft runner.now.setting.shape.now site }
     ensures wrote { OnOk result ((b : ModelBench)
-        → LeftOff runner.now.setting.shape.now b site.disk site.payloads site.ledger
+        → LeftAt runner.now.setting.shape.now b site
         → Reports W.contents (RunsRow runner.now.setting.shape.now Bench.Fails b runner.now.lines.now)
         report.old report.new (runs_of Bench.Fails point.caller point.number) 0) }
     ensures refused { IfErr result (λ e. (e ≡ Memory) ⊎ (e ≡ Output)) }
 {
-    let failed = site.disk.failures();
-    let armed = Going::armed(site, Bench::Fails, point);
-    let went = goes_on(&runner.setting, runner.lines, false, armed)?;
+    let failed = site.off.disk.failures();
+    let armed = site.armed(Bench::Fails, point);
+    let went = run_lines(&runner.setting, runner.lines, false, armed)?;
     let count = went.count;
     let all = runner.lines.len();
     // No cut is armed that could end the run before its last line.
@@ -148,7 +147,7 @@ fn run_past_failure<C: Crew, W: Write>(
     }
     let left = turn_off(went.going)?;
     // As with a cut, only a run that was refused memory can have missed the call.
-    if left.disk.failures() == failed {
+    if left.off.disk.failures() == failed {
         return Err(Refusal::Memory);
     }
     judge_run(&runner.setting, &left, point, None, report)
@@ -156,14 +155,13 @@ fn run_past_failure<C: Crew, W: Write>(
 
 /// Turns the board off. Refused `Memory` where the disk's record found none.
 fn off_whole(going: Going) -> Result<Site, Refusal>
-    requires resting { IsResting going.power }
     ensures runs { IfOk result (λ site. (size : Size) (b : ModelBench)
         → Runs size b going.power going.payloads going.ledger
-        → Runs size (off b) (Off site.disk) site.payloads site.ledger) }
+        → RunsAt size (off b) site) }
     ensures refused { IfErr result (λ e. e ≡ Memory) }
 {
-    let site = going.ends();
-    if site.disk.refused() != 0 {
+    let site = going.into_site();
+    if site.off.disk.refused() != 0 {
         return Err(Refusal::Memory);
     }
     Ok(site)
@@ -171,10 +169,9 @@ fn off_whole(going: Going) -> Result<Site, Refusal>
 
 /// Turns the board off after lines in which no cut is armed. Refused `Memory` where the disk's record found none.
 fn turn_off(going: Going) -> Result<Site, Refusal>
-    requires resting { IsResting going.power }
     ensures runs { IfOk result (λ site. (size : Size) (b : ModelBench)
         → Runs size b going.power going.payloads going.ledger
-        → (b.fault_state.struck ≡ false) × Runs size (off b) (Off site.disk) site.payloads site.ledger) }
+        → (b.fault_state.struck ≡ false) × RunsAt size (off b) site) }
     ensures refused { IfErr result (λ e. e ≡ Memory) }
 {
     if going.is_struck() {
@@ -194,9 +191,9 @@ fn run_at_point<C: Crew, W: Write>(
 ) -> Result<(), Refusal>
     requires few { count ≤ length runner.now.lines.now }
     requires lines { AreSwept runner.now.setting.shape.now runner.now.lines.now }
-    requires sits { SitsLeft runner.now.setting.shape.now site.disk site.payloads site.ledger }
+    requires sits { SitsLeft runner.now.setting.shape.now site }
     ensures wrote { OnOk result ((b : ModelBench)
-        → LeftOff runner.now.setting.shape.now b site.disk site.payloads site.ledger
+        → LeftAt runner.now.setting.shape.now b site
         → Reports W.contents (RunsRow runner.now.setting.shape.now runner.now.bench b runner.now.lines.now)
         report.old report.new (runs_of runner.now.bench point.caller point.number) 0) }
     ensures refused { IfErr result (λ e. (e ≡ Memory) ⊎ (e ≡ Output)) }
@@ -235,9 +232,9 @@ fn run_at_calls<C: Crew, W: Write>(
     requires few { count ≤ length runner.now.lines.now }
     requires numbers { calls.made + calls.count < 2 ^ 64 }
     requires lines { AreSwept runner.now.setting.shape.now runner.now.lines.now }
-    requires sits { Sits runner.now.setting.shape.now site.now.disk site.now.payloads site.now.ledger }
+    requires sits { Sits runner.now.setting.shape.now site.now }
     ensures wrote { OnOk result ((b : ModelBench)
-        → Runs runner.now.setting.shape.now b (Off site.now.disk) site.now.payloads site.now.ledger
+        → RunsAt runner.now.setting.shape.now b site.now
         → Reports W.contents (RunsRow runner.now.setting.shape.now runner.now.bench (unpowered b) runner.now.lines.now)
         report.old report.new (runs_from runner.now.bench calls.caller (calls.made + 1) calls.count) 0) }
     ensures refused { IfErr result (λ e. (e ≡ Memory) ⊎ (e ≡ Output)) }
@@ -267,18 +264,17 @@ struct Stretch {
 /// The lines of the plain run from that site up to the next moment at which the board is off. Refused `Memory` alone.
 fn stretch_of<C: Crew>(runner: &Runner<'_, C>, site: &Site) -> Result<Stretch, Refusal>
     requires lines { AreSwept runner.now.setting.shape.now runner.now.lines.now }
-    requires sits { Sits runner.now.setting.shape.now site.now.disk site.now.payloads site.now.ledger }
+    requires sits { Sits runner.now.setting.shape.now site.now }
     ensures few { IfOk result (λ did. did.count ≤ length runner.now.lines.now) }
     ensures some { IfOk result (λ did. 0 < length runner.now.lines.now → 0 < did.count) }
-    ensures sits { IfOk result (λ did. Sits runner.now.setting.shape.now did.next.disk did.next.payloads did.next.ledger) }
+    ensures sits { IfOk result (λ did. Sits runner.now.setting.shape.now did.next) }
     ensures lives { IfOk result (λ did. (b : ModelBench)
-        → Runs runner.now.setting.shape.now b (Off site.now.disk) site.now.payloads site.now.ledger
-        → IsLife runner.now.setting.shape.now b runner.now.lines.now did.count did.next.disk did.next.payloads
-        did.next.ledger) }
+        → RunsAt runner.now.setting.shape.now b site.now
+        → IsLife runner.now.setting.shape.now b runner.now.lines.now did.count did.next) }
     ensures refused { IfErr result (λ e. e ≡ Memory) }
 {
-    let plain = Going::from(site.copy(runner.setting.alloc)?);
-    let went = goes_on(&runner.setting, runner.lines, true, plain)?;
+    let plain = site.copy(runner.setting.alloc)?;
+    let went = run_lines(&runner.setting, runner.lines, true, plain)?;
     let count = went.count;
     let next = turn_off(went.going)?;
     Ok(Stretch { count, next })
@@ -286,12 +282,12 @@ fn stretch_of<C: Crew>(runner: &Runner<'_, C>, site: &Site) -> Result<Stretch, R
 
 /// How many calls of that caller were made from the one site to the other. A disk never counts back.
 fn calls_between(caller: Caller, from: &Site, to: &Site) -> Result<u64, Refusal>
-    ensures calls { IfOk result (λ n. calls_of caller to.now.disk ≡ calls_of caller from.now.disk + n) }
-    ensures below { IfOk result (λ n. calls_of caller to.now.disk < 2 ^ 64) }
+    ensures calls { IfOk result (λ n. calls_of caller to.now.off.disk ≡ calls_of caller from.now.off.disk + n) }
+    ensures below { IfOk result (λ n. calls_of caller to.now.off.disk < 2 ^ 64) }
     ensures refused { IfErr result (λ e. e ≡ Memory) }
 {
-    let before = caller.calls(&from.disk);
-    let after = caller.calls(&to.disk);
+    let before = caller.calls(&from.off.disk);
+    let after = caller.calls(&to.off.disk);
     if after < before {
         return Err(Refusal::Memory);
     }
@@ -308,20 +304,18 @@ fn sweep_stretch<C: Crew, W: Write>(
     report: &mut Report<'_, W>,
 ) -> Result<(Stretch, u64), Refusal>
     requires lines { AreSwept runner.now.setting.shape.now runner.now.lines.now }
-    requires sits { Sits runner.now.setting.shape.now site.now.disk site.now.payloads site.now.ledger }
-    requires made { made ≤ calls_of caller site.now.disk }
+    requires sits { Sits runner.now.setting.shape.now site.now }
+    requires made { made ≤ calls_of caller site.now.off.disk }
     ensures few { IfOk result (λ did. did.0.count ≤ length runner.now.lines.now) }
     ensures some { IfOk result (λ did. 0 < length runner.now.lines.now → 0 < did.0.count) }
-    ensures calls { IfOk result (λ did. calls_of caller did.0.next.disk ≡ calls_of caller site.now.disk + did.1) }
-    ensures below { IfOk result (λ did. calls_of caller did.0.next.disk < 2 ^ 64) }
-    ensures sits { IfOk result (λ did. Sits runner.now.setting.shape.now did.0.next.disk did.0.next.payloads
-        did.0.next.ledger) }
+    ensures calls { IfOk result (λ did. calls_of caller did.0.next.off.disk ≡ calls_of caller site.now.off.disk + did.1) }
+    ensures below { IfOk result (λ did. calls_of caller did.0.next.off.disk < 2 ^ 64) }
+    ensures sits { IfOk result (λ did. Sits runner.now.setting.shape.now did.0.next) }
     ensures lives { IfOk result (λ did. (b : ModelBench)
-        → Runs runner.now.setting.shape.now b (Off site.now.disk) site.now.payloads site.now.ledger
-        → IsLife runner.now.setting.shape.now b runner.now.lines.now did.0.count did.0.next.disk did.0.next.payloads
-        did.0.next.ledger) }
+        → RunsAt runner.now.setting.shape.now b site.now
+        → IsLife runner.now.setting.shape.now b runner.now.lines.now did.0.count did.0.next) }
     ensures wrote { IfOk result (λ did. (b : ModelBench)
-        → Runs runner.now.setting.shape.now b (Off site.now.disk) site.now.payloads site.now.ledger
+        → RunsAt runner.now.setting.shape.now b site.now
         → Reports W.contents (RunsRow runner.now.setting.shape.now runner.now.bench (unpowered b) runner.now.lines.now)
         report.old report.new (runs_from runner.now.bench caller (made + 1) did.1) 0) }
     ensures refused { IfErr result (λ e. (e ≡ Memory) ⊎ (e ≡ Output)) }
@@ -346,9 +340,9 @@ fn sweep_caller<C: Crew, W: Write>(
     report: &mut Report<'_, W>,
 ) -> Result<u64, Refusal>
     requires lines { AreSwept runner.now.setting.shape.now runner.now.lines.now }
-    requires sits { Sits runner.now.setting.shape.now begin.disk begin.payloads begin.ledger }
+    requires sits { Sits runner.now.setting.shape.now begin }
     ensures wrote { IfOk result (λ n. (b : ModelBench)
-        → Runs runner.now.setting.shape.now b (Off begin.disk) begin.payloads begin.ledger
+        → RunsAt runner.now.setting.shape.now b begin
         → Reports W.contents (IsRow runner.now.setting.shape.now runner.now.bench b runner.now.lines.now)
         report.old report.new (runs_from runner.now.bench caller 1 n) n) }
     ensures refused { IfErr result (λ e. (e ≡ Memory) ⊎ (e ≡ Output)) }
@@ -376,9 +370,9 @@ fn sweep_caller<C: Crew, W: Write>(
 /// none.
 fn run_plain<C: Crew>(runner: &Runner<'_, C>, begin: Site) -> Result<Site, Refusal>
     requires lines { AreSwept runner.now.setting.shape.now runner.now.lines.now }
-    requires sits { Sits runner.now.setting.shape.now begin.disk begin.payloads begin.ledger }
+    requires sits { Sits runner.now.setting.shape.now begin }
     ensures plain { IfOk result (λ end. (b : ModelBench)
-        → Runs runner.now.setting.shape.now b (Off begin.disk) begin.payloads begin.ledger
+        → RunsAt runner.now.setting.shape.now b begin
         → IsPlainRun runner.now.setting.shape.now b runner.now.lines.now) }
     ensures refused { IfErr result (λ e. e ≡ Memory) }
 {
@@ -394,7 +388,7 @@ fn run_plain<C: Crew>(runner: &Runner<'_, C>, begin: Site) -> Result<Site, Refus
         from += count;
         site = next;
     }
-    if site.disk.refused() != 0 {
+    if site.off.disk.refused() != 0 {
         return Err(Refusal::Memory);
     }
     Ok(site)
@@ -410,10 +404,10 @@ fn sweep_all_callers<C: Crew, W: Write>(
     report: &mut Report<'_, W>,
 ) -> Result<(), Refusal>
     requires lines { AreSwept runner.now.setting.shape.now runner.now.lines.now }
-    requires sits { Sits runner.now.setting.shape.now site.now.disk site.now.payloads site.now.ledger }
+    requires sits { Sits runner.now.setting.shape.now site.now }
     ensures wrote { OnOk result ((b : ModelBench)
-        → Runs runner.now.setting.shape.now b (Off site.now.disk) site.now.payloads site.now.ledger
-        → (counts : List ℕ) × AllZip (MadeCalls site.now.disk end.now.disk) callers counts
+        → RunsAt runner.now.setting.shape.now b site.now
+        → (counts : List ℕ) × AllZip (MadeCalls site.now.off.disk end.now.off.disk) callers counts
         × Reports W.contents (IsRow runner.now.setting.shape.now runner.now.bench (unpowered b) runner.now.lines.now)
         report.old report.new (all_runs runner.now.bench callers counts) (total counts)) }
     ensures refused { IfErr result (λ e. (e ≡ Memory) ⊎ (e ≡ Output)) }
@@ -463,7 +457,7 @@ fn sweep_lines<'a, C: Crew, W: Write>(
         ⊎ ((e ≡ NotPlain) × (W.contents out.new ≡ W.contents out.old))) }
 {
     let setting = Setting { alloc, crew, shape };
-    let (count, site) = formats(&setting, lines, payloads)?;
+    let (count, site) = run_to_format(&setting, lines, payloads)?;
     let runner = Runner {
         setting,
         bench,
@@ -509,8 +503,18 @@ fn sweep_plain_script<R: Threads + Sync, W: Write>(
     )
 }
 
-/// Runs that bench over the script that begins with these payloads.
-fn run_bench<R: Threads + Sync, W: Write>(
+/// A bench (docs/SCRIPT.md, "The benches") over the script that begins with these payloads: a slot boots its own until a
+/// line `payload` says otherwise.
+///
+/// At each call of the disk, and of each of its lanes, that the script makes after its first `format ok`, the power-cut
+/// bench cuts power, and lets the cut leave what each of five fills says of what was written since the last sync. The
+/// fault bench lets the call fail, runs the script to its end, and then cuts power. Behind each run a board is powered on
+/// that keeps its image, and what it found is judged. A line is written for each run, and one with the counts.
+///
+/// Refused `BadShape` or `BadScript` where the script has a fault, and `NotPlain` where it arms a cut or a failure,
+/// cuts power, pokes, or formats no disk: then nothing is written. Refused `Memory` where memory was, and `Output`
+/// where the writer failed: then any first lines may stand in it.
+pub fn run_bench<R: Threads + Sync, W: Write>(
     alloc: Global,
     bench: Bench,
     script: &[u8],
@@ -535,106 +539,4 @@ fn run_bench<R: Threads + Sync, W: Write>(
         return Err(Refusal::NotPlain);
     }
     sweep_plain_script::<R, W>(alloc, bench, &script, payloads, out)
-}
-
-/// [`sweep`] over a script that begins with these payloads: a slot boots its own until a line `payload` says otherwise.
-pub fn sweep_with<R: Threads + Sync, W: Write>(
-    alloc: Global,
-    script: &[u8],
-    payloads: Payloads,
-    out: &mut W,
-) -> Result<Sweep, Refusal>
-    // What was written is a line for each run, in order, and the line of the counts. The runs are those of the points
-    // of each caller, from number 1 on: as many as the script makes calls of it. Each is a run of the script's own lines
-    // with that call armed, and tells what a power-on then said. None was wrong.
-    ensures wrote { IfOk result (λ sweep. IsBenchOf Bench.Cuts (four_of payloads) script.now (W.contents out.old)
-        (W.contents out.new) sweep) }
-    // A refusal is the script's fault, or want of memory, or the writer's, or the script is not plain.
-    ensures refused { IfErr result (λ e. (e ≡ Memory) ⊎ (e ≡ Output) ⊎ (script_of script.now ≡ Err e)
-        ⊎ ((e ≡ NotPlain) × (W.contents out.new ≡ W.contents out.old))) }
-    // A script with a fault runs nothing, and neither does one with a line that is not plain.
-    ensures nothing { (e : Refusal) → script_of script.now ≡ Err e
-        → (W.contents out.new ≡ W.contents out.old) × ((result ≡ Err e) ⊎ (result ≡ Err Memory)) }
-    ensures plain { (said : Said) → script_of script.now ≡ Ok said → (All IsPlainLine said.lines → ⊥)
-        → (W.contents out.new ≡ W.contents out.old) × ((result ≡ Err NotPlain) ⊎ (result ≡ Err Memory)) }
-{
-    run_bench::<R, W>(alloc, Bench::Cuts, script, payloads, out)
-}
-
-/// The power-cut bench (docs/SCRIPT.md, "The benches"): cuts power at each call of the disk, and of each of its
-/// lanes, that the script makes after its first `format ok`, lets the cut leave what each of five fills says of
-/// what was written since the last sync, powers a board on that keeps its image, and judges what it found. It
-/// writes a line for each run and one with the counts.
-///
-/// Refused `BadShape` or `BadScript` where the script has a fault, and `NotPlain` where it arms a cut or a failure,
-/// cuts power, pokes, or formats no disk: then nothing is written. Refused `Memory` where memory was, and `Output`
-/// where the writer failed: then any first lines may stand in it.
-pub fn sweep<R: Threads + Sync, W: Write>(
-    alloc: Global,
-    script: &[u8],
-    out: &mut W,
-) -> Result<Sweep, Refusal>
-    // What was written is a line for each run, in order, and the line of the counts. The runs are those of the points
-    // of each caller, from number 1 on: as many as the script makes calls of it. Each is a run of the script's own lines
-    // with that call armed, and tells what a power-on then said. None was wrong.
-    ensures wrote { IfOk result (λ sweep. IsBenchOf Bench.Cuts no_payloads script.now (W.contents out.old)
-        (W.contents out.new) sweep) }
-    // A refusal is the script's fault, or want of memory, or the writer's, or the script is not plain.
-    ensures refused { IfErr result (λ e. (e ≡ Memory) ⊎ (e ≡ Output) ⊎ (script_of script.now ≡ Err e)
-        ⊎ ((e ≡ NotPlain) × (W.contents out.new ≡ W.contents out.old))) }
-    // A script with a fault runs nothing, and neither does one with a line that is not plain.
-    ensures nothing { (e : Refusal) → script_of script.now ≡ Err e
-        → (W.contents out.new ≡ W.contents out.old) × ((result ≡ Err e) ⊎ (result ≡ Err Memory)) }
-    ensures plain { (said : Said) → script_of script.now ≡ Ok said → (All IsPlainLine said.lines → ⊥)
-        → (W.contents out.new ≡ W.contents out.old) × ((result ≡ Err NotPlain) ⊎ (result ≡ Err Memory)) }
-{
-    sweep_with::<R, W>(alloc, script, Payloads::new(alloc), out)
-}
-
-/// [`faults`] over a script that begins with these payloads, as [`sweep_with`] is.
-pub fn faults_with<R: Threads + Sync, W: Write>(
-    alloc: Global,
-    script: &[u8],
-    payloads: Payloads,
-    out: &mut W,
-) -> Result<Sweep, Refusal>
-    // What was written is a line for each run, in order, and the line of the counts. The runs are those of the points
-    // of each caller, from number 1 on: as many as the script makes calls of it. Each is a run of the script's own lines
-    // with that call armed, and tells what a power-on then said. None was wrong.
-    ensures wrote { IfOk result (λ sweep. IsBenchOf Bench.Fails (four_of payloads) script.now (W.contents out.old)
-        (W.contents out.new) sweep) }
-    // A refusal is the script's fault, or want of memory, or the writer's, or the script is not plain.
-    ensures refused { IfErr result (λ e. (e ≡ Memory) ⊎ (e ≡ Output) ⊎ (script_of script.now ≡ Err e)
-        ⊎ ((e ≡ NotPlain) × (W.contents out.new ≡ W.contents out.old))) }
-    // A script with a fault runs nothing, and neither does one with a line that is not plain.
-    ensures nothing { (e : Refusal) → script_of script.now ≡ Err e
-        → (W.contents out.new ≡ W.contents out.old) × ((result ≡ Err e) ⊎ (result ≡ Err Memory)) }
-    ensures plain { (said : Said) → script_of script.now ≡ Ok said → (All IsPlainLine said.lines → ⊥)
-        → (W.contents out.new ≡ W.contents out.old) × ((result ≡ Err NotPlain) ⊎ (result ≡ Err Memory)) }
-{
-    run_bench::<R, W>(alloc, Bench::Fails, script, payloads, out)
-}
-
-/// The fault bench: lets each of these calls fail in turn, with power on, runs the script to its end, cuts power,
-/// and judges what the next power-on finds, as [`sweep`] does. Its lines have no fill.
-pub fn faults<R: Threads + Sync, W: Write>(
-    alloc: Global,
-    script: &[u8],
-    out: &mut W,
-) -> Result<Sweep, Refusal>
-    // What was written is a line for each run, in order, and the line of the counts. The runs are those of the points
-    // of each caller, from number 1 on: as many as the script makes calls of it. Each is a run of the script's own lines
-    // with that call armed, and tells what a power-on then said. None was wrong.
-    ensures wrote { IfOk result (λ sweep. IsBenchOf Bench.Fails no_payloads script.now (W.contents out.old)
-        (W.contents out.new) sweep) }
-    // A refusal is the script's fault, or want of memory, or the writer's, or the script is not plain.
-    ensures refused { IfErr result (λ e. (e ≡ Memory) ⊎ (e ≡ Output) ⊎ (script_of script.now ≡ Err e)
-        ⊎ ((e ≡ NotPlain) × (W.contents out.new ≡ W.contents out.old))) }
-    // A script with a fault runs nothing, and neither does one with a line that is not plain.
-    ensures nothing { (e : Refusal) → script_of script.now ≡ Err e
-        → (W.contents out.new ≡ W.contents out.old) × ((result ≡ Err e) ⊎ (result ≡ Err Memory)) }
-    ensures plain { (said : Said) → script_of script.now ≡ Ok said → (All IsPlainLine said.lines → ⊥)
-        → (W.contents out.new ≡ W.contents out.old) × ((result ≡ Err NotPlain) ⊎ (result ≡ Err Memory)) }
-{
-    faults_with::<R, W>(alloc, script, Payloads::new(alloc), out)
 }

@@ -6,7 +6,7 @@ use board_model::{BootMode, CallWords, ConsoleCommand, Durable, Entry, HartId, R
 use crew::Crew;
 use disk::{ArmedFault, Disk};
 use hart::Hart;
-use machine::{Machine, Turned, Word};
+use machine::{Machine, State, Turned, Word};
 use ram::Ram;
 use sbi_calls::{Seats, Tables};
 use std::alloc::Global;
@@ -56,14 +56,14 @@ impl<D: Disk + Drop> Board<D> {
     ghost use Rattle.board_model.specs.Views.{durable_of, change_of, change_in};
     ghost use Rattle.board_model.specs.declared.refusal.Refusal.{Refusal};
     ghost use Rattle.disk.specs.Facts.{LeavesSince, Failed, Unchanged, counted};
-    ghost use Rattle.disk.specs.FaultState.{armed_by};
+    ghost use Rattle.disk.specs.FaultState.{fault_state_armed};
     ghost use Rattle.store.specs.Standing.{StandsFor};
     ghost use Rattle.store.specs.Leaves.{IsIdle, SameLength, Leaves, LeavesOnly, LeavesEither};
     ghost use Rattle.store.specs.Opens.{ReadsAs, OpenRefused, CausedRefusal, open_calls};
     ghost use Rattle.store.specs.Lives.{Applied};
     ghost use Rattle.store.specs.Asked.{Asked};
-    ghost use Rattle.store.specs.Views.{device_of, disk_of, fault_state_of, arms_of, size_of_store, life_of, found_state, now_state, doubt_of, failures_at_open, view_of, Stands, Doubts};
-    ghost use Rattle.machine.specs.Machine.{hart_at};
+    ghost use Rattle.store.specs.Views.{device_of, disk_of, fault_state_of, arms_of, size_of_store, life_of, found_state, now_state, doubt_of, failures_at_open, was_refused_memory, view_of, Stands, Doubts};
+    ghost use Rattle.machine.specs.Machine.{hart_at, status_at};
     ghost use Rattle.machine.specs.Durables.{StandsAtCall};
     ghost use Rattle.sbi_calls.specs.declared.words.Turned.TheVariants as turns;
     ghost use Rattle.machine.specs.Held.{shown_by, IsHeld};
@@ -154,7 +154,7 @@ impl<D: Disk + Drop> Board<D> {
         ensures board { size_of_store (store_of self.new) ≡ size_of_store (store_of self.old) }
         ensures facts { Unchanged (disk_of (store_of self.old)) (disk_of (store_of self.new)) }
         ensures armed { fault_state_of (store_of self.new)
-            ≡ record (fault_state_of (store_of self.old)) { armed = armed_by fault } }
+            ≡ fault_state_armed fault (fault_state_of (store_of self.old)) }
         ensures arms { arms_of (store_of self.new) fault }
         ensures opened { failures_at_open (store_of self.new) ≡ failures_at_open (store_of self.old) }
     {
@@ -166,6 +166,13 @@ impl<D: Disk + Drop> Board<D> {
         ensures { result ≡ (fault_state_of (store_of self.now)).struck }
     {
         self.store.struck()
+    }
+
+    /// Whether memory was refused to a suspension of this life, whose hart found -1.
+    pub fn was_refused_memory(&self) -> bool
+        ensures { result ≡ was_refused_memory (store_of self.now) }
+    {
+        self.store.was_refused_memory()
     }
 
     /// What comes of what a hart did: where it stands at a durable call, that call is made with the store.
@@ -332,6 +339,16 @@ impl<D: Disk + Drop> Board<D> {
         ensures store { store_of self.new ≡ store_of self.old }
     {
         self.machine.pending(hart)
+    }
+
+    /// The state of a hart of this board, which stays as it was, as `Machine::state` has it.
+    pub fn state(&mut self, hart: HartId) -> State
+        requires { hart < length (machine_of self.old).harts }
+        ensures value { result ≡ status_at (machine_of self.old) hart }
+        ensures machine { machine_of self.new ≡ machine_of self.old }
+        ensures store { store_of self.new ≡ store_of self.old }
+    {
+        self.machine.state(hart)
     }
 
     /// Issues a durable command of the console, and answers its place in the journal of this life.

@@ -8,7 +8,7 @@ use Rattle.board_model.specs.declared.refusal.Refusal.TheVariants.{BadShape, Not
 use Rattle.disk.specs.Facts.{Content}
 use Rattle.layout.specs.Superblocks.{HasMagic, IsSuperblock}
 
--- so many sectors at the begin of these bytes
+-- the first n sectors of these bytes
 abbrev pub first_sectors : ℕ → List ℕ → Content
 first_sectors n bytes = first_chunks 512 n (take (512 * n) bytes)
 
@@ -34,7 +34,8 @@ IsLookedAt n bytes = (length bytes % 512 ≡ 0)
     ⊎ ((n ≡ 1) × (512 ≤ length bytes) × ((size : Size) → IsDiskFile size bytes → ⊥)))
 
 -- ---- a disk that is written
--- The file holds the disk: of a new one its sectors and nothing else; of one that was there also what stood behind them.
+-- The file holds the disk. Of a new disk it holds the sectors and nothing else; of another one also the bytes that stood after
+-- them in the file.
 abbrev pub HoldsDisk : Bool → Content → Option (List ℕ) → List ℕ → Type 0
 HoldsDisk true sectors old now = now ≡ concat sectors
 HoldsDisk false sectors old now = IfSome old (λ bytes. now ≡ concat sectors ++ drop (512 * length sectors) bytes)

@@ -1,4 +1,4 @@
-//! What a program asks of the file of a disk.
+//! What a program asks of the file of a disk, as traits: the system's files and files in memory meet them.
 
 ghost use Rattle.board_files.specs.Faults.{IsFileFault};
 
@@ -21,21 +21,22 @@ pub trait DiskFile {
         ensures counted { IfOk result (λ n. IfSome (bytes self.now) (λ all. n ≡ length all)) }
         ensures failed { IfErr result (λ e. IsFileFault e.fault) };
 
-    /// Reads its first bytes, as many as the buffer takes; a fault where it has fewer. At `Err` the buffer holds any
+    /// Reads its first bytes, as many as the buffer takes. That it has fewer is a fault. After a fault the buffer holds any
     /// bytes.
     fn read(&self, into: &mut [u8]) -> Result<(), FileFault>
         ensures read { OnOk result (IfSome (bytes self.now) (λ all. into.new ≡ take (length into.old) all)) }
         ensures failed { IfErr result (λ e. IsFileFault e.fault) };
 }
 
-/// The file of a disk that one session has at a time.
+/// The file of a disk that a session has taken. No other session can take it meanwhile.
 pub trait HeldFile: DiskFile {
     ghost use Rattle.std.specs.Prelude.{IfErr, IfSome, OnOk};
     ghost use Rattle.board_files.specs.Disks.{HoldsDisk};
     ghost use Rattle.board_files.specs.Faults.{IsFileFault};
 
-    /// Writes the disk of these sectors into the file. Behind a new disk nothing stands; behind one that was there stays
-    /// what stood behind it. At `Err` the file is as it was, or as it is written.
+    /// Writes the disk of these sectors into the file. Of a new disk the file then holds the sectors and nothing else. Of a
+    /// disk that came from the file, the bytes after its sectors stay. After a fault the file is as it was, or as it was to
+    /// become.
     fn write(&mut self, sectors: &[Sector], is_new: bool) -> Result<(), FileFault>
         ensures written { OnOk result (IfSome (Self.bytes self.new)
             (HoldsDisk is_new sectors.now (Self.bytes self.old))) }
@@ -51,20 +52,20 @@ pub trait BoardFiles {
     /// The file that a session has.
     type Held: HeldFile + Drop;
 
-    /// The same file, where a session keeps its disk in it all along.
+    /// The file of a session that keeps its disk in it all along.
     type Kept: SectorFile + Drop + Send;
 
-    /// The bytes of the file of a disk at a path, where they are known: none where no file is.
+    /// The bytes of the file at a path, where they are known. None are where there is no file.
     ghost disk_at: { Self → List ℕ → Option (List ℕ) };
 
-    /// Takes the file at that path for a session, whose disk is a new one or the file's, and is kept in the file all along
-    /// or written at the end. The file of a new disk is made where none stands.
+    /// Takes the file at that path for a session. Its disk is a new one or the file's. It is kept in the file all along, or
+    /// written at the end. For a new disk the file is made if there is none.
     fn hold(&self, path: &str, is_new: bool, is_synced: bool) -> Result<Self::Held, FileFault>
         ensures held { IfOk result (λ held. Self.Held.bytes held ≡ disk_at self.now path.now) }
         ensures failed { IfErr result (λ e. IsFileFault e.fault) };
 
-    /// The file as one that holds these sectors, all of them durable: they are zeros of a new disk, which is put into the
-    /// place of what was there, and else those that were read.
+    /// The file as one that holds these sectors, all of them durable. Of a new disk they are zeros, and they replace what the
+    /// file held. Of another disk they are those that were read from the file.
     fn keep(
         &self,
         held: Self::Held,
@@ -75,7 +76,7 @@ pub trait BoardFiles {
         ensures failed { IfErr result (λ e. IsFileFault e.fault) };
 }
 
-/// The fault of a file of that path, which could not be read or written for that reason.
+/// The fault of the file at that path, which could not be read or written for that reason.
 #[tactic(auto, using(crate::proofs::FaultKinds::file_fault))]
 pub fn unreached(alloc: Global, path: &str, why: io::Error) -> FileFault
     ensures { IsFileFault result.fault }
@@ -83,7 +84,7 @@ pub fn unreached(alloc: Global, path: &str, why: io::Error) -> FileFault
     FileFault::new(alloc, path, why)
 }
 
-/// Where the files of disks are, to be read.
+/// Where the files of disks are, for a program that only reads them.
 pub trait DiskFiles {
     ghost use Rattle.std.specs.Prelude.{◌≡◌, ℕ, List, Option, IfOk, IfErr};
     ghost use Rattle.board_files.specs.Faults.{IsFileFault};

@@ -1,4 +1,4 @@
-//! The file of a disk in memory.
+//! A file in memory that holds a disk, for tests.
 
 ghost use Rattle.std.specs.Prelude.{◌≡◌, Some, IfOk, drop};
 ghost use Rattle.board_files.specs.Disks.{HoldsDisk};
@@ -11,7 +11,7 @@ use disk::Sector;
 use std::alloc::{AllocError, Global};
 use std::io;
 
-/// Which call of a file fails, each time.
+/// Which call of a file in memory fails, each time that it is made.
 #[derive(Clone, Copy, Drop, PartialEq, Eq)]
 pub enum Failing {
     Never,
@@ -20,7 +20,7 @@ pub enum Failing {
     Write,
 }
 
-/// The file of a disk in memory, for trials. Its name is `D`.
+/// A file in memory that holds a disk, for tests. Faults name it `D`.
 #[derive(Drop)]
 pub struct MemoryDisk {
     alloc: Global,
@@ -29,7 +29,7 @@ pub struct MemoryDisk {
 }
 
 impl MemoryDisk {
-    /// A file of these bytes, of which those calls fail.
+    /// A file of these bytes, and which of its calls fail.
     pub fn of(alloc: Global, bytes: &[u8], failing: Failing) -> Result<MemoryDisk, AllocError>
         ensures { IfOk result (λ disk. ⟦<MemoryDisk as DiskFile>⟧.bytes disk ≡ Some bytes.now) }
     {
@@ -47,7 +47,7 @@ impl MemoryDisk {
         self.bytes
     }
 
-    /// The fault of its calls.
+    /// The fault with which its calls fail.
     fn fault(&self) -> FileFault
         ensures { IsFileFault result.fault }
     {
@@ -76,8 +76,8 @@ impl DiskFile for MemoryDisk {
     }
 }
 
-/// What stands from that byte on.
-fn behind(held: &[u8], at: usize) -> &[u8]
+/// The bytes from that place on; none where there are fewer.
+fn rest_from(held: &[u8], at: usize) -> &[u8]
     ensures { result.now ≡ drop at held.now }
 {
     match held.get(at..) {
@@ -86,7 +86,7 @@ fn behind(held: &[u8], at: usize) -> &[u8]
     }
 }
 
-/// The bytes of a file that held those, once these sectors were written into it.
+/// The bytes of a file after these sectors were written into it, where it held those bytes before.
 #[tactic(auto, using(crate::proofs::FileBytes::holds_new, crate::proofs::FileBytes::holds_old))]
 fn with_disk(
     alloc: Global,
@@ -100,7 +100,7 @@ fn with_disk(
     if is_new {
         return Ok(all);
     }
-    all.extend_from_slice(behind(held, all.len()))?;
+    all.extend_from_slice(rest_from(held, all.len()))?;
     Ok(all)
 }
 

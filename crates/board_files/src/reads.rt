@@ -1,4 +1,4 @@
-//! The disk of a file.
+//! The disk that a file holds, for a session and for an examiner.
 
 ghost use Rattle.std.specs.Prelude.{◌≡◌, ◌≢◌, ◌⊎◌, ◌≤◌, ◌*◌, ℕ, ◌%◌, ◌/◌, IfOk, IfErr, IfSome, MatchResult, length, take};
 ghost use Rattle.disk.specs.Facts.{IsFresh};
@@ -26,9 +26,9 @@ fn first_sector<F: DiskFile>(file: &F) -> Result<Sector, FileFault>
     Ok(first)
 }
 
-/// How many bytes the file has, and its first sector, where it has one.
+/// How many bytes the file has, and its first sector. A file without one has zeros there.
 #[tactic(auto, using(crate::proofs::FileSectors::long_begin, crate::proofs::FileSectors::short_begin))]
-fn begin_of<F: DiskFile>(file: &F) -> Result<(u64, Sector), FileFault>
+fn read_begin<F: DiskFile>(file: &F) -> Result<(u64, Sector), FileFault>
     ensures begin { IfOk result (λ begin. IfSome (F.bytes file.now)
         (λ all. (begin.0 ≡ length all) × (512 ≤ length all → begin.1 ≡ take 512 all))) }
     ensures failed { IfErr result (λ e. IsFileFault e.fault) }
@@ -41,8 +41,8 @@ fn begin_of<F: DiskFile>(file: &F) -> Result<(u64, Sector), FileFault>
     Ok((bytes, first))
 }
 
-/// The shape of the board whose disk a file of so many bytes begins with. Refused `BadShape` where they are not whole
-/// sectors, or none, and else as `parse_superblock` refuses.
+/// The shape of the board whose disk a file holds, by the file's length and its first sector. Refused `BadShape` where the
+/// file is empty or not whole sectors; otherwise as `parse_superblock` refuses.
 fn shape_of(bytes: u64, first: &Sector) -> Result<Shape, Refusal>
     ensures whole { IfOk result (λ shape. (bytes % 512 ≡ 0) × IsSuperblock shape first.now
         × (sectors_of shape ≤ bytes / 512)) }
@@ -58,8 +58,7 @@ fn shape_of(bytes: u64, first: &Sector) -> Result<Shape, Refusal>
     parse_superblock(first, (bytes / 512) as usize)
 }
 
-/// The shape of the board whose disk the file holds. No more than the first sector is read of it. Refused where it is no
-/// board's.
+/// The shape of the board whose disk the file holds. Only the first sector is read. Refused where the file is no board's.
 #[tactic(auto, using(crate::proofs::FileSectors::is_board, crate::proofs::FileSectors::exact_ok, crate::proofs::FileSectors::exact_err, crate::proofs::FileSectors::is_refused))]
 pub fn shape_in<F: DiskFile>(file: &F) -> Result<Shape, FileFault>
     ensures board { IfOk result (λ shape. IfSome (F.bytes file.now) (IsDiskFile shape)) }
@@ -68,14 +67,14 @@ pub fn shape_in<F: DiskFile>(file: &F) -> Result<Shape, FileFault>
     ensures refused { IfErr result (λ e. IsFileFault e.fault ⊎ ((why : Refusal) × (e.fault ≡ Refused why)
         × IfSome (F.bytes file.now) (λ all. RefusesFile all why))) }
 {
-    let (bytes, first) = begin_of(file)?;
+    let (bytes, first) = read_begin(file)?;
     match shape_of(bytes, &first) {
         Ok(shape) => Ok(shape),
         Err(e) => Err(FileFault::refused(e)),
     }
 }
 
-/// The first sectors of the file, as a disk.
+/// A disk of the first sectors of the file.
 #[tactic(auto, using(crate::proofs::FileSectors::is_fresh))]
 fn sectors_in<F: DiskFile>(alloc: Global, file: &F, sectors: usize) -> Result<SimDisk, FileFault>
     requires { sectors ≤ 18440 }
@@ -94,7 +93,7 @@ fn sectors_in<F: DiskFile>(alloc: Global, file: &F, sectors: usize) -> Result<Si
     }
 }
 
-/// The disk of a board of that shape, from its file. What stands behind its sectors is no part of it, and is not read.
+/// The disk of a board of that shape, from its file. The bytes after its sectors are no part of it, and are not read.
 pub fn disk_in<F: DiskFile>(alloc: Global, file: &F, shape: &Shape) -> Result<SimDisk, FileFault>
     ensures none_out { IfOk result (λ d. (⟦<SimDisk as Disk>⟧.facts d).lent.lanes ≡ 0) }
     ensures disk { IfOk result (λ d. IfSome (F.bytes file.now)
@@ -104,10 +103,10 @@ pub fn disk_in<F: DiskFile>(alloc: Global, file: &F, shape: &Shape) -> Result<Si
     sectors_in(alloc, file, shape.sectors())
 }
 
-/// How many sectors of a file an examiner looks at: those of the board whose superblock it begins with, and of another file
-/// the first alone. Refused `BadShape` where it is not whole sectors.
+/// How many sectors of a file an examiner looks at: those of the board whose superblock stands first. Of a file that begins
+/// with no superblock it is the first sector alone. Refused `BadShape` where the file is not whole sectors.
 #[tactic(auto, using(crate::proofs::FileSectors::looks_at_none, crate::proofs::FileSectors::looks_at_board, crate::proofs::FileSectors::looks_at_first, crate::proofs::FileSectors::is_broken))]
-fn looked_at<F: DiskFile>(file: &F) -> Result<usize, FileFault>
+fn sectors_to_examine<F: DiskFile>(file: &F) -> Result<usize, FileFault>
     ensures few { IfOk result (λ n. n ≤ 18440) }
     ensures looked { IfOk result (λ n. IfSome (F.bytes file.now) (IsLookedAt n)) }
     ensures refused { IfErr result (λ e. IsFileFault e.fault ⊎ ((e.fault ≡ Refused Refusal.BadShape)
@@ -127,8 +126,8 @@ fn looked_at<F: DiskFile>(file: &F) -> Result<usize, FileFault>
     }
 }
 
-/// The disk of a file, as far as it is looked at: what stands behind the board's sectors is not read, nor
-/// what stands behind the first sector of a file that is no board's.
+/// The disk of a file, as far as an examiner looks at it. The bytes after the board's sectors are not read. Of a file that is
+/// no board's, only the first sector is read.
 #[tactic(auto, using(crate::proofs::FileSectors::is_seen))]
 pub fn seen_in<F: DiskFile>(alloc: Global, file: &F) -> Result<SimDisk, FileFault>
     ensures none_out { IfOk result (λ d. (⟦<SimDisk as Disk>⟧.facts d).lent.lanes ≡ 0) }
@@ -137,6 +136,6 @@ pub fn seen_in<F: DiskFile>(alloc: Global, file: &F) -> Result<SimDisk, FileFaul
     ensures refused { IfErr result (λ e. IsFileFault e.fault ⊎ ((e.fault ≡ Refused Refusal.BadShape)
         × IfSome (F.bytes file.now) (λ all. length all % 512 ≢ 0))) }
 {
-    let sectors = looked_at(file)?;
+    let sectors = sectors_to_examine(file)?;
     sectors_in(alloc, file, sectors)
 }

@@ -5,7 +5,7 @@ ghost use Rattle.board_options.specs.Limits.{AreTurns};
 
 use board_model::{BootMode, Shape};
 
-/// Which numbers of a shape the words of a command line give. Of the others the default stands.
+/// Which numbers of the shape stand on the command line. The others have their defaults.
 #[derive(Clone, Copy)]
 pub struct ShapeGiven {
     pub harts: bool,
@@ -13,23 +13,23 @@ pub struct ShapeGiven {
     pub lanes: bool,
 }
 
-/// A board that is to be run, and the files that it is run with.
+/// The board that the command line asks for, and its files.
 #[derive(Drop)]
 pub struct Options {
     /// The disk's file.
     pub disk: String,
     /// How the board is powered on.
     pub mode: BootMode,
-    /// Whether a blank disk of the shape is made and formatted. Else the disk's file is read, and has the
-    /// shape.
+    /// Whether a blank disk of the shape is made and formatted. Else the disk is read from its file, and the shape is what
+    /// the file says.
     pub new: bool,
     /// Whether each sync of the disk waits for its file. Else the file is written at the end.
     pub sync: bool,
-    /// Whether it is told on standard error how each hart ended. At a terminal it is anyway.
+    /// Whether standard error tells how each hart ended. At a terminal it does in any case.
     pub tell: bool,
     /// The shape of a new disk.
     pub shape: Shape,
-    /// Which of its numbers were given.
+    /// Which numbers of the shape stand on the command line.
     pub given: ShapeGiven,
     /// The file of each boot slot's payload, where one is named. The others are empty.
     pub payloads: [Option<String>; 4],

@@ -1,4 +1,4 @@
-//! What a person at a terminal is told beside the answers, on standard error.
+//! Hints for a person at a terminal, on standard error.
 
 ghost use Rattle.std.specs.Io.KnownBytes.{Keeps, WriteAppends};
 ghost use Rattle.std.specs.Io.{WritesAtMost};
@@ -31,7 +31,8 @@ pub struct Hints<'a, W: Write + Drop> {
 }
 
 impl<'a, W: Write + Drop> Hints<'a, W> {
-    /// It explains where lines are typed and standard error is seen, and begins with how to leave.
+    /// Hints are given only where lines are typed at a terminal and standard error is one too. The first of them says how to
+    /// leave.
     pub fn new(rt: &'a HostRuntime, inner: W, is_synced: bool) -> Hints<'a, W> {
         let is_on = rt.stdin().is_terminal() && rt.stderr().is_terminal();
         if is_on {
@@ -49,7 +50,7 @@ impl<'a, W: Write + Drop> Hints<'a, W> {
     }
 }
 
-/// Explains an answer.
+/// Gives the hint for an answer, where there is one.
 fn explain(rt: &HostRuntime, answer: &[u8]) {
     if answer == b"?".as_slice() {
         let _told = eprintln!(rt; "{UNKNOWN}");
@@ -58,7 +59,7 @@ fn explain(rt: &HostRuntime, answer: &[u8]) {
     }
 }
 
-/// Goes over what was written, an answer after another.
+/// Takes in bytes that were written, and gives the hint for each answer that they end. `line` holds the answer so far.
 fn follow(rt: &HostRuntime, line: &mut ArrayVec<u8, 64>, written: &[u8]) {
     for byte in written {
         if *byte == b'\n' {
@@ -91,7 +92,7 @@ impl<'a, W: Write + Drop> Write for Hints<'a, W> {
     }
 }
 
-/// A reader of lines that tells a person at a terminal that the input has ended, since the harts may go on.
+/// A reader of lines that tells a person at a terminal that the input has ended. The harts may still run then.
 #[derive(Drop)]
 pub struct EndHint<'a, R: Read + Drop> {
     inner: R,
@@ -100,7 +101,7 @@ pub struct EndHint<'a, R: Read + Drop> {
 }
 
 impl<'a, R: Read + Drop> EndHint<'a, R> {
-    /// It tells where lines are typed and standard error is seen.
+    /// The hint is given only where lines are typed at a terminal and standard error is one too.
     pub fn new(rt: &'a HostRuntime, inner: R) -> EndHint<'a, R> {
         let is_on = rt.stdin().is_terminal() && rt.stderr().is_terminal();
         EndHint { inner, rt, is_on }

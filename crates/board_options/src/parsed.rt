@@ -30,7 +30,7 @@ fn boot_mode(matches: &ArgMatches<'_>) -> Option<BootMode>
     mode(matches.get_str(MODE)?.as_bytes())
 }
 
-/// A number that was given, in decimal digits.
+/// The number of an option, which is written in decimal digits.
 fn number(matches: &ArgMatches<'_>, id: &str) -> Option<u64>
     ensures { result ≡ number_named (first_value (found_of matches.now) id.now) }
 {
@@ -91,8 +91,8 @@ fn turns(matches: &ArgMatches<'_>) -> Option<u64>
     Some(turns)
 }
 
-/// The options of a command line that was parsed. None where something that the command asks for is not
-/// there, which its own checks rule out.
+/// The options of a command line that was parsed. None where a value is missing or out of range. The parser's own checks
+/// let no such command line through.
 fn options_of(alloc: Global, matches: &ArgMatches<'_>) -> Result<Option<Options>, AllocError>
     ensures reads { IfOk result (λ found. IfSome found (ReadsOptions (found_of matches.now))) }
     ensures none { IfOk result (λ found. found ≡ None → GivesNone (found_of matches.now)) }
@@ -123,7 +123,7 @@ fn options_of(alloc: Global, matches: &ArgMatches<'_>) -> Result<Option<Options>
     }))
 }
 
-/// The fault of a value that no check of the command's own refused.
+/// The fault of a value that is out of range, although the parser let it through.
 fn out_of_range(alloc: Global) -> Result<Error, AllocError>
     ensures { IfOk result (λ e. (kind_of e ≡ ErrorKind.ValueValidation) ⊎ (kind_of e ≡ ErrorKind.OutOfMemory)) }
 {

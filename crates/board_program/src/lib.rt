@@ -2,12 +2,12 @@
 //! of its disk, and its status (docs/CONSOLE.md, "Statuses and faults").
 #![tactic(auto)]
 
-mod begins;
+mod disks;
+mod notices;
 mod operates;
-mod over;
 mod runs;
-mod told;
+mod sessions;
 
 pub use operates::{Operated, operate_on};
-pub use over::Answers;
 pub use runs::FileLeft;
+pub use sessions::Answers;

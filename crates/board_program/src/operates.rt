@@ -8,8 +8,8 @@ ghost use Rattle.command_line.specs.declared.NoWork.{NoWork};
 ghost use Rattle.command_line.specs.declared.fault.ProgramFault.{ProgramFault};
 ghost use Rattle.board_program.specs.Operated.{AskForNone, HasLeft, IsReadFrom, known};
 
-use crate::over::Answers;
-use crate::runs::{FileLeft, run_session};
+use crate::runs::{FileLeft, run_from_files};
+use crate::sessions::Answers;
 use board_files::BoardFiles;
 use board_options::options;
 use board_session::Streams;
@@ -79,7 +79,7 @@ pub fn operate_on<
 {
     match options(alloc, words) {
         Ok(options) => {
-            let done = run_session(alloc, threads, files, &options, streams, faults);
+            let done = run_from_files(alloc, threads, files, &options, streams, faults);
             Operated {
                 status: end_with(faults, "sbiboard", &done.ended),
                 left: done.left,

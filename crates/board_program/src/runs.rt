@@ -1,4 +1,4 @@
-//! A session from its files to its disk's file.
+//! From the files that a command line names to the file of the session's disk.
 
 ghost use Rattle.std.specs.Prelude.{◌≡◌, ℕ, List, Option, IfErr, IfOk, IfSome, OnOk, string_bytes};
 ghost use Rattle.store.specs.Leaves.{IsIdle};
@@ -9,9 +9,9 @@ ghost use Rattle.disk.specs.Facts.{Unchanged};
 ghost use Rattle.board_program.specs.Operated.{EndsInFile, HasLeft, IsWritten, RunsOver, StaysInFile, known};
 ghost use Rattle.board_program.specs.Ran.{told_of};
 
-use crate::begins::{Begun, payloads_read, take_disk};
-use crate::over::{Answers, Asked, Over, session_over};
-use crate::told::{tell_elf, tell_harts};
+use crate::disks::{TakenDisk, take_disk};
+use crate::notices::{tell_elf, tell_harts};
+use crate::sessions::{Answers, BoardSetup, EndedSession, run_session};
 use board_files::{BoardFiles, DiskFile, HeldFile};
 use board_model::Refusal;
 use board_options::Options;
@@ -19,7 +19,7 @@ use board_session::Streams;
 use command_line::{FileFault, first_of};
 use disk::Disk;
 use file_disk::{FileDisk, SectorFile};
-use payload_files::PayloadFiles;
+use payload_files::{PayloadFiles, read_payloads};
 use simdisk::SimDisk;
 use std::alloc::Global;
 use std::io::{IsTerminal, Read, Write};
@@ -27,27 +27,27 @@ use std::sync::Wait;
 use std::thread::Threads;
 use store::format;
 
-/// The file of a session's disk, once the session has ended.
+/// What stands of the file of a session's disk, once the session has ended.
 #[derive(Drop)]
 pub enum FileLeft<H: Drop, K: Drop> {
     /// No session was begun.
     None,
-    /// The disk was to be written into the file at the end.
+    /// The file, and the disk that was to be written into it at the end.
     AtEnd(H, SimDisk),
-    /// The disk was kept in this file all along.
+    /// The file in which the disk was kept all along.
     AllAlong(K),
 }
 
-/// What was done: what stands of the file, what the answers were written to, and the fault, where there is one.
+/// What a run gives back: what stands of the file, what the answers were written to, and the fault, where there is one.
 #[derive(Drop)]
-pub struct Done<H: Drop, K: Drop, O: Write + Drop> {
+pub struct RunEnd<H: Drop, K: Drop, O: Write + Drop> {
     pub left: FileLeft<H, K>,
     pub out: O,
     pub ended: Result<(), FileFault>,
 }
 
-/// Whether commands were made of a disk that could not be written: of a new one where it is no longer as the format
-/// leaves one.
+/// Whether commands are lost with a disk that could not be written. Of a new disk none are, as long as it is what the
+/// format leaves.
 fn has_commands(alloc: Global, options: &Options, disk: &SimDisk) -> bool {
     if !options.new {
         return true;
@@ -58,9 +58,9 @@ fn has_commands(alloc: Global, options: &Options, disk: &SimDisk) -> bool {
     format(&mut fresh, &options.shape).is_ok() && fresh.content() != disk.content()
 }
 
-/// Writes the disk into its file.
+/// Writes the disk into its file. A fault says whether commands are lost by it.
 #[tactic(auto, using(crate::proofs::FaultsEnded::same_fault))]
-fn write_back<H: HeldFile>(
+fn write_disk<H: HeldFile>(
     alloc: Global,
     options: &Options,
     held: &mut H,
@@ -76,10 +76,9 @@ fn write_back<H: HeldFile>(
     }
 }
 
-/// The session's disk is written into its file wherever its bytes have changed, also after a refusal. Of two faults the
-/// first is told.
+/// Writes the disk into its file at the end of a session, also of one that was refused. Of two faults the first is told.
 #[tactic(auto, using(crate::proofs::FaultsEnded::is_written))]
-fn end_with_file<H: HeldFile>(
+fn write_at_the_end<H: HeldFile>(
     alloc: Global,
     options: &Options,
     held: &mut H,
@@ -89,12 +88,12 @@ fn end_with_file<H: HeldFile>(
     ensures { IsWritten options.now.new (⟦<SimDisk as Disk>⟧.facts disk.now) ran (H.bytes held.old) (H.bytes held.new)
         (fault_of result) }
 {
-    let written = write_back(alloc, options, held, disk);
-    first_of(told(ran), written)
+    let written = write_disk(alloc, options, held, disk);
+    first_of(as_file_fault(ran), written)
 }
 
-/// The fault of a session.
-fn told(ran: Result<(), Refusal>) -> Result<(), FileFault>
+/// The program's fault for a session that was refused.
+fn as_file_fault(ran: Result<(), Refusal>) -> Result<(), FileFault>
     ensures { fault_of result ≡ told_of ran }
 {
     match ran {
@@ -103,8 +102,8 @@ fn told(ran: Result<(), Refusal>) -> Result<(), FileFault>
     }
 }
 
-/// The disk in memory, kept in its file: each sync of the disk waits for the file.
-fn kept_disk<B: BoardFiles>(
+/// The disk in memory as one that is kept in its file: each of its syncs waits for the file.
+fn disk_in_file<B: BoardFiles>(
     alloc: Global,
     files: &B,
     options: &Options,
@@ -124,22 +123,22 @@ fn kept_disk<B: BoardFiles>(
     }
 }
 
-/// No session was begun, for that fault.
-fn not_begun<H: Drop, K: Drop, O: Write + Drop>(out: O, fault: FileFault) -> Done<H, K, O>
+/// What a run gives back that could not begin a session, for that fault.
+fn no_session<H: Drop, K: Drop, O: Write + Drop>(out: O, fault: FileFault) -> RunEnd<H, K, O>
     ensures left { result.left ≡ FileLeft.None }
     ensures out { result.out ≡ out }
     ensures ended { result.ended ≡ Err fault }
 {
-    Done {
+    RunEnd {
         left: FileLeft::None,
         out,
         ended: Err(fault),
     }
 }
 
-/// The session over the disk in memory, which is written into its file at the end.
+/// Runs the session over the disk in memory, and then writes the disk into its file.
 #[tactic(auto, using(crate::proofs::FilesLeft::ends_in_file))]
-fn run_to_the_end<
+fn run_then_write<
     R: Threads + Wait + Sync,
     H: HeldFile + Drop,
     K: Drop,
@@ -149,36 +148,36 @@ fn run_to_the_end<
 >(
     alloc: Global,
     threads: &R,
-    asked: &Asked<'_>,
+    setup: &BoardSetup<'_>,
     held: H,
     disk: SimDisk,
     streams: Streams<I, O>,
     faults: &mut F,
-) -> Done<H, K, O>
+) -> RunEnd<H, K, O>
     requires { IsIdle (⟦<SimDisk as Disk>⟧.facts disk) }
-    ensures { EndsInFile H.bytes ⟦<SimDisk as Disk>⟧.facts asked.now.options.now asked.now.payloads.now
+    ensures { EndsInFile H.bytes ⟦<SimDisk as Disk>⟧.facts setup.now.options.now setup.now.payloads.now
         (⟦<SimDisk as Disk>⟧.facts disk)
         (known (H.bytes held) (I.remaining streams.input) (O.contents streams.out) (O.contents result.out))
         result.left (fault_of result.ended) }
 {
     let mut held = held;
-    let over = session_over(alloc, threads, asked, disk, streams);
-    tell_harts(faults, asked.options, &over.harts);
-    let Over {
+    let session = run_session(alloc, threads, setup, disk, streams);
+    tell_harts(faults, setup.options, &session.harts);
+    let EndedSession {
         disk,
         ran,
         out,
         harts: _,
-    } = over;
-    let ended = end_with_file(alloc, asked.options, &mut held, &disk, ran);
-    Done {
+    } = session;
+    let ended = write_at_the_end(alloc, setup.options, &mut held, &disk, ran);
+    RunEnd {
         left: FileLeft::AtEnd(held, disk),
         out,
         ended,
     }
 }
 
-/// The session over a disk that is kept in its file all along. The file is given back.
+/// Runs the session over a disk that is kept in its file all along. The file is given back.
 #[tactic(auto, using(crate::proofs::FilesLeft::stays_in_file))]
 fn run_in_file<
     R: Threads + Wait + Sync,
@@ -190,35 +189,35 @@ fn run_in_file<
 >(
     alloc: Global,
     threads: &R,
-    asked: &Asked<'_>,
+    setup: &BoardSetup<'_>,
     disk: FileDisk<K>,
     streams: Streams<I, O>,
     faults: &mut F,
-) -> Done<H, K, O>
+) -> RunEnd<H, K, O>
     requires { IsIdle (⟦<FileDisk<K> as Disk>⟧.facts disk) }
-    ensures { (bytes : Option (List ℕ)) → StaysInFile ⟦<FileDisk<K> as Disk>⟧.facts K.file_facts asked.now.options.now
-        asked.now.payloads.now (⟦<FileDisk<K> as Disk>⟧.facts disk)
+    ensures { (bytes : Option (List ℕ)) → StaysInFile ⟦<FileDisk<K> as Disk>⟧.facts K.file_facts setup.now.options.now
+        setup.now.payloads.now (⟦<FileDisk<K> as Disk>⟧.facts disk)
         (known bytes (I.remaining streams.input) (O.contents streams.out) (O.contents result.out))
         result.left (fault_of result.ended) }
 {
-    let over = session_over(alloc, threads, asked, disk, streams);
-    tell_harts(faults, asked.options, &over.harts);
-    let Over {
+    let session = run_session(alloc, threads, setup, disk, streams);
+    tell_harts(faults, setup.options, &session.harts);
+    let EndedSession {
         disk,
         ran,
         out,
         harts: _,
-    } = over;
-    Done {
+    } = session;
+    RunEnd {
         left: FileLeft::AllAlong(disk.into_file()),
         out,
-        ended: told(ran),
+        ended: as_file_fault(ran),
     }
 }
 
-/// The session over the disk that was taken for it: kept in its file all along where that is asked for, else written
-/// into it at the end.
-fn run_over<
+/// Runs the session over the disk that was taken for it. The disk is kept in its file all along where `--sync` asks for
+/// that; else it is written into the file at the end.
+fn run_taken<
     R: Threads + Wait + Sync,
     B: BoardFiles,
     I: Read + Drop,
@@ -228,32 +227,32 @@ fn run_over<
     alloc: Global,
     threads: &R,
     files: &B,
-    asked: &Asked<'_>,
-    begun: Begun<B::Held>,
+    setup: &BoardSetup<'_>,
+    taken: TakenDisk<B::Held>,
     streams: Streams<I, O>,
     faults: &mut F,
-) -> Done<B::Held, B::Kept, O>
-    requires { IsIdle (⟦<SimDisk as Disk>⟧.facts begun.disk) }
+) -> RunEnd<B::Held, B::Kept, O>
+    requires { IsIdle (⟦<SimDisk as Disk>⟧.facts taken.disk) }
     ensures { RunsOver B.Held.bytes ⟦<SimDisk as Disk>⟧.facts ⟦<FileDisk<B::Kept> as Disk>⟧.facts
-        B.Kept.file_facts asked.now.options.now asked.now.payloads.now begun.disk
-        (known (B.Held.bytes begun.held) (I.remaining streams.input) (O.contents streams.out) (O.contents result.out))
+        B.Kept.file_facts setup.now.options.now setup.now.payloads.now taken.disk
+        (known (B.Held.bytes taken.held) (I.remaining streams.input) (O.contents streams.out) (O.contents result.out))
         result.left (fault_of result.ended) }
 {
-    let Begun { held, disk } = begun;
-    if !asked.options.sync {
-        return run_to_the_end(alloc, threads, asked, held, disk, streams, faults);
+    let TakenDisk { held, disk } = taken;
+    if !setup.options.sync {
+        return run_then_write(alloc, threads, setup, held, disk, streams, faults);
     }
-    match kept_disk(alloc, files, asked.options, held, disk) {
-        Ok(disk) => run_in_file(alloc, threads, asked, disk, streams, faults),
-        Err(fault) => not_begun(streams.out, fault),
+    match disk_in_file(alloc, files, setup.options, held, disk) {
+        Ok(disk) => run_in_file(alloc, threads, setup, disk, streams, faults),
+        Err(fault) => no_session(streams.out, fault),
     }
 }
 
-/// Runs the board that the options ask for, from its files to its disk's file. The disk is kept in its file all
-/// along, where that is asked for; else the file is written wherever a disk was made or read and its bytes have
-/// changed, also after a refusal. Of two faults the first is told.
-#[tactic(auto, using(crate::proofs::FilesLeft::has_left, crate::proofs::FilesLeft::none_left, crate::proofs::DiskBegun::unread_file))]
-pub fn run_session<
+/// Runs the board that the options ask for: reads the payloads and the disk, runs the session, and leaves the disk in its
+/// file. With `--sync` the disk is kept in the file all along. Else the file is written at the end, also after a refusal,
+/// unless its bytes are the same. Of two faults the first is told.
+#[tactic(auto, using(crate::proofs::FilesLeft::has_left, crate::proofs::FilesLeft::none_left, crate::proofs::DiskBegun::unread_payload))]
+pub fn run_from_files<
     R: Threads + Wait + Sync,
     B: PayloadFiles + BoardFiles,
     I: Read + Drop,
@@ -266,26 +265,26 @@ pub fn run_session<
     options: &Options,
     streams: Streams<I, O>,
     faults: &mut F,
-) -> Done<B::Held, B::Kept, O>
+) -> RunEnd<B::Held, B::Kept, O>
     ensures { HasLeft B.Held.bytes ⟦<SimDisk as Disk>⟧.facts ⟦<FileDisk<B::Kept> as Disk>⟧.facts B.Kept.file_facts
         options.now (B.bytes_at files.now)
         (known (B.disk_at files.now (string_bytes options.now.disk)) (I.remaining streams.input)
         (O.contents streams.out) (O.contents result.out))
         result.left (fault_of result.ended) }
 {
-    let payloads = match payloads_read(alloc, files, options) {
+    let payloads = match read_payloads(alloc, files, &options.payloads) {
         Ok(payloads) => payloads,
-        Err(fault) => return not_begun(streams.out, fault),
+        Err(fault) => return no_session(streams.out, fault),
     };
     tell_elf(faults, &payloads);
     match take_disk(alloc, files, options, faults) {
-        Ok(begun) => {
-            let asked = Asked {
+        Ok(taken) => {
+            let setup = BoardSetup {
                 options,
                 payloads: &payloads,
             };
-            run_over(alloc, threads, files, &asked, begun, streams, faults)
+            run_taken(alloc, threads, files, &setup, taken, streams, faults)
         }
-        Err(fault) => not_begun(streams.out, fault),
+        Err(fault) => no_session(streams.out, fault),
     }
 }

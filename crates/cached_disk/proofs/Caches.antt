@@ -15,11 +15,6 @@ use Rattle.cached_disk.specs.declared.waiting.Waiting.{Waiting}
 use Rattle.cached_disk.specs.Laws.{covered}
 use Rattle.cached_disk.specs.Cached.{piece_of, pieces_of, shown, Waits, ButIn, IsCached, HandsOn, HandedOn}
 
-waits_here : (ws : List Waiting) (i : ℕ) (w d : Waiting) → i < length ws → w ≡ get_or ws i d → Waits ws w.number
-waits_here [] i w d lt is = absurd (omega (arith, lt))
-waits_here (x ∷ ws) zero w d lt is = inl (ap (λ (y : Waiting). y.number) (sym is))
-waits_here (x ∷ ws) (suc i) w d lt is = inr (waits_here ws i w d (omega (arith, lt)) is)
-
 waits_push : (ws : List Waiting) (w : Waiting) (k : ℕ) → Waits (ws ++ w ∷ []) k → Waits ws k ⊎ (w.number ≡ k)
 waits_push [] w k (inl here) = inr here
 waits_push [] w k (inr none) = absurd none
@@ -79,21 +74,6 @@ fits_at n [] i w d lt is fits = absurd (omega (arith, lt))
 fits_at n (x ∷ ws) zero w d lt is fits = rw is (fits_here n (piece_of x) (pieces_of ws) fits)
 fits_at n (x ∷ ws) (suc i) w d lt is fits = fits_at n ws i w d (omega (arith, lt)) is (fits_rest n (piece_of x) (pieces_of ws) fits)
 
-pub handed_none : (ws : List Waiting) (a : Facts) (f : FaultState) → HandedOn 0 ws a a f f
-handed_none ws a f = record {
-  so_far = refl;
-  but = agrees_none (ranges (pieces_of ws)) a.content a.content refl;
-  crash = record {
-    later = omega arith;
-    now = λ c may. (c, may, agrees_none (ranges (pieces_of ws)) c c refl);
-    nothing_else = λ t c le left. inl left;
-    keeps = λ t c le left. left;
-  };
-  lent = refl;
-  failures = refl;
-  cause = refl;
-}
-
 -- a sector that waits is written: all others stay
 torn_waiting : (ws : List Waiting) (i : ℕ) (w d : Waiting) (x y : Content) → i < length ws → w ≡ get_or ws i d → Torn w.number 1 x y → ButIn (ranges (pieces_of ws)) x y
 torn_waiting ws i w d x y lt is torn = record { as_long = torn.as_long; same = λ k u. ⊎_elim (torn.before k) (torn.after k) (at ws i lt is k u) }
@@ -111,9 +91,6 @@ but_crash ws a b c step p q goes =
 module _ (ws : List Waiting) (i : ℕ) (w d : Waiting) (a b : Facts) (f g : FaultState) (lt : i < length ws) (is : w ≡ get_or ws i d) (so_far : HandedOn i ws a b f g) where
   pub more_fits : AreWithin (length a.content) (ranges (pieces_of ws)) → w.number + 1 ≤ length b.content
   more_fits fits = fits_at (length b.content) ws i w d lt is (subst (λ (n : ℕ). AreWithin n (ranges (pieces_of ws))) (sym so_far.but.as_long) fits)
-
-  pub more_apart : (0 < length ws → a.lent.lanes ≡ 0) → b.lent.lanes ≡ 0
-  more_apart alone = ap (λ (l : Lent). l.lanes) so_far.lent ∙ alone (omega (arith, lt))
 
   module _ (c : Facts) (h : FaultState) where
     handed_but : Torn w.number 1 b.content c.content → ButIn (ranges (pieces_of ws)) a.content c.content
@@ -140,16 +117,6 @@ module _ (ws : List Waiting) (i : ℕ) (w d : Waiting) (a b : Facts) (f g : Faul
       failures = record { ok = tt; err = rw (← so_far.failures) called.failures.err };
       cause = record { ok = tt; err = subst (λ (x : FaultState). Cause x h) so_far.cause called.cause.err };
     }
-
-pub handed_all : {T E : Type 0} (v : T) (ws : List Waiting) (i : ℕ) (a b : Facts) (f g : FaultState) → length ws ≤ i → HandedOn i ws a b f g → HandsOn {T = T} {E = E} ws a b f g (Ok v)
-handed_all v ws i a b f g le so_far = record {
-  all = so_far.so_far ∙ ap (λ (us : List Waiting). shown us a.content) (take_all i ws le);
-  content = so_far.but;
-  crash = so_far.crash;
-  lent = so_far.lent;
-  failures = record { ok = so_far.failures; err = tt };
-  cause = record { ok = so_far.cause; err = tt };
-}
 
 -- ---- reading
 -- one sector more is laid over those that were read

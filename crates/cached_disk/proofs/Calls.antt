@@ -4,7 +4,7 @@ use Rattle.disk.specs.FaultState.{FaultState, Caused}
 use Rattle.disk.specs.Calls.{MakesCalls}
 use Rattle.disk.specs.Facts.{Content, Facts, LaneFacts, Lent, Counts, IsFresh, Joined, Only, Passes, Stays, Torn, Written, counted, nothing, lent_sectors}
 use Rattle.write_log.specs.WriteLog.{Piece, WriteLog, AgreesOutside, AreWithin, laid_over, lent_piece, more_written, more_synced, new_log, ranges, synced}
-use Rattle.logged_disk.proofs.Kept.{agrees_none, counts_one, fresh_over, kept_at_first, kept_on, laid_written, stays_over, sync_durable, sync_kept, sync_passes, tears_over, torn_more, torn_same}
+use Rattle.logged_disk.proofs.Kept.{agrees_none, counts_one, fresh_over, kept_on, laid_written, stays_over, sync_durable, sync_kept, sync_passes, tears_over, torn_more, torn_same}
 use Rattle.logged_disk.proofs.Lanes.{join_kept, none_back, split_kept, split_passes}
 use Rattle.cached_disk.specs.declared.waiting.Waiting.{Waiting}
 use Rattle.cached_disk.specs.Cached.{piece_of, pieces_of, shown, facts_of, ButIn, IsCached, HandsOn}
@@ -16,18 +16,6 @@ length_nil [] is = refl
 length_nil (w ∷ ws) is = absurd (omega (arith, is))
 
 -- ---- a call of the device alone
-pub device_called : {T E : Type 0} (ws : List Waiting) (log : WriteLog) (i j : ℕ) (a b : Facts) (f g : FaultState) (r : Result T E) → MakesCalls 1 Stays a b f g r → j ≡ counted i 1
-    → MakesCalls 1 Stays (facts_of ws log i a) (facts_of ws log j b) f g r
-device_called ws log i j a b f g r m is = record {
-  content = ap (shown ws) m.content;
-  crash = stays_over (shown ws a.content) (shown ws b.content) log i j a b;
-  lent = m.lent;
-  calls = counts_one i j r is;
-  failures = m.failures;
-  cause = m.cause;
-  gone = m.gone;
-}
-
 pub device_cached : {T E : Type 0} (ws : List Waiting) (log : WriteLog) (a b : Facts) (f g : FaultState) (r : Result T E) → IsCached ws log a → MakesCalls 1 Stays a b f g r → IsCached ws log b
 device_cached ws log a b f g r cached m = cached_on ws log a b Stays cached m.crash (λ x y is. agrees_none (ranges log.written) x y is) (agrees_none (ranges log.written) a.content b.content m.content) m.lent
 
@@ -35,12 +23,6 @@ device_cached ws log a b f g r cached m = cached_on ws log a b Stays cached m.cr
 pub handed_cached : {T E : Type 0} (ws : List Waiting) (log : WriteLog) (a b : Facts) (f g : FaultState) (r : Result T E) → IsCached ws log a → HandsOn ws a b f g r → IsCached ws log b
 handed_cached ws log a b f g r cached handed =
     cached_on ws log a b (ButIn (ranges (pieces_of ws))) cached handed.crash (λ x y but. but_covered ws log a x y cached but) (but_covered ws log a a.content b.content cached handed.content) handed.lent
-
--- the same, where the log has a write more
-pub noted_cached : {T E : Type 0} (ws ws' : List Waiting) (log log' : WriteLog) (a b : Facts) (f g : FaultState) (p : Piece) (r : Result T E) → IsCached ws log a → log' ≡ more_written p log → p.0 + length p.1 ≤ length a.content → ws' ≡ ws → HandsOn ws a b f g r
-    → IsCached ws' log' b
-noted_cached ws ws' log log' a b f g p r cached more within same handed =
-    subst (λ (us : List Waiting). IsCached us log' b) (sym same) (handed_cached ws log' a b f g r (cached_more ws log log' p a cached more within) handed)
 
 same_shown : {T E : Type 0} (ws ws' : List Waiting) (log : WriteLog) (a b : Facts) (f g : FaultState) (r : Result T E) → IsCached ws log a → ws' ≡ ws → HandsOn ws a b f g r → shown ws' b.content ≡ shown ws a.content
 same_shown ws ws' log a b f g r cached same handed = ap (λ (us : List Waiting). shown us b.content) same ∙ shown_same ws a.content b.content cached.fits handed.content
@@ -198,9 +180,6 @@ join_cached ws log a b lanes cached joined back passes = record {
 }
 
 -- ---- at first
-pub cached_at_first : (ws : List Waiting) (a : Facts) (log : WriteLog) → ws ≡ [] → IsFresh a.content a → log ≡ new_log a.content → IsCached ws log a
-cached_at_first ws a log none fresh begun = subst (λ (us : List Waiting). IsCached us log a) (sym none) (cached_none log a (kept_at_first a log fresh begun))
-
 pub fresh_at_first : (ws : List Waiting) (a : Facts) (log : WriteLog) (i : ℕ) → ws ≡ [] → IsFresh a.content a → log ≡ new_log a.content → IsFresh a.content (facts_of ws log i a)
 fresh_at_first ws a log i none fresh begun = fresh_over (shown ws a.content) a log i (ap (λ (us : List Waiting). shown us a.content) none) fresh begun
 

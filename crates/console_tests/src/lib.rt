@@ -1,4 +1,6 @@
-//! The console: its lines, the command line, and whole sessions over memory (docs/CONSOLE.md).
+//! The console: its lines, the command line, and whole sessions over memory (docs/CONSOLE.md). Then runs of the bench that stop
+//! before the end of their script, as no script of `crates/examples` shows them: a writer that fails, and the disk that is left
+//! (docs/SCRIPT.md).
 #![tactic(auto)]
 
 #[cfg(test)]
@@ -20,8 +22,10 @@ mod runs;
 #[cfg(test)]
 mod said;
 #[cfg(test)]
+mod stopped;
+#[cfg(test)]
 mod streams;
 #[cfg(test)]
-mod texts;
+mod told;
 #[cfg(test)]
 mod trials;

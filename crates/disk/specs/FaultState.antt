@@ -1,5 +1,5 @@
 -- Why a disk failed: a fault that was armed struck, or it failed by itself.
-use Rattle.std.specs.Prelude.{◌≡◌, ◌⊎◌, ℕ, ◌<◌, Bool, true, false, Result, OnOk, OnErr}
+use Rattle.std.specs.Prelude.{◌≡◌, ◌⊎◌, ℕ, ◌<◌, Bool, true, false, List, [], ◌∷◌, Result, OnOk, OnErr}
 use Rattle.disk.specs.declared.device.ArmedFault.{ArmedFault}
 use Rattle.disk.specs.declared.device.ArmedFault.TheVariants.{FailAt, CutAt, FailLane, CutLane}
 use Rattle.disk.specs.Facts.{counted}
@@ -16,12 +16,17 @@ armed_by (CutAt n) = CutArmed
 armed_by (FailLane lane n) = FaultArmed
 armed_by (CutLane lane n) = CutArmed
 
--- beside the facts of a disk: what is armed, whether an armed cut has struck, and how often it failed by
--- itself
+-- beside the facts of a disk: what is armed, whether an armed cut has struck, how often it failed by itself,
+-- and all faults that were ever armed, as each was said, the newest first: no call changes these
 pub record FaultState : Type 0 where
   pub armed : Armed
   pub struck : Bool
   pub own : ℕ
+  pub armings : List ArmedFault
+
+-- that fault is armed, in the place of an older one
+abbrev pub fault_state_armed : ArmedFault → FaultState → FaultState
+fault_state_armed fault m = record m { armed = armed_by fault; armings = fault ∷ m.armings }
 
 -- why a call failed: by itself; what was armed struck, and is gone; or the power was cut before
 abbrev pub Cause : FaultState → FaultState → Type 0
@@ -43,7 +48,7 @@ pub record CausedInLanes (old new : FaultState) (failures : ℕ) : Type 0 where
 
 -- power was cut: what was armed and has struck is gone, and the count of its own failures goes on
 abbrev pub fault_state_left : FaultState → FaultState
-fault_state_left m = record { armed = Unarmed; struck = false; own = m.own }
+fault_state_left m = record m { armed = Unarmed; struck = false }
 
 abbrev pub no_fault : FaultState
-no_fault = record { armed = Unarmed; struck = false; own = 0 }
+no_fault = record { armed = Unarmed; struck = false; own = 0; armings = [] }

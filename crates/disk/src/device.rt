@@ -75,7 +75,7 @@ pub trait Lane {
 /// to the contents that a crash may leave, before, during and after it, is its clause `crash`.
 pub trait Disk {
     ghost use Rattle.disk.specs.Facts.{Content, Facts, Torn, Written, Stays, Passes, Only, Apart, AreSectorsAt, Handed, InRow, Joined, Unchanged, counted, most, nothing, lent_sectors, lane_failures};
-    ghost use Rattle.disk.specs.FaultState.{FaultState, CausedInLanes, armed_by};
+    ghost use Rattle.disk.specs.FaultState.{FaultState, CausedInLanes, fault_state_armed};
     ghost use Rattle.disk.specs.Calls.{MakesCalls, NoCall};
     ghost use Rattle.disk.specs.declared.device.ArmedFault.{ArmedFault};
 
@@ -83,7 +83,8 @@ pub trait Disk {
 
     ghost facts: { Self → Facts };
 
-    /// What is armed, whether an armed cut has struck, and how often the disk failed by itself.
+    /// What is armed, whether an armed cut has struck, how often the disk failed by itself, and all
+    /// that was ever armed.
     ghost fault_state: { Self → FaultState };
 
     /// That fault is armed, and each call of it is still to come. A disk may ignore what is armed.
@@ -166,7 +167,7 @@ pub trait Disk {
     /// A lane's fault goes to that lane at the next split. A disk may ignore what is armed.
     fn arm(&mut self, fault: ArmedFault)
         ensures facts { Unchanged (facts self.old) (facts self.new) }
-        ensures armed { fault_state self.new ≡ record (fault_state self.old) { armed = armed_by fault } }
+        ensures armed { fault_state self.new ≡ fault_state_armed fault (fault_state self.old) }
         ensures arms { arms self.new fault };
 
     /// Whether an armed cut has struck, so that power is gone. It is no call of the disk.

@@ -13,7 +13,7 @@ use machine_lines::Value;
 use std::fmt;
 use std::io::{BufWriter, Write};
 
-/// What stands of an image beside its memory, but for the serial.
+/// What an image holds beside its memory, but for the serial, which the line `found` has.
 #[derive(Drop)]
 struct HeadText(ImageHead);
 
@@ -66,7 +66,7 @@ impl fmt::Display for FoundText {
     }
 }
 
-/// What stands on a disk.
+/// All lines of a disk.
 #[derive(Drop)]
 struct SeenText(Seen);
 

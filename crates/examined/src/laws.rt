@@ -9,10 +9,11 @@ ghost use Rattle.store.specs.Inspects.{IsInspected};
 ghost use Rattle.store.specs.declared.inspects.Inspection.{Inspection};
 ghost use Rattle.examined.specs.Contents.{IsAnswered, IsExamined};
 
-/// Any sectors of any length and bytes are answered by the format. Each content reads as one that an open
-/// refuses 1, 3 or 4, or it stands for a durable state (`opened`). And each reads as one that an examiner
-/// refuses 1 or 3, or is the disk of a board, of which there is something to say (`examined`); that is one
-/// thing by the law `one_inspection` of `store`.
+/// Whatever bytes a disk holds, and whatever its length: an open and an examiner have an answer.
+///
+/// - `opened`: an open refuses it with 1, 3 or 4, or it stands for a durable state.
+/// - `examined`: an examiner refuses it with 1 or 3, or it is the disk of a board, and then there is something to say of it.
+///   What is said is fixed by the bytes (the law `one_inspection` of `store`).
 pub fn every_content()
     ensures opened { (c : Content) → IsAnswered c }
     ensures examined { (c : Content) → IsExamined c }

@@ -1,5 +1,5 @@
-//! What an examiner tells of a disk: its line, what stands there with what an open finds, the memory of its image,
-//! and that whatever bytes a disk holds are answered (docs/STORE.md, "Examining").
+//! What an examiner tells of a disk (docs/STORE.md, "Examining"): the line about its records and its image, the state that an
+//! open finds, and the memory of the image. It has an answer whatever bytes a disk holds.
 #![tactic(auto)]
 
 mod laws;

@@ -1,4 +1,4 @@
-//! What an examiner says of a disk, as a line shows it.
+//! What an examiner says of a disk, as a line of text.
 
 ghost use Rattle.std.specs.Prelude.{Some};
 ghost use Rattle.examined.specs.Texts.{standing_text, image_text, inspection_text};
@@ -22,7 +22,7 @@ impl fmt::Display for StandingText {
     }
 }
 
-/// What is said of the image.
+/// What an examiner says of the image.
 #[derive(Clone, Copy, PartialEq, Eq, Drop)]
 struct ImageText(ImageSeen);
 

@@ -1,4 +1,4 @@
-//! The memory of the image that stands on a disk, for who reads what a guest left.
+//! The memory of the image on a disk, for a reader who wants to see what a guest left there.
 
 ghost use Rattle.std.specs.Prelude.{◌≡◌, [], IfOk, IfErr, OnOk};
 ghost use Rattle.std.specs.Io.Buffered.{writer_buffer, writer_contents};
@@ -13,12 +13,12 @@ use std::alloc::Global;
 use std::io::{BufWriter, Write};
 use store::Store;
 
-/// The memory of the image that stands on a disk, byte for byte: what its area reads as. The disk is given back
-/// as the open leaves it, which is with nothing written but where its record is of version 1.
+/// The memory of the image on a disk, byte for byte, as its area holds it. The disk is given back as the open leaves it:
+/// nothing is written, unless its record is of version 1.
 ///
-/// Refused `NotFormatted`, `BadShape` and `BadRecord` by what the disk reads as, `NoImage` where no image
-/// stands, `BadImage` where it reads as no memory, `Device` where the disk failed in this call, and `Memory`
-/// where there is no room for the memory or for the journal of the open.
+/// Refused `NotFormatted`, `BadShape` and `BadRecord` by what the disk holds, `NoImage` where there is no image, `BadImage`
+/// where the image is not whole, `Device` where the disk failed in this call, and `Memory` where there is no room for the
+/// memory or for the journal of the open.
 pub fn image_memory<D: Disk + Drop>(alloc: Global, disk: D) -> (D, Result<Ram, Refusal>)
     requires none_out { IsIdle (D.facts disk) }
     ensures memory { IfOk result.1 (HoldsMemory (D.facts disk).content) }

@@ -1,4 +1,4 @@
-//! What stands on a disk: what an examiner says of it, and the state that an open finds.
+//! What an examiner tells of a whole disk: its inspection, and the state that an open finds.
 
 ghost use Rattle.std.specs.Prelude.{◌≡◌, ◌⊎◌, IfOk, IfErr, MatchResult};
 ghost use Rattle.board_model.specs.Shapes.{Size};
@@ -20,16 +20,16 @@ pub struct Found {
     pub pages: u32,
 }
 
-/// What stands on a disk.
+/// What an examiner tells of a disk.
 #[derive(Clone, Copy, Drop)]
 pub struct Seen {
-    /// What an examiner says of it.
+    /// What `store::inspect` says of its records and its image.
     pub inspection: Inspection,
-    /// What an open finds; none where the selected record is in no form, which an open refuses 4.
+    /// What an open finds. None where the selected record is in no form, which an open refuses with 4.
     pub found: Option<Found>,
 }
 
-/// What a refusal of an open tells: that of the record is none, since there is nothing to find.
+/// What an examiner makes of the refusal of an open. A bad record is no refusal here: there is just no state to find.
 fn unrecorded(refusal: Refusal) -> Result<Option<Found>, Refusal>
     ensures { result ≡ unrecorded refusal }
 {
@@ -39,8 +39,8 @@ fn unrecorded(refusal: Refusal) -> Result<Option<Found>, Refusal>
     }
 }
 
-/// What an open of the disk finds, or none where the selected record is in no form. The disk is given back, as
-/// the open leaves it.
+/// What an open of the disk finds. None where the selected record is in no form. The disk is given back as the open leaves
+/// it.
 fn find<D: Disk + Drop>(alloc: Global, disk: D) -> (D, Result<Option<Found>, Refusal>)
     requires none_out { IsIdle (D.facts disk) }
     ensures found { IfOk result.1 (Finds (D.facts disk).content) }
@@ -57,19 +57,19 @@ fn find<D: Disk + Drop>(alloc: Global, disk: D) -> (D, Result<Option<Found>, Ref
     }
 }
 
-/// Says what stands on a disk, whatever bytes it holds: what `store::inspect` says of it, and what an open finds.
-/// The disk is given back as the open leaves it: where its record is of version 1, with the same state in
-/// version 2 (docs/STORE.md, "Migration"), else with nothing written.
+/// Examines a disk, whatever bytes it holds: what `store::inspect` says of it, and what an open finds. The disk is given back
+/// as the open leaves it. A record of version 1 was then written anew in version 2, with the same state (docs/STORE.md,
+/// "Migration"); else nothing was written.
 ///
-/// Refused `NotFormatted` and `BadShape` by what the disk reads as, `Device` where it failed in this call, and
-/// `Memory` where there is no room for the memory of an image or for the journal of the open.
+/// Refused `NotFormatted` and `BadShape` by what the disk holds, `Device` where it failed in this call, and `Memory` where
+/// there is no room for the memory of an image or for the journal of the open.
 pub fn see_disk<D: Disk + Drop>(alloc: Global, mut disk: D) -> (D, Result<Seen, Refusal>)
     requires none_out { IsIdle (D.facts disk) }
     ensures seen { IfOk result.1 (IsSeen (D.facts disk).content) }
     ensures refused { IfErr result.1 (λ e. SeeRefused (D.facts disk) e (D.facts result.0)) }
 
-    // And the other way: a disk that reads as 1 or 3 is refused so, or by 5; one of a board is seen, but for
-    // 5 and 11.
+    // And the other way round: a disk that an open refuses with 1 or 3 is refused with that number, or with 5. The disk of a
+    // board is refused with 5 or 11 alone.
     ensures unformatted { ReadsAs (D.facts disk).content Refusal.NotFormatted
         → MatchResult result.1 (λ seen. ⊥) (λ e. (e ≡ Refusal.NotFormatted) ⊎ (e ≡ Refusal.Device)) }
     ensures bad_shape { ReadsAs (D.facts disk).content Refusal.BadShape

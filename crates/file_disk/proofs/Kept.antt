@@ -201,12 +201,6 @@ pub leaves_no_more : (file : FileKnown) (marks : List Bool) (disk facts : Facts)
 leaves_no_more Unknown marks disk facts kept left = tt
 leaves_no_more (Known f) marks disk facts kept left = λ c may. left c (kept.now c may)
 
-pub ever_allowed : (file : FileKnown) (marks : List Bool) (disk facts : Facts) → IfKnown file (IsKeptIn marks disk)
-    → facts.since ≡ disk.since → IfKnown file (EverAllowed facts)
-ever_allowed Unknown marks disk facts kept same = tt
-ever_allowed (Known f) marks disk facts kept same =
-    λ c was. subst (λ (s : ℕ → Content → Type 0). ∥ s 0 c ∥₁) (sym same) (kept.ever c was)
-
 pub kept_begun : (file : FileKnown) (marks : List Bool) (disk : Facts) → IfKnown file (IsDurable disk.content)
     → ∥ disk.since 0 disk.content ∥₁ → IfKnown file (IsKeptIn marks disk)
 kept_begun Unknown marks disk durable was = tt
@@ -260,12 +254,6 @@ only_left T E marks content now v (Known o) (Known n) pushed same = λ c may. pu
 pub on_ok : {T E : Type 0} (result : Result T E) (P : Type 0) → P → OnOk result P
 on_ok (Ok v) P holds = holds
 on_ok (Err e) P holds = tt
-
--- what a push asks
-pub kept_off : (file : FileKnown) (marks : List Bool) (disk : Facts) → IfKnown file (IsKeptIn marks disk)
-    → IfKnown file (LeavesOff marks disk.content)
-kept_off Unknown marks disk kept = tt
-kept_off (Known f) marks disk kept = kept.now
 
 -- ---- the same marks under another name
 pub marks_moved : (m m' : List Bool) (from n : ℕ) (disk : Facts) (rs : List (ℕ × ℕ)) → m ≡ m' → AreMarks m' from n disk rs

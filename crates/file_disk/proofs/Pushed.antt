@@ -27,12 +27,6 @@ some_more marks content number bytes result o m n marked so_far wrote = record {
       (λ but. inr (but_agrees marks content c number m marked so_far.leaves but)) (wrote.ever c left);
 }
 
-pub writes_none : (marks : List Bool) (content : Content) (f : FileKnown) → IfKnown f (LeavesOff marks content)
-    → Goes f f (WritesUpTo 0 marks content)
-writes_none marks content Unknown kept = tt
-writes_none marks content (Known f) kept =
-    record { holds = λ k less. absurd (omega (arith, less)); some = record { leaves = kept; ever = λ c left. inl left } }
-
 -- of a sector that is not marked a read gives what stands in memory
 pub writes_skip : (marks : List Bool) (content : Content) (number : ℕ) (o n : FileKnown)
     → IfKnown n (λ f. f.may_leave f.holds) → get_or marks number false ≡ false → Goes o n (WritesUpTo number marks content)
@@ -62,17 +56,6 @@ writes_more T E marks content number v (Known o) (Known m) (Known n) marked so_f
     holds k less =
         grind (arith, less, so_far.holds k, wrote.written.elsewhere.before k, wrote.written.there 0)
 
-pub writes_failed : (T U E F : Type 0) (marks : List Bool) (content : Content) (number : ℕ) (bytes : List ℕ) (e : E) (g : F) (o m n : FileKnown)
-    → get_or marks number false ≡ true → Goes o m (WritesUpTo number marks content)
-    → Goes m n (WritesSector {T = T} number bytes (Err e)) → Goes o n (WritesMarked {T = U} marks content (Err g))
-writes_failed T U E F marks content number bytes e g Unknown Unknown Unknown marked so_far wrote = tt
-writes_failed T U E F marks content number bytes e g Unknown Unknown (Known n) marked so_far wrote = wrote
-writes_failed T U E F marks content number bytes e g Unknown (Known m) n marked so_far wrote = absurd so_far
-writes_failed T U E F marks content number bytes e g (Known o) Unknown n marked so_far wrote = absurd so_far
-writes_failed T U E F marks content number bytes e g (Known o) (Known m) Unknown marked so_far wrote = wrote
-writes_failed T U E F marks content number bytes e g (Known o) (Known m) (Known n) marked so_far wrote =
-    let r : Result T E = Err e in record { whole = tt; some = some_more marks content number bytes r o m n marked so_far.some wrote }
-
 -- a list of as many elements that reads so everywhere
 all_same : (xs ys : Content) → length xs ≡ length ys → ((k : ℕ) → k < length ys → sector xs k ≡ sector ys k) → xs ≡ ys
 all_same [] [] long same = refl
@@ -90,43 +73,4 @@ writes_all T E marks content v (Known o) Unknown keep so_far = so_far
 writes_all T E marks content v (Known o) (Known n) keep so_far = record {
   whole = all_same n.holds content (so_far.some.leaves n.holds keep).as_long so_far.holds;
   some = so_far.some;
-}
-
--- ---- the sync behind the writes
-pub push_unwritten : (T U E F : Type 0) (marks : List Bool) (content : Content) (e : E) (g : F) (o n : FileKnown)
-    → Goes o n (WritesMarked {T = T} marks content (Err e)) → Goes o n (Pushes {T = U} marks content (Err g))
-push_unwritten T U E F marks content e g Unknown Unknown wrote = tt
-push_unwritten T U E F marks content e g Unknown (Known n) wrote = wrote
-push_unwritten T U E F marks content e g (Known o) Unknown wrote = wrote
-push_unwritten T U E F marks content e g (Known o) (Known n) wrote = record { durable = tt; some = wrote.some }
-
-some_synced : {T E : Type 0} (marks : List Bool) (content : Content) (result : Result T E) (o m n : FileFacts)
-    → PushesSome marks content o m → SyncsFile result m n → PushesSome marks content o n
-some_synced marks content result o m n so_far synced = record {
-  leaves = λ c left. so_far.leaves c (synced.leaves c left);
-  ever = λ c left. so_far.ever c (synced.ever c left);
-}
-
-pub push_failed : (T U V E F G : Type 0) (marks : List Bool) (content : Content) (v : V) (f : F) (g : G) (o m n : FileKnown)
-    → Goes o m (WritesMarked {E = E} marks content (Ok v)) → Goes m n (SyncsFile {T = T} (Err f))
-    → Goes o n (Pushes {T = U} marks content (Err g))
-push_failed T U V E F G marks content v f g Unknown Unknown Unknown wrote synced = tt
-push_failed T U V E F G marks content v f g Unknown Unknown (Known n) wrote synced = synced
-push_failed T U V E F G marks content v f g Unknown (Known m) n wrote synced = absurd wrote
-push_failed T U V E F G marks content v f g (Known o) Unknown n wrote synced = absurd wrote
-push_failed T U V E F G marks content v f g (Known o) (Known m) Unknown wrote synced = synced
-push_failed T U V E F G marks content v f g (Known o) (Known m) (Known n) wrote synced =
-    let r : Result T F = Err f in record { durable = tt; some = some_synced marks content r o m n wrote.some synced }
-
-pub push_done : (T U V E F G : Type 0) (marks : List Bool) (content : Content) (v : V) (t : T) (u : U) (o m n : FileKnown)
-    → Goes o m (WritesMarked {E = E} marks content (Ok v)) → Goes m n (SyncsFile {E = F} (Ok t))
-    → Goes o n (Pushes {E = G} marks content (Ok u))
-push_done T U V E F G marks content v t u Unknown Unknown Unknown wrote synced = tt
-push_done T U V E F G marks content v t u Unknown Unknown (Known n) wrote synced = synced
-push_done T U V E F G marks content v t u Unknown (Known m) n wrote synced = absurd wrote
-push_done T U V E F G marks content v t u (Known o) Unknown n wrote synced = absurd wrote
-push_done T U V E F G marks content v t u (Known o) (Known m) Unknown wrote synced = synced
-push_done T U V E F G marks content v t u (Known o) (Known m) (Known n) wrote synced = record {
-  durable = λ c left. synced.durable c left ∙ wrote.whole;
-  some = (let r : Result T F = Ok t in some_synced marks content r o m n wrote.some synced);
 }

@@ -8,7 +8,7 @@ use crate::fields::{number, parted, two_numbers};
 use std::alloc::{AllocError, Global};
 
 /// What is asked of a thread; of one that is asked nothing, that it stays as it is.
-#[derive(Clone, Copy, PartialEq, Eq, Drop)]
+#[derive(Clone, Copy, Drop)]
 pub enum Action {
     /// It makes one turn.
     Step,

@@ -1,7 +1,7 @@
 //! What a packet asks.
 
 /// An object of which parts are asked for.
-#[derive(Clone, Copy, PartialEq, Eq, Drop)]
+#[derive(Clone, Copy, Drop)]
 pub enum Object {
     /// The registers.
     Description,
@@ -12,7 +12,7 @@ pub enum Object {
 }
 
 /// What is asked without moving the board. The number of a thread is one more than that of its hart.
-#[derive(Clone, Copy, PartialEq, Eq, Drop)]
+#[derive(Clone, Copy, Drop)]
 pub enum Look {
     /// `?`: why nothing runs.
     Reason,
@@ -65,7 +65,7 @@ pub enum Look {
 }
 
 /// What may move the board.
-#[derive(Clone, Copy, PartialEq, Eq, Drop)]
+#[derive(Clone, Copy, Drop)]
 pub enum Move {
     /// `s`: the hart that is shown makes a turn.
     Step,
@@ -82,7 +82,7 @@ pub enum Move {
 }
 
 /// What a packet asks.
-#[derive(Clone, Copy, PartialEq, Eq, Drop)]
+#[derive(Clone, Copy, Drop)]
 pub enum Request {
     /// It looks, chooses, or speaks of the talk itself.
     Look(Look),

@@ -7,11 +7,8 @@ use Rattle.board_model.specs.declared.refusal.Refusal.TheVariants.{BadShape, Dev
 use Rattle.hart.specs.State.{ArchState as HartState}
 use Rattle.susp.specs.Wakes.{IsWoken}
 use Rattle.store.specs.Lives.{Life, now_of, begun, Reaches, Refused, Applied, SuspendRefused, SuspendApplied, Suspended}
+use Rattle.lives.proofs.Worlds.{fold_more}
 use Rattle.lives.specs.Events.{World, WasOpened, WasAcknowledged, WasDoubtful, WasResumed, Finds, Goes, Happens, serial_of, dropped_by, goes_on, goes_with, event_of, IsLived, Leads}
-
-one_more : (s : DurableState) (cs : List Change) (c : Change) → fold s (cs ++ c ∷ []) ≡ after (fold s cs) c
-one_more s [] c = refl
-one_more s (d ∷ cs) c = one_more (after s d) cs c
 
 pub opened : (w : World) (s : DurableState) (kept : List Change) → Finds w s kept → Leads w (WasOpened s) (begun s)
 opened w s kept finds = (
@@ -58,7 +55,7 @@ acknowledged w old new c lived calm reaches is = (
   (may_go w old c lived calm reaches, refl),
   subst (IsLived (record w { state = after w.state c; kept = w.kept ++ c ∷ []; on = goes_on (ends_life c); dropped = dropped_by w c })) (sym is)
       (record {
-        state = ap (λ (s : DurableState). after s c) lived.state ∙ sym (one_more old.found old.journal c);
+        state = ap (λ (s : DurableState). after s c) lived.state ∙ sym (fold_more old.found old.journal c);
         doubt = lived.doubt;
         on = ends (ends_life c) ∙ ap (goes_with (ends_life c)) (sym calm);
       }),

@@ -23,9 +23,9 @@ pub record IsSound (w : World) : Type 0 where
   pub fresh : Fresh w.resumed w.state.next w.state.image
   pub held : Held w.resumed w.state.next w.state.image w.dropped
 
-one_more : (s : DurableState) (cs : List Change) (c : Change) → fold s (cs ++ c ∷ []) ≡ after (fold s cs) c
-one_more s [] c = refl
-one_more s (d ∷ cs) c = one_more (after s d) cs c
+pub fold_more : (s : DurableState) (cs : List Change) (c : Change) → fold s (cs ++ c ∷ []) ≡ after (fold s cs) c
+fold_more s [] c = refl
+fold_more s (d ∷ cs) c = fold_more (after s d) cs c
 
 below_more : (ms : List ℕ) (m n : ℕ) → m ≤ n → AreBelow ms m → AreBelow ms n
 below_more [] m n le below = tt
@@ -97,7 +97,7 @@ found_sound : (w : World) (s : DurableState) (kept : List Change) → IsSound w 
 found_sound w s kept sound finds =
     ⊎_elim
     (λ same. made (same.0 ∙ sound.folded ∙ ap (fold formatted) (sym same.1)) (subst (InOrder w.resumed) (sym same.0) (sound.below, sound.fresh)))
-    (λ took. made (took.2 ∙ ap (λ (t : DurableState). after t took.0) sound.folded ∙ sym (one_more formatted w.kept took.0) ∙ ap (fold formatted) (sym took.3)) (subst (InOrder w.resumed) (sym took.2) (good_after w.resumed w.state took.0 (sound.below, sound.fresh))))
+    (λ took. made (took.2 ∙ ap (λ (t : DurableState). after t took.0) sound.folded ∙ sym (fold_more formatted w.kept took.0) ∙ ap (fold formatted) (sym took.3)) (subst (InOrder w.resumed) (sym took.2) (good_after w.resumed w.state took.0 (sound.below, sound.fresh))))
     finds
   where
     made : s ≡ fold formatted kept → InOrder w.resumed s → IsSound (record { state = s; doubt = None; kept = kept; on = true; dropped = None; resumed = w.resumed })
@@ -109,7 +109,7 @@ step w (WasAcknowledged c) v sound did =
     let good = good_after w.resumed w.state c (sound.below, sound.fresh) in
     subst IsSound (sym did.1)
     (record {
-      folded = ap (λ (t : DurableState). after t c) sound.folded ∙ sym (one_more formatted w.kept c);
+      folded = ap (λ (t : DurableState). after t c) sound.folded ∙ sym (fold_more formatted w.kept c);
       rises = sound.rises;
       below = good.0;
       fresh = good.1;

@@ -1,5 +1,5 @@
-//! The contracts of functions that do nothing: what holds over all lives of a disk, and that what the clauses
-//! of the store say of an open and of a command is an event of them.
+//! Laws over all lives of a disk. Each is the contract of a function that does nothing. The first two say what holds of every
+//! list of events. The others say that what the store's clauses tell of an open, a command or a wake is such an event.
 ghost use Rattle.std.specs.Prelude.{◌≡◌, ◌⊎◌, ℕ, List, None, Some, Ok, Result};
 ghost use Rattle.board_model.specs.Durable.{DurableState, Image, Change, Suspend, Consume, formatted, refusal_of, after, fold};
 ghost use Rattle.board_model.specs.Shapes.{Size};
@@ -17,18 +17,21 @@ ghost use Rattle.lives.specs.Histories.{AnswersOnce, EndsCommands, HaveNoOpen, H
 use disk::Disk;
 use store::one_standing;
 
-/// Whatever happens to a formatted disk: each open finds the fold of the commands that are kept, and the
-/// serials of the images that were resumed rise strictly, so that an image whose consumption was acknowledged
-/// is never resumed again.
+/// Whatever happens to a formatted disk, each open finds what the kept commands make of the formatted state, one after the
+/// other. And the serials of the images that were resumed rise strictly: so an image whose consumption was acknowledged is
+/// never resumed again.
 pub fn lives()
     ensures prefix { (events : List Event) (w : World) → Runs new_world events w → w.state ≡ fold formatted w.kept }
     ensures never_again { (events : List Event) (w : World) → Runs new_world events w → Rises w.resumed }
 {}
 
-/// What the events do not allow, told of the list alone. A hart is answered only in the life in which a Consume
-/// was acknowledged that dropped the image with its serial, behind that Consume and once. A command that the
-/// table of commands refuses is neither acknowledged nor in doubt; and until the next open no command goes to
-/// the disk behind one in doubt, a reset or a suspension that was acknowledged, or a cut.
+/// What a list of events cannot hold.
+///
+/// - `answers`: a hart of an image is answered only after the Consume that dropped this image was acknowledged, in the same
+///   life, and once.
+/// - `taken`: a command that the table of commands refuses is neither acknowledged nor in doubt.
+/// - `ended`: after a command in doubt, after a reset or a suspension that was acknowledged, and after a cut, no command goes
+///   to the disk until the next open.
 pub fn events_in_order()
     ensures answers { (events : List Event) (w v : World) (n : ℕ) → Runs new_world events w
         → Happens w (WasResumed n) v → AnswersOnce events n }
@@ -43,9 +46,11 @@ pub fn opens_are_events()
     ensures { (w : World) (s : DurableState) (kept : List Change) → Finds w s kept → Leads w (WasOpened s) (begun s) }
 {}
 
-/// Whatever a crash leaves, the next open finds what the events let it find: of a disk of which a crash
-/// leaves the state of a life, or one of two where a command of it is in doubt; and of one whose power failed
-/// at any moment of a command that went to the disk, which is then the event of a command in doubt.
+/// Whatever a crash leaves on the disk, the next open finds what the events let it find.
+///
+/// - `up`: no command of the life is in doubt, so a crash leaves the state of the life.
+/// - `down`: a command is in doubt, so a crash leaves the state before it or after it.
+/// - `under_way`: power failed at some moment of a command that went to the disk. That is the event of a command in doubt.
 pub fn opens_find_what_stands<D: Disk>()
     ensures up { (w : World) (life : Life) (disk : D) (size z : Size) (s : DurableState) → IsLived w life
         → life.doubt ≡ None → LeavesOnly (D.facts disk) size (now_of life)
@@ -62,7 +67,7 @@ pub fn opens_find_what_stands<D: Disk>()
     one_standing();
 }
 
-/// What the store says of a command, or of a suspension, that found no other in doubt, is the event of its
+/// A command or a suspension of a life in which no other is in doubt: what the store says of its answer is the event of that
 /// answer.
 pub fn commands_are_events()
     ensures applied { (w : World) (old new : Life) (c : Change) (result : Result ℕ Refusal) → IsLived w old
@@ -73,8 +78,8 @@ pub fn commands_are_events()
         → Leads w (event_of (Suspend hart address opaque memory) result) new }
 {}
 
-/// A wake of the store is two events: its Consume was acknowledged, and then the hart of the image was answered
-/// that the Consume dropped.
+/// A wake of the store is two events. First its Consume was acknowledged, which drops the image. Then the hart of that image
+/// was answered.
 pub fn wakes_are_events()
     ensures { (w : World) (old new : Life) (n : ℕ) (memory : List ℕ) (hart : HartState) → IsLived w old
         → old.doubt ≡ None → IsWoken (now_of old) memory hart → Applied old Consume (Ok n) new

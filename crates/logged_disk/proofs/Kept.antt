@@ -167,13 +167,6 @@ module _ (log log' : WriteLog) (b : Facts) (kept : IsKept log b) (more : log' �
   pub sync_durable : b.lent.lanes ≡ 0 → Only b.content (λ x. AgreesOutside (synced log') (ranges log'.written) x)
   sync_durable none x but = durable b.lent.first (length (lent_piece b.lent b.content).1) b.content x (lent_long ∙ ap (λ (n : ℕ). n * b.lent.each) none ∙ zero-mul b.lent.each) (left x but)
 
-  pub sync_but_lent : (x : Content) → AgreesOutside (synced log') (ranges log'.written) x → Torn b.lent.first (lent_sectors b.lent) b.content x
-  sync_but_lent x but = record {
-    as_long = (left x but).as_long;
-    before = λ k low. (left x but).same k (inl low, tt);
-    after = λ k high. (left x but).same k (inr (omega (arith, high, lent_long)), tt);
-  }
-
   pub sync_kept : ((x : Content) → b.may_leave x → Torn b.lent.first (lent_sectors b.lent) b.content x) → IsKept log' b
   sync_kept only = record {
     fits = subst (λ (q : WriteLog). AreWithin (length b.content) (ranges q.written)) (sym more) within;
@@ -195,15 +188,6 @@ module _ (log log' : WriteLog) (b : Facts) (kept : IsKept log b) (more : log' �
       out k le lt (inr high) = omega (arith, lt, high, lent_long)
 
 -- ---- at first
-pub kept_at_first : (a : Facts) (log : WriteLog) → IsFresh a.content a → log ≡ new_log a.content → IsKept log a
-kept_at_first a log fresh begun = subst (λ (q : WriteLog). IsKept q a) (sym begun) (record {
-  fits = λ i lt. absurd (omega (arith, lt));
-  holds = agrees_none [] a.content a.content refl;
-  leaves = λ c may. agrees_none [] a.content c (fresh.durable c may);
-  lent = subst (λ (l : Lent). (k : ℕ) → l.first ≤ k → k < l.first + lent_sectors l → Untouched [] k → ⊥) (sym fresh.none_out) (λ k le lt u. omega (arith, lt));
-  lent_fits = subst (λ (l : Lent). l.first + lent_sectors l ≤ length a.content) (sym fresh.none_out) (omega arith);
-})
-
 pub fresh_over : (x : Content) (a : Facts) (log : WriteLog) (i : ℕ) → x ≡ a.content → IsFresh a.content a → log ≡ new_log a.content → IsFresh a.content (facts_over x log i a)
 fresh_over x a log i reads fresh begun = record {
   reads = reads;

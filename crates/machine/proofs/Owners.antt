@@ -5,11 +5,13 @@ use native.Mathlib.Decide.{ℕ_discrete}
 use Rattle.hsm_steps.specs.declared.view.Stage.{Stage}
 use Rattle.hsm_steps.specs.declared.view.Stage.TheVariants.{Out, Running, Suspended, Quiet}
 use Rattle.hsm_steps.specs.Rule.{stands}
+use Rattle.hsm.specs.Calls.{Sits as SitsIn}
 use Rattle.ipi.specs.Pairs.{Sits}
 use Rattle.sbi_calls.specs.declared.tables.Seats.{Seats}
 use Rattle.sbi_calls.specs.Both.{views, pair_crew}
 use Rattle.susp.specs.Dozes.{doze_of}
 use Rattle.susp.specs.declared.buses.Doze.{Doze}
+use Rattle.turns.proofs.Begun.{sits}
 use Rattle.machine.specs.Held.{RestsBy}
 
 -- a doze of another hart is none of this one
@@ -56,3 +58,8 @@ rests_moved (Some d) h s s' stays sits r = (stays Quiet r.0, sits r.1)
 pub sits_by : (o : Option Doze) (h : ℕ) (s : Seats) → RestsBy o h s → Sits h (pair_crew s)
 sits_by None h s r = r.1
 sits_by (Some d) h s r = r.1
+
+-- a hart of the seats stands somewhere in the hart table
+pub seated_by : (o : Option Doze) (h : ℕ) (s : Seats) → RestsBy o h s → SitsIn h (views s)
+seated_by None h s r = sits h (views s) r.0
+seated_by (Some d) h s r = (Quiet, r.0)

@@ -7,7 +7,9 @@ use Rattle.board_model.specs.Views.{reason_number}
 use Rattle.board_model.specs.declared.durable.Reason.{Reason}
 use Rattle.hart.specs.State.{ArchState, never_started, started as fresh}
 use Rattle.hsm_steps.specs.States.{HartState, stopped, started}
+use Rattle.hsm.specs.Calls.{named}
 use Rattle.hsm.specs.Views.{listed}
+use Rattle.hsm.specs.declared.state.State.{State}
 use Rattle.sbi_calls.specs.Both.{TableState}
 use Rattle.susp.specs.declared.buses.Doze.{Doze}
 
@@ -26,6 +28,10 @@ hart_at m h = get_or m.harts h (never_started h)
 -- a hart that the board lacks is stopped
 abbrev pub state_at : Machine → ℕ → HartState
 state_at m h = listed m.table.states h
+
+-- the same by its name alone, as `sbi_hart_get_status` answers it
+abbrev pub status_at : Machine → ℕ → State
+status_at m h = named (state_at m h)
 
 -- the harts 0 to n - 1, none of which ever ran
 abbrev pub stopped_harts : ℕ → List ArchState

@@ -6,7 +6,9 @@ use Rattle.board_model.specs.Shapes.{Size}
 use Rattle.hart.specs.State.{ArchState, put, started as fresh}
 use Rattle.hart.specs.declared.Outcome.TheVariants.{Ecall}
 use Rattle.hsm_steps.specs.States.{started}
+use Rattle.hsm.specs.Calls.{named}
 use Rattle.hsm.specs.Views.{listed}
+use Rattle.hsm.specs.declared.state.State.{State}
 use Rattle.sbi_calls.specs.declared.tables.Seats.{Seats}
 use Rattle.sbi_calls.specs.Both.{TableState, IsTable}
 use Rattle.sbi_calls.specs.declared.words.Turned.{Turned}
@@ -79,6 +81,11 @@ pub record CallOf (size : Size) (u : ArchState) (a b : Moment) (called : Option 
 abbrev pub MakesCallAlone : Size → ArchState → ArchState → ArchState → List ℕ → Seats → Seats → Option Turned → Type 0
 MakesCallAlone size s u t m before after called = (x : TableState) → IsTable size.harts before x
     → (y : TableState) × CallOf size u (moment x s m) (moment y t m) called × IsTable size.harts after y
+
+-- a look at the state of hart h
+abbrev pub SeesAlone : ℕ → ℕ → Seats → Seats → State → Type 0
+SeesAlone harts h before after state =
+    (x : TableState) → IsTable harts before x → (state ≡ named (listed x.states h)) × IsTable harts after x
 
 -- a call of hart h, which then stands as u at an ECALL: a hart that dozes makes none
 abbrev pub CallBy : Option Doze → ℕ → ArchState → Machine → Machine → Option Turned → Type 0

@@ -8,7 +8,9 @@ mod holds;
 mod laws;
 mod machine;
 mod parts;
+mod states;
 
+pub use hsm::State;
 pub use laws::{a_doze_stands, one_turn};
 pub use machine::Machine;
 pub use parts::Parts;

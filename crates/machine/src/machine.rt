@@ -12,7 +12,7 @@ ghost use Rattle.store.specs.Lives.{IsLoaded};
 ghost use Rattle.store.specs.Views.{disk_of, size_of_store, now_state, failures_at_open, view_of};
 ghost use Rattle.store.specs.Answers.{StaysOpen};
 ghost use Rattle.susp.specs.Wakes.{IsUnloaded, IsConsumed, WakeStops};
-ghost use Rattle.machine.specs.Machine.{hart_at, stopped_harts, resting, machine_begun, woken};
+ghost use Rattle.machine.specs.Machine.{hart_at, status_at, stopped_harts, resting, machine_begun, woken};
 ghost use Rattle.turns.specs.Many.{RowOf};
 ghost use Rattle.machine.specs.Turns.{MakesTurn, MakesRow, MakesOneCall, DoneBy, DozeTurn, CallOf, calling};
 ghost use Rattle.machine.specs.Held.{IsHeld, shown_by};
@@ -24,11 +24,12 @@ ghost use Rattle.susp.specs.declared.sleeps.Sleep.TheVariants.{ToRam};
 use crate::calls::call_in_place;
 use crate::holds::make_held;
 use crate::parts::Parts;
+use crate::states::see;
 use board_model::{CallWords, HartId, RAM_BASE, Reason, Refusal, Shape};
 use crew::Crew;
 use disk::Disk;
 use hart::Hart;
-use hsm::HartTable;
+use hsm::{HartTable, State};
 use ipi::PendingTable;
 use ram::Ram;
 use sbi::Word;
@@ -179,6 +180,21 @@ impl Machine {
         ipi::one_set();
         self.seats = Some(seats);
         pending
+    }
+
+    /// The state of a hart, as `sbi_hart_get_status` names it (SBI specification 2.0, chapter HSM). It is one look at
+    /// the table by that hart's seat, so it needs the whole machine, and leaves it as it was.
+    pub fn state(&mut self, id: HartId) -> State
+        requires { id < length self.old.harts }
+        ensures value { result ≡ status_at self.old id }
+        ensures stays { self.new ≡ self.old }
+    {
+        let seats = self.seats.take().unwrap();
+        let (seats, state) = see(seats, &self.tables, id);
+        hsm::one_table();
+        ipi::one_set();
+        self.seats = Some(seats);
+        state
     }
 
     /// The doze of the board, where it is that hart's.

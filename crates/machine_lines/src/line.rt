@@ -10,18 +10,18 @@ use std::fmt;
 /// Up to 64 bytes of memory.
 #[derive(Clone, Copy, PartialEq, Eq)]
 pub struct MemBytes {
-    /// The bytes, with zeros behind them.
+    /// The bytes, and zeros after them.
     pub bytes: [u8; 64],
     /// How many they are.
     pub count: usize,
 }
 
-/// What a line that shows memory or harts says.
+/// A report line about memory or harts.
 #[derive(Clone, Copy, PartialEq, Eq)]
 pub enum MachineLine {
-    /// `turn H K WORD`: K turns were made, and what is said of the last one.
+    /// `turn H K WORD`: K turns were made. The word says what the last of them did.
     Turn(HartId, u32, Word),
-    /// `call H error E value V`: the call was answered so; the error is signed, as a0 holds it.
+    /// `call H error E value V`: the call was answered with this error and this value. The error is signed, as a0 holds it.
     Answered(HartId, u64, u64),
     /// `call H WORD`: the call was made, and no answer came.
     Called(HartId, Word),
@@ -41,7 +41,7 @@ pub enum MachineLine {
     Payload(Slot, usize),
     /// `busy`: not while the board is on.
     Busy,
-    /// `off`: the board is off, has no such hart, or not all of these bytes.
+    /// `off`: the board is off, or it lacks the hart or one of the bytes.
     Off,
 }
 
@@ -185,7 +185,7 @@ impl<'a> fmt::Display for Hex<'a> {
 }
 
 impl MemBytes {
-    /// The bytes without the zeros behind them.
+    /// The bytes without the zeros after them.
     fn shown(&self) -> &[u8]
         ensures { result.now ≡ take self.now.count self.now.bytes }
     {
@@ -201,54 +201,29 @@ impl fmt::Display for MachineLine {
 
     fn fmt<W: fmt::Write>(&self, f: &mut fmt::Formatter<W>) -> fmt::Result {
         match *self {
-            MachineLine::Turn(hart, count, said) => {
-                let number = hart.number();
-                let word = WordText(said);
-                write!(f, "turn {number} {count} {word}")
+            MachineLine::Turn(hart, count, word) => {
+                write!(f, "turn {} {count} {}", hart.number(), WordText(word))
             }
             MachineLine::Answered(hart, error, value) => {
-                let number = hart.number();
                 let error = error.cast_signed();
                 let text = Value(value);
-                write!(f, "call {number} error {error} value 0x{text}")
+                write!(f, "call {} error {error} value 0x{text}", hart.number())
             }
-            MachineLine::Called(hart, said) => {
-                let number = hart.number();
-                let word = WordText(said);
-                write!(f, "call {number} {word}")
+            MachineLine::Called(hart, word) => {
+                write!(f, "call {} {}", hart.number(), WordText(word))
             }
-            MachineLine::NotStarted(hart) => {
-                let number = hart.number();
-                write!(f, "call {number} not started")
-            }
+            MachineLine::NotStarted(hart) => write!(f, "call {} not started", hart.number()),
             MachineLine::Reg(hart, register, value) => {
-                let number = hart.number();
-                let text = Value(value);
-                write!(f, "reg {number} {register} 0x{text}")
+                write!(f, "reg {} {register} 0x{}", hart.number(), Value(value))
             }
-            MachineLine::Pc(hart, value) => {
-                let number = hart.number();
-                let text = Value(value);
-                write!(f, "pc {number} 0x{text}")
-            }
+            MachineLine::Pc(hart, value) => { write!(f, "pc {} 0x{}", hart.number(), Value(value)) }
             MachineLine::Csr(hart, csr, value) => {
-                let number = hart.number();
                 let name = CsrName(csr);
-                let text = Value(value);
-                write!(f, "csr {number} 0x{name} 0x{text}")
+                write!(f, "csr {} 0x{name} 0x{}", hart.number(), Value(value))
             }
-            MachineLine::Pending(harts) => {
-                let text = Set(harts);
-                write!(f, "pending 0x{text}")
-            }
-            MachineLine::Mem(bytes) => {
-                let hex = Hex(bytes.shown());
-                write!(f, "mem {hex}")
-            }
-            MachineLine::Payload(slot, count) => {
-                let number = slot.number();
-                write!(f, "payload {number} {count}")
-            }
+            MachineLine::Pending(harts) => write!(f, "pending 0x{}", Set(harts)),
+            MachineLine::Mem(bytes) => write!(f, "mem {}", Hex(bytes.shown())),
+            MachineLine::Payload(slot, count) => { write!(f, "payload {} {count}", slot.number()) }
             MachineLine::Busy => write!(f, "busy"),
             MachineLine::Off => write!(f, "off"),
         }

@@ -1,4 +1,4 @@
-//! What the lines say of a board.
+//! The lines, from the machine of a board.
 
 ghost use Rattle.std.specs.Prelude.{◌≡◌, ◌<◌, ◌≤◌, ◌++◌, ◌-◌, length, replicate};
 ghost use Rattle.machine.specs.Machine.{hart_at};
@@ -30,6 +30,7 @@ pub fn pc(machine: &Machine, hart: HartId) -> MachineLine
     MachineLine::Pc(hart, machine.hart(hart).pc())
 }
 
+/// The line of a call of a hart of the board, by what the hart did. An answered call left its answer in a0 and a1.
 fn own(machine: &Machine, hart: HartId, did: Did) -> MachineLine
     requires { hart < length machine.now.harts }
     ensures { result ≡ own_line hart (hart_at machine.now hart) did }
@@ -41,6 +42,7 @@ fn own(machine: &Machine, hart: HartId, did: Did) -> MachineLine
     MachineLine::Answered(hart, state.reg(Reg::new(10)), state.reg(Reg::new(11)))
 }
 
+/// The line of a call that was made.
 fn made(machine: &Machine, hart: HartId, word: Word) -> MachineLine
     requires { hart < length machine.now.harts }
     ensures { result ≡ made_line hart (hart_at machine.now hart) word }
@@ -51,8 +53,8 @@ fn made(machine: &Machine, hart: HartId, word: Word) -> MachineLine
     }
 }
 
-/// What `call H EID FID A0 A1 A2` says of a call that is made in the place of a hart, by what is said of it;
-/// none was made where the hart is not STARTED.
+/// The line of `call H EID FID A0 A1 A2`, by the word of the call that was made instead of an instruction of the hart. There is
+/// no word where the hart is not STARTED, and no call was made.
 pub fn called(machine: &Machine, hart: HartId, word: Option<Word>) -> MachineLine
     requires { hart < length machine.now.harts }
     ensures { result ≡ called_line hart (hart_at machine.now hart) word }
@@ -100,7 +102,7 @@ pub fn csr(machine: &mut Machine, hart: HartId, number: u32) -> MachineLine
     csr_of(machine, hart, number, pending)
 }
 
-/// The same, for which `pending` says whether an interrupt is pending for the hart.
+/// The line of `csr H C`, where `pending` says whether an interrupt is pending for the hart.
 pub fn csr_of(machine: &Machine, hart: HartId, number: u32, pending: bool) -> MachineLine
     requires { pending ≡ waits machine.now hart }
     ensures { CsrLine hart number machine.now result }
@@ -134,7 +136,7 @@ pub fn mem(machine: &Machine, address: u64, count: u32) -> MachineLine
     MachineLine::Mem(mem_bytes(&memory[first..first + length]))
 }
 
-/// So many bytes, with zeros behind them.
+/// At most 64 bytes, as a line shows them.
 fn mem_bytes(from: &[u8]) -> MemBytes
     requires { length from.now ≤ 64 }
     ensures { result ≡ record { bytes = from.now ++ replicate (64 - length from.now) 0; count = length from.now } }

@@ -14,10 +14,6 @@ sits_alone first [] row one = absurd (omega arith)
 sits_alone first (d ∷ []) row one = let e : is_of first d ≡ 1 = rw (eq-eqb d.hart first row.0) refl in omega arith
 sits_alone first (d ∷ e ∷ ds) row one = absurd (omega arith)
 
-pub sits_first : (first : ℕ) (ds : List PendingView) → AreFrom first ds → 0 < length ds → total (is_of first) (take 1 ds) ≡ 1
-sits_first first [] row pos = absurd (omega arith)
-sits_first first (d ∷ ds) row pos = let e : is_of first d ≡ 1 = rw (eq-eqb d.hart first row.0) refl in omega arith
-
 -- both parts kept their harts, so the whole keeps them
 pub same_whole : (c one others one' others' c' : PendingSeatView) → one ≡ first_hart c → others ≡ other_harts c → SameHarts one one' → SameHarts others others' → c' ≡ together one' others' → SameHarts c c'
 same_whole c one others one' others' c' is_one is_others same more is = record {
@@ -37,9 +33,3 @@ same_whole c one others one' others' c' is_one is_others same more is = record {
       ∙ (sym (total-append (is_of h) (take 1 c.harts) (drop 1 c.harts)) ∙ ap (λ (ds : List PendingView). total (is_of h) ds) (take-append-drop 1 c.harts))) in
       omega arith));
 }
-
-pub same_then : (a b c : PendingSeatView) → SameHarts a b → SameHarts b c → SameHarts a c
-same_then a b c p q = record { harts = q.harts ∙ p.harts; each = λ h. q.each h ∙ p.each h }
-
-pub same_self : (a : PendingSeatView) → SameHarts a a
-same_self a = record { harts = refl; each = λ h. refl }

@@ -13,8 +13,6 @@ mod fixtures;
 #[cfg(test)]
 mod kept;
 #[cfg(test)]
-mod memory;
-#[cfg(test)]
 mod race;
 #[cfg(test)]
 mod steps;

@@ -1,4 +1,4 @@
-//! Where payload files are.
+//! Where payload files are read from.
 
 ghost use Rattle.std.specs.Prelude.{None};
 
@@ -18,7 +18,7 @@ pub trait PayloadFiles {
         ensures { IfOk result (λ read. IfSome (bytes_at self.now path.now) (λ bytes. read.items ≡ take most bytes)) };
 }
 
-/// The files of the system, of which nothing is known.
+/// The files of the system. No contract knows their bytes.
 impl PayloadFiles for HostRuntime {
     ghost bytes_at = { λ rt path. None };
 

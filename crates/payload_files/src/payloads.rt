@@ -1,16 +1,19 @@
-//! What each slot begins with.
+//! The payloads of the boot slots, from their files.
 
 ghost use Rattle.std.specs.Prelude.{◌≡◌, ◌<◌, ℕ, List, None, map, get_or, slice_set, string_bytes, IfOk, IfErr, IsSome, OnOk};
 ghost use Rattle.std.specs.Option.{option_map};
+ghost use Rattle.std.specs.declared.io.ErrorKind.{ErrorKind};
+ghost use Rattle.command_line.specs.Faults.{fault_of_kind};
 ghost use Rattle.payload_files.specs.Named.{AreFilesOf, IsFileOf};
 
 use crate::files::PayloadFiles;
 use board::Payloads;
 use board_model::Slot;
+use command_line::FileFault;
 use std::alloc::Global;
 use std::io;
 
-/// One byte more than the largest RAM has: a longer file is refused as one of this length is.
+/// One byte more than the largest RAM has. No more of a file is read, since a longer one is refused in the same way.
 const MOST_BYTES: u64 = 1_048_577;
 
 /// A payload file that could not be read.
@@ -22,7 +25,7 @@ pub struct PayloadFault {
     pub error: io::Error,
 }
 
-/// The payload of a slot: the bytes of the file that is named, and none where none is.
+/// The payload of a slot: the bytes of the file that is named for it. Without a file it is empty.
 fn read_named<F: PayloadFiles>(
     alloc: Global,
     files: &F,
@@ -60,11 +63,10 @@ fn read_slot<F: PayloadFiles>(
     }
 }
 
-/// What the four boot slots begin with: each the bytes of the file that is named for it, which may be longer than
-/// any RAM and is then cut to one byte more than the largest, or none. The files are read in the order of their
-/// slots.
+/// Reads the payloads of the four boot slots, each from the file that is named for it, in the order of the slots. Without a
+/// file a payload is empty. A file that is longer than any RAM is cut to one byte more than the largest has.
 ///
-/// Answers the first that could not be read; those after it are not read.
+/// The fault is the first file that could not be read. Those after it are not read.
 pub fn payloads_of<F: PayloadFiles>(
     alloc: Global,
     files: &F,
@@ -80,4 +82,25 @@ pub fn payloads_of<F: PayloadFiles>(
     read_slot(alloc, files, paths, 2, &mut payloads)?;
     read_slot(alloc, files, paths, 3, &mut payloads)?;
     Ok(payloads)
+}
+
+/// The payloads, as [`payloads_of`] reads them, for a program that tells its user which file could not be read, and why.
+pub fn read_payloads<F: PayloadFiles>(
+    alloc: Global,
+    files: &F,
+    paths: &[Option<String>; 4],
+) -> Result<Payloads, FileFault>
+    ensures read { IfOk result (AreFilesOf (F.bytes_at files.now) (map (option_map string_bytes) paths.now)) }
+    // The fault is the one of the file's error.
+    ensures failed { IfErr result (λ e. (kind : ErrorKind) × (e.fault ≡ fault_of_kind kind)) }
+{
+    match payloads_of(alloc, files, paths) {
+        Ok(payloads) => Ok(payloads),
+        Err(fault) => {
+            let path = paths[fault.slot.index()]
+                .as_ref()
+                .map_or("", String::as_str);
+            Err(FileFault::new(alloc, path, fault.error))
+        }
+    }
 }

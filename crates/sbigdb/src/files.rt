@@ -4,10 +4,9 @@ ghost use Rattle.std.specs.Prelude.{◌≡◌, All, length, IfOk};
 ghost use Rattle.script_lang.specs.Lines.{IsLineInRange};
 
 use crate::start::Start;
-use board::Payloads;
 use command_line::{FileFault, ProgramFault, read_file};
 use debug_options::Options;
-use payload_files::payloads_of;
+use payload_files::read_payloads;
 use script_lang::{Script, parse_script};
 
 /// More bytes than any script has: 65,537 lines of 4,096 bytes with their line feeds. A longer file is refused as one
@@ -25,27 +24,12 @@ fn script_read(rt: &HostRuntime, options: &Options) -> Result<Script, FileFault>
     parse_script(rt.alloc(), &bytes).map_err(FileFault::refused)
 }
 
-/// The payloads, by boot slot; a slot without a file is empty.
-fn payloads_read(rt: &HostRuntime, options: &Options) -> Result<Payloads, FileFault>
-    ensures { IfOk result (λ payloads. length payloads ≡ 4) }
-{
-    match payloads_of(rt.alloc(), rt, &options.payloads) {
-        Ok(payloads) => Ok(payloads),
-        Err(fault) => {
-            let path = options.payloads[fault.slot.index()]
-                .as_ref()
-                .map_or("", String::as_str);
-            Err(FileFault::new(rt.alloc(), path, fault.error))
-        }
-    }
-}
-
 /// What the session begins with: the script, and the payloads. The script is read first.
 pub fn start_read(rt: &HostRuntime, options: &Options) -> Result<Start, FileFault>
     ensures ranges { IfOk result (λ start. All (IsLineInRange start.script.shape) start.script.lines.items) }
     ensures four { IfOk result (λ start. length start.payloads ≡ 4) }
 {
     let script = script_read(rt, options)?;
-    let payloads = payloads_read(rt, options)?;
+    let payloads = read_payloads(rt.alloc(), rt, &options.payloads)?;
     Ok(Start { script, payloads })
 }

@@ -31,7 +31,7 @@ faults = search (crosses, sendable) depth 20
 disk_fields : IsSend (SimDisk.the_field).row
 disk_fields =
     struct_send (shape SimDisk.the_type)
-    (search (crosses, sendable), (search (crosses, sendable) depth 20, (history, (latest, (search sendable, (search sendable, (search (crosses, sendable) depth 20, (search sendable, (loan, (faults, tt))))))))))
+    (search (crosses, sendable), (search (crosses, sendable) depth 20, (history, (latest, (search sendable, (search sendable, (search (crosses, sendable) depth 20, (search sendable, (loan, (faults, (remembered, tt)))))))))))
 
 pub sim_disk : IsSend SimDisk.the_row
 sim_disk = recorded_send _ _ _ SimDisk.the_type.to_one disk_fields

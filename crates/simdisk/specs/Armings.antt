@@ -1,5 +1,5 @@
 -- What faults are to a contract.
-use Rattle.std.specs.Prelude.{◌≡◌, ◌⊎◌, ℕ, ◌-◌, Bool, Option, Some, None, true, false}
+use Rattle.std.specs.Prelude.{◌≡◌, ◌⊎◌, ℕ, ◌-◌, Bool, List, Option, Some, None, true, false}
 use Rattle.disk.specs.declared.device.ArmedFault.{ArmedFault}
 use Rattle.disk.specs.declared.device.ArmedFault.TheVariants.{FailAt, CutAt, FailLane, CutLane}
 use Rattle.disk.specs.FaultState.{Armed, Unarmed, FaultArmed, CutArmed, FaultState, armed_by}
@@ -9,8 +9,9 @@ abbrev pub arming : Option ArmedFault → Armed
 arming None = Unarmed
 arming (Some fault) = armed_by fault
 
-abbrev pub fault_state_by : Faults → ℕ → FaultState
-fault_state_by faults own = record { armed = arming faults.armed; struck = faults.cut; own = own }
+abbrev pub fault_state_by : Faults → ℕ → List ArmedFault → FaultState
+fault_state_by faults own armings =
+    record { armed = arming faults.armed; struck = faults.cut; own = own; armings = armings }
 
 -- what was armed struck, or power was cut before
 abbrev pub Strikes : Faults → Faults → Type 0

@@ -1,7 +1,7 @@
 //! The disk in memory as a disk.
 ghost use Rattle.std.specs.Prelude.{◌≡◌, ◌⊎◌, ◌≤◌, ◌<◌, ◌+◌, ◌*◌, ℕ, [], ◌∷◌, length, map, OnOk, OnErr, IfOk};
 ghost use Rattle.disk.specs.Facts.{Content, Torn, Written, Passes, Stays, Only, Apart, AreSectorsAt, Handed, InRow, Joined, Unchanged, counted, nothing, lent_sectors, lane_failures};
-ghost use Rattle.disk.specs.FaultState.{CausedInLanes, armed_by};
+ghost use Rattle.disk.specs.FaultState.{CausedInLanes, fault_state_armed};
 ghost use Rattle.disk.specs.Calls.{MakesCalls, NoCall};
 ghost use Rattle.simdisk.specs.Armings.{FailsNext, one_call_on};
 ghost use Rattle.simdisk.specs.LaneStates.{CountsLanes};
@@ -32,7 +32,7 @@ impl Disk for SimDisk {
     ghost facts = { λ d. sim_facts d.content.items (synced (log_of d.history)) (log_of d.history) d.failures d.calls
         (lent_of d.loan) };
 
-    ghost fault_state = { λ d. fault_state_by d.faults d.refused };
+    ghost fault_state = { λ d. fault_state_by d.faults d.refused d.past.armings };
 
     ghost arms = { λ d fault. d.faults.armed ≡ Some fault };
 
@@ -243,12 +243,13 @@ impl Disk for SimDisk {
     fn arm(&mut self, fault: ArmedFault)
         ensures facts { Unchanged (⟦<SimDisk as Disk>⟧.facts self.old) (⟦<SimDisk as Disk>⟧.facts self.new) }
         ensures armed { ⟦<SimDisk as Disk>⟧.fault_state self.new
-            ≡ record (⟦<SimDisk as Disk>⟧.fault_state self.old) { armed = armed_by fault } }
+            ≡ fault_state_armed fault (⟦<SimDisk as Disk>⟧.fault_state self.old) }
         ensures arms { ⟦<SimDisk as Disk>⟧.arms self.new fault }
         ensures call { ⟦<SimDisk as Logged>⟧.armed self.new ≡ Some fault }
         ensures log { ⟦<SimDisk as Logged>⟧.log self.new ≡ ⟦<SimDisk as Logged>⟧.log self.old }
     {
         self.faults.armed = Some(fault);
+        self.past.note_arming(fault);
     }
 
     fn struck(&self) -> bool {

@@ -2,7 +2,7 @@
 ghost use Rattle.std.specs.Prelude.{◌≡◌, ◌≢◌, ◌⊎◌, ◌/◌, ◌%◌, ℕ, get_or, length, replicate, OnOk, IfOk, IfErr};
 ghost use Rattle.std.specs.Simd.{first_chunks};
 ghost use Rattle.disk.specs.Facts.{IsFresh, IsLeft, Unchanged};
-ghost use Rattle.disk.specs.FaultState.{FaultArmed, CutArmed, no_fault, fault_state_left};
+ghost use Rattle.disk.specs.FaultState.{no_fault, fault_state_armed, fault_state_left};
 ghost use Rattle.write_log.specs.WriteLog.{synced, new_log};
 ghost use Rattle.simdisk.specs.Views.{left_by_fill};
 
@@ -13,6 +13,7 @@ use crate::latest::Latest;
 use crate::loan::Loan;
 use crate::logged::Logged;
 use crate::patch::copy_of;
+use crate::remembered::Remembered;
 use crate::sim::SimDisk;
 use board_model::Refusal;
 use disk::{ArmedFault, Disk, Sector};
@@ -76,6 +77,7 @@ impl SimDisk {
             refused: 0,
             loan: Loan::nothing(),
             faults: Faults::none(),
+            past: Remembered::no_arming(),
         })
     }
 
@@ -109,6 +111,7 @@ impl SimDisk {
             refused: self.refused,
             loan: Loan::nothing(),
             faults: Faults::none(),
+            past: self.past,
         }
     }
 
@@ -132,6 +135,7 @@ impl SimDisk {
         let lane_calls = self.lane_calls;
         disk.lane_calls = lane_calls;
         disk.refused = self.refused;
+        disk.past = self.past.same_armings();
         Ok(disk)
     }
 
@@ -149,7 +153,7 @@ impl SimDisk {
     pub fn fail_at(&mut self, call: u64)
         ensures facts { Unchanged (⟦<SimDisk as Disk>⟧.facts self.old) (⟦<SimDisk as Disk>⟧.facts self.new) }
         ensures armed { ⟦<SimDisk as Disk>⟧.fault_state self.new
-            ≡ record (⟦<SimDisk as Disk>⟧.fault_state self.old) { armed = FaultArmed } }
+            ≡ fault_state_armed (ArmedFault.FailAt call) (⟦<SimDisk as Disk>⟧.fault_state self.old) }
         ensures call { ⟦<SimDisk as Logged>⟧.armed self.new ≡ Some (ArmedFault.FailAt call) }
     {
         self.arm(ArmedFault::FailAt(call));
@@ -159,7 +163,7 @@ impl SimDisk {
     pub fn cut_at(&mut self, call: u64)
         ensures facts { Unchanged (⟦<SimDisk as Disk>⟧.facts self.old) (⟦<SimDisk as Disk>⟧.facts self.new) }
         ensures armed { ⟦<SimDisk as Disk>⟧.fault_state self.new
-            ≡ record (⟦<SimDisk as Disk>⟧.fault_state self.old) { armed = CutArmed } }
+            ≡ fault_state_armed (ArmedFault.CutAt call) (⟦<SimDisk as Disk>⟧.fault_state self.old) }
         ensures call { ⟦<SimDisk as Logged>⟧.armed self.new ≡ Some (ArmedFault.CutAt call) }
     {
         self.arm(ArmedFault::CutAt(call));
@@ -169,7 +173,7 @@ impl SimDisk {
     pub fn fail_lane(&mut self, lane: usize, call: u64)
         ensures facts { Unchanged (⟦<SimDisk as Disk>⟧.facts self.old) (⟦<SimDisk as Disk>⟧.facts self.new) }
         ensures armed { ⟦<SimDisk as Disk>⟧.fault_state self.new
-            ≡ record (⟦<SimDisk as Disk>⟧.fault_state self.old) { armed = FaultArmed } }
+            ≡ fault_state_armed (ArmedFault.FailLane lane call) (⟦<SimDisk as Disk>⟧.fault_state self.old) }
         ensures call { ⟦<SimDisk as Logged>⟧.armed self.new ≡ Some (ArmedFault.FailLane lane call) }
     {
         self.arm(ArmedFault::FailLane(lane, call));
@@ -180,7 +184,7 @@ impl SimDisk {
     pub fn cut_lane(&mut self, lane: usize, call: u64)
         ensures facts { Unchanged (⟦<SimDisk as Disk>⟧.facts self.old) (⟦<SimDisk as Disk>⟧.facts self.new) }
         ensures armed { ⟦<SimDisk as Disk>⟧.fault_state self.new
-            ≡ record (⟦<SimDisk as Disk>⟧.fault_state self.old) { armed = CutArmed } }
+            ≡ fault_state_armed (ArmedFault.CutLane lane call) (⟦<SimDisk as Disk>⟧.fault_state self.old) }
         ensures call { ⟦<SimDisk as Logged>⟧.armed self.new ≡ Some (ArmedFault.CutLane lane call) }
     {
         self.arm(ArmedFault::CutLane(lane, call));

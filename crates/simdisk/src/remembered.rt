@@ -1,22 +1,25 @@
-//! Sectors and calls that only contracts remember. They take no memory, and nothing is done for them at run
-//! time.
+//! Sectors, calls and faults that only contracts remember. They take no memory, and nothing is done for them
+//! at run time.
 ghost use Rattle.std.specs.Prelude.{◌≡◌, List, [], ◌∷◌, ◌++◌, map, take, drop};
 ghost use Rattle.std.specs.Borrow.{ftrue};
 ghost use Rattle.disk.specs.Facts.{Content};
+ghost use Rattle.disk.specs.declared.device.ArmedFault.{ArmedFault};
 ghost use Rattle.disk.specs.declared.device.LaneCall.{LaneCall};
 ghost use Rattle.write_log.specs.WriteLog.{Piece, piece_in};
 
 use crate::patch::Patch;
-use disk::{LaneCall, Sector};
+use disk::{ArmedFault, LaneCall, Sector};
 use std::marker::{Model, PhantomData};
 
-/// Sectors as they stood once, what each sync since then made durable, and the calls of a lane.
+/// Sectors as they stood once, what each sync since then made durable, the calls of a lane, and all faults
+/// that were armed, the newest first.
 #[derive(Drop)]
 pub(crate) struct Remembered {
     marker: PhantomData<u8>,
     pub(crate) ghost sectors: { Content },
     pub(crate) ghost epochs: { List (List Piece) },
     pub(crate) ghost calls: { List LaneCall },
+    pub(crate) ghost armings: { List ArmedFault },
 }
 
 impl Model for Remembered {
@@ -80,11 +83,33 @@ impl Remembered {
         *self = Remembered::picked(&(&*self, first, count, ok));
     }
 
+    /// No fault was ever armed.
+    pub(crate) fn no_arming() -> Remembered
+        ensures { result.armings ≡ [] }
+    {
+        Remembered::picked(&())
+    }
+
+    /// One more fault is armed.
+    pub(crate) fn note_arming(&mut self, fault: ArmedFault)
+        ensures { self.new.armings ≡ fault ∷ self.old.armings }
+    {
+        *self = Remembered::picked(&(&*self, fault));
+    }
+
+    /// The same faults.
+    pub(crate) fn same_armings(&self) -> Remembered
+        ensures { result.armings ≡ self.now.armings }
+    {
+        Remembered::picked(&self)
+    }
+
     /// What the caller's proof picks, from the values that are passed. No other function makes the struct, so
     /// that one proof by hand is enough.
     fn picked<T>(_values: &T) -> Remembered
-        ghost past: { Content × List (List Piece) × List LaneCall }
-        ensures { (result.sectors ≡ past.0) × (result.epochs ≡ past.1) × (result.calls ≡ past.2) }
+        ghost past: { Content × List (List Piece) × List LaneCall × List ArmedFault }
+        ensures { (result.sectors ≡ past.0) × (result.epochs ≡ past.1) × (result.calls ≡ past.2)
+            × (result.armings ≡ past.3) }
     {
         Remembered {
             marker: PhantomData,

@@ -9,6 +9,7 @@ use crate::faults::Faults;
 use crate::history::History;
 use crate::latest::Latest;
 use crate::loan::Loan;
+use crate::remembered::Remembered;
 use disk::Sector;
 use std::alloc::Global;
 
@@ -25,6 +26,7 @@ pub struct SimDisk {
     pub(crate) refused: u64,
     pub(crate) loan: Loan,
     pub(crate) faults: Faults,
+    pub(crate) past: Remembered,
     ghost agrees: { AgreesOutside (synced (log_of history)) (ranges (pieces history.written.items)) content.items },
     ghost newest: { newest (log_of history) ≡ latest_of latest content.items },
     ghost room: { length latest.sectors.items ≡ length content.items },

@@ -1,5 +1,5 @@
 -- What a command does, put together from its steps.
-use Rattle.std.proofs.Common.{◌≡◌, ◌∙◌, inl, inr, ℕ, ◌+◌, ◌-◌, ◌<◌, arith, length, Result, Ok, Err, None, OnOk, refl, sym, ap, subst, false}
+use Rattle.std.proofs.Common.{◌≡◌, ◌∙◌, inl, inr, ℕ, ◌+◌, ◌-◌, ◌<◌, arith, length, Result, Ok, Err, None, OnOk, IfErr, IsErrOf, ◌⊎◌, refl, sym, ap, subst, false}
 use Rattle.std.specs.Result.{MatchResult}
 use Rattle.board_model.specs.Durable.{DurableState, Change, after, refusal_of}
 use Rattle.board_model.specs.Shapes.{Size}
@@ -134,3 +134,12 @@ unwritten Fits old mid c e fits life reseen going room allowed only first why = 
     by Device why = refused_so old mid c Device (record { reseen = reseen; told = inl (fits, inl (refl, reaches, life)) }) moment only why.1 why.0
     by Memory why = refused_so old mid c Memory (record { reseen = reseen; told = inr (inr (inl (refl, fits, reaches, life))) }) moment only why.1 why.0
     by f why = absurd why
+
+pub the_error : (e f : Refusal) → IsErrOf {T = ℕ} (Err e) f → e ≡ f
+the_error e f is = let same : e ≡ f = cc in same
+
+-- a refusal by the disk is none for want of memory
+pub not_of_memory : (r : Result ℕ Refusal) → IfErr r (λ e. (e ≡ Device) ⊎ (e ≡ Down)) → IsErrOf r Memory → ⊥
+not_of_memory (Ok n) few is = let no : ⊥ = cc in no
+not_of_memory (Err e) (inl f) is = let g : Memory ≡ Device = sym (the_error e Memory is) ∙ f in let no : ⊥ = cc in no
+not_of_memory (Err e) (inr f) is = let g : Memory ≡ Down = sym (the_error e Memory is) ∙ f in let no : ⊥ = cc in no

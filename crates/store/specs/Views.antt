@@ -1,5 +1,5 @@
 -- What a contract sees of a store.
-use Rattle.std.specs.Prelude.{◌≡◌, ℕ, List, Option, None, Some, length, map, option_map}
+use Rattle.std.specs.Prelude.{◌≡◌, ℕ, Bool, List, Option, None, Some, length, map, option_map}
 use Rattle.board_model.specs.Durable.{DurableState, Change, after}
 use Rattle.board_model.specs.Shapes.{Size}
 use Rattle.disk.specs.declared.device.ArmedFault.{ArmedFault}
@@ -59,6 +59,10 @@ module _ {D L : Type 0} {g : Ghosts D L} {l : Lanes L} where
   -- how often its disk had failed when it was opened
   abbrev pub failures_at_open : Store D L g l → ℕ
   failures_at_open store = store.failures_at_open
+
+  -- whether memory was refused to a suspension of this life
+  abbrev pub was_refused_memory : Store D L g l → Bool
+  was_refused_memory store = store.refused_memory
 
   -- it is up, at that state
   abbrev pub Stands : Store D L g l → DurableState → Type 0

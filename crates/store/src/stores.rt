@@ -40,6 +40,7 @@ pub struct Store<D: Disk + Drop> {
     doubt: Option<Doubt>,
     over: bool,
     failures_at_open: u64,
+    refused_memory: bool,
     ghost kept: { Keeps (D.facts disk) shape side current doubt },
     ghost folded: { fold (state_of shape opened (D.facts disk).content)
         (map (λ e. change_in e (memory_in shape current (D.facts disk).content)) journal.items)
@@ -70,9 +71,9 @@ impl<D: Disk + Drop> Store<D> {
     ghost use Rattle.store.specs.Asked.{Asked};
     ghost use Rattle.store.specs.Frees.{HoldsMemory, WritesFree};
     ghost use Rattle.disk.specs.Facts.{Unchanged, counted};
-    ghost use Rattle.disk.specs.FaultState.{armed_by};
+    ghost use Rattle.disk.specs.FaultState.{fault_state_armed};
     ghost use Rattle.store.specs.Standing.{StandsFor};
-    ghost use Rattle.store.specs.Views.{device_of, disk_of, fault_state_of, arms_of, size_of_store, life_of, found_state, journal_of, now_state, receipts, doubt_of, failures_at_open, view_of, Stands, Doubts};
+    ghost use Rattle.store.specs.Views.{device_of, disk_of, fault_state_of, arms_of, size_of_store, life_of, found_state, journal_of, now_state, receipts, doubt_of, failures_at_open, was_refused_memory, view_of, Stands, Doubts};
 
     /// Opens a disk, and so begins a life. What the last life left in doubt is settled by a sync, and where
     /// the selected record is of version 1 the same state is written in version 2, by one commit. Each crash
@@ -84,6 +85,7 @@ impl<D: Disk + Drop> Store<D> {
         requires none_out { IsIdle (D.facts disk) }
         ensures opened { IfOk result (λ store. Opened (D.facts disk) (view_of store)) }
         ensures version { IfOk result (λ store. LeavesVersionTwo (disk_of store)) }
+        ensures memory { IfOk result (λ store. was_refused_memory store ≡ false) }
         ensures refused { IfErr result (λ e. OpenRefused (D.facts disk) e.1 (D.facts e.0)) }
 
         // And the other way: a disk that reads as a refusal is refused so, or by 5; one that stands for a
@@ -132,6 +134,7 @@ impl<D: Disk + Drop> Store<D> {
             doubt: None,
             over: false,
             failures_at_open,
+            refused_memory: false,
         })
     }
 
@@ -220,9 +223,23 @@ impl<D: Disk + Drop> Store<D> {
     {
         let entry = Entry::Suspend(at.hart, at.address, at.opaque);
         let durable = self.may_suspend(ram, at)?;
-        let (area, counts) = self.write_free(saving, ram)?;
+        let (area, counts) = match self.write_free(saving, ram) {
+            Ok(saved) => saved,
+            Err(refusal) => {
+                self.refused_memory = remembers(self.refused_memory, refusal);
+                return Err(refusal);
+            }
+        };
         let next = suspended(&durable, area, counts);
         self.issue(entry, next)
+    }
+
+    /// Whether memory was refused to a suspension of this life. Who made that call may not tell why it was
+    /// refused: a guest finds -1.
+    pub fn was_refused_memory(&self) -> bool
+        ensures { result ≡ was_refused_memory self.now }
+    {
+        self.refused_memory
     }
 
     /// What each command is asked first: refused `Down` where one is in doubt, `Over` in a life that has
@@ -232,6 +249,7 @@ impl<D: Disk + Drop> Store<D> {
         ensures refused { IfErr result (λ e. doubt_of self.now ≡ None → TakesNone (life_of self.now) e) }
         ensures up { IfErr result (λ e. doubt_of self.now ≡ None → e ≡ Refusal.Down → ⊥) }
         ensures not_device { IsErrOf result Refusal.Device → ⊥ }
+        ensures not_memory { IsErrOf result Refusal.Memory → ⊥ }
         ensures down { (c : Change) → doubt_of self.now ≡ Some c → result ≡ Err Refusal.Down }
     {
         if self.doubt.is_some() {
@@ -257,6 +275,7 @@ impl<D: Disk + Drop> Store<D> {
             (Suspend at.hart at.address at.opaque ram.now) e (life_of self.now)) }
         ensures up { IfErr result (λ e. doubt_of self.now ≡ None → e ≡ Refusal.Down → ⊥) }
         ensures not_device { IsErrOf result Refusal.Device → ⊥ }
+        ensures not_memory { IsErrOf result Refusal.Memory → ⊥ }
         ensures down { (c : Change) → doubt_of self.now ≡ Some c → result ≡ Err Refusal.Down }
     {
         self.takes()?;
@@ -281,7 +300,8 @@ impl<D: Disk + Drop> Store<D> {
         ensures writes { WritesFree (view_of self.old) result (view_of self.new) }
         ensures same { (self.new.doubt ≡ self.old.doubt) × (self.new.over ≡ self.old.over)
             × (self.new.current ≡ self.old.current) × (self.new.shape ≡ self.old.shape)
-            × (self.new.journal ≡ self.old.journal) × (self.new.failures_at_open ≡ self.old.failures_at_open) }
+            × (self.new.journal ≡ self.old.journal) × (self.new.failures_at_open ≡ self.old.failures_at_open)
+            × (self.new.refused_memory ≡ self.old.refused_memory) }
     {
         let area = free_area(&self.current);
         let snapshot = Snapshot {
@@ -305,6 +325,7 @@ impl<D: Disk + Drop> Store<D> {
         ensures calls { OnOk result ((disk_of self.new).calls ≡ counted (disk_of self.old).calls 4) }
         ensures life { IsErrOf result Refusal.Down → Failed (failures_at_open self.new) (disk_of self.new).failures }
         ensures stays { StaysOpen (view_of self.old) (view_of self.new) }
+        ensures memory { self.new.refused_memory ≡ self.old.refused_memory }
     {
         let ends = entry.ends_life();
         match commit(&mut self.disk, self.side, &next) {
@@ -331,6 +352,7 @@ impl<D: Disk + Drop> Store<D> {
             → Refused (life_of self.now) (change_of command) e (life_of self.now)) }
         ensures up { IfErr result (λ e. doubt_of self.now ≡ None → e ≡ Refusal.Down → ⊥) }
         ensures not_device { IsErrOf result Refusal.Device → ⊥ }
+        ensures not_memory { IsErrOf result Refusal.Memory → ⊥ }
         ensures down { (c : Change) → doubt_of self.now ≡ Some c → result ≡ Err Refusal.Down }
     {
         self.takes()?;
@@ -360,6 +382,7 @@ impl<D: Disk + Drop> Store<D> {
         ensures stops { IfErr result (λ e. StopsWithin (size_of_store self.old).pages e (disk_of self.old).calls
             (disk_of self.new).calls) }
         ensures stays { StaysOpen (view_of self.old) (view_of self.new) }
+        ensures memory { was_refused_memory self.new ≡ was_refused_memory self.old }
     {
         if ram.pages() != self.shape.pages() {
             return Err(Refusal::BadShape);
@@ -375,10 +398,11 @@ impl<D: Disk + Drop> Store<D> {
     pub fn arm(&mut self, fault: ArmedFault)
         ensures life { life_of self.new ≡ life_of self.old }
         ensures facts { Unchanged (disk_of self.old) (disk_of self.new) }
-        ensures armed { fault_state_of self.new ≡ record (fault_state_of self.old) { armed = armed_by fault } }
+        ensures armed { fault_state_of self.new ≡ fault_state_armed fault (fault_state_of self.old) }
         ensures arms { arms_of self.new fault }
         ensures board { size_of_store self.new ≡ size_of_store self.old }
         ensures opened { failures_at_open self.new ≡ failures_at_open self.old }
+        ensures memory { was_refused_memory self.new ≡ was_refused_memory self.old }
     {
         self.disk.arm(fault);
     }
@@ -424,8 +448,20 @@ impl<D: Disk + Drop> Store<D> {
             doubt: _,
             over: _,
             failures_at_open: _,
+            refused_memory: _,
         } = self;
         disk
+    }
+}
+
+/// Whether memory was refused, once that refusal has come.
+fn remembers(was: bool, refusal: Refusal) -> bool
+    ensures memory { refusal ≡ Refusal.Memory → result ≡ true }
+    ensures other { (refusal ≡ Refusal.Memory → ⊥) → result ≡ was }
+{
+    match refusal {
+        Refusal::Memory => true,
+        _ => was,
     }
 }
 

@@ -14,13 +14,30 @@ use std::process::Abort;
 use std::test::Fail;
 use std::thread;
 
+/// Whether a cut leaves the five pages of that site.
+fn outlives_a_cut(alloc: Global, site: Site, counts: LaneCounts) -> Result<bool, Refusal> {
+    let mut site = site.after_cut(Fill::Byte(0xff))?;
+    site.holds(alloc, Side::first(), 9, 7, counts)
+}
+
 /// Five pages written through so many lanes: how many places are in use, and whether a cut leaves the memory.
 fn written<C: Crew>(alloc: Global, crew: &C, lanes: u64) -> Result<(LaneCounts, bool), Refusal> {
     let mut site = Site::new(alloc, 5, lanes)?;
     let counts = site.write(alloc, crew, Side::first(), 9, 7)?;
-    let mut site = site.after_cut(Fill::Byte(0xff))?;
-    let holds = site.holds(alloc, Side::first(), 9, 7, counts)?;
-    Ok((counts, holds))
+    Ok((counts, outlives_a_cut(alloc, site, counts)?))
+}
+
+/// Five pages written through so many lanes in that order stand in those places, also after a cut.
+fn fills<R: Abort + thread::Threads + Sync>(
+    rt: &R,
+    alloc: Global,
+    lanes: u64,
+    order: [usize; 4],
+    counts: LaneCounts,
+) -> Result<(), Fail> {
+    let turns: Sequential<R> = Sequential::new(order)?;
+    same(rt, written(alloc, &turns, lanes)?, (counts, true));
+    Ok(())
 }
 
 /// Lanes by turns: each lane in its order is filled while pages are left.
@@ -38,8 +55,7 @@ const LANES: [(u64, [usize; 4], LaneCounts); 8] = [
 #[test]
 fn lanes_are_filled_in_their_turn(rt: HostRuntime) -> Result<(), Fail> {
     for (lanes, order, counts) in LANES {
-        let turns: Sequential<HostRuntime> = Sequential::new(order)?;
-        same(&rt, written(rt.alloc(), &turns, lanes)?, (counts, true));
+        fills(&rt, rt.alloc(), lanes, order, counts)?;
     }
     Ok(())
 }
@@ -59,9 +75,8 @@ fn threads_write_the_memory(rt: HostRuntime) -> Result<(), Fail> {
 #[test]
 fn fixed_stripes_read_as_the_memory(rt: HostRuntime) -> Result<(), Fail> {
     let mut site = Site::new(rt.alloc(), 5, 4)?;
-    let counts = site.write_stripes(rt.alloc(), Side::first(), 9, 7)?;
-    same(&rt, counts, [2, 1, 1, 1]);
-    let holds = site.holds(rt.alloc(), Side::first(), 9, 7, counts)?;
+    site.write_stripes(rt.alloc(), Side::first(), 9, 7)?;
+    let holds = site.holds(rt.alloc(), Side::first(), 9, 7, [2, 1, 1, 1])?;
     same(&rt, holds, true);
     Ok(())
 }

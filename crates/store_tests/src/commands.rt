@@ -6,6 +6,7 @@ use board_model::{Command, Refusal, Shape};
 use disk::Sector;
 use file_disk::{FileDisk, FileFate, MemoryFile};
 use std::alloc::Global;
+use std::process::Abort;
 use std::test::*;
 use store::Store;
 
@@ -52,29 +53,46 @@ const ROWS: [Row; 12] = [
     (2, 3, FileFate::Killed, None, 2),
 ];
 
+/// A command over that file is answered as the row says, and the next process finds its slot.
+fn comes_to(rt: &impl Abort, alloc: Global, file: &[Sector], row: &Row) -> Result<(), Fail> {
+    let (slot, left, fate, answer, stands) = *row;
+    let (answered, found) = commanded(alloc, file, slot, left, fate)?;
+    same(rt, found, stands);
+    same(rt, answered, answer.unwrap_or(answered));
+    Ok(())
+}
+
 #[test]
 fn a_command_over_a_file_that_fails_or_whose_process_is_killed(
     rt: HostRuntime,
 ) -> Result<(), Fail> {
     let file = formatted(rt.alloc(), Shape::new(1, 1, 1)?)?;
-    for (slot, left, fate, answer, stands) in ROWS {
-        let (answered, found) = commanded(rt.alloc(), &file, slot, left, fate)?;
-        same(&rt, found, stands);
-        same(&rt, answered, answer.unwrap_or(answered));
+    for row in &ROWS {
+        comes_to(&rt, rt.alloc(), &file, row)?;
     }
+    Ok(())
+}
+
+/// Sets slot 2, which that failure of the file refuses, and then slot 3, which the next process finds.
+fn is_written_next(
+    rt: &impl Abort,
+    alloc: Global,
+    file: &[Sector],
+    left: u64,
+    fate: FileFate,
+) -> Result<(), Fail> {
+    let mut store = opened(alloc, file, left, fate)?;
+    same(rt, applied(&mut store, 2), Err(Refusal::Device));
+    same(rt, applied(&mut store, 3), Ok(1));
+    let store = found(alloc, &file_of(store))?;
+    same(rt, store.found().slot.number(), 3);
     Ok(())
 }
 
 /// What a failed sync left out of the file, or lost, is written by the next one.
 #[test]
 fn the_next_command_writes_what_a_failed_one_left_out(rt: HostRuntime) -> Result<(), Fail> {
-    let alloc = rt.alloc();
-    let file = formatted(alloc, Shape::new(1, 1, 1)?)?;
-    for (left, fate) in [(0, FileFate::Fails), (1, FileFate::Loses)] {
-        let mut store = opened(alloc, &file, left, fate)?;
-        same(&rt, applied(&mut store, 2), Err(Refusal::Device));
-        same(&rt, applied(&mut store, 3), Ok(1));
-        same(&rt, found(alloc, &file_of(store))?.found().slot.number(), 3);
-    }
-    Ok(())
+    let file = formatted(rt.alloc(), Shape::new(1, 1, 1)?)?;
+    is_written_next(&rt, rt.alloc(), &file, 0, FileFate::Fails)?;
+    is_written_next(&rt, rt.alloc(), &file, 1, FileFate::Loses)
 }

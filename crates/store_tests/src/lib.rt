@@ -1,9 +1,12 @@
-//! The store and what it stands on: the disk in memory, a disk of one's own (docs/PORTING.md), a disk that is kept in a file, crews
-//! and images; by calls that no script of `crates/examples` makes, and what the contracts of all of them say together, run once.
+//! The store and what it stands on: the disk in memory, a disk of one's own (docs/PORTING.md), disks over a device, a disk that is
+//! kept in a file, crews and images; by calls that no script of `crates/examples` makes, and what the contracts of all of them say
+//! together, run once.
 #![tactic(auto)]
 
 #[cfg(test)]
 mod areas;
+#[cfg(test)]
+mod caches;
 #[cfg(test)]
 mod commands;
 #[cfg(test)]
@@ -14,6 +17,8 @@ mod files;
 mod first_use;
 #[cfg(test)]
 mod fixtures;
+#[cfg(test)]
+mod kept_back;
 #[cfg(test)]
 mod largest;
 #[cfg(test)]
@@ -26,5 +31,7 @@ mod porting;
 mod sectors;
 #[cfg(test)]
 mod sites;
+#[cfg(test)]
+mod stored;
 #[cfg(test)]
 mod suspensions;

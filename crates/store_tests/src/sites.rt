@@ -3,9 +3,9 @@ ghost use Rattle.std.specs.Prelude.{◌≡◌, ◌≤◌, length, IfOk};
 ghost use Rattle.board_model.specs.Shapes.{ram_bytes_of, sectors_of};
 ghost use Rattle.layout.specs.Records.{AreCounts};
 
-use board_model::{Addr, HartId, ImageHead, Reason, Refusal, Shape, Slot};
+use board_model::{Addr, HartId, ImageHead, PageNo, Reason, Refusal, Shape, Slot};
 use crew::Crew;
-use disk::{ArmedFault, Disk};
+use disk::{ArmedFault, Disk, Sector};
 use image::{read_area, write_area};
 use layout::{
     PlaceHead, Record, Saved, Side, Version, area_start, parse_record, place_head_bytes,
@@ -120,38 +120,68 @@ impl Site {
         write_area(alloc, &mut self.disk, crew, area, &snapshot)
     }
 
-    /// Writes the memory that begins with that byte as fixed stripes do: page k into lane `k mod L`.
+    /// Writes sectors where the disk has them.
+    fn write_at(&mut self, first: usize, sectors: &[Sector]) -> Result<(), Refusal> {
+        if self.disk.sectors() < first || self.disk.sectors() - first < sectors.len() {
+            return Err(Refusal::BadShape);
+        }
+        self.disk.write(first, sectors).map_err(|_| Refusal::Device)
+    }
+
+    /// Writes a page of the memory as fixed stripes do: page k into lane `k mod L`.
+    fn write_stripe(
+        &mut self,
+        area: Side,
+        ram: &Ram,
+        page: PageNo,
+        serial: u64,
+    ) -> Result<(), Refusal>
+        requires { 4096 * page + 4096 ≤ length ram.now }
+    {
+        let lanes = self.shape.lanes() as usize;
+        let (lane, place) = (page.index() % lanes, page.index() / lanes);
+        let sector = area_start(&self.shape, area) + 9 * (lane * self.shape.places() + place);
+        let head = place_head_bytes(&PlaceHead { page, serial });
+        self.write_at(sector, &[head])?;
+        let (sectors, _) = ram.page(page).as_chunks::<512>();
+        self.write_at(sector + 1, sectors)
+    }
+
+    /// Writes the memory that begins with that byte as fixed stripes do.
     pub fn write_stripes(
         &mut self,
         alloc: Global,
         area: Side,
         first: u8,
         serial: u64,
-    ) -> Result<LaneCounts, Refusal> {
+    ) -> Result<(), Refusal> {
         let ram = memory(alloc, &self.shape, first)?;
-        let lanes = self.shape.lanes() as usize;
-        let mut counts = [0; 4];
-        for number in 0..self.shape.pages() as usize {
-            let page = self.shape.page(number as u64).ok_or(Refusal::BadShape)?;
-            let (lane, place) = (number % lanes, number / lanes);
-            let sector = area_start(&self.shape, area) + 9 * (lane * self.shape.places() + place);
-            if self.disk.sectors() < sector + 9 || 4 <= lane {
-                return Err(Refusal::BadShape);
+        for number in 0..256 {
+            if let Some(page) = PageNo::new(number) {
+                if page.number() < ram.pages() {
+                    self.write_stripe(area, &ram, page, serial)?;
+                }
             }
-            let head = PlaceHead { page, serial };
-            let (sectors, _) = ram.page(page).as_chunks::<512>();
-            self.disk
-                .write(sector, &[place_head_bytes(&head)])
-                .map_err(|_| Refusal::Device)?;
-            self.disk
-                .write(sector + 1, sectors)
-                .map_err(|_| Refusal::Device)?;
-            counts[lane] = place as u32 + 1;
         }
-        Ok(counts)
+        Ok(())
     }
 
     /// Whether the area reads as that memory.
+    fn reads_as(
+        &mut self,
+        alloc: Global,
+        area: Side,
+        serial: u64,
+        counts: LaneCounts,
+        memory: &Ram,
+    ) -> Result<bool, Refusal> {
+        let saved = saved(&self.shape, area, serial, counts)?;
+        let mut ram = Ram::new(alloc, self.shape)?;
+        read_area(&mut self.disk, &self.shape, &saved, &mut ram)?;
+        Ok(ram.bytes() == memory.bytes())
+    }
+
+    /// Whether the area reads as the memory that begins with that byte.
     pub fn holds(
         &mut self,
         alloc: Global,
@@ -160,11 +190,8 @@ impl Site {
         serial: u64,
         counts: LaneCounts,
     ) -> Result<bool, Refusal> {
-        let saved = saved(&self.shape, area, serial, counts)?;
-        let mut ram = Ram::new(alloc, self.shape)?;
-        read_area(&mut self.disk, &self.shape, &saved, &mut ram)?;
         let written = memory(alloc, &self.shape, first)?;
-        Ok(ram.bytes() == written.bytes())
+        self.reads_as(alloc, area, serial, counts, &written)
     }
 
     /// Arms a fault.

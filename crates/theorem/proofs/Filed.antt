@@ -52,8 +52,3 @@ module _ (one : OneStanding) (memory made : Facts) (size : Size) (s : DurableSta
       now = λ c may. after_found n c (at_end c ((back.now c).0 (now c may)));
       ever = λ c was. ∥∥₁_map (ever c was) (since_made c);
     }
-
--- what the next open finds
-pub next_finds : OneStanding → (left : Facts) (view : StoreView) (size : Size) (s : DurableState) (commands : List Command) (least most : ℕ) → Opened left view → IsAfterFirst size s commands least most left.content
-    → (k : ℕ) × (least ≤ k) × (k ≤ most) × (view.life.found ≡ after_first k s commands)
-next_finds one left view size s commands least most opened (k, above, below, stands) = (k, above, below, (one left.content view.size size view.life.found (after_first k s commands) opened.reads stands).1)

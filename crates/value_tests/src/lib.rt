@@ -1,6 +1,6 @@
 //! Tests of crates that hold values alone: instructions and their words (`rv_decode`), refusals (`board_model`), the sectors of the
-//! store (`layout`), SBI calls by their registers (`sbi_abi`) and scripts (`script_lang`). Each value is compared with the
-//! standard, docs/ or an outside assembler.
+//! store (`layout`), SBI calls by their registers (`sbi_abi`), scripts (`script_lang`) and a debugger's packets (`gdb_packets`).
+//! Each value is compared with the standard, docs/, an outside assembler or an outside debugger.
 #![tactic(auto)]
 
 #[cfg(test)]
@@ -9,6 +9,8 @@ mod decoder;
 mod fixtures;
 #[cfg(test)]
 mod model;
+#[cfg(test)]
+mod packets;
 #[cfg(test)]
 mod plains;
 #[cfg(test)]

@@ -3,10 +3,10 @@ use Rattle.bench_program.proofs.usage.one_work.Goals as goal
 
 pub returns-in-Some-clause-named : goal.returns-in-Some-clause-named
 returns-in-Some-clause-named c =
-    let asked = c.work_in.ensures.value in
+    let asked = c.work_asked.ensures.value in
     (asked.0, asked.1, asked.2, asked.3, sym asked.4 ∙ c.in-Some.is)
 
 pub returns-in_ok-error-in-None-clause-conflict : goal.returns-in_ok-error-in-None-clause-conflict
 returns-in_ok-error-in-None-clause-conflict c =
-    let asked = c.work_in.ensures.value in
+    let asked = c.work_asked.ensures.value in
     inr (c.in_ok-error-in-None.ensures.kind, asked.0, asked.1, asked.2, asked.3, sym asked.4 ∙ c.in-None.is)

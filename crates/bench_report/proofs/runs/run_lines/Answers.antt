@@ -10,8 +10,6 @@ use Rattle.bench_report.proofs.runs.run_lines.Goals as goal
 pub loop-line-init : goal.loop-line-init
 loop-line-init g c = record {
   few = omega arith;
-  resting = c.requires.resting;
-  calm = c.requires.calm;
   fill = refl;
   reported = λ b h. ([], b, refl, h, λ before start r. rw append-nil r);
 }
@@ -19,9 +17,7 @@ loop-line-init g c = record {
 pub loop-line-preserved : goal.loop-line-preserved
 loop-line-preserved g c = record {
   few = (let few = rw c.in_default.is at c.run_line-after.ensures.few in omega (arith, few, c.loop-line.invariant.few));
-  resting = c.run_line-after.ensures.resting;
-  calm = rw c.in_default.is at c.run_line-after.ensures.calm;
-  fill = c.run_line-after.ensures.fill ∙ ap (λ (line : Line). fill_after line c.loop-line.fill) c.line-item.is ∙ ap (fill_after (get_or c.args.lines.now c.loop-line.line-index c.line-item.result)) c.loop-line.invariant.fill ∙ sym (fills_more c.args.lines.now c.loop-line.line-index c.line-item.result c.args.fill.now c.loop-line-test.true);
+  fill = c.run_line-after.ensures.fill ∙ ap (λ (line : Line). fill_after line c.loop-line.bench.fill) c.line-item.is ∙ ap (fill_after (get_or c.args.lines.now c.loop-line.line-index c.line-item.result)) c.loop-line.invariant.fill ∙ sym (fills_more c.args.lines.now c.loop-line.line-index c.line-item.result c.args.bench.fill c.loop-line-test.true);
   reported = λ b h.
       let was = c.loop-line.invariant.reported b h in
       let ok = rw c.in_default.is at c.run_line-after.ensures.ok in
@@ -49,4 +45,4 @@ returns-clause-ok g c = λ b h.
     (was.0, was.1, subst P (take_all c.loop-line.line-index c.args.lines.now (omega arith)) was.2, was.3.0, was.4)
 
 pub returns-clause-fill : goal.returns-clause-fill
-returns-clause-fill g c = c.loop-line.invariant.fill ∙ ap (λ (ls : List Line). fills_after ls c.args.fill.now) (take_all c.loop-line.line-index c.args.lines.now (omega arith))
+returns-clause-fill g c = c.loop-line.invariant.fill ∙ ap (λ (ls : List Line). fills_after ls c.args.bench.fill) (take_all c.loop-line.line-index c.args.lines.now (omega arith))

@@ -2,7 +2,7 @@ use Rattle.std.proofs.Common.{◌≡◌, ℕ, ◌+◌, ◌*◌, ◌≤◌, List,
 use Rattle.bench_report.specs.declared.printed.Answer.{Answer}
 use Rattle.bench_report.specs.Bench.{Bench}
 use Rattle.bench_report.specs.Steps.{Run}
-use Rattle.bench_report.specs.Agree.{fills_after, IsResting, IsUnstruck, IsBench}
+use Rattle.bench_report.specs.Agree.{fills_after, IsBench}
 use Rattle.bench_report.specs.Counts.{Reported}
 use Rattle.bench_report.proofs.runs.run_lines.Given as goal
 
@@ -10,9 +10,7 @@ use Rattle.bench_report.proofs.runs.run_lines.Given as goal
 abbrev pub invariant-loop-line : goal.invariant-loop-line
 invariant-loop-line g l = record {
   few : l.report.lines ≤ 1 + 2 * l.line-index;
-  resting : IsResting l.power;
-  calm : IsUnstruck l.power;
-  fill : l.fill ≡ fills_after (take l.line-index l.lines) l.fn.fill;
-  reported : (b : Bench) → IsBench l.setting.shape.now b l.fn.power l.fn.payloads → (answers : List Answer) × (now : Bench) × Run l.setting.shape.now b (take l.line-index l.lines) answers now × IsBench l.setting.shape.now now l.power l.payloads
+  fill : l.bench.fill ≡ fills_after (take l.line-index l.lines) l.fn.bench.fill;
+  reported : (b : Bench) → IsBench l.setting.shape.now b l.fn.bench.power l.fn.bench.payloads → (answers : List Answer) × (now : Bench) × Run l.setting.shape.now b (take l.line-index l.lines) answers now × IsBench l.setting.shape.now now l.bench.power l.bench.payloads
       × ((before : List Answer) (start : Option (List ℕ)) → Reported start (g.W.Write.contents l.fn.out) l.fn.report before → Reported start (g.W.Write.contents l.out) l.report (before ++ answers));
 }

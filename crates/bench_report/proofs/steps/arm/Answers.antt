@@ -1,20 +1,19 @@
 use Rattle.std.proofs.Common.{refl, subst}
-use Rattle.disk.specs.FaultState.{armed_by}
 use Rattle.bench_report.specs.declared.power.Power.{Power}
 use Rattle.bench_report.specs.Happens.{armed_with}
 use Rattle.bench_report.specs.Agree.{Agrees}
-use Rattle.bench_report.proofs.Armed.{armed_off, armed_on}
+use Rattle.bench_report.proofs.Armed.{armed_on}
 use Rattle.bench_report.proofs.steps.arm.Goals as goal
 
 pub returns-in-Off-clause-reported : goal.returns-in-Off-clause-reported
 returns-in-Off-clause-reported c = λ size b h.
     let P : Power → Type 0 = λ p. Agrees size b p in
-    let armed = armed_by c.args.fault in
-    (armed_with armed b, (c.says.ensures, refl), armed_off c.kept_disks.ensures.goes_on size b armed c.in-Off.disk c.arm.new.self (subst P c.in-Off.is h) c.arm.ensures.facts c.arm.ensures.armed, refl)
+    let fault = c.args.fault in
+    (armed_with fault b, (c.says.ensures, refl), c.arm_disk.ensures.reported size b (subst P c.in-Off.is h), refl)
 
 pub returns-in-On-clause-reported : goal.returns-in-On-clause-reported
 returns-in-On-clause-reported c = λ size b h.
     let P : Power → Type 0 = λ p. Agrees size b p in
-    let armed = armed_by c.args.fault in
-    let did = c.arm-in-On.ensures in
-    (armed_with armed b, (c.says-in-On.ensures, refl), armed_on size b armed c.in-On.board c.arm-in-On.new.self (subst P c.in-On.is h) did.machine did.life did.board did.facts did.armed, refl)
+    let fault = c.args.fault in
+    let did = c.arm.ensures in
+    (armed_with fault b, (c.says-in-On.ensures, refl), armed_on size b fault c.in-On.board c.arm.new.self (subst P c.in-On.is h) did.machine did.life did.board did.facts did.armed, refl)

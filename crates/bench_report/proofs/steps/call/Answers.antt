@@ -7,8 +7,8 @@ use Rattle.machine_lines.specs.Shows.{HasHart, called_line}
 use Rattle.bench_report.proofs.Lines.{on_calls, Follows}
 use Rattle.bench_report.proofs.steps.call.Goals as goal
 
-pub returns-in-None-clause-reported : goal.returns-in-None-clause-reported
-returns-in-None-clause-reported g c = λ size b h.
+pub returns-in-None : goal.returns-in-None
+returns-in-None g c = λ size b h.
     let P : Machine → Type 0 = λ m. HasHart m c.args.hart in
     let has : HasHart (machine_in c.args.board) c.args.hart = subst P c.machine.ensures (c.if-not-has.ensures.0 refl) in
     let new = c.call-said.new.self in
@@ -18,8 +18,8 @@ returns-in-None-clause-reported g c = λ size b h.
     on_calls size b c.args.board new c.args.hart c.args.words c.call-said.result c.called-line.result (On new) h has line c.call-said.ensures.calls
     (subst F (sym c.in-None.is) (λ x is. is))
 
-pub returns-in-Some-clause-reported : goal.returns-in-Some-clause-reported
-returns-in-Some-clause-reported g c = λ size b h.
+pub returns-in-Some : goal.returns-in-Some
+returns-in-Some g c = λ size b h.
     let P : Machine → Type 0 = λ m. HasHart m c.args.hart in
     let has : HasHart (machine_in c.args.board) c.args.hart = subst P c.machine.ensures (c.if-not-has.ensures.0 refl) in
     let new = c.call-said.new.self in
@@ -27,4 +27,4 @@ returns-in-Some-clause-reported g c = λ size b h.
     let line : S (machine_in new) = subst S c.machine-2.ensures c.called-line.ensures in
     let F : Option Word → Type 0 = λ o. Follows size b c.args.board new c.args.hart c.args.words c.call-said.result c.called-line.result c.after.result h has line o in
     on_calls size b c.args.board new c.args.hart c.args.words c.call-said.result c.called-line.result c.after.result h has line c.call-said.ensures.calls
-    (subst F (sym c.in-Some.is) (λ x is. c.after.ensures.reported size x is))
+    (subst F (sym c.in-Some.is) (λ x is. c.after.ensures size x is))

@@ -6,15 +6,15 @@ use Rattle.bench_report.specs.Agree.{Agrees}
 use Rattle.bench_report.proofs.Lines.{on_life}
 use Rattle.bench_report.proofs.steps.console.Goals as goal
 
-pub returns-in-Off-clause-reported : goal.returns-in-Off-clause-reported
-returns-in-Off-clause-reported c = λ size b h.
+pub returns-in-Off : goal.returns-in-Off
+returns-in-Off c = λ size b h.
     let P : Power → Type 0 = λ p. Agrees size b p in
     let Q : Option BenchLife → Type 0 = λ p. ConsoleStep c.args.command p b c.says.result b in
     let off = (subst P c.in-Off.is h).0 in
     (b, subst Q (sym off) (c.says.ensures, refl), h, refl)
 
-pub returns-in-On-clause-reported : goal.returns-in-On-clause-reported
-returns-in-On-clause-reported c = λ size b h.
+pub returns-in-On : goal.returns-in-On
+returns-in-On c = λ size b h.
     let P : Power → Type 0 = λ p. Agrees size b p in
     let was = subst P c.in-On.is h in
     on_life size b c.in-On.board was (λ life on. (

@@ -6,15 +6,15 @@ use Rattle.bench_report.proofs.steps.line_alone.Goals as goal
 
 pub returns-in-Format-clause-reported : goal.returns-in-Format-clause-reported
 returns-in-Format-clause-reported g c = λ b h.
-    row_reported c.args.setting.now.shape.now _ _ b _ _ _ _ _ c.in-Format.is c.answered.ensures.answer c.answered.ensures.power h.1 (c.format_line.ensures.reported b h.0)
+    row_reported c.args.setting.now.shape.now _ _ b _ _ _ _ _ c.in-Format.is c.answered.ensures.answer c.answered.ensures.power h.1 (c.format_line.ensures b h.0)
 
 pub returns-in-On-clause-reported : goal.returns-in-On-clause-reported
 returns-in-On-clause-reported g c = λ b h.
-    row_reported c.args.setting.now.shape.now _ _ b _ _ _ _ _ c.in-On.is c.answered-in-On.ensures.answer c.answered-in-On.ensures.power h.1 (c.on_line.ensures.reported c.args.setting.now.shape.now b h)
+    row_reported c.args.setting.now.shape.now _ _ b _ _ _ _ _ c.in-On.is c.answered-in-On.ensures.answer c.answered-in-On.ensures.power h.1 (c.on_line.ensures c.args.setting.now.shape.now b h)
 
 pub returns-in-Command-clause-reported : goal.returns-in-Command-clause-reported
 returns-in-Command-clause-reported g c = λ b h.
-    row_reported c.args.setting.now.shape.now _ _ b _ _ _ _ _ c.in-Command.is c.answered-in-Command.ensures.answer c.answered-in-Command.ensures.power h.1 (c.console_line.ensures.reported c.args.setting.now.shape.now b h.0)
+    row_reported c.args.setting.now.shape.now _ _ b _ _ _ _ _ c.in-Command.is c.answered-in-Command.ensures.answer c.answered-in-Command.ensures.power h.1 (c.console_line.ensures c.args.setting.now.shape.now b h.0)
 
 pub returns-in-Cut-clause-reported : goal.returns-in-Cut-clause-reported
 returns-in-Cut-clause-reported g c = λ b h. rw c.in-Cut.is (unpowered b, (c.says.ensures, refl), (c.cut.ensures.reported c.args.setting.now.shape.now b h.0, h.1))
@@ -24,15 +24,15 @@ returns-in-Ok-clause-reported g c = λ b h. rw c.in-Payload.is (rw c.says-in-Ok.
 
 pub returns-in-Turn-clause-reported : goal.returns-in-Turn-clause-reported
 returns-in-Turn-clause-reported g c = λ b h.
-    row_reported c.args.setting.now.shape.now _ _ b _ _ _ _ _ c.in-Turn.is c.shown.ensures.answer c.shown.ensures.power h.1 (c.turn_line.ensures.reported c.args.setting.now.shape.now b h.0)
+    row_reported c.args.setting.now.shape.now _ _ b _ _ _ _ _ c.in-Turn.is c.shown.ensures.answer c.shown.ensures.power h.1 (c.turn_line.ensures c.args.setting.now.shape.now b h.0)
 
 pub returns-in-Call-clause-reported : goal.returns-in-Call-clause-reported
 returns-in-Call-clause-reported g c = λ b h.
-    row_reported c.args.setting.now.shape.now _ _ b _ _ _ _ _ c.in-Call.is c.shown-in-Call.ensures.answer c.shown-in-Call.ensures.power h.1 (c.call_line.ensures.reported c.args.setting.now.shape.now b h.0)
+    row_reported c.args.setting.now.shape.now _ _ b _ _ _ _ _ c.in-Call.is c.shown-in-Call.ensures.answer c.shown-in-Call.ensures.power h.1 (c.call_line.ensures c.args.setting.now.shape.now b h.0)
 
 pub returns-in-Show-clause-reported : goal.returns-in-Show-clause-reported
 returns-in-Show-clause-reported g c = λ b h.
-    row_reported c.args.setting.now.shape.now _ _ b _ _ _ _ _ c.in-Show.is c.shown-in-Show.ensures.answer c.shown-in-Show.ensures.power h.1 (c.look_line.ensures.reported c.args.setting.now.shape.now b h.0)
+    row_reported c.args.setting.now.shape.now _ _ b _ _ _ _ _ c.in-Show.is c.shown-in-Show.ensures.answer c.shown-in-Show.ensures.power h.1 (c.look_line.ensures c.args.setting.now.shape.now b h.0)
 
 pub returns-in-Arm-clause-reported : goal.returns-in-Arm-clause-reported
 returns-in-Arm-clause-reported g c = λ b h.
@@ -48,4 +48,4 @@ returns-in-Inspect-clause-reported g c = λ b h.
 
 pub returns-in-Wake-clause-reported : goal.returns-in-Wake-clause-reported
 returns-in-Wake-clause-reported g c = λ b h.
-    row_reported c.args.setting.now.shape.now _ _ b _ _ _ _ _ c.in-Wake.is c.answered-in-Wake.ensures.answer c.answered-in-Wake.ensures.power h.1 (c.wake_line.ensures.reported c.args.setting.now.shape.now b h.0)
+    row_reported c.args.setting.now.shape.now _ _ b _ _ _ _ _ c.in-Wake.is c.answered-in-Wake.ensures.answer c.answered-in-Wake.ensures.power h.1 (c.wake_line.ensures c.args.setting.now.shape.now b h.0)

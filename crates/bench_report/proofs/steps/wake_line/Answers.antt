@@ -7,8 +7,8 @@ use Rattle.bench_report.specs.Agree.{Agrees}
 use Rattle.bench_report.proofs.Lines.{on_life}
 use Rattle.bench_report.proofs.steps.wake_line.Goals as goal
 
-pub returns-in-On-clause-reported : goal.returns-in-On-clause-reported
-returns-in-On-clause-reported c = λ size b h.
+pub returns-in-On : goal.returns-in-On
+returns-in-On c = λ size b h.
     let P : Power → Type 0 = λ p. Agrees size b p in
     let was = subst P c.in-On.is h in
     on_life size b c.in-On.board was (λ life on. (

@@ -9,5 +9,5 @@ pub returns-clause-ran : goal.returns-clause-ran
 returns-clause-ran g c =
     IfOk-weaker c.run_confirmed.result _ _
     (λ differs ran.
-    ran_of c.args.runner.now.setting.shape.now c.args.runner.now.begins.now c.args.runner.now.lines.now c.args.lines.now c.args.own.now differs c.requires.size c.requires.order c.requires.few c.requires.ranges c.requires.fits ran)
+    ran_of c.args.runner.now.setting.shape.now c.args.runner.now.payloads.now c.args.runner.now.lines.now c.args.lines.now c.args.own.now differs c.requires.size c.requires.order c.requires.few c.requires.ranges c.requires.fits ran)
     c.run_confirmed.ensures.ran

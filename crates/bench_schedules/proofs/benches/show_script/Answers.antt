@@ -14,5 +14,5 @@ returns-clause-shown g c =
     let S : List Line → Type 0 = λ ls. Shown (record { size = size; lines = ls }) (g.W.Write.contents c.args.out.now) (g.W.Write.contents c.write_script.new.out) in
     on_ok_weaker c.write_script.result
     (λ text. subst S here (shown_of size c.as_slice-lines.result.now c.in_ok-drawn.drawn.items c.deref-2.result.now (g.W.Write.contents c.args.out.now) (g.W.Write.contents c.write_script.new.out)
-    c.sizes.ensures c.in_ok-drawn.ensures.order c.in_ok-drawn.ensures.few (subst A (sym here) c.requires.ranges) c.fits.ensures c.deref-2.ensures.value c.scripts_read_as_written.ensures text))
+    c.shape_in_range.ensures c.in_ok-drawn.ensures.order c.in_ok-drawn.ensures.few (subst A (sym here) c.requires.ranges) c.fits.ensures c.deref-2.ensures.value c.scripts_read_as_written.ensures text))
     c.write_script.ensures.ok

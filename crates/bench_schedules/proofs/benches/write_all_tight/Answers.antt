@@ -1,9 +1,10 @@
 use Rattle.std.proofs.Common.{[], ◌++◌}
-use Rattle.bench_schedules.proofs.Ledgers.{nothing, tight_more}
+use Rattle.bench_report.proofs.Written.{unwritten}
+use Rattle.bench_schedules.proofs.Ledgers.{tight_more}
 use Rattle.bench_schedules.proofs.benches.write_all_tight.Goals as goal
 
 pub loop-place-init : goal.loop-place-init
-loop-place-init g c = ([], nothing _)
+loop-place-init g c = ([], unwritten _)
 
 pub loop-place-preserved : goal.loop-place-preserved
 loop-place-preserved g c =

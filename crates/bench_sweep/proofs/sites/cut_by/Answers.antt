@@ -7,7 +7,7 @@ use Rattle.bench_sweep.proofs.Calls.{same_calls}
 use Rattle.bench_sweep.proofs.sites.cut_by.Goals as goal
 
 pub returns-clause-left : goal.returns-clause-left
-returns-clause-left c = λ size b off. left_off c.kept_disks.ensures.goes_on size b c.args.disk.now c.in_ok-left.field-0 off c.in_ok-left.ensures.left c.in_ok-left.ensures.fault_state
+returns-clause-left c = λ size b off. left_off c.kept_disks.ensures.goes_on size b c.args.off.now.disk c.in_ok-disk.disk off c.in_ok-disk.ensures.left c.in_ok-disk.ensures.fault_state
 
 pub returns-clause-calls : goal.returns-clause-calls
-returns-clause-calls c = λ caller. same_calls caller c.args.disk.now c.in_ok-left.field-0 c.in_ok-left.ensures.left.calls c.in_ok-left.ensures.lane_calls
+returns-clause-calls c = λ caller. same_calls caller c.args.off.now.disk c.in_ok-disk.disk c.in_ok-disk.ensures.left.calls c.in_ok-disk.ensures.lane_calls

@@ -1,21 +1,18 @@
 use Rattle.std.proofs.Common.{◌≡◌, ℕ, refl, arith, length}
 use Rattle.std.proofs.lemmas.Result.{on_ok_weaker}
 use Rattle.bench_sweep.specs.declared.points.Bench.TheVariants.{Fails}
-use Rattle.bench_sweep.specs.Made.{armed_of}
+use Rattle.bench_sweep.specs.Points.{fault_at}
 use Rattle.bench_report.specs.Happens.{armed_with, off}
 use Rattle.bench_sweep.proofs.Made.{past_failure}
 use Rattle.bench_sweep.proofs.Reported.{reports_weaker}
 use Rattle.bench_sweep.proofs.sweeps.run_past_failure.Goals as goal
-
-pub goes_on-requires-clause-calm : goal.goes_on-requires-clause-calm
-goes_on-requires-clause-calm g c κs within = c.armed-armed.ensures.calm c.args.runner.now.setting.shape.now c.requires.sits
 
 pub judge_run-requires-clause-sits : goal.judge_run-requires-clause-sits
 judge_run-requires-clause-sits g c κs within =
     let size = c.args.runner.now.setting.shape.now in
     let sits = c.requires.sits in
     let calm = c.armed-armed.ensures.runs size sits.0 sits.1 in
-    let ran = c.in_ok-went.ensures.ran (armed_with (armed_of Fails) sits.0) calm in
+    let ran = c.in_ok-went.ensures.ran (armed_with (fault_at Fails c.args.point.caller c.args.point.call) sits.0) calm in
     let left = c.in_ok-left.ensures.runs size ran.bench ran.runs in
     (off ran.bench, left.1)
 
@@ -24,10 +21,10 @@ returns-clause-wrote g c = on_ok_weaker c.judge_run.result (λ did b l.
     (let size = c.args.runner.now.setting.shape.now in
     let lines = c.args.runner.now.lines.now in
     let calm = c.armed-armed.ensures.runs size b l in
-    let ran = c.in_ok-went.ensures.ran (armed_with (armed_of Fails) b) calm in
+    let ran = c.in_ok-went.ensures.ran (armed_with (fault_at Fails c.args.point.caller c.args.point.call) b) calm in
     let left = c.in_ok-left.ensures.runs size ran.bench ran.runs in
     let all : c.in_ok-went.went.count ≡ length lines = omega (arith, c.in_ok-went.ensures.few, c.if-count-all.false) in
     reports_weaker _ _ _ _ _ _ _
-    (past_failure size b lines c.in_ok-went.went.count _ _ _ all ran left.0)
+    (past_failure size c.args.point.caller c.args.point.call b lines c.in_ok-went.went.count _ _ _ all ran left.0)
     (did (off ran.bench) left.1)))
     c.judge_run.ensures.wrote

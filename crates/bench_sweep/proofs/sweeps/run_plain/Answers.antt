@@ -4,7 +4,7 @@ use Rattle.bench_sweep.proofs.Reported.{swept_take, swept_drop, stays_within}
 use Rattle.bench_sweep.proofs.sweeps.run_plain.Goals as goal
 
 pub loop-from-init : goal.loop-from-init
-loop-from-init g c = record { within = omega arith; sits = c.requires.sits; lives = λ b r. none_yet _ b _ _ _ _ r }
+loop-from-init g c = record { within = omega arith; sits = c.requires.sits; lives = λ b r. none_yet _ b _ _ r }
 
 pub stretch_of-requires-clause-lines : goal.stretch_of-requires-clause-lines
 stretch_of-requires-clause-lines g c κs within =
@@ -21,10 +21,10 @@ loop-from-preserved g c =
       within = stays_within from did.field-0.count _ lines i.within did.ensures.few;
       sits = did.ensures.sits;
       lives = λ b r.
-          (let f = sits_at size b lines from _ _ _ c.loop-from-test.true (i.lives b r) in
-          went_more size b lines _ from did.field-0.count c.loop-from.site.disk did.field-0.next.disk _ _ _ _ (rest_is from lines) i.within f (did.ensures.lives f.bench f.site));
+          (let f = sits_at size b lines from _ c.loop-from-test.true (i.lives b r) in
+          went_more size b lines _ from did.field-0.count c.loop-from.site did.field-0.next (rest_is from lines) i.within f (did.ensures.lives f.bench f.site));
     }
 
 pub returns-clause-plain : goal.returns-clause-plain
 returns-clause-plain g c = λ b r.
-    plain_run c.args.runner.now.setting.shape.now b c.args.runner.now.lines.now c.loop-from.from c.loop-from.site.disk _ _ (omega arith) (sym c.refused.ensures ∙ c.if-refused-ne0.false) (c.loop-from.invariant.lives b r)
+    plain_run c.args.runner.now.setting.shape.now b c.args.runner.now.lines.now c.loop-from.from c.loop-from.site (omega arith) (sym c.refused.ensures ∙ c.if-refused-ne0.false) (c.loop-from.invariant.lives b r)

@@ -1,7 +1,6 @@
 use Rattle.std.proofs.Common.{◌≤◌, ◌-◌, length}
 use Rattle.bench_report.specs.Bench.{Bench}
-use Rattle.bench_report.specs.declared.power.Power.TheVariants.{Off}
-use Rattle.bench_sweep.specs.Runs.{Runs, Sits}
+use Rattle.bench_sweep.specs.Runs.{RunsAt, Sits}
 use Rattle.bench_sweep.proofs.Made.{Went}
 use Rattle.bench_sweep.proofs.sweeps.run_plain.Given as goal
 
@@ -9,8 +8,8 @@ use Rattle.bench_sweep.proofs.sweeps.run_plain.Given as goal
 abbrev pub invariant-loop-from : goal.invariant-loop-from
 invariant-loop-from g l = record {
   within : l.from ≤ length l.runner.lines.now;
-  sits : Sits l.runner.setting.shape.now l.site.disk l.site.payloads l.site.ledger;
-  lives : (b : Bench) → Runs l.runner.setting.shape.now b (Off l.fn.begin.disk) l.fn.begin.payloads l.fn.begin.ledger → Went l.runner.setting.shape.now b l.runner.lines.now l.from l.site.disk l.site.payloads l.site.ledger;
+  sits : Sits l.runner.setting.shape.now l.site;
+  lives : (b : Bench) → RunsAt l.runner.setting.shape.now b l.fn.begin → Went l.runner.setting.shape.now b l.runner.lines.now l.from l.site;
 }
 
 abbrev pub decreases-loop-from : goal.decreases-loop-from

@@ -1,21 +1,18 @@
 use Rattle.std.proofs.Common.{◌≡◌, true, sym, ◌∙◌}
 use Rattle.std.proofs.lemmas.Result.{on_ok_weaker}
 use Rattle.bench_sweep.specs.declared.points.Bench.TheVariants.{Cuts}
-use Rattle.bench_sweep.specs.Made.{armed_of}
+use Rattle.bench_sweep.specs.Points.{fault_at}
 use Rattle.bench_report.specs.Happens.{armed_with, off}
 use Rattle.bench_sweep.proofs.Made.{to_cut}
 use Rattle.bench_sweep.proofs.Reported.{reports_weaker}
 use Rattle.bench_sweep.proofs.sweeps.run_to_cut.Goals as goal
-
-pub goes_on-requires-clause-calm : goal.goes_on-requires-clause-calm
-goes_on-requires-clause-calm g c κs within = c.armed-armed.ensures.calm c.args.runner.now.setting.shape.now c.requires.sits
 
 pub judge_each_fill-requires-clause-sits : goal.judge_each_fill-requires-clause-sits
 judge_each_fill-requires-clause-sits g c κs within =
     let size = c.args.runner.now.setting.shape.now in
     let sits = c.requires.sits in
     let calm = c.armed-armed.ensures.runs size sits.0 sits.1 in
-    let ran = c.in_ok-went.ensures.ran (armed_with (armed_of Cuts) sits.0) calm in
+    let ran = c.in_ok-went.ensures.ran (armed_with (fault_at Cuts c.args.point.caller c.args.point.call) sits.0) calm in
     (off ran.bench, c.in_ok-left.ensures.runs size ran.bench ran.runs)
 
 pub returns-in_ok-left-clause-wrote : goal.returns-in_ok-left-clause-wrote
@@ -23,9 +20,9 @@ returns-in_ok-left-clause-wrote g c = on_ok_weaker c.judge_each_fill.result (λ 
     (let size = c.args.runner.now.setting.shape.now in
     let lines = c.args.runner.now.lines.now in
     let calm = c.armed-armed.ensures.runs size b l in
-    let ran = c.in_ok-went.ensures.ran (armed_with (armed_of Cuts) b) calm in
+    let ran = c.in_ok-went.ensures.ran (armed_with (fault_at Cuts c.args.point.caller c.args.point.call) b) calm in
     let hit : ran.bench.fault_state.struck ≡ true = sym (c.is_struck.ensures.exact size ran.bench ran.runs.agrees) ∙ c.if-is_struck.true in
     reports_weaker _ _ _ _ _ _ _
-    (to_cut size b lines c.in_ok-went.went.count _ _ _ c.in_ok-went.ensures.few ran hit)
+    (to_cut size c.args.point.caller c.args.point.call b lines c.in_ok-went.went.count _ _ _ c.in_ok-went.ensures.few ran hit)
     (did (off ran.bench) (c.in_ok-left.ensures.runs size ran.bench ran.runs))))
     c.judge_each_fill.ensures.wrote

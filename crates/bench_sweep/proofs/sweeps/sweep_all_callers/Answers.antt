@@ -31,7 +31,7 @@ loop-caller-preserved g c = λ b r.
     let n = c.in_ok-made.made in
     let did = c.in_ok-made.ensures.wrote (unpowered b) (off_sits size (unpowered b) _ _ _ (c.in_ok-begin.ensures.runs size b r)) in
     let long : length w.0 ≡ i = zip_long _ (take i callers) w.0 w.1 ∙ length-take-le i callers (omega (arith, less)) in
-    let Z : List Caller → Type 0 = λ cs. AllZip (MadeCalls c.args.site.now.disk c.args.end.now.disk) cs (w.0 ++ n ∷ []) in (
+    let Z : List Caller → Type 0 = λ cs. AllZip (MadeCalls c.args.site.now.off.disk c.args.end.now.off.disk) cs (w.0 ++ n ∷ []) in (
       w.0 ++ n ∷ [],
       subst Z (sym (take_more callers i Disk less)) (zip_more _ (take i callers) w.0 _ n w.1 (omega (arith, c.in_ok-calls.ensures.calls, c.if-made-calls.false))),
       reports_as _ _ _ _ _ _ _ _ (next_caller kind callers i _ Disk w.0 n less refl long) (sym (total_more w.0 n)) (reports_more _ _ _ _ _ _ _ _ _ w.2 did),
@@ -41,5 +41,5 @@ pub returns-clause-wrote : goal.returns-clause-wrote
 returns-clause-wrote g c = λ b r.
     let w = c.loop-caller.invariant b r in
     let all : c.loop-caller.caller-index ≡ 5 = omega arith in
-    let Z : ℕ → Type 0 = λ k. AllZip (MadeCalls c.args.site.now.disk c.args.end.now.disk) (take k callers) w.0 in
+    let Z : ℕ → Type 0 = λ k. AllZip (MadeCalls c.args.site.now.off.disk c.args.end.now.off.disk) (take k callers) w.0 in
     (w.0, subst Z all w.1, reports_as _ _ _ _ _ _ _ _ (ap (λ (k : ℕ). all_runs c.args.runner.now.bench (take k callers) w.0) all) refl w.2)

@@ -9,7 +9,7 @@ loop-from-init g c = record {
   within = omega arith;
   sits = c.requires.sits;
   counts = omega arith;
-  lives = λ b r. none_yet _ b _ _ _ _ r;
+  lives = λ b r. none_yet _ b _ _ r;
   wrote = λ b r. reports_none _ _ _;
 }
 
@@ -37,12 +37,12 @@ loop-from-preserved g c =
       sits = did.ensures.sits;
       counts = omega (arith, i.counts, did.ensures.calls);
       lives = λ b r.
-          (let f = sits_at size b lines from _ _ _ c.loop-from-test.true (i.lives b r) in
-          went_more size b lines _ from count c.loop-from.site.disk did.did.next.disk _ _ _ _ rest i.within f (did.ensures.lives f.bench f.site));
+          (let f = sits_at size b lines from _ c.loop-from-test.true (i.lives b r) in
+          went_more size b lines _ from count c.loop-from.site did.did.next rest i.within f (did.ensures.lives f.bench f.site));
       wrote = λ b r.
-          (let f = sits_at size b lines from _ _ _ c.loop-from-test.true (i.lives b r) in
+          (let f = sits_at size b lines from _ c.loop-from-test.true (i.lives b r) in
           reports_as _ _ _ _ _ _ _ _ (next_exact kind c.args.caller made calls (omega (arith, i.counts, did.ensures.calls, did.ensures.below))) refl
-          (reports_more _ _ _ _ _ _ _ _ _ (i.wrote b r) (reports_weaker _ _ _ _ _ _ _ (row_of size kind b lines _ from c.loop-from.site.disk _ _ rest f) (did.ensures.wrote f.bench f.site))));
+          (reports_more _ _ _ _ _ _ _ _ _ (i.wrote b r) (reports_weaker _ _ _ _ _ _ _ (row_of size kind b lines _ from c.loop-from.site rest f) (did.ensures.wrote f.bench f.site))));
     }
 
 pub returns-clause-wrote : goal.returns-clause-wrote

@@ -1,9 +1,8 @@
 use Rattle.std.proofs.Common.{◌≡◌, ◌≤◌, ◌+◌, ◌-◌, length}
 use Rattle.bench_report.specs.Bench.{Bench}
-use Rattle.bench_report.specs.declared.power.Power.TheVariants.{Off}
 use Rattle.bench_sweep.specs.Points.{calls_of}
 use Rattle.bench_sweep.specs.Reports.{Reports, IsRow}
-use Rattle.bench_sweep.specs.Runs.{Runs, Sits}
+use Rattle.bench_sweep.specs.Runs.{RunsAt, Sits}
 use Rattle.bench_sweep.specs.Swept.{runs_from}
 use Rattle.bench_sweep.proofs.Made.{Went}
 use Rattle.bench_sweep.proofs.sweeps.sweep_caller.Given as goal
@@ -12,10 +11,10 @@ use Rattle.bench_sweep.proofs.sweeps.sweep_caller.Given as goal
 abbrev pub invariant-loop-from : goal.invariant-loop-from
 invariant-loop-from g l = record {
   within : l.from ≤ length l.runner.lines.now;
-  sits : Sits l.runner.setting.shape.now l.site.disk l.site.payloads l.site.ledger;
-  counts : calls_of l.caller l.site.disk ≡ calls_of l.caller l.fn.begin.disk + l.made;
-  lives : (b : Bench) → Runs l.runner.setting.shape.now b (Off l.fn.begin.disk) l.fn.begin.payloads l.fn.begin.ledger → Went l.runner.setting.shape.now b l.runner.lines.now l.from l.site.disk l.site.payloads l.site.ledger;
-  wrote : (b : Bench) → Runs l.runner.setting.shape.now b (Off l.fn.begin.disk) l.fn.begin.payloads l.fn.begin.ledger
+  sits : Sits l.runner.setting.shape.now l.site;
+  counts : calls_of l.caller l.site.off.disk ≡ calls_of l.caller l.fn.begin.off.disk + l.made;
+  lives : (b : Bench) → RunsAt l.runner.setting.shape.now b l.fn.begin → Went l.runner.setting.shape.now b l.runner.lines.now l.from l.site;
+  wrote : (b : Bench) → RunsAt l.runner.setting.shape.now b l.fn.begin
       → Reports g.W.Write.contents (IsRow l.runner.setting.shape.now l.runner.bench b l.runner.lines.now) l.fn.report l.report (runs_from l.runner.bench l.caller 1 l.made) 0;
 }
 

@@ -39,6 +39,6 @@ returns-clause-wrote g c =
     let last : c.out-2-1.given.0 ≡ c.write_sweep.new.out = c.out-2-1.given.1 (sym did.2.same) in
     let P : Option (List ℕ) → Type 0 = λ now. WroteAll c.args.bench size start lines (g.W.Write.contents c.args.out.now) now c.sweep_all_callers.new.report.sweep in
     subst P (ap g.W.Write.contents (sym last)) (
-    wrote_all c.args.bench size start lines _ _ _ _ _ count begun.0 did.0 refl refl refl begun.1 (plain_lines size first _ _ rest plain) (zip_long (MadeCalls c.in_ok-count.site.disk c.in_ok-end.end.disk) callers did.0 did.1)
+    wrote_all c.args.bench size start lines _ _ _ _ _ count begun.0 did.0 refl refl refl begun.1 (plain_lines size first _ _ rest plain) (zip_long (MadeCalls c.in_ok-count.site.off.disk c.in_ok-end.end.off.disk) callers did.0 did.1)
     (writes_weaker _ _ _ _ _ _ _ _ (row_lines size c.args.bench first _ _ rest) did.2.wrote) c.in_ok-write_sweep.ensures.ok
     )

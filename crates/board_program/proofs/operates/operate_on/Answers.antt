@@ -7,7 +7,7 @@ use Rattle.board_program.proofs.operates.operate_on.Goals as goal
 
 pub returns-in-Ok-clause-status : goal.returns-in-Ok-clause-status
 returns-in-Ok-clause-status g c =
-    (fault_of c.run_session-done.result.ended, c.end_with.ensures.status, inl (c.in-Ok.options, c.in-Ok.ensures.reads, c.run_session-done.ensures))
+    (fault_of c.run_from_files-done.result.ended, c.end_with.ensures.status, inl (c.in-Ok.options, c.in-Ok.ensures.reads, c.run_from_files-done.ensures))
 
 pub returns-in-Err-clause-status : goal.returns-in-Err-clause-status
 returns-in-Err-clause-status g c =

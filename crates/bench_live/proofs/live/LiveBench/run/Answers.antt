@@ -7,5 +7,6 @@ returns-clause-reported g c =
     let taken = c.take.ensures.value in
     let there = c.unwrap-power.ensures in
     let is : c.args.self.now.power ≡ Some c.unwrap-power.result = cc in
-    runs_on c.args.setting.now.shape.now c.args.line.now c.args.self.now.power c.unwrap-power.result c.line_with_cuts-after.result.0 c.args.self.now.payloads c.line_with_cuts-after.new.payloads c.line_with_cuts-after.result.1 is
+    let left = c.line_with_cuts-after.result.0 in
+    runs_on c.args.setting.now.shape.now c.args.line.now left.fill c.args.self.now.power c.unwrap-power.result left.power c.args.self.now.payloads left.payloads c.line_with_cuts-after.result.1 is
     c.line_with_cuts-after.ensures.reported

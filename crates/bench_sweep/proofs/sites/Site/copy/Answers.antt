@@ -4,4 +4,4 @@ use Rattle.bench_sweep.proofs.Left.{left_by}
 use Rattle.bench_sweep.proofs.sites.Site.copy.Goals as goal
 
 pub returns-clause-runs : goal.returns-clause-runs
-returns-clause-runs c = λ size b r. left_by size b c.args.self.now.disk _ c.args.self.now.payloads _ c.args.self.now.ledger _ r (c.in_ok-disk.ensures.left size b r.agrees) (c.in_ok-payloads.ensures.copied ∙ four_are c.args.self.now.payloads c.args.self.now.four) c.in_ok-ledger.ensures.kept
+returns-clause-runs c = λ size b r. left_by size b c.args.self.now.off _ c.args.self.now.payloads _ c.args.self.now.ledger _ r (c.in_ok-off.ensures.left size b r.agrees) (c.in_ok-payloads.ensures.copied ∙ four_are c.args.self.now.payloads c.args.self.now.four) c.in_ok-ledger.ensures.kept

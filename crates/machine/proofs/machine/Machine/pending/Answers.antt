@@ -1,31 +1,32 @@
 use Rattle.std.proofs.Common.{ℕ, ◌<◌, sym, ◌≡◌, ◌∙◌, subst}
 use Rattle.std.specs.Prelude.{length}
+use Rattle.sbi_calls.specs.Both.{TableState}
 use Rattle.susp.specs.Dozes.{doze_of}
 use Rattle.turns.specs.Turns.{has_pending}
 use Rattle.machine.specs.Machine.{Machine}
 use Rattle.machine.proofs.Owners.{sits_by}
 use Rattle.machine.proofs.Holding.{all_seats}
-use Rattle.machine.proofs.Looks.{held_still, shows_still, found_it}
+use Rattle.machine.proofs.Looks.{held_still, shows_still, found_it, stand_same}
 use Rattle.machine.proofs.machine.Machine.pending.Goals as goal
 
 pub invariant_of-self : goal.invariant_of-self
 invariant_of-self c =
     let i = c.self.inside in
-    held_still i.shape i.bus.ram i.harts.items i.tables i.seats i.bus.doze c.unwrap-seats.result c.look-seats.result.0 _ c.args.id c.look-seats.result.1 c.one_table.ensures.list c.one_set.ensures.list c.self.invariant
-    (sym c.take.ensures.value ∙ c.unwrap-seats.ensures) c.self.invariant.tables c.look-seats.ensures.gives c.look-seats.ensures.harts c.look-seats.ensures.alone
+    held_still i.shape i.bus.ram i.harts.items i.tables i.seats i.bus.doze c.unwrap-seats.result c.look-seats.result.0 _ c.args.id (λ (l : TableState). c.look-seats.result.1 ≡ has_pending c.args.id l.pairs) c.one_table.ensures.list c.one_set.ensures.list c.self.invariant
+    (sym c.take.ensures.value ∙ c.unwrap-seats.ensures) c.self.invariant.tables c.look-seats.ensures.gives (stand_same c.unwrap-seats.result c.look-seats.result.0 c.look-seats.ensures.harts) c.look-seats.ensures.alone
 
 pub returns-clause-value : goal.returns-clause-value
 returns-clause-value c =
     let i = c.self.inside in
     subst (λ (m : Machine). c.look-seats.result.1 ≡ has_pending c.args.id m.table.pairs) c.self.view_is
-    (found_it i.shape i.bus.ram i.harts.items i.tables i.seats i.bus.doze c.unwrap-seats.result c.look-seats.result.0 _ c.args.id c.look-seats.result.1 c.one_table.ensures.list c.one_set.ensures.list c.self.invariant
-    (sym c.take.ensures.value ∙ c.unwrap-seats.ensures) c.self.invariant.tables c.look-seats.ensures.gives c.look-seats.ensures.harts c.look-seats.ensures.alone)
+    (found_it i.shape i.bus.ram i.harts.items i.tables i.seats i.bus.doze c.unwrap-seats.result c.look-seats.result.0 _ c.args.id (λ (l : TableState). c.look-seats.result.1 ≡ has_pending c.args.id l.pairs) c.one_table.ensures.list c.one_set.ensures.list c.self.invariant
+    (sym c.take.ensures.value ∙ c.unwrap-seats.ensures) c.self.invariant.tables c.look-seats.ensures.gives (stand_same c.unwrap-seats.result c.look-seats.result.0 c.look-seats.ensures.harts) c.look-seats.ensures.alone)
 
 pub returns-clause-stays : goal.returns-clause-stays
 returns-clause-stays c =
     let i = c.self.inside in
-    shows_still i.shape i.bus.ram i.harts.items i.tables i.seats i.bus.doze c.unwrap-seats.result c.look-seats.result.0 _ c.args.id c.look-seats.result.1 c.one_table.ensures.list c.one_set.ensures.list c.self.invariant
-    (sym c.take.ensures.value ∙ c.unwrap-seats.ensures) c.self.invariant.tables c.look-seats.ensures.gives c.look-seats.ensures.harts c.look-seats.ensures.alone
+    shows_still i.shape i.bus.ram i.harts.items i.tables i.seats i.bus.doze c.unwrap-seats.result c.look-seats.result.0 _ c.args.id (λ (l : TableState). c.look-seats.result.1 ≡ has_pending c.args.id l.pairs) c.one_table.ensures.list c.one_set.ensures.list c.self.invariant
+    (sym c.take.ensures.value ∙ c.unwrap-seats.ensures) c.self.invariant.tables c.look-seats.ensures.gives (stand_same c.unwrap-seats.result c.look-seats.result.0 c.look-seats.ensures.harts) c.look-seats.ensures.alone
     ∙ c.self.view_is
 
 pub look-seats-requires-clause-sits : goal.look-seats-requires-clause-sits

@@ -2,4 +2,4 @@ use Rattle.std.proofs.Common.{[]}
 use Rattle.simdisk.proofs.remembered.Remembered.no_call.Given as goal
 
 abbrev pub ghost-picked : goal.ghost-picked
-ghost-picked a = ([], [], [])
+ghost-picked a = ([], [], [], [])

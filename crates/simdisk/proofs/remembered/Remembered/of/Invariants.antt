@@ -2,4 +2,4 @@ use Rattle.std.proofs.Common.{[]}
 use Rattle.simdisk.proofs.remembered.Remembered.of.Given as goal
 
 abbrev pub ghost-picked : goal.ghost-picked
-ghost-picked a = (a._values.now.now, [], [])
+ghost-picked a = (a._values.now.now, [], [], [])

@@ -2,4 +2,4 @@ use Rattle.std.proofs.Common.{[], take, drop}
 use Rattle.simdisk.proofs.remembered.Remembered.part.Given as goal
 
 abbrev pub ghost-picked : goal.ghost-picked
-ghost-picked a = let passed = a._values.now in (take passed.2 (drop passed.1 passed.0.now.sectors), [], [])
+ghost-picked a = let passed = a._values.now in (take passed.2 (drop passed.1 passed.0.now.sectors), [], [], [])

@@ -66,7 +66,7 @@ module _ (A : RattleType) where
       toks = alive 𝓛 ended.signature z.0.0 z.0.1
 
       abbrev made : Remembered
-      made = record { marker = record {}; sectors = z.1.0; epochs = z.1.1; calls = z.1.2 }
+      made = record { marker = record {}; sectors = z.1.0; epochs = z.1.1; calls = z.1.2; armings = z.1.3 }
 
       walks : ent 𝓤 ((walk_of 𝓛 ended stayed held).pre z) (WpFn 𝓤 H C Λ function ((walk_of 𝓛 ended stayed held).args z) Post)
       walks =
@@ -82,7 +82,7 @@ module _ (A : RattleType) where
           sets ! (agg ! (and_then ! (get ! refl) (no_more !))) refl (tt, (tt, tt)) $
           returns ! (look_at ! 0 refl) $ free_all ! refl $
           pure_i ! ((T.the_row).own_val made (bare ∷ [])) ((λ vss. (tt, ((λ uss. (tt, tt)), tt))), tt) (((vstruct vnil ∷ [], tt), (refl, ((tt, (refl, tt)), tt))), tt) $
-          suffices ! _ (ends_at 𝓛 ended stayed held z bare made (tt, tt) (tt, tt)) $ says ! (refl, refl, refl) $
+          suffices ! _ (ends_at 𝓛 ended stayed held z bare made (tt, tt) (tt, tt)) $ says ! (refl, refl, refl, refl) $
           nothing ! $ nothing ! $ fjoin ! $ move ! (2 ∷ 0 ∷ 1 ∷ []) $ done !))
 
     meets : (𝓣 : Tables 𝓤 H) → Meets 𝓛 ended.signature (WpFn 𝓤 H 𝓣.C 𝓣.Λ function) (closing 𝓛 ended held)

@@ -1,8 +1,8 @@
-use Rattle.std.proofs.Common.{◌∙◌, Err, ap, rules}
+use Rattle.std.proofs.Common.{◌∙◌, Err, refl, ap, rules}
 use Rattle.std.proofs.lemmas.Result.{err_from_is_err_and}
 use Rattle.store.specs.Lives.{Applied}
 use Rattle.store.specs.Views.{view_of}
-use Rattle.store.proofs.Answering.{refused_up}
+use Rattle.store.proofs.Answering.{refused_up, the_error}
 use Rattle.store.proofs.Found.{none_in_doubt}
 use Rattle.store.proofs.stores.Store.apply.Goals as goal
 
@@ -20,4 +20,6 @@ returns-in_err-next-clause-asked g c =
       untouched = search rules;
       life = search rules;
       stays = search rules;
+      remembered = rw (p.1, p.2) (λ is. absurd (c.next_for.ensures.not_memory (c.in_err-next.was ∙ ap Err (the_error _ _ is))));
+      as_before = λ not. refl;
     }

@@ -1,0 +1,48 @@
+-- A line between two lines: run to its end, or cut within.
+use Rattle.std.proofs.Common.{◌≡◌, true, false, ℕ, List, inl, inr, Result, Ok, Err, refl, sym, ◌∙◌, MatchResult}
+use Rattle.board_model.specs.Shapes.{Size}
+use Rattle.board_model.specs.declared.refusal.Refusal.{Refusal}
+use Rattle.board_model.specs.declared.refusal.Refusal.TheVariants.{Memory}
+use Rattle.script_lang.specs.declared.line.Line.{Line}
+use Rattle.simdisk.specs.declared.SimDisk.{SimDisk}
+use Rattle.simdisk.specs.declared.fill.Fill.{Fill}
+use Rattle.bench_report.specs.Bench.{Bench}
+use Rattle.bench_report.specs.Happens.{says, unpowered}
+use Rattle.bench_report.specs.Steps.{Step, Moves}
+use Rattle.bench_report.specs.Agree.{Agrees, Matches, IsBench, HasDisk, IsCutBy, EndsBy, ArmsIts}
+use Rattle.bench_report.specs.declared.power.Power.{Power}
+use Rattle.bench_report.specs.declared.printed.Answer.{Answer}
+use Rattle.bench_report.specs.declared.printed.Printed.TheVariants as printed
+use Rattle.bench_report.proofs.Armed.{unstruck_arming}
+
+abbrev pub Ran : Size → Line → Bench → Result Answer Refusal → Power → List (List ℕ) → Type 0
+Ran size line b r after payloads =
+    MatchResult r (λ answer. (new : Bench) × Step size line b answer new × Matches size new after payloads) (λ e. (e ≡ Memory) × Matches size b after payloads)
+
+abbrev pub Told : Size → Line → Fill → Bench → Answer → Power → List (List ℕ) → Type 0
+Told size line fill b answer left payloads = (new : Bench) × Moves size line b answer new × EndsBy size line fill b answer left × IsBench size new left payloads
+
+pub told_cut : (size : Size) (line : Line) (fill : Fill) (b : Bench) (r : Result Answer Refusal) (after left : Power) (payloads : List (List ℕ)) (disk : SimDisk) (answer : Answer)
+    → Ran size line b r after payloads → ((new : Bench) → Agrees size new after → new.fault_state.struck ≡ true) → ((new : Bench) → Agrees size new after → Agrees size (unpowered new) left)
+    → b.fault_state.struck ≡ false → HasDisk after disk → IsCutBy fill disk left → answer ≡ says printed.PowerLost → Told size line fill b answer left payloads
+told_cut size line fill b (Ok would) after left payloads disk answer did hit cuts calm has by is = (
+  unpowered did.0,
+  inr (would, did.0, did.1, hit did.0 did.2.0, is, refl),
+  inr (would, did.0, after, disk, did.1, hit did.0 did.2.0, did.2.0, has, by),
+  (cuts did.0 did.2.0, did.2.1, refl),
+)
+told_cut size line fill b (Err e) after left payloads disk answer did hit cuts calm has by is = absurd (let no : true ≡ false = sym (hit b did.1.0) ∙ calm in let never : ⊥ = cc in never)
+
+pub told_whole : (size : Size) (line : Line) (fill : Fill) (b : Bench) (r : Result Answer Refusal) (after : Power) (payloads : List (List ℕ)) → Ran size line b r after payloads
+    → ((new : Bench) → Agrees size new after → new.fault_state.struck ≡ false)
+    → MatchResult r (λ answer. Told size line fill b answer after payloads) (λ e. (e ≡ Memory) × Matches size b after payloads)
+told_whole size line fill b (Ok answer) after payloads did calm =
+    let quiet = calm did.0 did.2.0 in
+    (did.0, inl (did.1, quiet), inl (did.0, did.1, quiet), (did.2.0, did.2.1, quiet))
+told_whole size line fill b (Err e) after payloads did calm = did
+
+-- no cut strikes within a line that arms one
+pub cut_arms : (size : Size) (line : Line) (b : Bench) (r : Result Answer Refusal) (after left : Power) (payloads : List (List ℕ)) → Ran size line b r after payloads
+    → ((new : Bench) → Agrees size new after → new.fault_state.struck ≡ true) → b.fault_state.struck ≡ false → ArmsIts line left
+cut_arms size line b (Ok would) after left payloads did hit calm = unstruck_arming size line b would did.0 left did.1 calm (hit did.0 did.2.0)
+cut_arms size line b (Err e) after left payloads did hit calm = absurd (let no : true ≡ false = sym (hit b did.1.0) ∙ calm in let never : ⊥ = cc in never)

@@ -1,0 +1,62 @@
+//! The script's own run, with which those of its schedules are compared.
+
+ghost use Rattle.std.specs.Prelude.{◌≡◌, length, All, IfErr, IfOk};
+ghost use Rattle.std.specs.Option.{option_to_list};
+ghost use Rattle.board_model.specs.declared.refusal.Refusal.TheVariants.{Memory};
+ghost use Rattle.script_lang.specs.Lines.{IsLineInRange};
+ghost use Rattle.bench_orders.specs.Orders.{is_other, other_count};
+ghost use Rattle.bench_schedules.specs.Schedules.{RanOwn, other_answer};
+
+use crate::line_runs::{end_run, is_other, run_line};
+use crate::stretches::Stretches;
+use bench_live::LiveBench;
+use bench_report::{Answer, Setting};
+use board::Payloads;
+use board_model::Refusal;
+use crew::Crew;
+use script_lang::Line;
+
+/// What is known after the script's own run.
+#[derive(Drop)]
+pub struct OwnRun {
+    /// The answers of its lines that are no `turn`, in order.
+    pub answers: Vec<Answer>,
+    /// What it found of its stretches.
+    pub stretches: Stretches,
+}
+
+/// The answer of a line that is no `turn`; of a `turn` line none.
+fn other_answer(line: &Line, answer: Answer) -> Option<Answer>
+    ensures { option_to_list result ≡ other_answer (is_other line.now) answer }
+{
+    if is_other(line) { Some(answer) } else { None }
+}
+
+/// Runs the script as it stands, with these payloads in the slots. Refused `Memory` alone.
+pub fn run_own<C: Crew>(
+    setting: &Setting<'_, C>,
+    payloads: &Payloads,
+    lines: &[Line],
+) -> Result<OwnRun, Refusal>
+    requires four { length payloads.now ≡ 4 }
+    requires ranges { All (IsLineInRange setting.now.shape.now) lines.now }
+    ensures ran { IfOk result (λ own. RanOwn setting.now.shape.now payloads.now lines.now own.answers.items) }
+    ensures count { IfOk result (λ own. length own.answers.items ≡ other_count lines.now) }
+    ensures refused { IfErr result (λ e. e ≡ Memory) }
+{
+    let mut live = LiveBench::blank(setting.alloc, setting.shape, payloads)?;
+    let mut answers = Vec::new(setting.alloc);
+    let mut stretches = Stretches::new(setting.alloc);
+    let mut place = 0;
+    for line in lines {
+        let answer = run_line(setting, line, &mut live)?;
+        stretches.note(place, line, &answer)?;
+        if let Some(told) = other_answer(line, answer) {
+            answers.push(told)?;
+        }
+        place += 1;
+    }
+    end_run(live, setting.shape)?;
+    stretches.close()?;
+    Ok(OwnRun { answers, stretches })
+}

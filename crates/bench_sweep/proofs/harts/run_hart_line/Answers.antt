@@ -1,0 +1,17 @@
+use Rattle.std.proofs.Common.{None, Some}
+use Rattle.bench_report.specs.declared.power.Power.TheVariants.{On}
+use Rattle.bench_sweep.proofs.Turned.{line_off, line_on}
+use Rattle.bench_sweep.proofs.harts.run_hart_line.Goals as goal
+
+pub returns-in-Off-clause-goes : goal.returns-in-Off-clause-goes
+returns-in-Off-clause-goes g c = λ size b slots r. line_off size c.args.line.now b c.args.power c.in-Off.off slots c.args.ledger.now c.requires.of_harts c.in-Off.is r
+
+pub returns-in-None-clause-goes : goal.returns-in-None-clause-goes
+returns-in-None-clause-goes g c = λ size b slots r.
+    line_on size c.args.line.now b c.args.power (On c.run_in_place.new.board) c.in-On.board c.run_in_place.new.board c.in_ok-run_in_place-in-On.field-0 None slots c.args.ledger.now c.run_in_place.new.ledger c.in-On.is c.in-None.is (λ n on. on)
+    (λ x at follows. c.in_ok-run_in_place-in-On.ensures.goes size x at follows) r
+
+pub returns-in-Some-clause-goes : goal.returns-in-Some-clause-goes
+returns-in-Some-clause-goes g c = λ size b slots r.
+    line_on size c.args.line.now b c.args.power c.after.result c.in-On.board c.run_in_place.new.board c.in_ok-run_in_place-in-On.field-0 (Some c.in-Some.word) slots c.args.ledger.now c.run_in_place.new.ledger c.in-On.is c.in-Some.is
+    (λ n at. c.after.ensures size n at) (λ x at follows. c.in_ok-run_in_place-in-On.ensures.goes size x at follows) r

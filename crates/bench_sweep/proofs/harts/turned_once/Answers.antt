@@ -1,7 +1,0 @@
-use Rattle.bench_sweep.proofs.Turned.{turn_goes}
-use Rattle.bench_sweep.proofs.harts.turned_once.Goals as goal
-
-pub returns-clause-goes : goal.returns-clause-goes
-returns-clause-goes g c = λ size b was told.
-    turn_goes size b c.args.board.now c.turn-word.new.self c.args.hart c.turn-word.result c.args.ledger.now c.follows_hart.new.ledger was told c.turn-word.ensures.turns
-    (λ n follows moved. c.in_ok-follows_hart.ensures.kept size b n follows moved)

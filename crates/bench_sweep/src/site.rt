@@ -1,0 +1,25 @@
+//! A bench between two lines of its script.
+
+ghost use Rattle.std.specs.Prelude.{◌≡◌, length};
+
+use bench_judge::Ledger;
+use bench_report::{OffDisk, Power};
+use board::Payloads;
+
+/// A board that is off, with all that a run goes on from.
+#[derive(Drop)]
+pub struct Site {
+    pub off: OffDisk,
+    pub payloads: Payloads,
+    pub ledger: Ledger,
+    ghost four: { length payloads ≡ 4 },
+}
+
+/// A run that is under way.
+#[derive(Drop)]
+pub struct Going {
+    pub power: Power,
+    pub payloads: Payloads,
+    pub ledger: Ledger,
+    ghost four: { length payloads ≡ 4 },
+}
