@@ -160,8 +160,11 @@ impl<'a, C: Crew> Talk<'a, C> {
     }
 
     /// A part of an object.
-    fn part(&self, object: Object, offset: u64, count: u64) -> Result<Vec<u8>, Refusal>
-        ensures { IfOk result (λ v. IsPart object (size_of self.now.session) (bench_of self.now.session) offset count v.items) }
+    fn part(&mut self, object: Object, offset: u64, count: u64) -> Result<Vec<u8>, Refusal>
+        ensures same { self.new.session ≡ self.old.session }
+        ensures talk { StaysOpen self.old self.new }
+        ensures hart { self.new.hart ≡ self.old.hart }
+        ensures text { IfOk result (λ v. IsPart object (size_of self.old.session) (bench_of self.old.session) offset count v.items) }
     {
         let alloc = self.alloc();
         match object {
@@ -171,7 +174,7 @@ impl<'a, C: Crew> Talk<'a, C> {
                 Ok(part(alloc, text.as_bytes(), offset, count)?)
             }
             Object::Threads => {
-                let text = threads_object(&self.session)?;
+                let text = threads_object(&mut self.session)?;
                 Ok(part(alloc, text.as_bytes(), offset, count)?)
             }
         }

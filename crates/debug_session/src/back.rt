@@ -59,13 +59,7 @@ fn halt_back(stands: bool, changed: Option<u64>) -> Option<Halt>
 {
     match changed {
         Some(address) => Some(Halt::Watched(address)),
-        None => {
-            if stands {
-                Some(Halt::Point)
-            } else {
-                None
-            }
-        }
+        None => { if stands { Some(Halt::Point) } else { None } }
     }
 }
 
@@ -93,7 +87,7 @@ fn seen_back<C: Crew>(
 /// What was found before, or later: the turn of a hart behind so many.
 fn later_turn(
     found: Option<(u32, Stop)>,
-    pub(crate) turns: u32,
+    turns: u32,
     hart: HartId,
     halt: Option<Halt>,
 ) -> Option<(u32, Stop)>
@@ -106,11 +100,7 @@ fn later_turn(
 }
 
 /// What was found before, or later: in a line.
-fn later_place(
-    found: Option<Place>,
-    pub(crate) line: usize,
-    last: Option<(u32, Stop)>,
-) -> Option<Place>
+fn later_place(found: Option<Place>, line: usize, last: Option<(u32, Stop)>) -> Option<Place>
     ensures { result ≡ later_place found line last }
 {
     match last {
@@ -125,7 +115,7 @@ fn last_halt_in<C: Crew>(
     stops: &Stops,
     bench: &mut DebuggedBench,
     hart: HartId,
-    pub(crate) turns: u32,
+    turns: u32,
 ) -> Result<Option<(u32, Stop)>, Refusal>
     requires sound { IsSound bench.old }
     ensures within { IfOk result (λ found. IfSome found (λ f. (f.1.hart ≡ hart) × (f.0 < turns))) }

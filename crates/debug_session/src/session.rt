@@ -28,7 +28,7 @@ use board::Payloads;
 use board_model::{HartId, Refusal};
 use crew::Crew;
 use debug_timeline::{DebuggedBench, Timeline};
-use machine::{Did, Word};
+use machine::State;
 use script_lang::Line;
 use std::sync::atomic::AtomicBool;
 
@@ -209,23 +209,18 @@ impl<'a, C: Crew> Session<'a, C> {
         self.stops.clear_watch(watch);
     }
 
-    /// What a hart is, by what was last said of a turn of it in this life.
-    pub fn state_text(&self, hart: HartId) -> &'static str
-        ensures { result.now ≡ state_text hart (bench_of self.now) }
+    /// The state of a hart in the words of the SBI specification 2.0, chapter HSM; that the power is off, where no board
+    /// is on that has the hart. It is a look: the board stays as it was.
+    pub fn state_text(&mut self, hart: HartId) -> &'static str
+        ensures same { self.new ≡ self.old }
+        ensures text { result.now ≡ state_text hart (bench_of self.old) }
     {
-        if !self.timeline.bench().is_on() {
-            return "power off";
-        }
-        match self.timeline.bench().said(hart) {
-            None => "no turn yet",
-            Some(Word::Over(_)) => "power off",
-            Some(Word::Goes(did)) => match did {
-                Did::Idle => "idle",
-                Did::Stopped => "stopped",
-                Did::Suspended => "suspended",
-                Did::Dozing => "dozing",
-                Did::Entered | Did::Woke | Did::Resumed | Did::Next => "runs",
-            },
+        match self.timeline.state(hart) {
+            None => "power off",
+            Some(State::Started) => "STARTED",
+            Some(State::Stopped) => "STOPPED",
+            Some(State::StartPending) => "START_PENDING",
+            Some(State::Suspended) => "SUSPENDED",
         }
     }
 
