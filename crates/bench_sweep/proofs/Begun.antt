@@ -5,7 +5,9 @@ use Rattle.board_model.specs.Kept.{Kept, nothing_kept}
 use Rattle.board_model.specs.Shapes.{Size}
 use Rattle.script_lang.specs.declared.line.Line.{Line}
 use Rattle.script_lang.specs.declared.line.Line.TheVariants as lines
+use Rattle.bench_report.specs.declared.power.OffDisk.{OffDisk}
 use Rattle.bench_report.specs.declared.power.Power.{Power}
+use Rattle.bench_report.specs.declared.power.Power.TheVariants.{Off}
 use Rattle.bench_report.specs.declared.printed.Answer.{Answer}
 use Rattle.bench_report.specs.declared.printed.Printed.{Printed}
 use Rattle.bench_report.specs.declared.printed.Printed.TheVariants as printed
@@ -17,8 +19,8 @@ use Rattle.bench_report.proofs.RunLines.{run_more}
 use Rattle.bench_report.specs.Agree.{OffIs, Agrees, IsBench}
 use Rattle.bench_judge.specs.declared.ledgers.Ledger.{Ledger}
 use Rattle.bench_judge.specs.Ledgers.{Tells}
-use Rattle.bench_sweep.specs.declared.site.Site.{Site}
-use Rattle.bench_sweep.specs.Runs.{TellsWhole, Begins, Begun, IsFormattedAt, Formats}
+use Rattle.bench_sweep.specs.Made.{IsFormatted}
+use Rattle.bench_sweep.specs.Runs.{TellsWhole, Runs, Begins, Begun, Formats}
 
 -- ---- the line that formats the disk
 abbrev Fresh : Bench → Bench → Type 0
@@ -58,8 +60,8 @@ moved_fresh size line b a new is (inr x) = absurd (let no : printed.Formatted �
 
 -- after the lines before it
 pub begun_by : (size : Size) (start : List (List ℕ)) (lines : List Line) (i : ℕ) (line : Line) (d : Line) (power : Power) (slots : List (List ℕ)) (b new : Bench) (answers : List Answer) (a : Answer) → i < length lines → line ≡ get_or lines i d → Run size (bench_with start) (take i lines) answers b
-    → Formats line a → Moves size line b a new → IsBench size new power slots → Begun size start (take (i + 1) lines) power slots
-begun_by size start lines i line d power slots b new answers a less is run did moves matches =
+    → Formats line a → Moves size line b a new → IsBench size new power slots → new.growths ≡ 0 → Begun size start (take (i + 1) lines) power slots
+begun_by size start lines i line d power slots b new answers a less is run did moves matches enough =
     let f = moved_fresh size line b a new did moves in
     let M : Line → Type 0 = λ l. Moves size l b a new in record {
       bench = new;
@@ -71,31 +73,33 @@ begun_by size start lines i line d power slots b new answers a less is run did m
       same = matches.1;
       formatted = f.0;
       kept = f.1;
+      enough = enough;
     }
 
 -- one line more
 pub begins_more : (size : Size) (start : List (List ℕ)) (lines : List Line) (i : ℕ) (line : Line) (d : Line) (power : Power) (slots : List (List ℕ)) (b new : Bench) (answers : List Answer) (a : Answer) → i < length lines → line ≡ get_or lines i d → Run size (bench_with start) (take i lines) answers b
-    → Moves size line b a new → IsBench size new power slots → Begins size start (take (i + 1) lines) power slots
-begins_more size start lines i line d power slots b new answers a less is run moves matches =
+    → Moves size line b a new → IsBench size new power slots → new.growths ≡ 0 → Begins size start (take (i + 1) lines) power slots
+begins_more size start lines i line d power slots b new answers a less is run moves matches enough =
     let M : Line → Type 0 = λ l. Moves size l b a new in record {
       bench = new;
       answers = answers ++ a ∷ [];
       run = run_more size lines i d (bench_with start) answers b a new less run (subst M is moves);
       is = matches;
+      enough = enough;
     }
 
 -- ---- the site behind it
-pub site_runs : (size : Size) (start : List (List ℕ)) (lines : List Line) (power : Power) (slots : List (List ℕ)) (site : Site) → Begun size start lines power slots → ((z : Size) (b : Bench) → Agrees z b power → OffIs z (off b) site.off.disk)
-    → site.payloads ≡ slots → Tells site.ledger nothing_kept → IsFormattedAt size start lines site
-site_runs size start lines power slots site g ends same tells =
-    let P : Kept → Type 0 = λ k. TellsWhole size site.ledger k in
+pub site_runs : (size : Size) (start : List (List ℕ)) (lines : List Line) (power : Power) (disk : OffDisk) (slots : List (List ℕ)) (ledger : Ledger) → Begun size start lines power slots → ((z : Size) (b : Bench) → Agrees z b power → OffIs z (off b) disk.disk) → Tells ledger nothing_kept
+    → (b : Bench) × IsFormatted size start lines b × Runs size (off b) (Off disk) slots ledger
+site_runs size start lines power disk slots ledger g ends tells =
+    let P : Kept → Type 0 = λ k. TellsWhole size ledger k in
     let doubt : (c : Change) → None ≡ Some c → CarriesWhole size c = λ c e. absurd (let no : ⊥ = cc in no) in
-    let at : OffIs size (off g.bench) site.off.disk = ends size g.bench g.agrees in (
+    let at : OffIs size (off g.bench) disk.disk = ends size g.bench g.agrees in (
       g.bench,
       record { before = g.before; last = g.last; run = g.run; formats = g.formats },
       record {
         agrees = at;
-        same = same ∙ g.same;
-        follows = record { formatted = g.formatted; kept = subst P (sym g.kept) (record { tells = tells; whole = tt; doubt = doubt }) };
+        same = g.same;
+        follows = record { formatted = g.formatted; kept = subst P (sym g.kept) (record { tells = tells; whole = tt; doubt = doubt }); enough = g.enough };
       },
     )

@@ -158,8 +158,8 @@ doubt_link size b board formatted on =
     go None is = absurd is
     go (Some life) is = is.0.0.0 ∙ sym is.0.1.2
 
-pub follows_same : (size : Size) (b new : Bench) (l : Ledger) → Follows size b l → new.kept ≡ b.kept → new.disk_state ≡ b.disk_state → Follows size new l
-follows_same size b new l f kept disk = record { formatted = disk ∙ f.formatted; kept = as_before size l b.kept new.kept f.kept kept }
+pub follows_same : (size : Size) (b new : Bench) (l : Ledger) → Follows size b l → new.kept ≡ b.kept → new.disk_state ≡ b.disk_state → new.growths ≡ b.growths → Follows size new l
+follows_same size b new l f kept disk enough = record { formatted = disk ∙ f.formatted; kept = as_before size l b.kept new.kept f.kept kept; enough = enough ∙ f.enough }
 
 module _ (size : Size) (b new : Bench) (board : SimBoard) (l : Ledger) (was : Follows size b l) where
   abbrev ram : List ℕ
@@ -173,8 +173,8 @@ module _ (size : Size) (b new : Bench) (board : SimBoard) (l : Ledger) (was : Fo
       no_doubt = doubt_link size new board (moved.same ∙ was.formatted) moved.after ∙ none
 
       by : HartTold size (words.Goes did) ram b.kept new.kept → Follows size new l
-      by (inl e) = follows_same size b new l was e moved.same
-      by (inr (next, c, of_hart, inl x)) = follows_same size b new l was x.1 moved.same
+      by (inl e) = follows_same size b new l was e moved.same moved.enough
+      by (inr (next, c, of_hart, inl x)) = follows_same size b new l was x.1 moved.same moved.enough
       by (inr (next, c, of_hart, inr (six, calm, allowed, is))) = absurd (let e : Some c ≡ None = sym (ap (λ (k : Kept). k.doubt) is) ∙ no_doubt in let no : ⊥ = cc in no)
 
   -- the command of an entry, with the memory of this moment
@@ -209,6 +209,7 @@ module _ (size : Size) (b new : Bench) (board : SimBoard) (l : Ledger) (was : Fo
       same is = record {
         formatted = moved.same ∙ was.formatted;
         kept = as_before size m b.kept new.kept (stays size b.kept (change_in e bytes) was.kept (ap (λ (k : Kept). k.doubt) (sym is) ∙ doubt)) is;
+        enough = moved.enough ∙ was.enough;
       }
 
       by : HartTold size (words.Goes did) ram b.kept new.kept → Follows size new m
@@ -220,7 +221,7 @@ module _ (size : Size) (b new : Bench) (board : SimBoard) (l : Ledger) (was : Fo
           let at = entry_is e bytes c g of_hart in
           let C : Change → Type 0 = λ x. CarriesWhole size x in
           let T : Change → Type 0 = λ x. IssuedTold (Some 6) x b.kept new.kept in
-          record { formatted = moved.same ∙ was.formatted; kept = takes size b.kept new.kept was.kept (subst C (sym at.0) at.1) (subst T (sym at.0) (inr (six, calm, allowed, is))) }
+          record { formatted = moved.same ∙ was.formatted; kept = takes size b.kept new.kept was.kept (subst C (sym at.0) at.1) (subst T (sym at.0) (inr (six, calm, allowed, is))); enough = moved.enough ∙ was.enough }
 
   -- a life that ended: what its store stands for
   over_link : new.disk_state ≡ Formatted → IsOver size new.disk_state new.kept (store_in board) → store_now (store_in board) ≡ found_of new.kept.changes
@@ -294,7 +295,7 @@ asleep_kept (Ok u) l m board head is takes = λ size b new was moved.
     let f : ◌≡◌ {A = ImageHead} (record { serial = (found_of b.kept.changes).next; hart = t.0; address = t.1; opaque = t.2 }) head = cc in
     let C : ImageHead → Type 0 = λ h. CarriesWhole size (Suspend h.hart h.address h.opaque (machine_in board).memory) in
     let I : ImageHead → Type 0 = λ h. IssuedTold None (Suspend h.hart h.address h.opaque (machine_in board).memory) b.kept new.kept in
-    record { formatted = moved.same ∙ was.formatted; kept = takes size b.kept new.kept was.kept (subst C f t.4) (subst I f t.5) })
+    record { formatted = moved.same ∙ was.formatted; kept = takes size b.kept new.kept was.kept (subst C f t.4) (subst I f t.5); enough = moved.enough ∙ was.enough })
 
 -- there is an image then
 pub asleep_has : {A : Type 0} (size : Size) (b new : Bench) (board : SimBoard) (l : Ledger) → Follows size b l → HartMoves size b (words.Over life_ends.Asleep) new board → (durable_of (store_now (store_in board))).image ≡ None → A
@@ -308,7 +309,7 @@ pub reset_kept : {E : Type 0} (r : Result (Unit {0}) E) (l m : Ledger) (board : 
 reset_kept (Err f) l m board cause is takes = tt
 reset_kept (Ok u) l m board cause is takes = λ size b new kind was moved.
     (let I : Reason → Type 0 = λ r. IssuedTold None (Reset r) b.kept new.kept in
-    record { formatted = moved.same ∙ was.formatted; kept = takes size b.kept new.kept was.kept tt (subst I is (reset size b new board l was kind moved)) })
+    record { formatted = moved.same ∙ was.formatted; kept = takes size b.kept new.kept was.kept tt (subst I is (reset size b new board l was kind moved)); enough = moved.enough ∙ was.enough })
 
 -- ---- a turn or a call of a hart, by its word
 abbrev pub HartKept : Ledger → Ledger → Word → SimBoard → Type 0

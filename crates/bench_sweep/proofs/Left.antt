@@ -47,8 +47,9 @@ use Rattle.bench_judge.specs.Ledgers.{Tells}
 use Rattle.bench_sweep.specs.Lines.{LineMoves}
 use Rattle.bench_sweep.specs.Runs.{TellsWhole, Runs, RunsCalm, LeftOff, IsSpoilt, FindsState, Finds, PowerFinds}
 use Rattle.bench_sweep.specs.Swept.{IsPlainLine}
-use Rattle.bench_sweep.specs.Told.{moves_harts, powers_on, CommandTold, PowerTold, LineTold}
+use Rattle.bench_sweep.specs.Told.{ShowsEnoughMemory, moves_harts, powers_on, CommandTold, PowerTold, LineTold}
 use Rattle.bench_sweep.proofs.Followed.{whole_found}
+use Rattle.bench_sweep.proofs.Fed.{power_grows, console_grows, line_grows}
 use Rattle.bench_sweep.proofs.Told.{console, powers as power_tells, line_tells}
 
 -- ---- a power cut
@@ -68,6 +69,7 @@ left_by size b old new slots now was ledger r cut same tells = record {
   follows = record {
     formatted = r.follows.formatted;
     kept = record { tells = tells b.kept r.follows.kept.tells; whole = r.follows.kept.whole; doubt = r.follows.kept.doubt };
+    enough = r.follows.enough;
   };
   left = refl;
 }
@@ -86,7 +88,7 @@ armed_off size b old new fault is slots ledger e l arms =
     let B : ArmedFault → Type 0 = λ f. OffIs size (armed_with f b) new.disk in record {
       agrees = subst B e (arms size b l.off);
       same = l.same;
-      follows = record { formatted = l.follows.formatted; kept = l.follows.kept };
+      follows = record { formatted = l.follows.formatted; kept = l.follows.kept; enough = l.follows.enough };
       calm = ap (λ (m : FaultState). m.struck) l.left;
     }
 
@@ -95,7 +97,7 @@ pub off_runs : (size : Size) (b : Bench) (power : Power) (disk : OffDisk) (slots
 off_runs size b power disk slots ledger r ends = record {
   agrees = ends size b r.agrees;
   same = r.same;
-  follows = record { formatted = r.follows.formatted; kept = r.follows.kept };
+  follows = record { formatted = r.follows.formatted; kept = r.follows.kept; enough = r.follows.enough };
 }
 
 sound_of : (size : Size) (b : Bench) (power : Power) → b.disk_state ≡ Formatted → Agrees size b power → IsSound b
@@ -109,21 +111,21 @@ sound_of size b power formatted agrees = (formatted, by power agrees)
     by (Off disk) is = let P : Option BenchLife → Type 0 = λ p. GoesOn b.kept p in subst P (sym is.0) tt
     by (On board) is = let M : DiskState → Type 0 = λ m. BoardIs size m b.kept b.power board in life b.power board (subst M formatted is.0)
 
-pub line_runs : (size : Size) (line : Line) (b : Bench) (old new : Power) (slots now : List (List ℕ)) (answer : Answer) (was ledger : Ledger) → IsPlainLine line → moves_harts line ≡ false → powers_on line ≡ false → RunsCalm size b old slots was
+pub line_runs : (size : Size) (line : Line) (b : Bench) (old new : Power) (slots now : List (List ℕ)) (answer : Answer) (was ledger : Ledger) → IsPlainLine line → moves_harts line ≡ false → powers_on line ≡ false → RunsCalm size b old slots was → ShowsEnoughMemory answer.line
     → ((x : Bench) × Step size line b answer x × Matches size x new now)
     → ((z : Size) (k n : Kept) → TellsWhole z was k → LineTold line answer k n → TellsWhole z ledger n) → LineMoves size line b new now ledger
-line_runs size line b old new slots now answer was ledger plain none unasked r (x, step, matches) follows =
+line_runs size line b old new slots now answer was ledger plain none unasked r enough (x, step, matches) follows =
     let told = line_tells size line b answer x plain none unasked (sound_of size b old r.follows.formatted r.agrees) step in record {
       bench = x;
       does = (answer, step);
-      runs = record { agrees = matches.0; same = matches.1; follows = record { formatted = told.1 ∙ r.follows.formatted; kept = follows size b.kept x.kept r.follows.kept told.0 } };
+      runs = record { agrees = matches.0; same = matches.1; follows = record { formatted = told.1 ∙ r.follows.formatted; kept = follows size b.kept x.kept r.follows.kept told.0; enough = line_grows size line b answer x (inr none) enough step ∙ r.follows.enough } };
     }
 
 -- a line that powers a board on, which was off
-pub power_runs : (size : Size) (mode : BootMode) (b : Bench) (old new : Power) (disk : OffDisk) (slots : List (List ℕ)) (answer : Answer) (now : Option Durable) (was ledger : Ledger) → old ≡ Off disk → RunsCalm size b old slots was
+pub power_runs : (size : Size) (mode : BootMode) (b : Bench) (old new : Power) (disk : OffDisk) (slots : List (List ℕ)) (answer : Answer) (now : Option Durable) (was ledger : Ledger) → old ≡ Off disk → RunsCalm size b old slots was → ShowsEnoughMemory answer.line
     → (OffIs size b disk.disk → slots ≡ b.payloads → StepsTo size b new (λ x. PowersOn size mode b answer x × TellsNow answer.found now x))
     → ((z : Size) (k n : Kept) → TellsWhole z was k → PowerTold mode answer.found answer.line now k n → TellsWhole z ledger n) → LineMoves size (lines.On mode) b new slots ledger
-power_runs size mode b old new disk slots answer now was ledger is r powers_it follows =
+power_runs size mode b old new disk slots answer now was ledger is r enough powers_it follows =
     let A : Power → Type 0 = λ p. Agrees size b p in
     let off : OffIs size b disk.disk = subst A is r.agrees in
     let did = powers_it off r.same in
@@ -131,7 +133,7 @@ power_runs size mode b old new disk slots answer now was ledger is r powers_it f
     let P : Option BenchLife → Type 0 = λ p. OnStep size p mode b answer did.0 in record {
       bench = did.0;
       does = (answer, subst P (sym off.0) did.1.0);
-      runs = record { agrees = did.2; same = r.same ∙ sym did.3; follows = record { formatted = told.1 ∙ r.follows.formatted; kept = follows size b.kept did.0.kept r.follows.kept told.0 } };
+      runs = record { agrees = did.2; same = r.same ∙ sym did.3; follows = record { formatted = told.1 ∙ r.follows.formatted; kept = follows size b.kept did.0.kept r.follows.kept told.0; enough = power_grows size mode b answer did.0 did.1.0 enough ∙ r.follows.enough } };
     }
 
 -- a line of the console
@@ -144,7 +146,7 @@ command_runs (Ok u) c old new slots answer was ledger issues follows = λ size b
     let told = console c b.power b answer did.0 refl (sound_of size b old r.follows.formatted r.agrees).1 did.1 in record {
       bench = did.0;
       does = (answer, did.1);
-      runs = record { agrees = did.2; same = r.same ∙ sym did.3; follows = record { formatted = told.1 ∙ r.follows.formatted; kept = follows size b.kept did.0.kept r.follows.kept told.0 } };
+      runs = record { agrees = did.2; same = r.same ∙ sym did.3; follows = record { formatted = told.1 ∙ r.follows.formatted; kept = follows size b.kept did.0.kept r.follows.kept told.0; enough = console_grows c b.power b answer did.0 did.1 ∙ r.follows.enough } };
     })
 
 -- and one that was on

@@ -10,6 +10,7 @@ pub mod Boots
 pub mod Spelled
 pub mod Reported
 pub mod Calls
+pub mod Fed
 pub mod Ran
 pub mod Made
 pub mod Copied

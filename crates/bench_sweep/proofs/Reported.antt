@@ -7,13 +7,15 @@ use Rattle.disk.specs.Facts.{counted}
 use Rattle.board_model.specs.Shapes.{Size}
 use Rattle.script_lang.specs.Lines.{IsLineInRange}
 use Rattle.script_lang.specs.declared.line.Line.{Line}
+use Rattle.bench_sweep.specs.declared.points.Bench.{Bench as Kind}
+use Rattle.bench_sweep.specs.declared.points.Caller.{Caller}
 use Rattle.bench_sweep.specs.declared.rows.Row.{Row}
 use Rattle.bench_sweep.specs.declared.sweeps.Report.{Report}
 use Rattle.bench_sweep.specs.Reports.{Reports}
 use Rattle.bench_sweep.specs.Rows.{row_text}
-use Rattle.bench_sweep.specs.Swept.{Cell, cell_of, IsPlainLine, AreSwept, Writes}
+use Rattle.bench_sweep.specs.Swept.{Cell, cell_of, runs_of, IsPlainLine, AreSwept, Writes}
 use Rattle.bench_report.specs.Bench.{Bench as ModelBench}
-use Rattle.bench_sweep.proofs.Written.{writes_one, writes_none, writes_more, writes_as, writes_weaker, with_points}
+use Rattle.bench_sweep.proofs.Written.{writes_one, writes_none, writes_more, writes_as, writes_weaker, writes_at, with_points}
 
 -- one row, of a run that was judged, whatever bench it ended at
 pub reports_one : {W E : Type 0} (contents : W → Option (List ℕ)) (Was : ModelBench → Type 0) (Is : ModelBench → Row → Type 0) (r : Result (Unit {0}) E) (old new : Report W) (row : Row) → ((b : ModelBench) → Was b → Is b row) → new.out.ghost_name ≡ old.out.ghost_name
@@ -38,6 +40,11 @@ reports_as contents Is a b xs ys m n e f r = record { same = r.same; wrote = wri
 -- rows of which another thing holds too
 pub reports_weaker : {W : Type 0} (contents : W → Option (List ℕ)) (Is So : Row → Type 0) (a b : Report W) (xs : List Cell) (n : ℕ) → ((row : Row) → Is row → So row) → Reports contents Is a b xs n → Reports contents So a b xs n
 reports_weaker contents Is So a b xs n then r = record { same = r.same; wrote = writes_weaker Is So _ _ _ _ _ _ then r.wrote }
+
+-- rows of one point
+pub reports_at : {W : Type 0} (contents : W → Option (List ℕ)) (kind : Kind) (caller : Caller) (number : ℕ) (Is So : Row → Type 0) (a b : Report W) (n : ℕ) → ((row : Row) → row.caller ≡ caller → row.number ≡ number → Is row → So row) → Reports contents Is a b (runs_of kind caller number) n
+    → Reports contents So a b (runs_of kind caller number) n
+reports_at contents kind caller number Is So a b n then r = record { same = r.same; wrote = writes_at kind caller number Is So _ _ _ _ _ then r.wrote }
 
 -- points that are counted at the end
 pub reports_points : {W : Type 0} (contents : W → Option (List ℕ)) (Is : Row → Type 0) (a b c : Report W) (xs : List Cell) (n : ℕ) → Reports contents Is a b xs 0 → c.out.ghost_name ≡ b.out.ghost_name → contents c.out.now ≡ contents b.out.now

@@ -6,6 +6,7 @@ use Rattle.board_model.specs.Kept.{Kept, found_of}
 use Rattle.board_model.specs.Shapes.{Size, ram_bytes_of}
 use Rattle.board_model.specs.declared.durable.Reason.{Reason}
 use Rattle.store.specs.Follows.{FitsBoard}
+use Rattle.store.specs.Views.{was_refused_memory}
 use Rattle.sbi_abi.specs.Calls.{call_of}
 use Rattle.sbi_abi.specs.declared.call.Call.{Call}
 use Rattle.sbi_abi.specs.declared.call.Call.TheVariants as calls
@@ -168,27 +169,27 @@ module _ (size : Size) (b : Bench) (old new : SimBoard) (h : ℕ) (formatted : b
 
   -- what comes of what a hart did, once the machine is mid
   moved : (life : BenchLife) (mid : Machine) (did : Turned) (word : Word) → BoardIs size b.disk_state b.kept (Some life) old → DeviceIs size b (store_fault_state (store_in old)) (store_facts (store_in old)) → mid.size ≡ life.machine.size
-      → boards.Comes did h mid (machine_in new) (store_in old) (store_in new) word → Came life mid did word
-  moved life mid did word is device same came =
+      → was_refused_memory (store_in new) ≡ false → boards.Comes did h mid (machine_in new) (store_in old) (store_in new) word → Came life mid did word
+  moved life mid did word is device same enough came =
       let life2 : BenchLife = has_machine mid life in
       let b2 : Bench = on_with life2 b in
       let link = linked size b life (store_size (store_in old)) formatted is.0.0 in
       let x = comes size b2 life2 h (machine_in new) (store_in old) (store_in new) refl (has_other size b life mid (store_in old) same is.0) device did word came in
       let told = came_to size h life2 b2 word x.0 link.0 refl (same ∙ link.1) did x.1 in
       let P : List ℕ → Type 0 = λ m. HartTold size word m b.kept x.0.kept in
-      (x.0, record { told = subst P (sym (memory_stays did h mid (machine_in new) (store_in old) (store_in new) word came)) told.0; same = told.1; slots = x.3; after = stands_by size word x.0 new x.2 }, x.1)
+      (x.0, record { told = subst P (sym (memory_stays did h mid (machine_in new) (store_in old) (store_in new) word came)) told.0; same = told.1; slots = x.3; enough = x.4 enough; after = stands_by size word x.0 new x.2 }, x.1)
 
   -- a turn
   abbrev pub TurnMoves : Word → Type 0
   TurnMoves word = (x : Bench) × HartMoves size b word x new × TurnsOnce h b word x
 
-  pub turn_moves : (word : Word) → OnIs size b old → boards.TurnsHeld h (machine_in old) (machine_in new) (store_in old) (store_in new) word → TurnMoves word
-  turn_moves word was (mid, did, turned, came) = by_life size b old (TurnMoves word) was turns_by
+  pub turn_moves : (word : Word) → OnIs size b old → was_refused_memory (store_in new) ≡ false → boards.TurnsHeld h (machine_in old) (machine_in new) (store_in old) (store_in new) word → TurnMoves word
+  turn_moves word was enough (mid, did, turned, came) = by_life size b old (TurnMoves word) was turns_by
     where
       turns_by : (life : BenchLife) → b.power ≡ Some life → BoardIs size b.disk_state b.kept (Some life) old → TurnMoves word
       turns_by life on is =
           let M : Machine → Type 0 = λ m. MakesTurn h m mid did in
-          let x = moved life mid did word is was.1 (turn_size (doze_of h (machine_in old).doze) h (machine_in old) mid did turned ∙ ap (λ (k : Machine). k.size) is.1) came in
+          let x = moved life mid did word is was.1 (turn_size (doze_of h (machine_in old).doze) h (machine_in old) mid did turned ∙ ap (λ (k : Machine). k.size) is.1) enough came in
           (x.0, x.1, (life, on, (mid, did, subst M is.1 turned, x.2)))
 
   -- a call with these registers, of a hart that the board has
@@ -197,8 +198,8 @@ module _ (size : Size) (b : Bench) (old new : SimBoard) (h : ℕ) (formatted : b
     Does n = (a : Answer) × CallStep b.power h asked b a n
 
     abbrev pub CallMoves : Option Word → Type 0
-    CallMoves None = (n : Bench) × OnIs size n new × (n.kept ≡ b.kept) × (n.disk_state ≡ b.disk_state) × (n.payloads ≡ b.payloads) × Does n
-    CallMoves (Some word) = (n : Bench) × HartMoves size b word n new × Does n
+    CallMoves None = (n : Bench) × OnIs size n new × (n.kept ≡ b.kept) × (n.disk_state ≡ b.disk_state) × (n.payloads ≡ b.payloads) × (n.growths ≡ b.growths) × Does n
+    CallMoves (Some word) = was_refused_memory (store_in new) ≡ false → (n : Bench) × HartMoves size b word n new × Does n
 
     does : (life : BenchLife) (mid : Machine) (by : Option Turned) (a : Answer) (n : Bench) → b.power ≡ Some life → machine_in old ≡ life.machine → MakesOneCall h asked life.machine mid by
         → GuestCall by h (has_machine mid life) (on_with (has_machine mid life) b) a n → Does n
@@ -215,12 +216,13 @@ module _ (size : Size) (b : Bench) (old new : SimBoard) (h : ℕ) (formatted : b
         let S : SimStore → Type 0 = λ store. DeviceIs size b (store_fault_state store) (store_facts store) in
         let C : Option Word → Type 0 = CallMoves in
         let did = does life mid None (shows (shown.NotStarted h)) n on is.1 makes_it (refl, refl) in
-        subst C (sym none) (n, ((subst Q (sym still) (has_other size b life mid (store_in old) same is.0), machine), subst S (sym still) device), refl, refl, refl, did)
+        subst C (sym none) (n, ((subst Q (sym still) (has_other size b life mid (store_in old) same is.0), machine), subst S (sym still) device), refl, refl, refl, refl, did)
     called life mid (Some did) said on is device same makes_it (word, came, some) =
         let C : Option Word → Type 0 = CallMoves in
-        let m = moved life mid did word is device same came in
+        subst C (sym some) (λ enough.
+        (let m = moved life mid did word is device same enough came in
         let r = reports size h word m.0 new m.1.after in
-        subst C (sym some) (m.0, m.1, does life mid (Some did) r.0 m.0 on is.1 makes_it (word, m.2, r.1))
+        (m.0, m.1, does life mid (Some did) r.0 m.0 on is.1 makes_it (word, m.2, r.1))))
 
     pub call_moves : (said : Option Word) → OnIs size b old → boards.CallsHeld h asked (machine_in old) (machine_in new) (store_in old) (store_in new) said → CallMoves said
     call_moves said was (mid, by, makes_it, came) = by_life size b old (CallMoves said) was calls_by
@@ -233,10 +235,10 @@ module _ (size : Size) (b : Bench) (old new : SimBoard) (h : ℕ) (formatted : b
 
 -- ---- the ledger follows
 -- one turn
-pub turn_goes : (size : Size) (b : Bench) (old new : SimBoard) (h : ℕ) (word : Word) (l m : Ledger) → OnIs size b old → Follows size b l → boards.TurnsHeld h (machine_in old) (machine_in new) (store_in old) (store_in new) word
+pub turn_goes : (size : Size) (b : Bench) (old new : SimBoard) (h : ℕ) (word : Word) (l m : Ledger) → OnIs size b old → Follows size b l → was_refused_memory (store_in new) ≡ false → boards.TurnsHeld h (machine_in old) (machine_in new) (store_in old) (store_in new) word
     → ((n : Bench) → Follows size b l → HartMoves size b word n new → Follows size n m) → HartGoes size b (TurnsOnce h b word) word new m
-turn_goes size b old new h word l m was told turned followed =
-    let did = turn_moves size b old new h told.formatted word was turned in
+turn_goes size b old new h word l m was told enough turned followed =
+    let did = turn_moves size b old new h told.formatted word was enough turned in
     record { bench = did.0; does = did.2; slots = did.1.slots; after = did.1.after; follows = followed did.0 told did.1 }
 
 -- a call that was not made
@@ -247,12 +249,12 @@ module _ (size : Size) (b : Bench) (old new : SimBoard) (h : ℕ) (asked : CallW
   pub call_unmade : Calls None → LineGoes size b (λ n. (a : Answer) × CallStep b.power h asked b a n) None new l
   call_unmade held =
       let did = call_moves size b old new h told.formatted asked has None was held in
-      (did.0, did.5, did.4, did.1, follows_same size b did.0 l told did.2 did.3)
+      (did.0, did.6, did.4, did.1, follows_same size b did.0 l told did.2 did.3 did.5)
 
   -- and one that was
-  pub call_made : (word : Word) (m : Ledger) → Calls (Some word) → ((n : Bench) → Follows size b l → HartMoves size b word n new → Follows size n m) → HartGoes size b (λ n. (a : Answer) × CallStep b.power h asked b a n) word new m
-  call_made word m held followed =
-      let did = call_moves size b old new h told.formatted asked has (Some word) was held in
+  pub call_made : (word : Word) (m : Ledger) → was_refused_memory (store_in new) ≡ false → Calls (Some word) → ((n : Bench) → Follows size b l → HartMoves size b word n new → Follows size n m) → HartGoes size b (λ n. (a : Answer) × CallStep b.power h asked b a n) word new m
+  call_made word m enough held followed =
+      let did = call_moves size b old new h told.formatted asked has (Some word) was held enough in
       record { bench = did.0; does = did.2; slots = did.1.slots; after = did.1.after; follows = followed did.0 told did.1 }
 
 -- ---- turns in a line

@@ -2,12 +2,13 @@
 use Rattle.std.proofs.Common.{◌≡◌, ◌^◌, ◌<◌, ◌≤◌, ℕ, zero, suc, ◌+◌, List, [], ◌∷◌, ◌++◌, Option, None, Some, length, map, take, drop, get_or, refl, sym, ◌∙◌, ap, subst, append_assoc, add_assoc, length-append, zero-add, add-one, arith}
 use Rattle.std.proofs.lemmas.List.{append-nil, take_more, length-take-le}
 use Rattle.std.proofs.lemmas.Grind.{flat_map-append}
-use Rattle.std.proofs.lemmas.List.Elements.{All-nil, All-cons, All-append, All-weaker}
-use Rattle.std.specs.List.{flat_map}
+use Rattle.std.proofs.lemmas.List.Elements.{All-nil, All-cons, All-head, All-tail, All-append, All-weaker}
+use Rattle.std.specs.List.{flat_map, All}
 use Rattle.std.specs.Io.KnownBytes.{Appends, Keeps}
 use Rattle.disk.specs.Facts.{counted}
 use Rattle.bench_judge.specs.declared.judges.Sweep.{Sweep}
 use Rattle.bench_sweep.specs.declared.points.Bench.{Bench}
+use Rattle.bench_sweep.specs.declared.points.Bench.TheVariants.{Cuts, Fails}
 use Rattle.bench_sweep.specs.declared.points.Caller.{Caller}
 use Rattle.simdisk.specs.declared.fill.Fill.{Fill}
 use Rattle.board_model.specs.Shapes.{Size}
@@ -99,6 +100,28 @@ writes_as Is a b s t xs ys m n e f w =
 pub writes_weaker : (Is So : Row → Type 0) (a b : Option (List ℕ)) (s t : Sweep) (xs : List Cell) (n : ℕ) → ((row : Row) → Is row → So row) → Writes Is a b s t xs n → Writes So a b s t xs n
 writes_weaker Is So a b s t xs n then w = record { rows = w.rows; each = All-weaker Is So then w.rows w.each; text = w.text; cells = w.cells; points = w.points; runs = w.runs; right = w.right }
 
+-- rows of one point
+pub writes_at : (bench : Bench) (caller : Caller) (number : ℕ) (Is So : Row → Type 0) (a b : Option (List ℕ)) (s t : Sweep) (n : ℕ) → ((row : Row) → row.caller ≡ caller → row.number ≡ number → Is row → So row) → Writes Is a b s t (runs_of bench caller number) n
+    → Writes So a b s t (runs_of bench caller number) n
+writes_at bench caller number Is So a b s t n then w =
+    record { rows = w.rows; each = by w.rows (subst (λ (xs : List Cell). All At xs) (sym w.cells) (all bench)) w.each; text = w.text; cells = w.cells; points = w.points; runs = w.runs; right = w.right }
+  where
+    At : Cell → Type 0
+    At x = (x.caller ≡ caller) × (x.number ≡ number)
+
+    more : (fill : Option Fill) (xs : List Cell) → All At xs → All At (cell caller number fill ∷ xs)
+    more fill xs at = All-cons At (cell caller number fill) xs (refl, refl) at
+
+    all : (kind : Bench) → All At (runs_of kind caller number)
+    all Cuts = more _ _ (more _ _ (more _ _ (more _ _ (more _ _ (All-nil At)))))
+    all Fails = more _ _ (All-nil At)
+
+    by : (rows : List Row) → All At (map cell_of rows) → All Is rows → All So rows
+    by [] at is = All-nil So
+    by (row ∷ rows) at is =
+        let here = All-head At (cell_of row) (map cell_of rows) at in
+        All-cons So row rows (then row here.0 here.1 (All-head Is row rows is)) (by rows (All-tail At (cell_of row) (map cell_of rows) at) (All-tail Is row rows is))
+
 -- points that are counted at the end
 pub with_points : (Is : Row → Type 0) (a b : Option (List ℕ)) (s t u : Sweep) (xs : List Cell) (n : ℕ) → Writes Is a b s t xs 0 → u.points ≡ counted t.points (counted 0 n) → u.runs ≡ t.runs → u.wrong ≡ t.wrong → Writes Is a b s u xs n
 with_points Is a b s t u xs n w points runs wrong =
@@ -173,7 +196,7 @@ longer counts n i e = length-append counts (n ∷ []) ∙ ap (λ k. k + 1) e
 
 -- all rows, and the last line
 pub wrote_all : (bench : Bench) (size : Size) (start : List (List ℕ)) (lines : List Line) (a b c : Option (List ℕ)) (s t : Sweep) (begin : ℕ) (first : ModelBench) (counts : List ℕ) → s.points ≡ 0 → s.runs ≡ 0 → s.wrong ≡ 0 → IsFormatted size start (take begin lines) first
-    → IsPlainRun size (unpowered first) (drop begin lines) → length counts ≡ 5 → Writes (λ row. IsRunOf size bench (unpowered first) (drop begin lines) row.left) a b s t (all_runs bench callers counts) (total counts)
+    → IsPlainRun size (unpowered first) (drop begin lines) → length counts ≡ 5 → Writes (λ row. IsRunOf size bench row.caller row.number (unpowered first) (drop begin lines) row.left) a b s t (all_runs bench callers counts) (total counts)
     → Appends b c (sweep_text t ++ 10 ∷ []) → WroteAll bench size start lines a c t
 wrote_all bench size start lines a b c s t begin first counts no_point no_run no_wrong format plain five wrote last = record {
   begin = begin;

@@ -1,5 +1,5 @@
 -- Which runs of a script a bench makes, and what each row of it tells. Source: docs/SCRIPT.md, "The benches".
-use Rattle.std.specs.Prelude.{◌≡◌, ◌≤◌, ℕ, List, [], ◌∷◌, ◌++◌, None, length, take, drop}
+use Rattle.std.specs.Prelude.{◌≡◌, ◌≤◌, ◌+◌, ℕ, List, [], ◌∷◌, ◌++◌, None, length, take, drop}
 use Rattle.std.specs.List.{flat_map}
 use Rattle.board_model.specs.Shapes.{Size}
 use Rattle.board.specs.Boots.{payload_at}
@@ -24,6 +24,10 @@ pub record IsFormatted (size : Size) (start : List (List ℕ)) (lines : List Lin
   pub run : Run size (bench_with start) lines (before ++ last ∷ []) b
   pub formats : last.line ≡ printed.Formatted
 
+-- Up to that bench memory was never refused: to no power-on, no suspension, no examination, and not to the disk's record.
+abbrev pub WasRefusedNoMemory : Bench → Type 0
+WasRefusedNoMemory b = (b.growths ≡ 0) × (b.fault_state.own ≡ 0)
+
 -- lives that are run one after another: power is out before each, and behind each the board is off
 abbrev pub Lives : Size → Bench → List (List Line) → Bench → Type 0
 Lives size b [] new = new ≡ b
@@ -37,7 +41,7 @@ pub record ComesTo (size : Size) (first : Bench) (lines : List Line) (b : Bench)
   pub all : flat_map (λ (life : List Line). life) lives ≡ lines
   pub run : Lives size first lives b
 
--- All lines are run as they are, and those of the last life to their end. The disk's record was refused no memory.
+-- All lines are run as they are, and those of the last life to their end. No memory was refused.
 pub record IsPlainRun (size : Size) (first : Bench) (lines : List Line) : Type 0 where
   pub before : ℕ
   pub bench : Bench
@@ -45,7 +49,7 @@ pub record IsPlainRun (size : Size) (first : Bench) (lines : List Line) : Type 0
   pub answers : List Answer
   pub end : Bench
   pub run : Run size (unpowered bench) (drop before lines) answers end
-  pub refused_none : end.fault_state.own ≡ 0
+  pub refused_none : WasRefusedNoMemory end
 
 -- what four slots boot
 abbrev pub four_of : List (List ℕ) → List (List ℕ)
@@ -61,23 +65,25 @@ abbrev pub EndsAs : Kind → List Line → ℕ → List Answer → Type 0
 EndsAs Cuts lines count answers = (before : List Answer) × (answers ≡ before ++ says printed.PowerLost ∷ [])
 EndsAs Fails lines count answers = count ≡ length lines
 
--- Lines are run on a bench that is off, on whose disk that is armed at some call. Then power is cut, and a power-on that
--- keeps the image says that.
-pub record RunsWith (size : Size) (kind : Kind) (b : Bench) (lines : List Line) (left : Answer) : Type 0 where
-  pub caller : Caller
+-- Lines are run on a bench that is off, on whose disk that is armed: at the call of that caller that has that number,
+-- where so many were made before. No memory is refused. Then power is cut, and a power-on that keeps the image says that.
+pub record RunsWith (size : Size) (kind : Kind) (caller : Caller) (number : ℕ) (b : Bench) (lines : List Line) (left : Answer) : Type 0 where
+  pub made : ℕ
   pub call : ℕ
+  pub counts : number ≡ made + call
   pub count : ℕ
   pub few : count ≤ length lines
   pub answers : List Answer
   pub end : Bench
   pub run : Run size (armed_with (fault_at kind caller call) b) (take count lines) answers end
   pub ends : EndsAs kind lines count answers
+  pub refused_none : WasRefusedNoMemory end
   pub after : Bench
   pub says : LooksAt size (unpowered end) left after
 
 -- A row that says that is such a run: some first lines are run as they are, and those behind them with that armed.
-pub record IsRunOf (size : Size) (kind : Kind) (first : Bench) (lines : List Line) (left : Answer) : Type 0 where
+pub record IsRunOf (size : Size) (kind : Kind) (caller : Caller) (number : ℕ) (first : Bench) (lines : List Line) (left : Answer) : Type 0 where
   pub before : ℕ
   pub bench : Bench
   pub plain : ComesTo size first (take before lines) bench
-  pub run : RunsWith size kind (unpowered bench) (drop before lines) left
+  pub run : RunsWith size kind caller number (unpowered bench) (drop before lines) left

@@ -24,8 +24,8 @@ IsLeft size end row = (after : Bench) × LooksAt size (unpowered end) row.left a
 
 -- a row whose run begins at that bench, which is off
 abbrev pub RunsRow : Size → Kind → Bench → List Line → Row → Type 0
-RunsRow size kind b lines row = RunsWith size kind b lines row.left
+RunsRow size kind b lines row = RunsWith size kind row.caller row.number b lines row.left
 
 -- a row of a bench over those lines, of which the first begin at that bench
 abbrev pub IsRow : Size → Kind → Bench → List Line → Row → Type 0
-IsRow size kind first lines row = IsRunOf size kind first lines row.left
+IsRow size kind first lines row = IsRunOf size kind row.caller row.number first lines row.left

@@ -35,10 +35,11 @@ pub record TellsWhole (size : Size) (ledger : Ledger) (kept : Kept) : Type 0 whe
   pub whole : IsWhole size (found_of kept.changes)
   pub doubt : (c : Change) → kept.doubt ≡ Some c → CarriesWhole size c
 
--- the same of a bench whose disk was formatted
+-- the same of a bench whose disk was formatted, and to which memory was never refused
 pub record Follows (size : Size) (b : Bench) (ledger : Ledger) : Type 0 where
   pub formatted : b.disk_state ≡ Formatted
   pub kept : TellsWhole size ledger b.kept
+  pub enough : b.growths ≡ 0
 
 -- The board with its payloads stands for that bench, and the ledger follows it.
 pub record Runs (size : Size) (b : Bench) (power : Power) (slots : List (List ℕ)) (ledger : Ledger) : Type 0 where
@@ -100,20 +101,23 @@ pub record IsLife (size : Size) (b : Bench) (lines : List Line) (count : ℕ) (s
 abbrev pub StopsOff : Power → Type 0
 StopsOff power = (size : Size) (b : Bench) → Agrees size b power → b.fault_state.struck ≡ false → b.power ≡ None
 
--- A hart of the board made a turn, or a call, which ended so.
+-- A hart of the board made a turn, or a call, which ended so, and was refused no memory.
 pub record HartMoves (size : Size) (b : Bench) (word : Word) (new : Bench) (board : SimBoard) : Type 0 where
   pub told : HartTold size word (machine_in board).memory b.kept new.kept
   pub same : new.disk_state ≡ b.disk_state
   pub slots : new.payloads ≡ b.payloads
+  pub enough : new.growths ≡ b.growths
   pub after : BoardAfter size word new board
 
 -- ---- before the disk is formatted
--- lines of the script were run on a blank disk, and come to a bench for which the board with its payloads stands
+-- lines of the script were run on a blank disk, and come to a bench for which the board with its payloads stands; no
+-- memory was refused
 pub record Begins (size : Size) (start : List (List ℕ)) (lines : List Line) (power : Power) (slots : List (List ℕ)) : Type 0 where
   pub bench : Bench
   pub answers : List Answer
   pub run : Run size (bench_with start) lines answers bench
   pub is : IsBench size bench power slots
+  pub enough : bench.growths ≡ 0
 
 -- the last of them formatted it just now
 pub record Begun (size : Size) (start : List (List ℕ)) (lines : List Line) (power : Power) (slots : List (List ℕ)) : Type 0 where
@@ -126,6 +130,7 @@ pub record Begun (size : Size) (start : List (List ℕ)) (lines : List Line) (po
   pub same : slots ≡ bench.payloads
   pub formatted : bench.disk_state ≡ Formatted
   pub kept : bench.kept ≡ nothing_kept
+  pub enough : bench.growths ≡ 0
 
 -- the board is off behind it
 abbrev pub IsFormattedAt : Size → List (List ℕ) → List Line → Site → Type 0

@@ -105,7 +105,7 @@ pub record WroteAll (bench : Bench) (size : Size) (start : List (List ℕ)) (lin
   pub counts : List ℕ
   pub five : length counts ≡ 5
   pub rows : List Row
-  pub each : All (λ (row : Row). IsRunOf size bench (unpowered first) (drop begin lines) row.left) rows
+  pub each : All (λ (row : Row). IsRunOf size bench row.caller row.number (unpowered first) (drop begin lines) row.left) rows
   pub cells : map cell_of rows ≡ all_runs bench callers counts
   pub text : Appends old now (rows_text rows ++ (sweep_text sweep ++ 10 ∷ []))
   pub points : sweep.points ≡ counted 0 (total counts)

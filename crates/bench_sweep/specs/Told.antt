@@ -1,5 +1,5 @@
 -- What a line's answer tells of the commands that a disk keeps. Source: docs/DURABLE.md, "What an open finds".
-use Rattle.std.specs.Prelude.{◌≡◌, ◌≢◌, ◌⊎◌, ℕ, Bool, true, false, List, [], ◌∷◌, Option, None, Some, length}
+use Rattle.std.specs.Prelude.{◌≡◌, ◌≢◌, ◌⊎◌, ⊤, ℕ, Bool, true, false, List, [], ◌∷◌, Option, None, Some, length}
 use Rattle.board_model.specs.Durable.{Change, Reset, Suspend, Consume, Discard, refusal_of}
 use Rattle.board_model.specs.Kept.{Kept, MayKeep, found_of}
 use Rattle.board_model.specs.Shapes.{Size, ram_bytes_of}
@@ -20,6 +20,14 @@ use Rattle.bench_report.specs.declared.printed.Printed.{Printed}
 use Rattle.bench_report.specs.declared.printed.Printed.TheVariants as printed
 use Rattle.bench_report.specs.declared.printed.Answer.{Answer}
 use Rattle.bench_judge.specs.Ledgers.{more_kept, in_doubt, settled}
+
+-- By what a line says memory was refused neither to a power-on nor to an examination of the disk. Of a line that was
+-- lost with the power nothing is known.
+abbrev pub ShowsEnoughMemory : Printed → Type 0
+ShowsEnoughMemory (printed.OnRefused n) = n ≢ 11
+ShowsEnoughMemory (printed.InspectRefused n) = n ≢ 11
+ShowsEnoughMemory printed.PowerLost = ⊥
+ShowsEnoughMemory line = ⊤
 
 -- a line that harts move
 abbrev pub is_guest : AskedLine → Bool

@@ -1,6 +1,6 @@
 //! Where a bench begins: behind the first format of its script that answers Ok.
 
-ghost use Rattle.std.specs.Prelude.{◌≡◌, ◌≤◌, ◌⊎◌, ℕ, List, false, true, length, take, All, IfOk, IfErr, ◌↔◌, IsTrue};
+ghost use Rattle.std.specs.Prelude.{◌≡◌, ◌≤◌, ◌⊎◌, ℕ, List, false, true, length, take, All, IfOk, IfErr, OnOk, ◌↔◌, IsTrue};
 ghost use Rattle.board_model.specs.Shapes.{Size};
 ghost use Rattle.board_model.specs.declared.refusal.Refusal.TheVariants.{Memory, NotPlain};
 ghost use Rattle.script_lang.specs.Lines.{IsLineInRange};
@@ -8,10 +8,11 @@ ghost use Rattle.bench_report.specs.Agree.{Agrees, IsBench};
 ghost use Rattle.bench_report.specs.Bench.{Bench, bench_with};
 ghost use Rattle.bench_report.specs.Steps.{Moves};
 ghost use Rattle.bench_sweep.specs.Made.{four_of};
-ghost use Rattle.bench_sweep.specs.Runs.{Begun, IsFormattedAt, Formats};
+ghost use Rattle.bench_sweep.specs.Runs.{Begun, IsFormattedAt, Formats, StopsOff};
 
+use crate::follows::enough_memory;
 use crate::site::Site;
-use crate::sites::copy_payloads;
+use crate::sites::{copy_payloads, is_off};
 use bench_judge::Ledger;
 use bench_report::{
     Answer, BenchBoard, OffDisk, Power, Printed, Setting, disk_left, line_with_cuts,
@@ -34,6 +35,18 @@ fn is_formatted(line: &Line, answer: &Answer) -> bool
     }
 }
 
+/// Refused `Memory` where the board is on: over a disk that no format has answered Ok on, that takes a format which was
+/// refused memory.
+fn begins_off(power: &Power) -> Result<(), Refusal>
+    ensures off { OnOk result (StopsOff power.now) }
+    ensures refused { IfErr result (λ e. e ≡ Memory) }
+{
+    if is_off(power) {
+        return Ok(());
+    }
+    Err(Refusal::Memory)
+}
+
 /// Runs a line before the disk is formatted, and answers whether it was by that. Refused `Memory` alone.
 fn run_before_format<C: Crew>(
     setting: &Setting<'_, C>,
@@ -44,13 +57,15 @@ fn run_before_format<C: Crew>(
     ensures slots { IfOk result (λ did. length did.0.payloads ≡ length bench.payloads) }
     ensures moved { IfOk result (λ did. (b : Bench) → IsBench setting.now.shape.now b bench.power bench.payloads
         → (answer : Answer) × (new : Bench) × Moves setting.now.shape.now line.now b answer new
-        × IsBench setting.now.shape.now new did.0.power did.0.payloads × (did.1 ≡ true → Formats line.now answer)) }
+        × IsBench setting.now.shape.now new did.0.power did.0.payloads × (new.growths ≡ b.growths) × (did.1 ≡ true → Formats line.now answer)) }
     ensures refused { IfErr result (λ e. e ≡ Memory) }
 {
+    begins_off(&bench.power)?;
     let (after, answer) = line_with_cuts(setting, line, bench);
     match answer {
         Err(refusal) => Err(refusal),
         Ok(answer) => {
+            enough_memory(answer.line)?;
             let formatted = is_formatted(line, &answer);
             Ok((after, formatted))
         }

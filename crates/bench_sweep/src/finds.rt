@@ -19,7 +19,7 @@ ghost use Rattle.bench_report.specs.Views.{fault_state, store_in, store_size, st
 ghost use Rattle.bench_sweep.specs.Made.{LooksAt};
 ghost use Rattle.bench_sweep.specs.Runs.{LeftOff, Finds, FindsState, IsSpoilt, PowerFinds};
 
-use crate::follows::is_of_memory;
+use crate::follows::enough_memory;
 use bench_judge::{Ledger, Sweep};
 use bench_report::{Answer, OffDisk, Power, Printed, power_on};
 use board::{Board, Parts, Payloads};
@@ -72,10 +72,8 @@ fn unbooted(disk: SimDisk, said: Printed) -> Result<Option<Plain>, Refusal>
     ensures spoilt { IfOk result (λ found. (said ≡ OnRefused 11) ⊎ IsSpoilt (fault_state disk) → ⊥) }
     ensures refused { IfErr result (λ e. e ≡ Memory) }
 {
-    if is_of_memory(said) || disk.refused() != 0 {
-        return Err(Refusal::Memory);
-    }
-    Ok(None)
+    enough_memory(said)?;
+    unloaded(disk)
 }
 
 /// The state that the open of a board found, which is on.
@@ -142,7 +140,7 @@ pub fn count_run(
     ledger: &Ledger,
     sweep: &mut Sweep,
 ) -> Result<Answer, Refusal>
-    requires left { (slots : List (List ℕ)) × (b : Bench) × LeftOff shape.now b off slots ledger.now }
+    requires { (slots : List (List ℕ)) × (b : Bench) × LeftOff shape.now b off slots ledger.now }
     ensures says { IfOk result (λ left. (b : Bench) → OffIs shape.now b off.disk
         → (after : Bench) × LooksAt shape.now b left after) }
     ensures points { sweep.new.points ≡ sweep.old.points }

@@ -1,6 +1,6 @@
 //! What a ledger takes from the answers of a script's lines.
 
-ghost use Rattle.std.specs.Prelude.{◌≡◌, ◌↔◌, ℕ, List, ◌∷◌, Some, None, true, is_some, IsTrue, IsSomeAnd, MatchOption, IfErr, OnOk};
+ghost use Rattle.std.specs.Prelude.{◌≡◌, ◌↔◌, ℕ, List, ◌∷◌, Some, None, false, true, is_some, IsTrue, IsSomeAnd, MatchOption, IfErr, OnOk};
 ghost use Rattle.board_model.specs.Durable.{Change, Suspend, Consume, Discard, CarriesWhole};
 ghost use Rattle.board_model.specs.Kept.{Kept, found_of};
 ghost use Rattle.board_model.specs.Shapes.{Size};
@@ -9,7 +9,6 @@ ghost use Rattle.board_model.specs.Views.{change_in, durable_of};
 ghost use Rattle.board_model.specs.declared.durable.ImageHead.{ImageHead};
 ghost use Rattle.board_model.specs.declared.refusal.Refusal.TheVariants.{Memory};
 ghost use Rattle.board.specs.Moments.{attempts_of};
-ghost use Rattle.bench_report.specs.declared.printed.Printed.TheVariants.{OnRefused};
 ghost use Rattle.sbi_calls.specs.declared.words.Did.{Did};
 ghost use Rattle.sbi.specs.declared.resets.ResetType.{ResetType};
 ghost use Rattle.sbi.specs.declared.words.Word.TheVariants as words;
@@ -17,7 +16,7 @@ ghost use Rattle.sbi.specs.declared.words.LifeEnd.TheVariants as life_ends;
 ghost use Rattle.bench_report.specs.Bench.{Bench};
 ghost use Rattle.bench_sweep.specs.Runs.{TellsWhole, Follows, HartMoves};
 ghost use Rattle.bench_sweep.specs.Resumes.{image_told, serial_of, consumed, booted, powered, power_resumes, Resumes};
-ghost use Rattle.bench_sweep.specs.Told.{IssuedTold, CommandTold, BootTold, BootSaid, NowTold, PowerTold, LineTold, commands_told};
+ghost use Rattle.bench_sweep.specs.Told.{ShowsEnoughMemory, IssuedTold, CommandTold, BootTold, BootSaid, NowTold, PowerTold, LineTold, commands_told};
 
 use bench_judge::Ledger;
 use bench_report::{Answer, Printed};
@@ -225,14 +224,28 @@ fn record_answer(
     }
 }
 
-/// Whether a power-on answers that memory was refused.
-pub fn is_of_memory(said: Printed) -> bool
-    ensures { IsTrue result ↔ (said ≡ OnRefused 11) }
+/// Whether a line says that memory was refused, to a power-on or to an examination of the disk, or says nothing.
+fn hides_memory(said: Printed) -> bool
+    ensures { result ≡ false → ShowsEnoughMemory said }
 {
     match said {
         Printed::OnRefused(number) => number == 11,
+        Printed::InspectRefused(number) => number == 11,
+        Printed::PowerLost => true,
         _ => false,
     }
+}
+
+/// Refused `Memory` where a line says that memory was refused, to a power-on or to an examination of the disk, or where
+/// it says nothing.
+pub fn enough_memory(said: Printed) -> Result<(), Refusal>
+    ensures enough { OnOk result (ShowsEnoughMemory said) }
+    ensures refused { IfErr result (λ e. e ≡ Memory) }
+{
+    if hides_memory(said) {
+        return Err(Refusal::Memory);
+    }
+    Ok(())
 }
 
 /// A power-on by that mode gave that answer, and the state is then that one: what the open found settles the command
@@ -252,13 +265,7 @@ pub fn record_power_on(
     ensures memory { IfErr result (λ e. e ≡ Memory) }
 {
     match answer.found {
-        None => {
-            if is_of_memory(answer.line) {
-                Err(Refusal::Memory)
-            } else {
-                Ok(())
-            }
-        }
+        None => Ok(()),
         Some(found) => {
             ledger.settles(&found);
             record_answer(ledger, alloc, mode, &found, answer.line, now)
@@ -311,7 +318,11 @@ pub fn record_line(
 }
 
 /// A hart of that board goes on: a command of it may be in doubt.
-fn record_in_doubt(ledger: &mut Ledger, alloc: Global, board: &Board<SimDisk>) -> Result<(), Refusal>
+fn record_in_doubt(
+    ledger: &mut Ledger,
+    alloc: Global,
+    board: &Board<SimDisk>,
+) -> Result<(), Refusal>
     ensures kept { OnOk result ((size : Size) (b new : Bench) (did : Did) → Follows size b ledger.old
         → HartMoves size b (words.Goes did) new board.now → Follows size new ledger.new) }
     ensures resumed { ledger.new.resumed ≡ ledger.old.resumed }

@@ -5,7 +5,8 @@ ghost use Rattle.board_model.specs.Shapes.{Size};
 ghost use Rattle.board_model.specs.declared.refusal.Refusal.TheVariants.{Memory};
 ghost use Rattle.script_lang.specs.Lines.{IsLineInRange};
 ghost use Rattle.script_lang.specs.declared.line.Line.TheVariants as lines;
-ghost use Rattle.bench_report.specs.Views.{machine_in};
+ghost use Rattle.bench_report.specs.Views.{machine_in, store_in};
+ghost use Rattle.store.specs.Views.{was_refused_memory};
 ghost use Rattle.bench_report.specs.Bench.{Bench};
 ghost use Rattle.bench_report.specs.Agree.{OnIs};
 ghost use Rattle.bench_sweep.specs.Runs.{Follows, Runs};
@@ -23,6 +24,17 @@ use script_lang::Line;
 use simdisk::SimDisk;
 use std::alloc::Global;
 
+/// Refused `Memory` where it was refused to a suspension of that board, whose hart found -1 alone.
+fn suspended_well(board: &Board<SimDisk>) -> Result<(), Refusal>
+    ensures enough { OnOk result (was_refused_memory (store_in board.now) ≡ false) }
+    ensures refused { IfErr result (λ e. e ≡ Memory) }
+{
+    if board.was_refused_memory() {
+        return Err(Refusal::Memory);
+    }
+    Ok(())
+}
+
 /// One turn of a hart, and the ledger follows it.
 fn turn_once<C: Crew>(
     alloc: Global,
@@ -39,6 +51,7 @@ fn turn_once<C: Crew>(
     ensures memory { IfErr result (λ e. e ≡ Memory) }
 {
     let word = board.turn(alloc, crew, hart);
+    suspended_well(board)?;
     record_hart(ledger, alloc, board, word)?;
     Ok(word)
 }
@@ -86,6 +99,7 @@ fn call_once<C: Crew>(
     match board.call(alloc, crew, hart, words) {
         None => Ok(None),
         Some(word) => {
+            suspended_well(board)?;
             record_hart(ledger, alloc, board, word)?;
             Ok(Some(word))
         }

@@ -21,7 +21,7 @@ ghost use Rattle.bench_sweep.specs.Swept.{IsPlainLine};
 ghost use Rattle.bench_sweep.specs.Told.{moves_harts, powers_on};
 ghost use Rattle.bench_sweep.specs.declared.points.Caller.{Caller};
 
-use crate::follows::{record_console, record_line, record_power_on};
+use crate::follows::{enough_memory, record_console, record_line, record_power_on};
 use crate::harts::{is_of_harts, run_hart_line};
 use crate::points::{Bench as Kind, Point};
 use crate::site::{Going, Site};
@@ -50,6 +50,16 @@ pub fn cut_by(off: &OffDisk, fill: Fill) -> Result<OffDisk, Refusal>
     kept_disks::<SimDisk>();
     let disk = off.disk.left(fill)?;
     Ok(OffDisk { disk })
+}
+
+/// Whether the board is off.
+pub fn is_off(power: &Power) -> bool
+    ensures { result ≡ true → StopsOff power.now }
+{
+    match power {
+        Power::Off(_) => true,
+        Power::On(_) => false,
+    }
 }
 
 /// Copies what one slot boots.
@@ -116,6 +126,19 @@ impl Site {
 }
 
 impl Going {
+    /// The run that begins at that site.
+    pub fn from(site: Site) -> Going
+        ensures calm { IsUnstruck result.power }
+        ensures runs { (size : Size) (b : Bench) → RunsCalm size b (Off site.off) site.payloads site.ledger
+            → RunsCalm size b result.power result.payloads result.ledger }
+    {
+        Going {
+            power: Power::Off(site.off),
+            payloads: site.payloads,
+            ledger: site.ledger,
+        }
+    }
+
     /// Turns the board off.
     pub fn into_site(self) -> Site
         ensures { (size : Size) (b : Bench) → Runs size b self.power self.payloads self.ledger → RunsAt size (off b) result }
@@ -132,10 +155,7 @@ impl Going {
     pub fn is_off(&self) -> bool
         ensures { result ≡ true → StopsOff self.now.power }
     {
-        match &self.power {
-            Power::Off(_) => true,
-            Power::On(_) => false,
-        }
+        is_off(&self.power)
     }
 
     /// Whether an armed cut has struck.
@@ -164,6 +184,7 @@ fn run_power_on(
         Power::On(board) => Ok(Power::On(board)),
         Power::Off(off) => {
             let (power, answer, now) = power_on(alloc, mode, off, payloads);
+            enough_memory(answer.line)?;
             record_power_on(ledger, alloc, mode, &answer, now)?;
             Ok(power)
         }
@@ -192,6 +213,7 @@ fn run_still_line<C: Crew>(
     match answer {
         Err(refusal) => Err(refusal),
         Ok(answer) => {
+            enough_memory(answer.line)?;
             record_line(ledger, setting.alloc, line, &answer)?;
             Ok(power)
         }
@@ -300,11 +322,7 @@ pub fn run_lines<C: Crew>(
     ensures some { IfOk result (λ went. 0 < length lines.now → 0 < went.count) }
     ensures refused { IfErr result (λ e. e ≡ Memory) }
 {
-    let mut going = Going {
-        power: Power::Off(site.off),
-        payloads: site.payloads,
-        ledger: site.ledger,
-    };
+    let mut going = Going::from(site);
     let mut count = 0;
     for line in lines {
         match line {

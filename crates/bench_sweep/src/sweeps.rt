@@ -157,7 +157,7 @@ fn run_past_failure<C: Crew, W: Write>(
 fn off_whole(going: Going) -> Result<Site, Refusal>
     ensures runs { IfOk result (λ site. (size : Size) (b : ModelBench)
         → Runs size b going.power going.payloads going.ledger
-        → RunsAt size (off b) site) }
+        → (b.fault_state.own ≡ 0) × RunsAt size (off b) site) }
     ensures refused { IfErr result (λ e. e ≡ Memory) }
 {
     let site = going.into_site();
@@ -171,7 +171,7 @@ fn off_whole(going: Going) -> Result<Site, Refusal>
 fn turn_off(going: Going) -> Result<Site, Refusal>
     ensures runs { IfOk result (λ site. (size : Size) (b : ModelBench)
         → Runs size b going.power going.payloads going.ledger
-        → (b.fault_state.struck ≡ false) × RunsAt size (off b) site) }
+        → (b.fault_state.struck ≡ false) × (b.fault_state.own ≡ 0) × RunsAt size (off b) site) }
     ensures refused { IfErr result (λ e. e ≡ Memory) }
 {
     if going.is_struck() {

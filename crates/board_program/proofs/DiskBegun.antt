@@ -1,12 +1,9 @@
 -- The disk that a session begins with, and why none begins.
 use Rattle.std.proofs.Common.{◌≡◌, ◌∙◌, ℕ, Bool, true, false, List, Option, None, Some, IfSome, inl}
-use Rattle.std.specs.declared.io.ErrorKind.{ErrorKind}
 use Rattle.board_files.specs.Disks.{IsDiskFile, first_sectors}
 use Rattle.board_files.specs.Faults.{IsFileFault}
-use Rattle.board_files.proofs.FaultKinds.{file_fault}
 use Rattle.board_model.specs.Shapes.{Size, sectors_of}
 use Rattle.board_program.specs.Operated.{Begins, IsUnread}
-use Rattle.command_line.specs.Faults.{fault_of_kind}
 use Rattle.command_line.specs.declared.fault.ProgramFault.{ProgramFault}
 use Rattle.disk.specs.Facts.{Content, Facts, IsFresh, Unchanged}
 
@@ -26,10 +23,6 @@ unread_by new old known at fault is same unread = rw (← is, ← same) unread
 pub unread_file : (new : Bool) (known : Option (List ℕ)) (fault : ProgramFault) → IsFileFault fault → IsUnread new known fault
 unread_file true known fault is = is
 unread_file false known fault is = inl is
-
--- a payload file could not be read
-pub unread_payload : (new : Bool) (known : Option (List ℕ)) (fault : ProgramFault) (kind : ErrorKind) → fault ≡ fault_of_kind kind → IsUnread new known fault
-unread_payload new known fault kind is = unread_file new known fault (file_fault fault kind is)
 
 fresh_unchanged : (c : Content) (old new : Facts) → Unchanged old new → IsFresh c old → IsFresh c new
 fresh_unchanged c old new same fresh =

@@ -251,7 +251,7 @@ fn run_taken<
 /// Runs the board that the options ask for: reads the payloads and the disk, runs the session, and leaves the disk in its
 /// file. With `--sync` the disk is kept in the file all along. Else the file is written at the end, also after a refusal,
 /// unless its bytes are the same. Of two faults the first is told.
-#[tactic(auto, using(crate::proofs::FilesLeft::has_left, crate::proofs::FilesLeft::none_left, crate::proofs::DiskBegun::unread_payload))]
+#[tactic(auto, using(crate::proofs::FilesLeft::has_left, crate::proofs::FilesLeft::none_left, crate::proofs::DiskBegun::unread_file))]
 pub fn run_from_files<
     R: Threads + Wait + Sync,
     B: PayloadFiles + BoardFiles,

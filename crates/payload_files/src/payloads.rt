@@ -1,9 +1,9 @@
 //! The payloads of the boot slots, from their files.
 
-ghost use Rattle.std.specs.Prelude.{◌≡◌, ◌<◌, ℕ, List, None, map, get_or, slice_set, string_bytes, IfOk, IfErr, IsSome, OnOk};
+ghost use Rattle.std.specs.Prelude.{◌≡◌, ◌⊎◌, ◌<◌, ℕ, List, None, map, get_or, length, slice_set, string_bytes, IfOk, IfErr, IsSome, OnOk};
 ghost use Rattle.std.specs.Option.{option_map};
-ghost use Rattle.std.specs.declared.io.ErrorKind.{ErrorKind};
-ghost use Rattle.command_line.specs.Faults.{fault_of_kind};
+ghost use Rattle.board_model.specs.declared.refusal.Refusal.TheVariants.{Memory};
+ghost use Rattle.command_line.specs.declared.fault.ProgramFault.TheVariants.{File, Refused};
 ghost use Rattle.payload_files.specs.Named.{AreFilesOf, IsFileOf};
 
 use crate::files::PayloadFiles;
@@ -85,14 +85,15 @@ pub fn payloads_of<F: PayloadFiles>(
 }
 
 /// The payloads, as [`payloads_of`] reads them, for a program that tells its user which file could not be read, and why.
+#[tactic(auto, using(crate::proofs::FaultKinds::file_fault))]
 pub fn read_payloads<F: PayloadFiles>(
     alloc: Global,
     files: &F,
     paths: &[Option<String>; 4],
 ) -> Result<Payloads, FileFault>
     ensures read { IfOk result (AreFilesOf (F.bytes_at files.now) (map (option_map string_bytes) paths.now)) }
-    // The fault is the one of the file's error.
-    ensures failed { IfErr result (λ e. (kind : ErrorKind) × (e.fault ≡ fault_of_kind kind)) }
+    ensures four { IfOk result (λ payloads. length payloads ≡ 4) }
+    ensures failed { IfErr result (λ e. (e.fault ≡ File) ⊎ (e.fault ≡ Refused Memory)) }
 {
     match payloads_of(alloc, files, paths) {
         Ok(payloads) => Ok(payloads),

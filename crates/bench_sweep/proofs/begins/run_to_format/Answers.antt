@@ -8,7 +8,7 @@ use Rattle.bench_sweep.proofs.begins.run_to_format.Goals as goal
 pub loop-line-init : goal.loop-line-init
 loop-line-init g c = record {
   four = search rules;
-  begins = record { bench = bench_with (four_of c.args.payloads); answers = []; run = refl; is = (c.in_ok-bench.ensures.blank (four_of c.args.payloads), c.in_ok-bench.ensures.slots, refl) };
+  begins = record { bench = bench_with (four_of c.args.payloads); answers = []; run = refl; is = (c.in_ok-bench.ensures.blank (four_of c.args.payloads), c.in_ok-bench.ensures.slots, refl); enough = refl };
   count = refl;
 }
 
@@ -18,7 +18,7 @@ loop-line-preserved g c =
     let i = c.loop-line.invariant in
     let t = c.in_ok-after.ensures.moved i.begins.bench i.begins.is in record {
       four = c.in_ok-after.ensures.slots ∙ i.four;
-      begins = begins_more size (four_of c.args.payloads) c.args.lines.now c.loop-line.line-index c.line-item.result c.line-item.result _ _ i.begins.bench t.1 i.begins.answers t.0 c.loop-line-test.true c.line-item.is i.begins.run t.2 t.3;
+      begins = begins_more size (four_of c.args.payloads) c.args.lines.now c.loop-line.line-index c.line-item.result c.line-item.result _ _ i.begins.bench t.1 i.begins.answers t.0 c.loop-line-test.true c.line-item.is i.begins.run t.2 t.3 (t.4 ∙ i.begins.enough);
       count = search rules;
     }
 
@@ -31,7 +31,7 @@ returns-then-formatted-clause-runs g c =
     let P : ℕ → Type 0 = λ n. IsFormattedAt size (four_of c.args.payloads) (take n c.args.lines.now) c.in_ok-site.site in
     subst P count (
     c.in_ok-site.ensures.runs _ _
-    (begun_by size (four_of c.args.payloads) c.args.lines.now c.loop-line.line-index c.line-item.result c.line-item.result _ _ i.begins.bench t.1 i.begins.answers t.0 c.loop-line-test.true c.line-item.is i.begins.run (t.4 c.if-formatted.true) t.2 t.3)
+    (begun_by size (four_of c.args.payloads) c.args.lines.now c.loop-line.line-index c.line-item.result c.line-item.result _ _ i.begins.bench t.1 i.begins.answers t.0 c.loop-line-test.true c.line-item.is i.begins.run (t.5 c.if-formatted.true) t.2 t.3 (t.4 ∙ i.begins.enough))
     )
 
 pub returns-then-formatted-clause-few : goal.returns-then-formatted-clause-few

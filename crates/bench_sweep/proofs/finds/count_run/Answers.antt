@@ -3,6 +3,6 @@ use Rattle.bench_sweep.proofs.finds.count_run.Goals as goal
 
 pub returns-clause-right : goal.returns-clause-right
 returns-clause-right c =
-    let l = c.requires.left in
-    let f = c.in_ok-found.ensures.finds l.1.0 l.0 c.args.ledger.now l.1.1 in
+    let l = c.requires in
+    let f = c.in_ok-found.ensures.finds l.1 l.0 c.args.ledger.now l.2 in
     c.counts.ensures.allowed f.kept f.plain f.tells f.may (c.as_ref.ensures.value ∙ f.is)

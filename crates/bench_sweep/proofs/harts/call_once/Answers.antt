@@ -7,5 +7,5 @@ returns-in-None-clause-goes g c = λ size b was told.
 
 pub returns-in_ok-record_hart-in-Some-clause-goes : goal.returns-in_ok-record_hart-in-Some-clause-goes
 returns-in_ok-record_hart-in-Some-clause-goes g c = λ size b was told.
-    call_made size b c.args.board.now c.call.new.self c.args.hart c.args.words c.args.ledger.now c.requires.hart was told c.in-Some.word c.record_hart.new.ledger c.in-Some.ensures.calls
+    call_made size b c.args.board.now c.call.new.self c.args.hart c.args.words c.args.ledger.now c.requires.hart was told c.in-Some.word c.record_hart.new.ledger c.in_ok-suspended_well-in-Some.ensures.enough c.in-Some.ensures.calls
     (λ n follows moved. c.in_ok-record_hart-in-Some.ensures.kept size b n follows moved)

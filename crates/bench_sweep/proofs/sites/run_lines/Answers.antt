@@ -10,7 +10,7 @@ use Rattle.bench_sweep.proofs.sites.run_lines.Goals.{in-Command+in_ok-run_comman
 use Rattle.bench_sweep.proofs.sites.run_lines.Goals as goal
 
 pub loop-line-init : goal.loop-line-init
-loop-line-init g c = record { calm = refl; ran = λ b r. ran_none _ b _ _ _ r; count = refl }
+loop-line-init g c = record { calm = c.from-going.ensures.calm; ran = λ b r. ran_none _ b _ _ _ (c.from-going.ensures.runs _ b r); count = refl }
 
 pub loop-line-preserved : goal.loop-line-preserved
 loop-line-preserved g c =

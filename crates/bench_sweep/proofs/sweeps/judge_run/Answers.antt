@@ -7,11 +7,11 @@ use Rattle.bench_sweep.proofs.Left.{left_by}
 use Rattle.bench_sweep.proofs.Reported.{reports_one}
 use Rattle.bench_sweep.proofs.sweeps.judge_run.Goals as goal
 
-pub count_run-requires-clause-left : goal.count_run-requires-clause-left
-count_run-requires-clause-left g c =
+pub count_run-requires : goal.count_run-requires
+count_run-requires g c =
     let size = c.args.setting.now.shape.now in
     let sits = c.requires.sits in
-    (c.args.site.now.payloads, (unpowered sits.0, left_by size sits.0 c.args.site.now.off c.in_ok-off.off c.args.site.now.payloads _ c.args.site.now.ledger c.args.site.now.ledger sits.1 (c.in_ok-off.ensures.left size sits.0 sits.1.agrees) refl (λ k t. t)))
+    (c.args.site.now.payloads, unpowered sits.0, left_by size sits.0 c.args.site.now.off c.in_ok-off.off c.args.site.now.payloads _ c.args.site.now.ledger c.args.site.now.ledger sits.1 (c.in_ok-off.ensures.left size sits.0 sits.1.agrees) refl (λ k t. t))
 
 pub returns-clause-wrote : goal.returns-clause-wrote
 returns-clause-wrote g c =

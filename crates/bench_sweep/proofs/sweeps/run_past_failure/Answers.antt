@@ -4,7 +4,7 @@ use Rattle.bench_sweep.specs.declared.points.Bench.TheVariants.{Fails}
 use Rattle.bench_sweep.specs.Points.{fault_at}
 use Rattle.bench_report.specs.Happens.{armed_with, off}
 use Rattle.bench_sweep.proofs.Made.{past_failure}
-use Rattle.bench_sweep.proofs.Reported.{reports_weaker}
+use Rattle.bench_sweep.proofs.Reported.{reports_at}
 use Rattle.bench_sweep.proofs.sweeps.run_past_failure.Goals as goal
 
 pub judge_run-requires-clause-sits : goal.judge_run-requires-clause-sits
@@ -14,7 +14,7 @@ judge_run-requires-clause-sits g c κs within =
     let calm = c.armed-armed.ensures.runs size sits.0 sits.1 in
     let ran = c.in_ok-went.ensures.ran (armed_with (fault_at Fails c.args.point.caller c.args.point.call) sits.0) calm in
     let left = c.in_ok-left.ensures.runs size ran.bench ran.runs in
-    (off ran.bench, left.1)
+    (off ran.bench, left.2)
 
 pub returns-clause-wrote : goal.returns-clause-wrote
 returns-clause-wrote g c = on_ok_weaker c.judge_run.result (λ did b l.
@@ -24,7 +24,7 @@ returns-clause-wrote g c = on_ok_weaker c.judge_run.result (λ did b l.
     let ran = c.in_ok-went.ensures.ran (armed_with (fault_at Fails c.args.point.caller c.args.point.call) b) calm in
     let left = c.in_ok-left.ensures.runs size ran.bench ran.runs in
     let all : c.in_ok-went.went.count ≡ length lines = omega (arith, c.in_ok-went.ensures.few, c.if-count-all.false) in
-    reports_weaker _ _ _ _ _ _ _
-    (past_failure size c.args.point.caller c.args.point.call b lines c.in_ok-went.went.count _ _ _ all ran left.0)
-    (did (off ran.bench) left.1)))
+    reports_at _ Fails c.args.point.caller c.args.point.number _ _ _ _ _
+    (past_failure size c.args.point b lines c.in_ok-went.went.count _ _ _ all ran left.0 left.1)
+    (did (off ran.bench) left.2)))
     c.judge_run.ensures.wrote

@@ -9,7 +9,8 @@ returns-clause-lives g c = λ b r.
     let size = c.args.runner.now.setting.shape.now in
     let calm = calm_off size (unpowered b) _ _ _ (c.in_ok-plain.ensures.runs size b r) in
     let ran = c.in_ok-went.ensures.ran (unpowered b) calm in
-    life_of size b c.args.runner.now.lines.now _ _ _ _ _ ran (c.in_ok-next.ensures.runs size ran.bench ran.runs) (c.in_ok-went.ensures.stops refl)
+    let left = c.in_ok-next.ensures.runs size ran.bench ran.runs in
+    life_of size b c.args.runner.now.lines.now _ _ _ _ _ ran (left.0, left.2) (c.in_ok-went.ensures.stops refl)
 
 pub returns-clause-sits : goal.returns-clause-sits
 returns-clause-sits g c =
@@ -18,4 +19,4 @@ returns-clause-sits g c =
     let calm = calm_off size (unpowered sits.0) _ _ _ (c.in_ok-plain.ensures.runs size sits.0 sits.1) in
     let ran = c.in_ok-went.ensures.ran (unpowered sits.0) calm in
     let left = c.in_ok-next.ensures.runs size ran.bench ran.runs in
-    (off ran.bench, left.1)
+    (off ran.bench, left.2)

@@ -1,5 +1,5 @@
 use Rattle.bench_sweep.proofs.Left.{armed_off}
-use Rattle.bench_sweep.proofs.sites.Site.armed.Goals as goal
+use Rattle.bench_sweep.proofs.site.Site.armed.Goals as goal
 
 pub returns-clause-runs : goal.returns-clause-runs
 returns-clause-runs c = λ size b l.
