@@ -27,7 +27,7 @@ use Rattle.hart_threads.specs.Threads.{ends_life}
 use Rattle.hart_threads.specs.Ends.{Ending, IsEnding}
 use Rattle.hart_threads.specs.declared.closing.AfterConsole.{AfterConsole}
 use Rattle.hart_threads.specs.declared.closing.AfterConsole.TheVariants.{RunOut, Halt}
-use Rattle.shared_store.specs.Heard.{Hearing}
+use Rattle.shared_store.specs.Heard.{Hearing, heard_nothing}
 use Rattle.shared_store.specs.Runs.{CarriesSteps, AllCarrySteps}
 use Rattle.board_console.specs.Commands.{party}
 use Rattle.board_console.specs.Dialogues.{DialogueEnds, Talks, dialogue_ends}
@@ -115,6 +115,11 @@ pub record IsOfLife (size : Size) (found : DurableState) (issued : List Change) 
 abbrev pub TalksIf : DurableState → List Change → Option Left → DialogueEnds → DialogueEnds → Type 0
 TalksIf found issued None a b = b ≡ a
 TalksIf found issued (Some left) a b = Talks found issued left a b
+
+-- what the console heard beside its receipts: nothing where it was not begun
+abbrev pub heard_if : Option Hearing → Hearing
+heard_if None = heard_nothing
+heard_if (Some h) = h
 
 -- whether the session was refused: where no thread could be started, and where an answer could not be written
 abbrev pub outcome_of : Option Left → Result (Unit {0}) Refusal

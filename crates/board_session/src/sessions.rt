@@ -27,6 +27,7 @@ ghost use Rattle.board_session.specs.Sessions.{TakesFormat, RunsOver, RefusesDis
 
 use crate::ends::{disk_at_once, disk_of, ends_of};
 use crate::gate::{Open, harts_after};
+use crate::heard::ConsoleHeard;
 use board::{Board, Parts, Payloads};
 use board_console::{Left, console};
 use board_model::{Refusal, Shape};
@@ -62,7 +63,7 @@ pub struct SessionEnd<D: Disk + Drop, I: Read + Drop, W: Write + Drop> {
     /// Why the console left; `None` where it was not begun.
     pub left: Option<Left>,
     /// What the console heard of the store beside its receipts.
-    pub heard: Heard,
+    pub heard: ConsoleHeard,
     /// The harts as their loops ended, in the order of their numbers; none where the console was not begun.
     pub harts: Vec<HartEnd>,
 }
@@ -338,7 +339,7 @@ fn over<D: Disk + Drop, J: Threaded, I: Read + Drop, W: Write + Drop>(
         ran: outcome(left),
         streams,
         left,
-        heard,
+        heard: ConsoleHeard::of(heard),
         harts,
     }
 }
@@ -443,7 +444,7 @@ pub fn session<R: Threads + Wait + Sync, D: Disk + Drop + Send, I: Read + Drop, 
             ran: Err(refusal),
             streams,
             left: None,
-            heard: whole.listener(),
+            heard: ConsoleHeard::nothing(),
             harts: Vec::new(alloc),
         },
         Ok(board) => {
@@ -469,7 +470,7 @@ pub fn session<R: Threads + Wait + Sync, D: Disk + Drop + Send, I: Read + Drop, 
                         ran: Err(Refusal::Memory),
                         streams,
                         left: None,
-                        heard: whole.listener(),
+                        heard: ConsoleHeard::nothing(),
                         harts: Vec::new(alloc),
                     }
                 }

@@ -1,4 +1,4 @@
-//! What the program does: it says what stands in a disk's file (docs/CONSOLE.md, "The program `sbidisk`").
+//! The program over files and streams: it tells what a disk's file holds (docs/CONSOLE.md, "The program `sbidisk`").
 
 ghost use Rattle.std.specs.Prelude.{◌≡◌, ◌≤◌, map, OnOk};
 ghost use Rattle.std.specs.Io.Buffered.{writer_contents, writer_inner};
@@ -18,7 +18,7 @@ use std::io::{BufWriter, IsTerminal, Write};
 /// What the lines or the bytes are written to.
 type Out<W> = BufWriter<Pipe<W>>;
 
-/// Says what stands in the file.
+/// Writes the lines that tell what the file holds.
 #[tactic(auto, using(crate::proofs::FileSeen::writes_seen))]
 fn look<D: DiskFiles, W: Write + Drop>(
     alloc: Global,
@@ -42,7 +42,7 @@ fn look<D: DiskFiles, W: Write + Drop>(
     }
 }
 
-/// Writes the memory of the image that stands in the file.
+/// Writes the memory of the image that the file holds.
 #[tactic(auto, using(crate::proofs::FileSeen::writes_memory))]
 fn recall<D: DiskFiles, W: Write + Drop>(
     alloc: Global,
@@ -66,7 +66,7 @@ fn recall<D: DiskFiles, W: Write + Drop>(
     }
 }
 
-/// Does that work.
+/// Does the work that the words name.
 fn do_work<D: DiskFiles, W: Write + Drop>(
     alloc: Global,
     files: &D,
@@ -82,7 +82,7 @@ fn do_work<D: DiskFiles, W: Write + Drop>(
     }
 }
 
-/// Does that work. Answers the status, and tells a fault but where the reader of the output is gone.
+/// Does the work that the words name, and answers the status. A fault is told, unless the reader of the output is gone.
 #[tactic(auto, using(crate::proofs::FileSeen::ends_closed, crate::proofs::FileSeen::ends_open))]
 fn examine_by<D: DiskFiles, W: Write + Drop, F: Write + IsTerminal>(
     alloc: Global,
@@ -103,7 +103,7 @@ fn examine_by<D: DiskFiles, W: Write + Drop, F: Write + IsTerminal>(
     end_with(faults, "sbidisk", &done)
 }
 
-/// The status of words that ask for no work. A fault of the command line was told.
+/// The status where the words ask for no work. A fault of the command line was told before.
 fn end_without<F: Write + IsTerminal>(faults: &mut F, why: NoWork) -> u8
     ensures range { result ≤ 2 }
     ensures status { result ≡ status_after (without_work why) }
@@ -115,10 +115,10 @@ fn end_without<F: Write + IsTerminal>(faults: &mut F, why: NoWork) -> u8
     end_with(faults, "sbidisk", &done)
 }
 
-/// The program over files and streams: says on `out` what stands in the disk's file that the words of a command line name,
-/// the program's name first, or writes the memory of its image there, or what the words ask to be shown; or it says on
-/// `faults` why not. It says nothing there where the reader of its output is gone, as any filter. It boots nothing, and
-/// the file is never written. Answers the status that docs/CONSOLE.md, "The program `sbidisk`", has.
+/// The program over files and streams. `words` are those of a command line, the program's name first. It writes to `out` what
+/// the words ask for: the lines of a disk's file, the memory of the image in it, or a text of the command line itself. A fault
+/// goes to `faults`; none is told where the reader of the output is gone, as with any filter. It boots nothing, and the file
+/// is never written. Answers the status that docs/CONSOLE.md, "The program `sbidisk`", has.
 #[tactic(auto, using(crate::proofs::FileSeen::asks_for_none))]
 pub fn examine_on<D: DiskFiles, S: AsStr, W: Write + Drop, F: Write + IsTerminal>(
     alloc: Global,

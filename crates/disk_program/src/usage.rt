@@ -110,7 +110,7 @@ fn parsed<'a, S: AsStr>(alloc: Global, words: &'a [S]) -> Result<ArgMatches<'a>,
     command(alloc)?.try_get_matches_from(words)
 }
 
-/// The work of a path, by whether its memory is asked for.
+/// The work over the file at a path, by whether the memory is asked for.
 fn asked_of(path: &str, is_memory: bool) -> Work<'_>
     ensures { result ≡ asked_of path.entry is_memory }
 {
@@ -121,8 +121,8 @@ fn asked_of(path: &str, is_memory: bool) -> Work<'_>
     }
 }
 
-/// What the words of a command line ask for, the program's name first; none where they name no path. The error is
-/// the command line's own text, which is the help or the version too, or says that memory was refused.
+/// The work that the words of a command line ask for, the program's name first. None where they name no path. The error is the
+/// command line's own text: a fault, the help, the version, or that memory was refused.
 pub fn work_of<'a, S: AsStr>(alloc: Global, words: &'a [S]) -> Result<Option<Work<'a>>, Error>
     ensures named { IfOk result (λ found. IfSome found (IsNamedBy (map S.text words.entry.now))) }
     ensures none { IfOk result (λ found. found ≡ None → NamesNoPath (map S.text words.entry.now)) }

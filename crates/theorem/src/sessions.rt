@@ -19,10 +19,9 @@ use board::Payloads;
 use board_console::Left;
 use board_model::Refusal;
 use board_options::Options;
-use board_session::{SessionEnd, Streams, session};
+use board_session::{ConsoleHeard, SessionEnd, Streams, session};
 use disk::Disk;
 use hart_threads::HartEnd;
-use shared_store::Heard;
 use simdisk::{Fill, SimDisk};
 use std::alloc::Global;
 use std::io::{Read, Write};
@@ -69,7 +68,7 @@ pub struct Said<I: Read + Drop, W: Write + Drop> {
     /// Why the console left; `None` where it was not begun.
     pub left: Option<Left>,
     /// What the console heard of the store beside its receipts.
-    pub heard: Heard,
+    pub heard: ConsoleHeard,
     /// The harts as their loops ended.
     pub harts: Vec<HartEnd>,
 }
