@@ -27,7 +27,7 @@ use crate::usage::USAGE;
 pub use crate::usage::{Bench, Drawn, Options, Savers, Work, options_of};
 use bench_report::run_with;
 use bench_schedules::{Compared, schedules, show};
-use bench_sweep::{Sweep, run_bench};
+use bench_sweep::{Bench as Swept, Sweep, run_bench};
 use board::Payloads;
 use board_model::{MAX_LINE_BYTES, MAX_SCRIPT_LINES, Refusal};
 pub use command_line::Pipe;
@@ -90,13 +90,25 @@ pub fn write_report<C: Crew, W: Write + Drop>(
     out.flush().map_err(|_| Refusal::Output)
 }
 
-/// The bench that the command line names, as `bench_sweep` knows it.
-fn judged(bench: Bench) -> bench_sweep::Bench
-    ensures { result ≡ judged bench }
+/// Runs a bench over the script that begins with these payloads. Refused as `bench_sweep::run_bench` is.
+fn run_named_bench<R: Threads + Sync, W: Write + Drop>(
+    alloc: Global,
+    script: &[u8],
+    bench: Bench,
+    payloads: Payloads,
+    out: &mut BufWriter<W>,
+) -> Result<Sweep, Refusal>
+    ensures wrote { IfOk result (λ sweep. IsBenchOf (judged bench) (four_of payloads) script.now
+        (writer_contents W.contents out.old) (writer_contents W.contents out.new) sweep) }
+    ensures refused { IfErr result (λ e. (e ≡ Refusal.Memory) ⊎ (e ≡ Refusal.Output) ⊎ (script_of script.now ≡ Err e)
+        ⊎ (e ≡ Refusal.NotPlain)) }
+    ensures nothing { (e : Refusal) → script_of script.now ≡ Err e
+        → (writer_contents W.contents out.new ≡ writer_contents W.contents out.old)
+        × ((result ≡ Err e) ⊎ (result ≡ Err Refusal.Memory)) }
 {
     match bench {
-        Bench::Sweep => bench_sweep::Bench::Cuts,
-        Bench::Faults => bench_sweep::Bench::Fails,
+        Bench::Sweep => run_bench::<R, BufWriter<W>>(alloc, Swept::Cuts, script, payloads, out),
+        Bench::Faults => run_bench::<R, BufWriter<W>>(alloc, Swept::Fails, script, payloads, out),
     }
 }
 
@@ -123,7 +135,7 @@ pub fn write_bench<R: Threads + Sync, W: Write + Drop>(
         → (writer_contents W.contents out.new ≡ writer_contents W.contents out.old)
         × ((result ≡ Err e) ⊎ (result ≡ Err Refusal.Memory)) }
 {
-    let done = run_bench::<R, BufWriter<W>>(alloc, judged(bench), script, payloads, out)?;
+    let done = run_named_bench::<R, W>(alloc, script, bench, payloads, out)?;
     out.flush().map_err(|_| Refusal::Output)?;
     Ok(done)
 }
