@@ -85,7 +85,7 @@ module _ (size : Size) (stops : Stops) where
 
   pass_run : (xs : List Line) (b new : Bench) → PassBack size stops xs b new → Leaves size b xs new
   pass_run [] b new passed = ([], passed)
-  pass_run (x ∷ xs) b new (next, (move, no), passed) = let more = pass_run xs next new passed in (move.0 ∷ more.0, (next, move.1, more.1))
+  pass_run (x ∷ xs) b new (next, (move, is), passed) = let more = pass_run xs next new passed in (move.0 ∷ more.0, (next, move.1, more.1))
 
   -- what is seen of a turn
   pub is_seen : (h : ℕ) (b new : Bench) (stands : Bool) (changed : Option ℕ) → is_at_point stops h b ≡ stands → Tells changed (KeepsWatched stops b new) → IsSeen (halt_back stands changed) stops h b new

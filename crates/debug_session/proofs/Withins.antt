@@ -153,35 +153,35 @@ module _ (size : Size) (within : Within) (h : ℕ) where
         → StepsWithin size within h halts.Stepped first last
     outside row false is turns one why = once_left row halts.Stepped turns one (λ b left. sym (is_shown last b left) ∙ is)
     outside row true is turns one (inl idle) = once_rests row turns one is idle
-    outside row true is turns one (inr no) = absurd (let same : true ≡ false = sym is ∙ no in let never : ⊥ = cc in never)
+    outside row true is turns one (inr out) = absurd (let same : true ≡ false = sym is ∙ out in let never : ⊥ = cc in never)
 
     -- by what came of it
     pub stayed_more : (made : ℕ) (halt : Option Halt) → (row : Row) × MadeTurns size h points row rests mid last × IsWithin 1 row × (made ≡ made_in row) × HaltsBy row rests halt → halt ≡ None → rests ≡ false → is_in within (pc_in h (machine_of last.bench)) ≡ true
         → StayedWithin size within h (n + 1) first last
-    stayed_more made halt (rows.Off, turns, few, count, halts) none goes is =
-        absurd (let never : ◌≡◌ {A = Option Halt} None (Some halts.Off) = sym none ∙ halts ∙ ap (λ (x : Bool). if x then None else Some halts.Off) goes in let no : ⊥ = cc in no)
-    stayed_more made halt (rows.Made k word, turns, few, count, halts) none goes is = once_more (rows.Made k word) turns (omega (arith, few)) is
-    stayed_more made halt (rows.Lost k, turns, few, count, halts) none goes is = once_more (rows.Lost k) turns (omega (arith, few)) is
+    stayed_more made halt (rows.Off, turns, few, count, found) none goes is =
+        absurd (let never : ◌≡◌ {A = Option Halt} None (Some halts.Off) = sym none ∙ found ∙ ap (λ (x : Bool). if x then None else Some halts.Off) goes in let never_so : ⊥ = cc in never_so)
+    stayed_more made halt (rows.Made k word, turns, few, count, found) none goes is = once_more (rows.Made k word) turns (omega (arith, few)) is
+    stayed_more made halt (rows.Lost k, turns, few, count, found) none goes is = once_more (rows.Lost k) turns (omega (arith, few)) is
 
     pub steps_end : (made : ℕ) (halt : Option Halt) → (row : Row) × MadeTurns size h points row rests mid last × IsWithin 1 row × (made ≡ made_in row) × HaltsBy row rests halt → halt ≡ None
         → (rests ≡ true) ⊎ (is_in within (pc_in h (machine_of last.bench)) ≡ false) → StepsWithin size within h halts.Stepped first last
-    steps_end made halt (rows.Off, turns, few, count, halts) none why = none_made halts.Stepped turns (λ b so. inl (rests_so (idle rests halts) b so))
+    steps_end made halt (rows.Off, turns, few, count, found) none why = none_made halts.Stepped turns (λ b so. inl (rests_so (idle rests found) b so))
       where
         idle : (e : Bool) → halt ≡ (if e then None else Some halts.Off) → e ≡ true
         idle true is = refl
-        idle false is = absurd (let never : ◌≡◌ {A = Option Halt} None (Some halts.Off) = sym none ∙ is in let no : ⊥ = cc in no)
-    steps_end made halt (rows.Made k word, turns, few, count, halts) none why = outside (rows.Made k word) (is_in within (pc_in h (machine_of last.bench))) refl turns (omega (arith, few)) why
-    steps_end made halt (rows.Lost k, turns, few, count, halts) none why = outside (rows.Lost k) (is_in within (pc_in h (machine_of last.bench))) refl turns (omega (arith, few)) why
+        idle false is = absurd (let never : ◌≡◌ {A = Option Halt} None (Some halts.Off) = sym none ∙ is in let never_so : ⊥ = cc in never_so)
+    steps_end made halt (rows.Made k word, turns, few, count, found) none why = outside (rows.Made k word) (is_in within (pc_in h (machine_of last.bench))) refl turns (omega (arith, few)) why
+    steps_end made halt (rows.Lost k, turns, few, count, found) none why = outside (rows.Lost k) (is_in within (pc_in h (machine_of last.bench))) refl turns (omega (arith, few)) why
 
     pub steps_halt : (made : ℕ) (halt : Option Halt) (why : Halt) → (row : Row) × MadeTurns size h points row rests mid last × IsWithin 1 row × (made ≡ made_in row) × HaltsBy row rests halt → halt ≡ Some why → StepsWithin size within h why first last
-    steps_halt made halt why (rows.Off, turns, few, count, halts) is = off rests halts turns
+    steps_halt made halt why (rows.Off, turns, few, count, found) is = off rests found turns
       where
         off : (e : Bool) → halt ≡ (if e then None else Some halts.Off) → MadeTurns size h points rows.Off rests mid last → StepsWithin size within h why first last
-        off true none made_none = absurd (let never : ◌≡◌ {A = Option Halt} None (Some why) = sym none ∙ is in let no : ⊥ = cc in no)
+        off true none made_none = absurd (let never : ◌≡◌ {A = Option Halt} None (Some why) = sym none ∙ is in let never_so : ⊥ = cc in never_so)
         off false some made_none =
             let both : ◌≡◌ {A = Option Halt} (Some halts.Off) (Some why) = sym some ∙ is in
             let same : halts.Off ≡ why = cc in
             let P : Halt → Type 0 = λ x. StepsWithin size within h x first last in
             subst P same (none_made halts.Off made_none (λ b so. tt))
-    steps_halt made halt why (rows.Made k word, turns, few, count, halts) is = once_left (rows.Made k word) why turns (omega (arith, few)) (λ b left. left_by within h why b (some_is halt why (λ x. is_of_turn x ≡ true) is halts))
-    steps_halt made halt why (rows.Lost k, turns, few, count, halts) is = once_left (rows.Lost k) why turns (omega (arith, few)) (λ b left. left_by within h why b (some_is halt why (λ x. is_of_turn x ≡ true) is halts))
+    steps_halt made halt why (rows.Made k word, turns, few, count, found) is = once_left (rows.Made k word) why turns (omega (arith, few)) (λ b left. left_by within h why b (some_is halt why (λ x. is_of_turn x ≡ true) is found))
+    steps_halt made halt why (rows.Lost k, turns, few, count, found) is = once_left (rows.Lost k) why turns (omega (arith, few)) (λ b left. left_by within h why b (some_is halt why (λ x. is_of_turn x ≡ true) is found))

@@ -11,4 +11,4 @@ returns-in_ok-go_back-in-Some-clause-there g c =
 pub returns-in_ok-go_back-in-Some-clause-back : goal.returns-in_ok-go_back-in-Some-clause-back
 returns-in_ok-go_back-in-Some-clause-back g c =
     let place = c.in-Some.place in
-    inl (went_back c.args.setting.now.shape.now c.args.stops.now place c.args.timeline.now c.go_back.new.timeline c.in_ok-go_back.ensures.history (rw c.in-Some.is at c.in_ok-place.ensures.end))
+    inl (went_back c.args.setting.now.shape.now c.args.stops.now place c.args.timeline.now c.go_back.new.self c.in_ok-go_back-in-Some.ensures.history (rw c.in-Some.is at c.in_ok-place.ensures.end))

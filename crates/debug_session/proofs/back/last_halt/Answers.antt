@@ -16,10 +16,16 @@ use Rattle.debug_session.proofs.Backs.{found_line, later_at}
 use Rattle.debug_session.proofs.back.last_halt.Goals as goal
 
 pub loop-number-init : goal.loop-number-init
-loop-number-init g c = record { place = tt; found = (bench_with c.args.timeline.now.begins, refl, c.in_ok-bench.ensures.shows); sound = c.in_ok-bench.ensures.sound }
+loop-number-init g c =
+    let P : List (List ℕ) → Type 0 = λ begins. Shows c.args.setting.now.shape.now (bench_with begins) c.in_ok-bench.bench in
+    record {
+      place = tt;
+      found = (bench_with c.args.timeline.now.begins, refl, subst P c.begins.ensures c.in_ok-bench.ensures.shows);
+      sound = c.in_ok-bench.ensures.sound;
+    }
 
-pub last_halt_of-last-requires-clause-range : goal.last_halt_of-last-requires-clause-range
-last_halt_of-last-requires-clause-range g c = λ ks lives.
+pub last_halt_of-requires-clause-range : goal.last_halt_of-requires-clause-range
+last_halt_of-requires-clause-range g c = λ ks lives.
     let size = c.args.setting.now.shape.now in
     let lines = c.lines-lines.result.now in
     let P : Line → Type 0 = λ line. IsLineInRange size line in

@@ -31,7 +31,7 @@ returns-in-Turn-clause-found g c =
     let Q : Option (ℕ × Stop) → Type 0 = λ found. (b : Bench) → Shows at b was → (new : Bench) × FoundIn at stops found (singles c.args.line.now) b new × Shows at new now in
     ok_more c.last_halt_in.result P Q (λ found did b shows. (let x = did at b shows in let R : Line → Type 0 = λ line. FoundIn at stops found (singles line) b x.0 in (x.0, subst R (sym c.in-Turn.is) x.1, x.2))) c.last_halt_in.ensures.found
 
-pub returns-in_default-clause-found : goal.returns-in_default-clause-found
-returns-in_default-clause-found g c = λ b shows.
-    let did = c.in_ok-replay.ensures.moves b shows in
+pub returns-in_ok-replay-in_default-clause-found : goal.returns-in_ok-replay-in_default-clause-found
+returns-in_ok-replay-in_default-clause-found g c = λ b shows.
+    let did = c.in_ok-replay-in_default.ensures.moves b shows in
     (did.1, other_passed c.args.setting.now.shape.now c.args.stops.now c.args.line.now b did.1 c.in_default.not-Turn (did.0, did.2), did.3)
