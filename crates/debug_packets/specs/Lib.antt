@@ -9,5 +9,9 @@ pub mod Texts
 pub mod Replies
 -- Which harts a `vCont` moves.
 pub mod Resumes
+-- How the lists and the talk change.
+pub mod Kept
 -- How the history changes.
 pub mod Moved
+-- A whole answer.
+pub mod Answers

@@ -1,5 +1,5 @@
 -- How a request changes the history of a session.
-use Rattle.std.specs.Prelude.{◌≡◌, ◌⊎◌, ℕ, Bool, true, false, List, [], ◌∷◌, ◌++◌, All, Option, Some, None, Result, Ok, Err, if◌then◌else◌, bytes_eq, slice_index_or, replicate}
+use Rattle.std.specs.Prelude.{◌≡◌, ◌⊎◌, ◌≤◌, ℕ, Bool, true, false, List, [], ◌∷◌, ◌++◌, All, Option, Some, None, Result, Ok, Err, if◌then◌else◌, bytes_eq, slice_index_or, replicate}
 use Rattle.std.specs.Bool.{MatchBool}
 use Rattle.hex.specs.Hex.{decode_of}
 use Rattle.hex.specs.declared.FromHexError.{FromHexError}
@@ -9,8 +9,18 @@ use Rattle.board_model.specs.Shapes.{Size}
 use Rattle.board_model.specs.declared.refusal.Refusal.{Refusal}
 use Rattle.debug_packets.specs.Resumes.{IsAskedBy}
 use Rattle.debug_packets.specs.Texts.{board_line}
+use Rattle.debug_packets.specs.Stops.{stop_text}
+use Rattle.debug_packets.specs.Talks.{hart_in, last_in, session_in, takes_in}
+use Rattle.debug_packets.specs.declared.talk.Talk.{Talk}
+use Rattle.debug_session.specs.Backs.{BackTo}
+use Rattle.debug_session.specs.Firsts.{ToHalt}
+use Rattle.debug_session.specs.Sessions.{history_of, plan_of, size_of, stops_of, timeline_of}
 use Rattle.debug_session.specs.Steps.{IsStep, MakesNone, Went}
-use Rattle.debug_timeline.specs.Ats.{IsBefore, Ran}
+use Rattle.debug_session.specs.Withins.{StepsWithin, within_plan}
+use Rattle.debug_session.specs.declared.halts.Halt.TheVariants as halts
+use Rattle.debug_session.specs.declared.halts.Stop.{Stop}
+use Rattle.debug_session.specs.declared.session.Session.{Session}
+use Rattle.debug_timeline.specs.Ats.{Ran}
 use Rattle.debug_timeline.specs.declared.timeline.Timeline.{Timeline}
 use Rattle.gdb_requests.specs.Fields.{behind_prefix}
 use Rattle.debug_packets.specs.declared.asked.Asked.{Asked}
@@ -23,35 +33,61 @@ use Rattle.script_lang.specs.Scripts.{Script, script_of}
 use Rattle.script_lang.specs.declared.line.Line.{Line}
 use lib.Chars.{codes}
 
--- ---- on and back
+-- ---- on and back, to that stop
 
--- harts went on, of those that may, and no other
-abbrev pub WentOn : List Bool → Size → Timeline → Timeline → Type 0
-WentOn harts size old new = (n : ℕ) × Went (λ h. slice_index_or harts h false ≡ true) n size old new
+-- one turn of hart h, or none
+abbrev pub SteppedOnce : {C : Type 0} → ℕ → Stop → Session C → Session C → Type 0
+SteppedOnce h stop old new =
+    IsStep (size_of old) h (timeline_of old) (timeline_of new)
+    × ToHalt (size_of old) (stops_of old) (Some stop.halt) (timeline_of old) (timeline_of new)
 
--- one hart went on
-abbrev pub WentAlone : ℕ → Size → Timeline → Timeline → Type 0
-WentAlone h size old new = (n : ℕ) × Went (λ g. g ≡ h) n size old new
+-- harts went on, of those that may, and no other, to the first halt
+abbrev pub WentOn : {C : Type 0} → List Bool → Stop → Session C → Session C → Type 0
+WentOn harts stop old new =
+    ((n : ℕ) × (n ≤ (plan_of old).most) × Went (λ h. slice_index_or harts h false ≡ true) n (size_of old) (timeline_of old) (timeline_of new))
+    × ToHalt (size_of old) (stops_of old) (Some stop.halt) (timeline_of old) (timeline_of new)
+
+-- one hart went on while its pc lay from the first address on and before the end, to the first halt
+abbrev pub WentAlone : {C : Type 0} → ℕ → ℕ → ℕ → Stop → Session C → Session C → Type 0
+WentAlone h first end stop old new =
+    ((n : ℕ) × (n ≤ (plan_of old).most) × Went (λ g. g ≡ h) n (size_of old) (timeline_of old) (timeline_of new))
+    × ToHalt (size_of old) (stops_of old) (Some stop.halt) (timeline_of old) (timeline_of new)
+    × StepsWithin (size_of old) (within_plan first end (plan_of old)) h stop.halt (timeline_of old) (timeline_of new)
 
 -- back before the last turn of hart h, which made none where nothing changed
-abbrev pub WentBack : ℕ → Timeline → Timeline → Type 0
-WentBack h old new = IsBack h old.history new.history ⊎ (NoRow h old.history × (new ≡ old))
+abbrev pub WentBack : {C : Type 0} → ℕ → Stop → Session C → Session C → Type 0
+WentBack h stop old new =
+    (stop.hart ≡ h) × (((stop.halt ≡ halts.Stepped) × IsBack h (history_of old) (history_of new))
+    ⊎ ((stop.halt ≡ halts.Begin) × NoRow h (history_of old) × (timeline_of new ≡ timeline_of old)))
 
--- back before a turn of a hart; none was made where nothing changed
-abbrev pub WentFarBack : Timeline → Timeline → Type 0
-WentFarBack old new = ((h : ℕ) × IsBefore h old.history new.history) ⊎ (All MakesNone old.history × (new ≡ old))
+-- back to the last halt; no turn was made where nothing changed
+abbrev pub WentFarBack : {C : Type 0} → ℕ → Stop → Session C → Session C → Type 0
+WentFarBack h stop old new =
+    BackTo (size_of old) (stops_of old) stop (timeline_of old) (timeline_of new)
+    ⊎ ((stop.halt ≡ halts.Begin) × (stop.hart ≡ h) × All MakesNone (history_of old) × (timeline_of new ≡ timeline_of old))
+
+-- ---- what is told of it
+
+-- the stop, whose hart is shown then
+abbrev pub IsTold : {C : Type 0} → Talk C → Talk C → List ℕ → Type 0
+IsTold old new text = (text ≡ stop_text (last_in new) (takes_in old)) × (hart_in new ≡ (last_in new).hart)
+
+-- no stop
+abbrev pub IsUntold : {C : Type 0} → Talk C → Talk C → Type 0
+IsUntold old new = (last_in new ≡ last_in old) × (hart_in new ≡ hart_in old)
 
 -- ---- vCont
 
 -- what is asked was done, and nothing else
-abbrev pub WentAs : Asked → Size → Timeline → Timeline → Type 0
-WentAs asked.Nothing size old new = new ≡ old
-WentAs (asked.Step h) size old new = IsStep size h old new
-WentAs (asked.StepWithin h first end) size old new = WentAlone h size old new
-WentAs (asked.Go harts) size old new = WentOn harts size old new
+abbrev pub WentAs : {C : Type 0} → Asked → Talk C → Talk C → List ℕ → Type 0
+WentAs asked.Nothing old new text = (timeline_of (session_in new) ≡ timeline_of (session_in old)) × (text ≡ codes "E01") × IsUntold old new
+WentAs (asked.Step h) old new text = IsTold old new text × SteppedOnce h (last_in new) (session_in old) (session_in new)
+WentAs (asked.StepWithin h first end) old new text =
+    IsTold old new text × WentAlone h first end (last_in new) (session_in old) (session_in new)
+WentAs (asked.Go harts) old new text = IsTold old new text × WentOn harts (last_in new) (session_in old) (session_in new)
 
-abbrev pub ResumedBy : Option (List ℕ) → Size → Timeline → Timeline → Type 0
-ResumedBy actions size old new = (what : Asked) × IsAskedBy size actions what × WentAs what size old new
+abbrev pub ResumedBy : {C : Type 0} → Option (List ℕ) → Talk C → Talk C → List ℕ → Type 0
+ResumedBy actions old new text = (what : Asked) × IsAskedBy (size_of (session_in old)) actions what × WentAs what old new text
 
 -- ---- monitor
 
@@ -101,16 +137,23 @@ MonitoredBy (Some word) size old new = HexSaid (hexed word) size old new
 
 -- ---- any request
 
--- how what may move the board changes the history, by its packet, of a board of that size whose hart h is shown
-abbrev pub MovedBy : Move → List ℕ → Size → ℕ → Timeline → Timeline → Type 0
-MovedBy moves.Step packet size h old new = IsStep size h old new
-MovedBy moves.Go packet size h old new = WentOn (replicate 8 true) size old new
-MovedBy moves.StepBack packet size h old new = WentBack h old new
-MovedBy moves.GoBack packet size h old new = WentFarBack old new
-MovedBy moves.Resume packet size h old new = ResumedBy (behind_prefix (codes "vCont;") packet) size old new
-MovedBy moves.Monitor packet size h old new = MonitoredBy (behind_prefix (codes "qRcmd,") packet) size old new
+-- how what may move the board changes the history, by its packet, and what is told last
+abbrev pub MovedBy : {C : Type 0} → Move → List ℕ → Talk C → Talk C → List ℕ → Type 0
+MovedBy moves.Step packet old new text =
+    IsTold old new text × SteppedOnce (hart_in old) (last_in new) (session_in old) (session_in new)
+MovedBy moves.Go packet old new text =
+    IsTold old new text × WentOn (replicate 8 true) (last_in new) (session_in old) (session_in new)
+MovedBy moves.StepBack packet old new text =
+    IsTold old new text × WentBack (hart_in old) (last_in new) (session_in old) (session_in new)
+MovedBy moves.GoBack packet old new text =
+    IsTold old new text × WentFarBack (hart_in old) (last_in new) (session_in old) (session_in new)
+MovedBy moves.Resume packet old new text = ResumedBy (behind_prefix (codes "vCont;") packet) old new text
+MovedBy moves.Monitor packet old new text =
+    IsUntold old new × MonitoredBy (behind_prefix (codes "qRcmd,") packet) (size_of (session_in old)) (timeline_of (session_in old))
+    (timeline_of (session_in new))
 
--- what looks changes neither the bench nor its history
-abbrev pub Moved : Request → List ℕ → Size → ℕ → Timeline → Timeline → Type 0
-Moved (asks.Look look) packet size h old new = new ≡ old
-Moved (asks.Move move) packet size h old new = MovedBy move packet size h old new
+-- What looks changes neither the bench nor its history. What moves the board tells the console first, and its stop last.
+abbrev pub Moved : {C : Type 0} → Request → List ℕ → Talk C → Talk C → List (List ℕ) → Type 0
+Moved (asks.Look look) packet old new payloads = timeline_of (session_in new) ≡ timeline_of (session_in old)
+Moved (asks.Move move) packet old new payloads =
+    (told : List (List ℕ)) × (text : List ℕ) × (payloads ≡ told ++ text ∷ []) × MovedBy move packet old new text

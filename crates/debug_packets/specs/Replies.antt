@@ -55,42 +55,42 @@ SaysPart object size b offset count (Some text) = IsPart object size b offset co
 abbrev pub Says : List ℕ → Option (List ℕ) → Type 0
 Says text out = out ≡ Some text
 
--- what a request that moves nothing is replied
-abbrev pub IsLookReply : Look → Size → ℕ → DebuggedBench → Option (List ℕ) → Type 0
-IsLookReply looks.Reason size h b out = IsSome out
-IsLookReply looks.Registers size h b out = Says (registers_text 42 (λ n. register_in h n (machine_of b))) out
-IsLookReply (looks.Register n) size h b out = Says (register_reply n (register_in h n (machine_of b))) out
-IsLookReply (looks.Memory address count) size h b out = Says (memory_reply (memory_in address count (machine_of b))) out
-IsLookReply (looks.Show thread) size h b out = Says (thread_reply size thread) out
-IsLookReply looks.AnyThread size h b out = Says (codes "OK") out
-IsLookReply (looks.IsAlive thread) size h b out = Says (thread_reply size thread) out
-IsLookReply (looks.SetPoint address) size h b out = Says (codes "OK") out
-IsLookReply (looks.ClearPoint address) size h b out = Says (codes "OK") out
-IsLookReply (looks.SetWatch address count) size h b out = Says (codes "OK") out
-IsLookReply (looks.ClearWatch address count) size h b out = Says (codes "OK") out
-IsLookReply looks.Write size h b out = Says (codes "E01") out
-IsLookReply looks.Supports size h b out = IsSome out
-IsLookReply (looks.Part object offset count) size h b out = SaysPart object size b offset count out
-IsLookReply looks.CurrentThread size h b out = Says (codes "QC" ++ digit_of (h + 1) ∷ []) out
-IsLookReply looks.IsAttached size h b out = Says (codes "1") out
-IsLookReply looks.FirstThreads size h b out = Says (threads_text size.harts) out
-IsLookReply looks.MoreThreads size h b out = Says (codes "l") out
-IsLookReply looks.NoAcks size h b out = Says (codes "OK") out
-IsLookReply looks.Actions size h b out = Says (codes "vCont;c;C;s;S;r") out
-IsLookReply looks.Detach size h b out = Says (codes "OK") out
-IsLookReply looks.Kill size h b out = out ≡ None
-IsLookReply looks.Malformed size h b out = Says (codes "E01") out
-IsLookReply looks.Unknown size h b out = Says [] out
+-- what a request that moves nothing is replied, where `stands` is the stop reply of why nothing runs
+abbrev pub IsLookReply : Look → Size → ℕ → DebuggedBench → List ℕ → Option (List ℕ) → Type 0
+IsLookReply looks.Reason size h b stands out = Says stands out
+IsLookReply looks.Registers size h b stands out = Says (registers_text 42 (λ n. register_in h n (machine_of b))) out
+IsLookReply (looks.Register n) size h b stands out = Says (register_reply n (register_in h n (machine_of b))) out
+IsLookReply (looks.Memory address count) size h b stands out = Says (memory_reply (memory_in address count (machine_of b))) out
+IsLookReply (looks.Show thread) size h b stands out = Says (thread_reply size thread) out
+IsLookReply looks.AnyThread size h b stands out = Says (codes "OK") out
+IsLookReply (looks.IsAlive thread) size h b stands out = Says (thread_reply size thread) out
+IsLookReply (looks.SetPoint address) size h b stands out = Says (codes "OK") out
+IsLookReply (looks.ClearPoint address) size h b stands out = Says (codes "OK") out
+IsLookReply (looks.SetWatch address count) size h b stands out = Says (codes "OK") out
+IsLookReply (looks.ClearWatch address count) size h b stands out = Says (codes "OK") out
+IsLookReply looks.Write size h b stands out = Says (codes "E01") out
+IsLookReply looks.Supports size h b stands out = IsSome out
+IsLookReply (looks.Part object offset count) size h b stands out = SaysPart object size b offset count out
+IsLookReply looks.CurrentThread size h b stands out = Says (codes "QC" ++ digit_of (h + 1) ∷ []) out
+IsLookReply looks.IsAttached size h b stands out = Says (codes "1") out
+IsLookReply looks.FirstThreads size h b stands out = Says (threads_text size.harts) out
+IsLookReply looks.MoreThreads size h b stands out = Says (codes "l") out
+IsLookReply looks.NoAcks size h b stands out = Says (codes "OK") out
+IsLookReply looks.Actions size h b stands out = Says (codes "vCont;c;C;s;S;r") out
+IsLookReply looks.Detach size h b stands out = Says (codes "OK") out
+IsLookReply looks.Kill size h b stands out = out ≡ None
+IsLookReply looks.Malformed size h b stands out = Says (codes "E01") out
+IsLookReply looks.Unknown size h b stands out = Says [] out
 
 -- it is one payload, or none
-abbrev pub IsReply : Look → Size → ℕ → DebuggedBench → List (List ℕ) → Type 0
-IsReply look size h b [] = IsLookReply look size h b None
-IsReply look size h b (text ∷ more) = (more ≡ []) × IsLookReply look size h b (Some text)
+abbrev pub IsReply : Look → Size → ℕ → DebuggedBench → List ℕ → List (List ℕ) → Type 0
+IsReply look size h b stands [] = IsLookReply look size h b stands None
+IsReply look size h b stands (text ∷ more) = (more ≡ []) × IsLookReply look size h b stands (Some text)
 
 -- the payloads that a request is replied with; those of one that moves the board are the console's and the stop's
-abbrev pub Replied : Request → Size → ℕ → DebuggedBench → List (List ℕ) → Type 0
-Replied (asks.Look look) size h b out = IsReply look size h b out
-Replied (asks.Move move) size h b out = ⊤
+abbrev pub Replied : Request → Size → ℕ → DebuggedBench → List ℕ → List (List ℕ) → Type 0
+Replied (asks.Look look) size h b stands out = IsReply look size h b stands out
+Replied (asks.Move move) size h b stands out = ⊤
 
 -- the hart that is shown behind a request that moves nothing
 abbrev pub hart_shown : Look → Size → ℕ → ℕ

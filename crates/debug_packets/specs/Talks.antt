@@ -1,6 +1,7 @@
 -- The parts of a talk.
-use Rattle.std.specs.Prelude.{ℕ}
+use Rattle.std.specs.Prelude.{ℕ, Bool}
 use Rattle.debug_session.specs.declared.session.Session.{Session}
+use Rattle.debug_session.specs.declared.halts.Stop.{Stop}
 use Rattle.debug_packets.specs.declared.talk.Talk.{Talk}
 
 -- what it is about
@@ -10,3 +11,19 @@ session_in talk = talk.session
 -- the hart that is shown
 abbrev pub hart_in : {C : Type 0} → Talk C → ℕ
 hart_in talk = talk.hart
+
+-- why nothing runs
+abbrev pub last_in : {C : Type 0} → Talk C → Stop
+last_in talk = talk.last
+
+-- whether GDB takes `swbreak` as a reason
+abbrev pub takes_in : {C : Type 0} → Talk C → Bool
+takes_in talk = talk.takes_swbreak
+
+-- whether packets are acknowledged
+abbrev pub acknowledges_in : {C : Type 0} → Talk C → Bool
+acknowledges_in talk = talk.acknowledges
+
+-- whether the debugger has left
+abbrev pub is_over_in : {C : Type 0} → Talk C → Bool
+is_over_in talk = talk.is_over

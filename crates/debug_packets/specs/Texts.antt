@@ -12,7 +12,7 @@ abbrev pub board_line : Size → List ℕ
 board_line size =
     codes "board " ++ (decimal size.harts ++ (codes " " ++ (decimal size.pages ++ (codes " " ++ (decimal size.lanes ++ codes "\n")))))
 
--- a hart as a thread, with what was last said of a turn of it in this life
+-- a hart as a thread, with its state
 abbrev pub thread_line : DebuggedBench → ℕ → List ℕ
 thread_line b h =
     codes "<thread id=\"" ++ (digits 16 false (h + 1) ++ (codes "\" core=\"" ++ (decimal h ++ (codes "\" name=\"hart "

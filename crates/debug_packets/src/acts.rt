@@ -1,10 +1,10 @@
 //! Requests that may move the board.
 
-ghost use Rattle.std.specs.Prelude.{◌≡◌, ◌<◌, codes, OnOk};
-ghost use Rattle.debug_session.specs.Steps.{IsStep};
+ghost use Rattle.std.specs.Prelude.{◌≡◌, ◌<◌, codes, IfOk, OnOk};
 ghost use Rattle.debug_timeline.specs.Ats.{IsAt};
-ghost use Rattle.debug_session.specs.Sessions.{size_of, timeline_of};
-ghost use Rattle.debug_packets.specs.Moved.{MovedBy, ResumedBy, WentAlone, WentBack, WentFarBack, WentOn};
+ghost use Rattle.debug_session.specs.Sessions.{plan_of, size_of, stops_of, timeline_of};
+ghost use Rattle.debug_packets.specs.Kept.{IsTalk};
+ghost use Rattle.debug_packets.specs.Moved.{IsTold, MovedBy, ResumedBy, SteppedOnce, WentAlone, WentBack, WentFarBack, WentOn};
 ghost use Rattle.gdb_requests.specs.Fields.{behind_prefix};
 
 use crate::answers::Payloads;
@@ -32,8 +32,10 @@ impl<'a, C: Crew> Talk<'a, C> {
         requires at { IsAt (size_of self.old.session) (timeline_of self.old.session) }
         ensures at { OnOk result (IsAt (size_of self.new.session) (timeline_of self.new.session)) }
         ensures size { size_of self.new.session ≡ size_of self.old.session }
-        ensures moved { OnOk result (MovedBy asked packet.now (size_of self.old.session) self.old.hart
-            (timeline_of self.old.session) (timeline_of self.new.session)) }
+        ensures moved { IfOk result (λ v. MovedBy asked packet.now self.old self.new v.items) }
+        ensures plan { plan_of self.new.session ≡ plan_of self.old.session }
+        ensures stops { stops_of self.new.session ≡ stops_of self.old.session }
+        ensures talk { IsTalk self.new.last self.old.takes_swbreak self.old.acknowledges self.old.is_over self.new }
     {
         match asked {
             Move::Step => self.step(self.hart, out),
@@ -50,7 +52,11 @@ impl<'a, C: Crew> Talk<'a, C> {
         requires at { IsAt (size_of self.old.session) (timeline_of self.old.session) }
         ensures at { OnOk result (IsAt (size_of self.new.session) (timeline_of self.new.session)) }
         ensures size { size_of self.new.session ≡ size_of self.old.session }
-        ensures moved { OnOk result (WentBack self.old.hart (timeline_of self.old.session) (timeline_of self.new.session)) }
+        ensures moved { OnOk result (WentBack self.old.hart self.new.last self.old.session self.new.session) }
+        ensures told { IfOk result (λ v. IsTold self.old self.new v.items) }
+        ensures plan { plan_of self.new.session ≡ plan_of self.old.session }
+        ensures stops { stops_of self.new.session ≡ stops_of self.old.session }
+        ensures talk { IsTalk self.new.last self.old.takes_swbreak self.old.acknowledges self.old.is_over self.new }
     {
         let stop = self.session.step_back(self.hart)?;
         self.stopped_at(stop)
@@ -61,7 +67,11 @@ impl<'a, C: Crew> Talk<'a, C> {
         requires at { IsAt (size_of self.old.session) (timeline_of self.old.session) }
         ensures at { OnOk result (IsAt (size_of self.new.session) (timeline_of self.new.session)) }
         ensures size { size_of self.new.session ≡ size_of self.old.session }
-        ensures moved { OnOk result (WentFarBack (timeline_of self.old.session) (timeline_of self.new.session)) }
+        ensures moved { OnOk result (WentFarBack self.old.hart self.new.last self.old.session self.new.session) }
+        ensures told { IfOk result (λ v. IsTold self.old self.new v.items) }
+        ensures plan { plan_of self.new.session ≡ plan_of self.old.session }
+        ensures stops { stops_of self.new.session ≡ stops_of self.old.session }
+        ensures talk { IsTalk self.new.last self.old.takes_swbreak self.old.acknowledges self.old.is_over self.new }
     {
         let stop = self.session.go_back(self.hart)?;
         self.stopped_at(stop)
@@ -77,8 +87,10 @@ impl<'a, C: Crew> Talk<'a, C> {
         requires at { IsAt (size_of self.old.session) (timeline_of self.old.session) }
         ensures at { OnOk result (IsAt (size_of self.new.session) (timeline_of self.new.session)) }
         ensures size { size_of self.new.session ≡ size_of self.old.session }
-        ensures moved { OnOk result (ResumedBy (behind_prefix (codes "vCont;") packet.now) (size_of self.old.session)
-            (timeline_of self.old.session) (timeline_of self.new.session)) }
+        ensures moved { IfOk result (λ v. ResumedBy (behind_prefix (codes "vCont;") packet.now) self.old self.new v.items) }
+        ensures plan { plan_of self.new.session ≡ plan_of self.old.session }
+        ensures stops { stops_of self.new.session ≡ stops_of self.old.session }
+        ensures talk { IsTalk self.new.last self.old.takes_swbreak self.old.acknowledges self.old.is_over self.new }
     {
         let asked = asked_by(self.alloc(), self.session.setting().shape, packet)?;
         match asked {
@@ -97,7 +109,11 @@ impl<'a, C: Crew> Talk<'a, C> {
         requires hart { hart < (size_of self.old.session).harts }
         ensures at { OnOk result (IsAt (size_of self.new.session) (timeline_of self.new.session)) }
         ensures size { size_of self.new.session ≡ size_of self.old.session }
-        ensures moved { OnOk result (IsStep (size_of self.old.session) hart (timeline_of self.old.session) (timeline_of self.new.session)) }
+        ensures moved { OnOk result (SteppedOnce hart self.new.last self.old.session self.new.session) }
+        ensures told { IfOk result (λ v. IsTold self.old self.new v.items) }
+        ensures plan { plan_of self.new.session ≡ plan_of self.old.session }
+        ensures stops { stops_of self.new.session ≡ stops_of self.old.session }
+        ensures talk { IsTalk self.new.last self.old.takes_swbreak self.old.acknowledges self.old.is_over self.new }
     {
         let mut told = Vec::new(self.alloc());
         let stop = self.session.step(hart, &mut told)?;
@@ -117,7 +133,11 @@ impl<'a, C: Crew> Talk<'a, C> {
         requires hart { hart < (size_of self.old.session).harts }
         ensures at { OnOk result (IsAt (size_of self.new.session) (timeline_of self.new.session)) }
         ensures size { size_of self.new.session ≡ size_of self.old.session }
-        ensures moved { OnOk result (WentAlone hart (size_of self.old.session) (timeline_of self.old.session) (timeline_of self.new.session)) }
+        ensures moved { OnOk result (WentAlone hart first end self.new.last self.old.session self.new.session) }
+        ensures told { IfOk result (λ v. IsTold self.old self.new v.items) }
+        ensures plan { plan_of self.new.session ≡ plan_of self.old.session }
+        ensures stops { stops_of self.new.session ≡ stops_of self.old.session }
+        ensures talk { IsTalk self.new.last self.old.takes_swbreak self.old.acknowledges self.old.is_over self.new }
     {
         let mut told = Vec::new(self.alloc());
         let stop = self
@@ -136,7 +156,11 @@ impl<'a, C: Crew> Talk<'a, C> {
         requires at { IsAt (size_of self.old.session) (timeline_of self.old.session) }
         ensures at { OnOk result (IsAt (size_of self.new.session) (timeline_of self.new.session)) }
         ensures size { size_of self.new.session ≡ size_of self.old.session }
-        ensures moved { OnOk result (WentOn harts.now (size_of self.old.session) (timeline_of self.old.session) (timeline_of self.new.session)) }
+        ensures moved { OnOk result (WentOn harts.now self.new.last self.old.session self.new.session) }
+        ensures told { IfOk result (λ v. IsTold self.old self.new v.items) }
+        ensures plan { plan_of self.new.session ≡ plan_of self.old.session }
+        ensures stops { stops_of self.new.session ≡ stops_of self.old.session }
+        ensures talk { IsTalk self.new.last self.old.takes_swbreak self.old.acknowledges self.old.is_over self.new }
     {
         let mut told = Vec::new(self.alloc());
         let stop = self.session.go(self.hart, harts, interrupt, &mut told)?;
@@ -151,7 +175,10 @@ impl<'a, C: Crew> Talk<'a, C> {
         out: &mut Payloads,
     ) -> Result<Vec<u8>, Refusal>
         requires there { stop.hart < (size_of self.old.session).harts }
-        ensures { self.new.session ≡ self.old.session }
+        ensures same { self.new.session ≡ self.old.session }
+        ensures told { IfOk result (λ v. IsTold self.old self.new v.items) }
+        ensures last { OnOk result (self.new.last ≡ stop) }
+        ensures talk { IsTalk self.new.last self.old.takes_swbreak self.old.acknowledges self.old.is_over self.new }
     {
         let alloc = self.alloc();
         for answer in told {
@@ -165,7 +192,10 @@ impl<'a, C: Crew> Talk<'a, C> {
     /// The board stands so from now on.
     fn stopped_at(&mut self, stop: Stop) -> Result<Vec<u8>, Refusal>
         requires there { stop.hart < (size_of self.old.session).harts }
-        ensures { self.new.session ≡ self.old.session }
+        ensures same { self.new.session ≡ self.old.session }
+        ensures told { IfOk result (λ v. IsTold self.old self.new v.items) }
+        ensures last { OnOk result (self.new.last ≡ stop) }
+        ensures talk { IsTalk self.new.last self.old.takes_swbreak self.old.acknowledges self.old.is_over self.new }
     {
         self.last = stop;
         self.hart = stop.hart;

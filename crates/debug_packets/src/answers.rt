@@ -1,11 +1,13 @@
 //! What is answered to a packet.
 
-ghost use Rattle.std.specs.Prelude.{◌≡◌, map, IfOk, OnOk};
+ghost use Rattle.std.specs.Prelude.{◌≡◌, true, false, map, IfOk, OnOk};
 ghost use Rattle.debug_timeline.specs.Ats.{IsAt};
-ghost use Rattle.debug_session.specs.Sessions.{bench_of, size_of, timeline_of};
+ghost use Rattle.debug_session.specs.Sessions.{bench_of, plan_of, points_of, size_of, stops_of, timeline_of, watches_of};
 ghost use Rattle.debug_packets.specs.Replies.{IsReply, Replied, Shown, hart_shown};
-ghost use Rattle.debug_packets.specs.Moved.{Moved, MovedBy};
-ghost use Rattle.debug_packets.specs.Talks.{hart_in, session_in};
+ghost use Rattle.debug_packets.specs.Kept.{IsKept, IsTalk, Listed, points_after, watches_after};
+ghost use Rattle.debug_packets.specs.Moved.{Moved};
+ghost use Rattle.debug_packets.specs.Stops.{stop_text};
+ghost use Rattle.debug_packets.specs.Talks.{acknowledges_in, hart_in, is_over_in, last_in, session_in, takes_in};
 ghost use Rattle.gdb_requests.specs.Asked.{request_of};
 ghost use Rattle.gdb_requests.specs.declared.requests.Look.{Look};
 ghost use Rattle.gdb_requests.specs.declared.requests.Request.TheVariants as asks;
@@ -26,6 +28,9 @@ impl<'a, C: Crew> Talk<'a, C> {
     pub fn new(session: Session<'a, C>) -> Result<Talk<'a, C>, Refusal>
         ensures session { IfOk result (λ talk. session_in talk ≡ session.entry) }
         ensures first { IfOk result (λ talk. hart_in talk ≡ 0) }
+        ensures last { IfOk result (λ talk. last_in talk ≡ record { hart = 0; halt = Halt.Stepped }) }
+        ensures acknowledges { IfOk result (λ talk. acknowledges_in talk ≡ true) }
+        ensures ongoing { IfOk result (λ talk. is_over_in talk ≡ false) }
     {
         let Some(hart) = session.setting().shape.hart(0) else {
             return Err(Refusal::BadShape);
@@ -56,13 +61,18 @@ impl<'a, C: Crew> Talk<'a, C> {
             → timeline_of (session_in self.new) ≡ timeline_of (session_in self.old) }
         // What is shown is the board's.
         ensures replied { IfOk result (λ out. Replied (request_of packet.now) (size_of (session_in self.old)) (hart_in self.old)
-            (bench_of (session_in self.old)) (map (λ v. v.items) out.items)) }
+            (bench_of (session_in self.old)) (stop_text (last_in self.old) (takes_in self.old)) (map (λ v. v.items) out.items)) }
         // A hart is shown until another one is asked for, or a stop shows it.
         ensures shown { OnOk result (Shown (request_of packet.now) (size_of (session_in self.old)) (hart_in self.old)
             (hart_in self.new)) }
-        // What moves the board changes its history so.
-        ensures moved { OnOk result (Moved (request_of packet.now) packet.now (size_of (session_in self.old)) (hart_in self.old)
-            (timeline_of (session_in self.old)) (timeline_of (session_in self.new))) }
+        // What moves the board changes its history so, and tells its stop last.
+        ensures moved { IfOk result (λ out. Moved (request_of packet.now) packet.now self.old self.new
+            (map (λ v. v.items) out.items)) }
+        // A breakpoint or a watchpoint is set or taken away where a packet names it, and no other.
+        ensures listed { OnOk result (Listed (request_of packet.now) (stops_of (session_in self.old))
+            (stops_of (session_in self.new))) }
+        ensures kept { (look : Look) → request_of packet.now ≡ asks.Look look → OnOk result (IsKept look self.old self.new) }
+        ensures plan { plan_of (session_in self.new) ≡ plan_of (session_in self.old) }
     {
         match request_of(packet) {
             Request::Look(asked) => self.answer_look(asked, packet),
@@ -76,7 +86,11 @@ impl<'a, C: Crew> Talk<'a, C> {
         ensures size { size_of self.new.session ≡ size_of self.old.session }
         ensures shown { OnOk result (self.new.hart ≡ hart_shown asked (size_of self.old.session) self.old.hart) }
         ensures replied { IfOk result (λ out. IsReply asked (size_of self.old.session) self.old.hart
-            (bench_of self.old.session) (map (λ v. v.items) out.items)) }
+            (bench_of self.old.session) (stop_text self.old.last self.old.takes_swbreak) (map (λ v. v.items) out.items)) }
+        ensures points { OnOk result (points_of self.new.session ≡ points_after asked (points_of self.old.session)) }
+        ensures watches { OnOk result (watches_of self.new.session ≡ watches_after asked (watches_of self.old.session)) }
+        ensures plan { plan_of self.new.session ≡ plan_of self.old.session }
+        ensures kept { OnOk result (IsKept asked self.old self.new) }
     {
         let mut out = Vec::new(self.alloc());
         match self.look(asked, packet)? {
@@ -98,8 +112,10 @@ impl<'a, C: Crew> Talk<'a, C> {
         requires at { IsAt (size_of self.old.session) (timeline_of self.old.session) }
         ensures at { OnOk result (IsAt (size_of self.new.session) (timeline_of self.new.session)) }
         ensures size { size_of self.new.session ≡ size_of self.old.session }
-        ensures moved { OnOk result (MovedBy asked packet.now (size_of self.old.session) self.old.hart
-            (timeline_of self.old.session) (timeline_of self.new.session)) }
+        ensures moved { IfOk result (λ out. Moved (asks.Move asked) packet.now self.old self.new (map (λ v. v.items) out.items)) }
+        ensures plan { plan_of self.new.session ≡ plan_of self.old.session }
+        ensures stops { stops_of self.new.session ≡ stops_of self.old.session }
+        ensures talk { IsTalk self.new.last self.old.takes_swbreak self.old.acknowledges self.old.is_over self.new }
     {
         let mut out = Vec::new(self.alloc());
         let answer = self.act(asked, packet, interrupt, &mut out)?;
@@ -108,12 +124,16 @@ impl<'a, C: Crew> Talk<'a, C> {
     }
 
     /// Whether packets are acknowledged.
-    pub fn acknowledges(&self) -> bool {
+    pub fn acknowledges(&self) -> bool
+        ensures { result ≡ acknowledges_in self.now }
+    {
         self.acknowledges
     }
 
     /// Whether the debugger has left.
-    pub fn is_over(&self) -> bool {
+    pub fn is_over(&self) -> bool
+        ensures { result ≡ is_over_in self.now }
+    {
         self.is_over
     }
 

@@ -1,10 +1,13 @@
 //! Requests that move nothing.
 
-ghost use Rattle.std.specs.Prelude.{◌≡◌, ◌+◌, ◌++◌, ◌∷◌, [], codes, IfOk, OnOk};
+ghost use Rattle.std.specs.Prelude.{◌≡◌, ◌+◌, ◌++◌, ◌∷◌, [], true, false, codes, IfOk, OnOk};
 ghost use Rattle.gdb_packets.specs.Packets.{digit_of};
 ghost use Rattle.std.specs.Option.{option_map};
 ghost use Rattle.debug_timeline.specs.Lives.{memory_in, register_in};
-ghost use Rattle.debug_session.specs.Sessions.{bench_of, machine_of_session, size_of, timeline_of};
+ghost use Rattle.debug_session.specs.Points.{with_point, with_watch, without_point, without_watch};
+ghost use Rattle.debug_session.specs.Sessions.{bench_of, machine_of_session, plan_of, points_of, size_of, timeline_of, watches_of};
+ghost use Rattle.debug_packets.specs.Kept.{IsKept, IsTalk, StaysOpen, points_after, watches_after};
+ghost use Rattle.debug_packets.specs.Stops.{stop_text};
 ghost use Rattle.debug_packets.specs.Replies.{hart_named, hart_or, hart_shown, memory_reply, register_reply, thread_reply, IsLookReply, IsPart};
 ghost use Rattle.gdb_replies.specs.Replies.{registers_text};
 
@@ -62,7 +65,11 @@ impl<'a, C: Crew> Talk<'a, C> {
         ensures size { size_of self.new.session ≡ size_of self.old.session }
         ensures shown { OnOk result (self.new.hart ≡ hart_shown asked (size_of self.old.session) self.old.hart) }
         ensures replied { IfOk result (λ out. IsLookReply asked (size_of self.old.session) self.old.hart
-            (bench_of self.old.session) (option_map (λ v. v.items) out)) }
+            (bench_of self.old.session) (stop_text self.old.last self.old.takes_swbreak) (option_map (λ v. v.items) out)) }
+        ensures points { OnOk result (points_of self.new.session ≡ points_after asked (points_of self.old.session)) }
+        ensures watches { OnOk result (watches_of self.new.session ≡ watches_after asked (watches_of self.old.session)) }
+        ensures plan { plan_of self.new.session ≡ plan_of self.old.session }
+        ensures kept { OnOk result (IsKept asked self.old self.new) }
     {
         let answer = match asked {
             Look::Reason => stop_text(self.alloc(), self.last, self.takes_swbreak)?,
@@ -120,6 +127,7 @@ impl<'a, C: Crew> Talk<'a, C> {
     /// Shows the hart of a thread from now on, where there is one.
     fn show(&mut self, thread: u64) -> Result<Vec<u8>, Refusal>
         ensures same { self.new.session ≡ self.old.session }
+        ensures talk { StaysOpen self.old self.new }
         ensures shown { OnOk result (self.new.hart ≡ hart_or (hart_named (size_of self.old.session) thread) self.old.hart) }
         ensures text { IfOk result (λ v. v.items ≡ thread_reply (size_of self.old.session) thread) }
     {
@@ -152,8 +160,11 @@ impl<'a, C: Crew> Talk<'a, C> {
     }
 
     /// A part of an object.
-    fn part(&self, object: Object, offset: u64, count: u64) -> Result<Vec<u8>, Refusal>
-        ensures { IfOk result (λ v. IsPart object (size_of self.now.session) (bench_of self.now.session) offset count v.items) }
+    fn part(&mut self, object: Object, offset: u64, count: u64) -> Result<Vec<u8>, Refusal>
+        ensures same { self.new.session ≡ self.old.session }
+        ensures talk { StaysOpen self.old self.new }
+        ensures hart { self.new.hart ≡ self.old.hart }
+        ensures text { IfOk result (λ v. IsPart object (size_of self.old.session) (bench_of self.old.session) offset count v.items) }
     {
         let alloc = self.alloc();
         match object {
@@ -163,7 +174,7 @@ impl<'a, C: Crew> Talk<'a, C> {
                 Ok(part(alloc, text.as_bytes(), offset, count)?)
             }
             Object::Threads => {
-                let text = threads_object(&self.session)?;
+                let text = threads_object(&mut self.session)?;
                 Ok(part(alloc, text.as_bytes(), offset, count)?)
             }
         }
@@ -173,6 +184,10 @@ impl<'a, C: Crew> Talk<'a, C> {
     fn set_point(&mut self, address: u64) -> Result<Vec<u8>, Refusal>
         ensures same { timeline_of self.new.session ≡ timeline_of self.old.session }
         ensures size { size_of self.new.session ≡ size_of self.old.session }
+        ensures points { OnOk result (points_of self.new.session ≡ with_point address (points_of self.old.session)) }
+        ensures watches { watches_of self.new.session ≡ watches_of self.old.session }
+        ensures plan { plan_of self.new.session ≡ plan_of self.old.session }
+        ensures talk { StaysOpen self.old self.new }
         ensures hart { self.new.hart ≡ self.old.hart }
         ensures text { IfOk result (λ v. v.items ≡ codes "OK") }
     {
@@ -184,6 +199,10 @@ impl<'a, C: Crew> Talk<'a, C> {
     fn clear_point(&mut self, address: u64) -> Result<Vec<u8>, Refusal>
         ensures same { timeline_of self.new.session ≡ timeline_of self.old.session }
         ensures size { size_of self.new.session ≡ size_of self.old.session }
+        ensures points { OnOk result (points_of self.new.session ≡ without_point address (points_of self.old.session)) }
+        ensures watches { watches_of self.new.session ≡ watches_of self.old.session }
+        ensures plan { plan_of self.new.session ≡ plan_of self.old.session }
+        ensures talk { StaysOpen self.old self.new }
         ensures hart { self.new.hart ≡ self.old.hart }
         ensures text { IfOk result (λ v. v.items ≡ codes "OK") }
     {
@@ -195,6 +214,10 @@ impl<'a, C: Crew> Talk<'a, C> {
     fn set_watch(&mut self, watch: Watch) -> Result<Vec<u8>, Refusal>
         ensures same { timeline_of self.new.session ≡ timeline_of self.old.session }
         ensures size { size_of self.new.session ≡ size_of self.old.session }
+        ensures watches { OnOk result (watches_of self.new.session ≡ with_watch watch (watches_of self.old.session)) }
+        ensures points { points_of self.new.session ≡ points_of self.old.session }
+        ensures plan { plan_of self.new.session ≡ plan_of self.old.session }
+        ensures talk { StaysOpen self.old self.new }
         ensures hart { self.new.hart ≡ self.old.hart }
         ensures text { IfOk result (λ v. v.items ≡ codes "OK") }
     {
@@ -206,6 +229,10 @@ impl<'a, C: Crew> Talk<'a, C> {
     fn clear_watch(&mut self, watch: Watch) -> Result<Vec<u8>, Refusal>
         ensures same { timeline_of self.new.session ≡ timeline_of self.old.session }
         ensures size { size_of self.new.session ≡ size_of self.old.session }
+        ensures watches { OnOk result (watches_of self.new.session ≡ without_watch watch (watches_of self.old.session)) }
+        ensures points { points_of self.new.session ≡ points_of self.old.session }
+        ensures plan { plan_of self.new.session ≡ plan_of self.old.session }
+        ensures talk { StaysOpen self.old self.new }
         ensures hart { self.new.hart ≡ self.old.hart }
         ensures text { IfOk result (λ v. v.items ≡ codes "OK") }
     {
@@ -216,6 +243,7 @@ impl<'a, C: Crew> Talk<'a, C> {
     /// Packets are not acknowledged from now on.
     fn stop_acknowledging(&mut self) -> Result<Vec<u8>, Refusal>
         ensures same { self.new.session ≡ self.old.session }
+        ensures talk { IsTalk self.old.last self.old.takes_swbreak false self.old.is_over self.new }
         ensures hart { self.new.hart ≡ self.old.hart }
         ensures text { IfOk result (λ v. v.items ≡ codes "OK") }
     {
@@ -226,6 +254,7 @@ impl<'a, C: Crew> Talk<'a, C> {
     /// The debugger leaves.
     fn leave(&mut self) -> Result<Vec<u8>, Refusal>
         ensures same { self.new.session ≡ self.old.session }
+        ensures talk { IsTalk self.old.last self.old.takes_swbreak self.old.acknowledges true self.new }
         ensures hart { self.new.hart ≡ self.old.hart }
         ensures text { IfOk result (λ v. v.items ≡ codes "OK") }
     {
@@ -236,6 +265,7 @@ impl<'a, C: Crew> Talk<'a, C> {
     /// What this stub can, and whether GDB takes `swbreak`.
     fn supported(&mut self, packet: &[u8]) -> Result<Vec<u8>, Refusal>
         ensures same { self.new.session ≡ self.old.session }
+        ensures talk { IsTalk self.old.last self.new.takes_swbreak self.old.acknowledges self.old.is_over self.new }
         ensures hart { self.new.hart ≡ self.old.hart }
     {
         if let Some(offers) = behind(packet, b"qSupported:") {

@@ -3,7 +3,8 @@
 ghost use Rattle.std.specs.Prelude.{◌≡◌, codes, IfOk, IfSome, OnOk};
 ghost use Rattle.std.specs.Option.{option_map};
 ghost use Rattle.debug_timeline.specs.Ats.{IsAt};
-ghost use Rattle.debug_session.specs.Sessions.{size_of, timeline_of};
+ghost use Rattle.debug_session.specs.Sessions.{plan_of, size_of, stops_of, timeline_of};
+ghost use Rattle.debug_packets.specs.Kept.{StaysOpen};
 ghost use Rattle.debug_packets.specs.Moved.{LineRan, MonitoredBy, TextSaid, hexed, just_one, line_in};
 ghost use Rattle.gdb_requests.specs.Fields.{behind_prefix};
 ghost use Rattle.script_lang.specs.Lines.{IsLineInRange};
@@ -72,6 +73,8 @@ fn run_text<C: Crew>(session: &mut Session<'_, C>, text: &[u8]) -> Result<String
     requires at { IsAt (size_of session.old) (timeline_of session.old) }
     ensures at { OnOk result (IsAt (size_of session.new) (timeline_of session.new)) }
     ensures size { size_of session.new ≡ size_of session.old }
+    ensures plan { plan_of session.new ≡ plan_of session.old }
+    ensures stops { stops_of session.new ≡ stops_of session.old }
     ensures moved { OnOk result (LineRan (line_in (size_of session.old) text.now) (size_of session.old)
         (timeline_of session.old) (timeline_of session.new)) }
 {
@@ -90,6 +93,8 @@ fn monitored<C: Crew>(session: &mut Session<'_, C>, text: &[u8]) -> Result<Strin
     requires at { IsAt (size_of session.old) (timeline_of session.old) }
     ensures at { OnOk result (IsAt (size_of session.new) (timeline_of session.new)) }
     ensures size { size_of session.new ≡ size_of session.old }
+    ensures plan { plan_of session.new ≡ plan_of session.old }
+    ensures stops { stops_of session.new ≡ stops_of session.old }
     ensures moved { OnOk result (TextSaid text.now (size_of session.old)
         (timeline_of session.old) (timeline_of session.new)) }
 {
@@ -126,6 +131,10 @@ impl<'a, C: Crew> Talk<'a, C> {
         ensures size { size_of self.new.session ≡ size_of self.old.session }
         ensures moved { OnOk result (MonitoredBy (behind_prefix (codes "qRcmd,") packet.now) (size_of self.old.session)
             (timeline_of self.old.session) (timeline_of self.new.session)) }
+        ensures plan { plan_of self.new.session ≡ plan_of self.old.session }
+        ensures stops { stops_of self.new.session ≡ stops_of self.old.session }
+        ensures hart { self.new.hart ≡ self.old.hart }
+        ensures talk { StaysOpen self.old self.new }
     {
         let Some(word) = behind(packet, b"qRcmd,") else {
             return self.said(b"");

@@ -78,9 +78,10 @@ pub fn harts_text<C: Crew>(session: &Session<'_, C>) -> Result<String, Refusal> 
     Ok(text)
 }
 
-/// A hart as a thread, with what was last said of a turn of it in this life.
-fn thread_line<C: Crew>(session: &Session<'_, C>, hart: HartId) -> Result<String, Refusal>
-    ensures { IfOk result (λ text. string_bytes text ≡ thread_line (bench_of session.now) hart) }
+/// A hart as a thread, with its state.
+fn thread_line<C: Crew>(session: &mut Session<'_, C>, hart: HartId) -> Result<String, Refusal>
+    ensures same { session.new ≡ session.old }
+    ensures text { IfOk result (λ text. string_bytes text ≡ thread_line (bench_of session.old) hart) }
 {
     let number = hart.number();
     let thread = number + 1;
@@ -91,8 +92,9 @@ fn thread_line<C: Crew>(session: &Session<'_, C>, hart: HartId) -> Result<String
 }
 
 /// All harts as threads.
-fn thread_lines<C: Crew>(session: &Session<'_, C>) -> Result<String, Refusal>
-    ensures { IfOk result (λ text. string_bytes text ≡ thread_lines (size_of session.now).harts (bench_of session.now)) }
+fn thread_lines<C: Crew>(session: &mut Session<'_, C>) -> Result<String, Refusal>
+    ensures same { session.new ≡ session.old }
+    ensures text { IfOk result (λ text. string_bytes text ≡ thread_lines (size_of session.old).harts (bench_of session.old)) }
 {
     let shape = session.setting().shape;
     let mut text = String::new(session.setting().alloc);
@@ -107,8 +109,9 @@ fn thread_lines<C: Crew>(session: &Session<'_, C>) -> Result<String, Refusal>
 }
 
 /// The harts as threads, as an object of `qXfer:threads:read`.
-pub fn threads_object<C: Crew>(session: &Session<'_, C>) -> Result<String, Refusal>
-    ensures { IfOk result (λ text. string_bytes text ≡ threads_object (size_of session.now) (bench_of session.now)) }
+pub fn threads_object<C: Crew>(session: &mut Session<'_, C>) -> Result<String, Refusal>
+    ensures same { session.new ≡ session.old }
+    ensures text { IfOk result (λ text. string_bytes text ≡ threads_object (size_of session.old) (bench_of session.old)) }
 {
     let lines = thread_lines(session)?;
     Ok(format!(in session.setting().alloc;

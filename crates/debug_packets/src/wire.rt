@@ -3,12 +3,10 @@
 ghost use Rattle.std.specs.Prelude.{◌≡◌, ◌++◌, ℕ, List, OnOk};
 ghost use Rattle.std.specs.Io.KnownBytes.{Appends};
 ghost use Rattle.debug_timeline.specs.Ats.{IsAt};
-ghost use Rattle.debug_session.specs.Sessions.{bench_of, size_of, timeline_of};
-ghost use Rattle.debug_packets.specs.Replies.{Replied, Shown};
-ghost use Rattle.debug_packets.specs.Moved.{Moved};
-ghost use Rattle.debug_packets.specs.Talks.{hart_in, session_in};
+ghost use Rattle.debug_session.specs.Sessions.{size_of, timeline_of};
+ghost use Rattle.debug_packets.specs.Answers.{IsAnswer, front_text};
+ghost use Rattle.debug_packets.specs.Talks.{acknowledges_in, session_in};
 ghost use Rattle.gdb_replies.specs.Replies.{packets_of};
-ghost use Rattle.gdb_requests.specs.Asked.{request_of};
 
 use crate::talk::Talk;
 use board_model::Refusal;
@@ -26,6 +24,17 @@ fn send<W: Write>(out: &mut W, bytes: &[u8]) -> Result<(), Refusal>
     out.flush().map_err(|_| Refusal::Output)
 }
 
+/// The acknowledgement of a packet, where these are wanted.
+fn front<C: Crew>(talk: &Talk<'_, C>) -> &'static [u8]
+    ensures { result.now ≡ front_text (acknowledges_in talk.now) }
+{
+    if talk.acknowledges() {
+        b"+".as_slice()
+    } else {
+        b"".as_slice()
+    }
+}
+
 /// Answers a packet on a writer: its acknowledgement, where these are wanted, and the payloads of its answer, each in
 /// its packet.
 ///
@@ -39,20 +48,11 @@ pub fn reply<C: Crew, W: Write>(
 ) -> Result<(), Refusal>
     requires at { IsAt (size_of (session_in talk.old)) (timeline_of (session_in talk.old)) }
     ensures at { OnOk result (IsAt (size_of (session_in talk.new)) (timeline_of (session_in talk.new))) }
-    ensures sent { OnOk result ((front : List ℕ) × (payloads : List (List ℕ))
-        × Replied (request_of packet.now) (size_of (session_in talk.old)) (hart_in talk.old)
-        (bench_of (session_in talk.old)) payloads
-        × Appends (W.contents out.old) (W.contents out.new) (front ++ packets_of payloads)) }
-    ensures shown { OnOk result (Shown (request_of packet.now) (size_of (session_in talk.old)) (hart_in talk.old)
-        (hart_in talk.new)) }
-    ensures moved { OnOk result (Moved (request_of packet.now) packet.now (size_of (session_in talk.old)) (hart_in talk.old)
-        (timeline_of (session_in talk.old)) (timeline_of (session_in talk.new))) }
+    ensures sent { OnOk result ((payloads : List (List ℕ)) × IsAnswer packet.now talk.old talk.new payloads
+        × Appends (W.contents out.old) (W.contents out.new)
+        (front_text (acknowledges_in talk.old) ++ packets_of payloads)) }
 {
-    let front = if talk.acknowledges() {
-        b"+".as_slice()
-    } else {
-        b"".as_slice()
-    };
+    let front = front(talk);
     let payloads = talk.answer(packet, interrupt)?;
     let mut bytes = Vec::from_slice(alloc, front)?;
     bytes.extend_from_slice(&packets(alloc, &payloads)?)?;

@@ -57,7 +57,7 @@ module _ (size : Size) (stops : Stops) where
   ran_more (Some halt) xs ys b mid new one two = by_more (is_of_turn halt) halt xs ys b mid new one two
 
   -- ---- one turn
-  tells_along : (changed : Option ℕ) (S T : Type 0) → (S → T) → (T → S) → Tells changed S → Tells changed T
+  pub tells_along : (changed : Option ℕ) (S T : Type 0) → (S → T) → (T → S) → Tells changed S → Tells changed T
   tells_along None S T to back told = to told
   tells_along (Some a) S T to back told = λ t. told (back t)
 

@@ -2,3 +2,5 @@ pub mod Wents
 pub mod Scripts
 pub mod Places
 pub mod Firsts
+pub mod Backs
+pub mod Withins

@@ -5,6 +5,8 @@ use Rattle.machine.specs.Machine.{Machine}
 use Rattle.script_lang.specs.declared.line.Line.{Line}
 use Rattle.debug_timeline.specs.declared.debugged.DebuggedBench.{DebuggedBench}
 use Rattle.debug_session.specs.declared.stops.Stops.{Stops}
+use Rattle.debug_session.specs.declared.stops.Watch.{Watch}
+use Rattle.debug_session.specs.declared.session.Plan.{Plan}
 use Rattle.debug_session.specs.declared.session.Session.{Session}
 use Rattle.debug_timeline.specs.declared.timeline.Timeline.{Timeline}
 use Rattle.debug_timeline.specs.Lives.{machine_of}
@@ -37,3 +39,15 @@ module _ {C : Type 0} where
   -- its breakpoints and watchpoints
   abbrev pub stops_of : Session C → Stops
   stops_of s = s.stops
+
+  -- the addresses of its breakpoints
+  abbrev pub points_of : Session C → List ℕ
+  points_of s = s.stops.points.items
+
+  -- the bytes that are watched
+  abbrev pub watches_of : Session C → List Watch
+  watches_of s = s.stops.watches.items
+
+  -- how it goes on
+  abbrev pub plan_of : Session C → Plan
+  plan_of s = s.plan

@@ -7,12 +7,10 @@ use Rattle.board_model.specs.Shapes.{Size}
 use Rattle.script_lang.specs.Lines.{text_of}
 use Rattle.script_lang.specs.Spellings.{board_text}
 use Rattle.script_lang.specs.declared.line.Line.{Line}
-use Rattle.sbi.specs.declared.words.Word.{Word}
-use Rattle.sbi.specs.declared.words.Word.TheVariants as words
-use Rattle.sbi_calls.specs.declared.words.Did.{Did}
-use Rattle.sbi_calls.specs.declared.words.Did.TheVariants as dids
+use Rattle.hsm.specs.declared.state.State.{State}
+use Rattle.hsm.specs.declared.state.State.TheVariants as states
 use Rattle.debug_timeline.specs.declared.debugged.DebuggedBench.{DebuggedBench}
-use Rattle.debug_timeline.specs.Lives.{is_there, machine_of, said_of}
+use Rattle.debug_timeline.specs.Lives.{machine_of, state_in}
 use lib.Chars.{codes}
 
 -- a comment that names the payload with which a slot begins, which no line has room for; none where there is none
@@ -34,21 +32,13 @@ lines_text past = flat_map (λ line. codes "\n" ++ text_of line) past
 abbrev pub history_text : Size → List (List ℕ) → List Line → List ℕ
 history_text size begins past = board_text size ++ begins_text begins ++ lines_text past
 
--- ---- what a hart is, by what was last said of it
-abbrev pub did_text : Did → List ℕ
-did_text dids.Idle = codes "idle"
-did_text dids.Stopped = codes "stopped"
-did_text dids.Suspended = codes "suspended"
-did_text dids.Dozing = codes "dozing"
-did_text dids.Entered = codes "runs"
-did_text dids.Woke = codes "runs"
-did_text dids.Resumed = codes "runs"
-did_text dids.Next = codes "runs"
-
-abbrev pub word_text : Option Word → List ℕ
-word_text None = codes "no turn yet"
-word_text (Some (words.Over end)) = codes "power off"
-word_text (Some (words.Goes did)) = did_text did
+-- ---- the state of a hart, in the words of the SBI specification 2.0, chapter HSM
+abbrev pub status_text : Option State → List ℕ
+status_text None = codes "power off"
+status_text (Some states.Started) = codes "STARTED"
+status_text (Some states.Stopped) = codes "STOPPED"
+status_text (Some states.StartPending) = codes "START_PENDING"
+status_text (Some states.Suspended) = codes "SUSPENDED"
 
 abbrev pub state_text : ℕ → DebuggedBench → List ℕ
-state_text h bench = if is_there (machine_of bench) then word_text (said_of h bench) else codes "power off"
+state_text h bench = status_text (state_in h (machine_of bench))

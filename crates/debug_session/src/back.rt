@@ -1,11 +1,17 @@
 //! Running back: where the way back ends.
 
-ghost use Rattle.std.specs.Prelude.{◌≡◌, ◌⊎◌, ◌<◌, All, length, IfOk, IfErr, IfSome, IfNone, OnOk};
+ghost use Rattle.std.specs.Prelude.{◌≡◌, ◌⊎◌, ◌<◌, All, length, replicate, take, IfOk, IfErr, IfSome, IfNone, OnOk};
+ghost use Rattle.board_model.specs.Shapes.{Size};
 ghost use Rattle.board_model.specs.declared.refusal.Refusal.TheVariants.{Memory};
 ghost use Rattle.bench_rows.specs.Notes.{AreInRange};
-ghost use Rattle.debug_timeline.specs.Ats.{IsAt, IsBefore, IsPlace};
+ghost use Rattle.bench_history.specs.Pasts.{moments, singles};
+ghost use Rattle.bench_report.specs.Bench.{Bench, bench_with};
+ghost use Rattle.debug_timeline.specs.Ats.{IsAt, IsPlace};
+ghost use Rattle.debug_session.specs.Backs.{BackTo, FoundIn, FoundOf, IsEnd, IsRowPast, IsSeen, MayMove, halt_back, later_place, later_turn};
+ghost use Rattle.debug_session.specs.Firsts.{one_turn};
 ghost use Rattle.debug_session.specs.Steps.{MakesNone};
-ghost use Rattle.debug_timeline.specs.Lives.{IsSound};
+ghost use Rattle.debug_timeline.specs.Lives.{IsSound, Shows};
+ghost use Rattle.script_lang.specs.Lines.{IsLineInRange};
 
 use crate::halts::{Halt, Stop};
 use crate::stops::Stops;
@@ -17,10 +23,10 @@ use script_lang::Line;
 
 /// A place in a history: a line, and how many of its turns stand before it.
 #[derive(Clone, Copy, Drop)]
-struct Place {
-    line: usize,
-    turns: u32,
-    stop: Stop,
+pub(crate) struct Place {
+    pub(crate) line: usize,
+    pub(crate) turns: u32,
+    pub(crate) stop: Stop,
 }
 
 /// The first turn of a history.
@@ -28,6 +34,8 @@ struct Place {
 fn first_turn<C: Crew>(setting: &Setting<'_, C>, lines: &[Line]) -> Option<Place>
     requires { AreInRange setting.now.shape.now lines.now }
     ensures some { IfSome result (λ place. IsPlace place.stop.hart place.line place.turns lines.now) }
+    ensures first { IfSome result (λ place. (place.turns ≡ 0) × (place.stop.halt ≡ Halt.Begin)
+        × All MakesNone (take place.line lines.now)) }
     ensures none { IfNone result (All MakesNone lines.now) }
 {
     for (i, line) in lines.iter().enumerate() {
@@ -45,61 +53,102 @@ fn first_turn<C: Crew>(setting: &Setting<'_, C>, lines: &[Line]) -> Option<Place
     None
 }
 
-/// The last of so many turns, which it makes, before which the hart stood at a breakpoint or that changed what is
-/// watched: how many stand before it, and which of the two it was.
+/// Why the way back ends before a turn, by whether the hart stood at a breakpoint, and what it changed of what is watched.
+fn halt_back(stands: bool, changed: Option<u64>) -> Option<Halt>
+    ensures { result ≡ halt_back stands changed }
+{
+    match changed {
+        Some(address) => Some(Halt::Watched(address)),
+        None => { if stands { Some(Halt::Point) } else { None } }
+    }
+}
+
+/// One turn of a hart: why the way back ends before it, if it does. The hart stood at a breakpoint, or the turn changed
+/// what is watched.
+fn seen_back<C: Crew>(
+    setting: &Setting<'_, C>,
+    stops: &Stops,
+    bench: &mut DebuggedBench,
+    hart: HartId,
+) -> Result<Option<Halt>, Refusal>
+    requires sound { IsSound bench.old }
+    ensures seen { IfOk result (λ halt. (size : Size) (b : Bench) → Shows size b bench.old → (new : Bench)
+        × (MayMove size (one_turn hart) b new × IsSeen halt stops.now hart b new) × Shows size new bench.new) }
+    ensures sound { OnOk result (IsSound bench.new) }
+    ensures refused { IfErr result (λ e. e ≡ Memory) }
+{
+    let stands = bench.stands_at(hart, stops.points());
+    let before = stops.watched(setting.alloc, bench)?;
+    bench.turns(setting, hart, 1);
+    let changed = stops.changed(setting.alloc, bench, &before)?;
+    Ok(halt_back(stands, changed))
+}
+
+/// What was found before, or later: the turn of a hart behind so many.
+fn later_turn(
+    found: Option<(u32, Stop)>,
+    turns: u32,
+    hart: HartId,
+    halt: Option<Halt>,
+) -> Option<(u32, Stop)>
+    ensures { result ≡ later_turn found turns hart halt }
+{
+    match halt {
+        Some(halt) => Some((turns, Stop { hart, halt })),
+        None => found,
+    }
+}
+
+/// What was found before, or later: in a line.
+fn later_place(found: Option<Place>, line: usize, last: Option<(u32, Stop)>) -> Option<Place>
+    ensures { result ≡ later_place found line last }
+{
+    match last {
+        Some((turns, stop)) => Some(Place { line, turns, stop }),
+        None => found,
+    }
+}
+
+/// The last of so many turns, which it makes, before which the way back ends: how many stand before it, and why.
 fn last_halt_in<C: Crew>(
     setting: &Setting<'_, C>,
     stops: &Stops,
     bench: &mut DebuggedBench,
     hart: HartId,
     turns: u32,
-) -> Result<Option<(u32, Halt)>, Refusal>
+) -> Result<Option<(u32, Stop)>, Refusal>
     requires sound { IsSound bench.old }
-    ensures within { IfOk result (λ found. IfSome found (λ f. f.0 < turns)) }
+    ensures within { IfOk result (λ found. IfSome found (λ f. (f.1.hart ≡ hart) × (f.0 < turns))) }
+    ensures found { IfOk result (λ found. (size : Size) (b : Bench) → Shows size b bench.old → (new : Bench)
+        × FoundIn size stops.now found (replicate turns (one_turn hart)) b new × Shows size new bench.new) }
     ensures sound { OnOk result (IsSound bench.new) }
     ensures refused { IfErr result (λ e. e ≡ Memory) }
 {
     let mut found = None;
     for k in 0..turns {
-        if bench.stands_at(hart, stops.points()) {
-            found = Some((k, Halt::Point));
-        }
-        let before = stops.watched(setting.alloc, bench)?;
-        bench.turns(setting, hart, 1);
-        if let Some(address) = stops.changed(setting.alloc, bench, &before)? {
-            found = Some((k, Halt::Watched(address)));
-        }
+        let halt = seen_back(setting, stops, bench, hart)?;
+        found = later_turn(found, k, hart, halt);
     }
     Ok(found)
 }
 
-/// The same of line `number` of a history, which it runs.
-#[tactic(auto, using(debug_timeline::proofs::Histories::place_at))]
+/// The same of a line of a history, which it runs.
 fn last_halt_of<C: Crew>(
     setting: &Setting<'_, C>,
     stops: &Stops,
     bench: &mut DebuggedBench,
-    lines: &[Line],
-    number: usize,
-) -> Result<Option<Place>, Refusal>
-    requires number { number < length lines.now }
-    requires ranges { AreInRange setting.now.shape.now lines.now }
+    line: &Line,
+) -> Result<Option<(u32, Stop)>, Refusal>
+    requires range { IsLineInRange setting.now.shape.now line.now }
     requires sound { IsSound bench.old }
-    ensures place { IfOk result (λ found. IfSome found (λ place. IsPlace place.stop.hart place.line place.turns lines.now)) }
+    ensures row { IfOk result (λ found. IfSome found (IsRowPast line.now)) }
+    ensures found { IfOk result (λ found. (b : Bench) → Shows setting.now.shape.now b bench.old → (new : Bench)
+        × FoundIn setting.now.shape.now stops.now found (singles line.now) b new × Shows setting.now.shape.now new bench.new) }
     ensures sound { OnOk result (IsSound bench.new) }
     ensures refused { IfErr result (λ e. e ≡ Memory) }
 {
-    match &lines[number] {
-        Line::Turn(hart, count) => {
-            match last_halt_in(setting, stops, bench, *hart, *count)? {
-                Some((turns, halt)) => Ok(Some(Place {
-                    line: number,
-                    turns,
-                    stop: Stop { hart: *hart, halt },
-                })),
-                None => Ok(None),
-            }
-        }
+    match line {
+        Line::Turn(hart, count) => last_halt_in(setting, stops, bench, *hart, *count),
         other => {
             replay(setting, other, bench)?;
             Ok(None)
@@ -118,15 +167,16 @@ fn last_halt<C: Crew>(
     requires four { length timeline.now.begins ≡ 4 }
     ensures place { IfOk result (λ found. IfSome found (λ place. IsPlace place.stop.hart place.line place.turns
         timeline.now.history)) }
+    ensures found { IfOk result (λ found. (last : Bench) × FoundOf setting.now.shape.now stops.now found timeline.now.history
+        (moments timeline.now.history) (bench_with timeline.now.begins) last) }
     ensures refused { IfErr result (λ e. e ≡ Memory) }
 {
     let mut found = None;
     let mut bench = DebuggedBench::blank(setting.alloc, setting.shape, timeline.begins())?;
     let lines = timeline.lines();
-    for number in 0..lines.len() {
-        if let Some(place) = last_halt_of(setting, stops, &mut bench, lines, number)? {
-            found = Some(place);
-        }
+    for (number, line) in lines.iter().enumerate() {
+        let last = last_halt_of(setting, stops, &mut bench, line)?;
+        found = later_place(found, number, last);
     }
     Ok(found)
 }
@@ -142,6 +192,8 @@ fn place_back<C: Crew>(
     requires four { length timeline.now.begins ≡ 4 }
     ensures place { IfOk result (λ found. IfSome found (λ place. IsPlace place.stop.hart place.line place.turns
         timeline.now.history)) }
+    ensures end { IfOk result (λ found. IfSome found (λ place. IsEnd setting.now.shape.now stops.now place
+        timeline.now.history (bench_with timeline.now.begins))) }
     ensures none { IfOk result (λ found. IfNone found (All MakesNone timeline.now.history)) }
     ensures refused { IfErr result (λ e. e ≡ Memory) }
 {
@@ -163,8 +215,9 @@ pub(crate) fn go_back<C: Crew>(
     requires at { IsAt setting.now.shape.now timeline.old }
     requires hart { hart < setting.now.shape.now.harts }
     ensures at { OnOk result (IsAt setting.now.shape.now timeline.new) }
-    ensures back { IfOk result (λ stop. IsBefore stop.hart timeline.old.history timeline.new.history
-        ⊎ (All MakesNone timeline.old.history × (timeline.new ≡ timeline.old))) }
+    ensures back { IfOk result (λ stop. BackTo setting.now.shape.now stops.now stop timeline.old timeline.new
+        ⊎ ((stop.halt ≡ Halt.Begin) × (stop.hart ≡ hart) × All MakesNone timeline.old.history
+        × (timeline.new ≡ timeline.old))) }
     ensures there { IfOk result (λ stop. stop.hart < setting.now.shape.now.harts) }
     ensures begins { timeline.new.begins ≡ timeline.old.begins }
     ensures refused { IfErr result (λ e. e ≡ Memory) }

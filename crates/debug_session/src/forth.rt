@@ -1,11 +1,12 @@
 //! Running forward: turns of one hart, and of harts in turn.
 
-ghost use Rattle.std.specs.Prelude.{◌≡◌, ◌⊎◌, ◌≤◌, ◌<◌, ◌+◌, ℕ, Bool, true, false, slice_index_or, None, Some, IfOk, IfErr, IfSome, OnOk};
+ghost use Rattle.std.specs.Prelude.{◌≡◌, ◌⊎◌, ◌≤◌, ◌<◌, ◌+◌, ℕ, Bool, true, false, slice_index_or, if◌then◌else◌, None, Some, IfOk, IfErr, IfSome, OnOk};
 ghost use Rattle.board_model.specs.declared.refusal.Refusal.TheVariants.{Memory};
 ghost use Rattle.bench_rows.specs.declared.rows.Row.{Row};
 ghost use Rattle.bench_rows.specs.Rows.{IsWithin, is_off, made_in};
 ghost use Rattle.debug_timeline.specs.Ats.{IsAt, MadeTurns};
 ghost use Rattle.debug_session.specs.Steps.{IsStep, Went};
+ghost use Rattle.debug_session.specs.Withins.{MadeOne, StepsWithin, is_in};
 ghost use Rattle.debug_session.specs.Firsts.{Stretched, Tells, ToHalt, halt_after, halt_seen, halts_all, watched_in};
 ghost use Rattle.debug_timeline.specs.Lives.{machine_of, pc_in, stands_in};
 
@@ -221,6 +222,7 @@ fn watched_turn<C: Crew>(
     ensures went { IfOk result (λ part. Went (λ h. h ≡ hart) part.made setting.now.shape.now timeline.old timeline.new) }
     ensures first { IfOk result (λ part. ToHalt setting.now.shape.now stops.now part.halt timeline.old timeline.new) }
     ensures one { IfOk result (λ part. part.made ≤ 1) }
+    ensures made { IfOk result (λ part. MadeOne setting.now.shape.now hart stops.now.points.items part timeline.old timeline.new) }
     ensures begins { timeline.new.begins ≡ timeline.old.begins }
     ensures refused { IfErr result (λ e. e ≡ Memory) }
 {
@@ -306,19 +308,28 @@ pub(crate) fn step<C: Crew>(
     requires hart { hart < setting.now.shape.now.harts }
     ensures at { OnOk result (IsAt setting.now.shape.now timeline.new) }
     ensures step { OnOk result (IsStep setting.now.shape.now hart timeline.old timeline.new) }
+    ensures first { IfOk result (λ stop. ToHalt setting.now.shape.now stops.now (Some stop.halt) timeline.old timeline.new) }
     ensures there { IfOk result (λ stop. stop.hart ≡ hart) }
     ensures begins { timeline.new.begins ≡ timeline.old.begins }
     ensures refused { IfErr result (λ e. e ≡ Memory) }
 {
     let part = watched_turn(setting, stops, timeline, hart, told)?;
-    Ok(Stop {
-        hart,
-        halt: part.halt.unwrap_or(Halt::Stepped),
-    })
+    match part.halt {
+        Some(halt) => Ok(Stop { hart, halt }),
+        None => Ok(Stop {
+            hart,
+            halt: Halt::Stepped,
+        }),
+    }
 }
 
-/// Whether the pc of a hart lies within these addresses.
-fn is_within(timeline: &Timeline, hart: HartId, within: Within) -> bool {
+/// Whether a hart steps on within these addresses: its next turn is not idle, and its pc lies there.
+fn steps_on(timeline: &Timeline, hart: HartId, rests: bool, within: Within) -> bool
+    ensures { result ≡ (if rests then false else is_in within (pc_in hart (machine_of timeline.now.bench))) }
+{
+    if rests {
+        return false;
+    }
     match timeline.bench().pc(hart) {
         Some(pc) => within.first <= pc && pc < within.end,
         None => false,
@@ -339,6 +350,7 @@ pub(crate) fn step_within<C: Crew>(
     requires hart { hart < setting.now.shape.now.harts }
     ensures went { OnOk result ((n : ℕ) × (n ≤ within.most) × Went (λ h. h ≡ hart) n setting.now.shape.now timeline.old timeline.new) }
     ensures first { IfOk result (λ stop. ToHalt setting.now.shape.now stops.now (Some stop.halt) timeline.old timeline.new) }
+    ensures within { IfOk result (λ stop. StepsWithin setting.now.shape.now within hart stop.halt timeline.old timeline.new) }
     ensures there { IfOk result (λ stop. stop.hart ≡ hart) }
     ensures refused { IfErr result (λ e. e ≡ Memory) }
 {
@@ -349,7 +361,7 @@ pub(crate) fn step_within<C: Crew>(
         if let Some(halt) = part.halt {
             return Ok(Stop { hart, halt });
         }
-        if part.rests || !is_within(timeline, hart, within) {
+        if !steps_on(timeline, hart, part.rests, within) {
             return Ok(Stop {
                 hart,
                 halt: Halt::Stepped,

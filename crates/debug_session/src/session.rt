@@ -1,16 +1,19 @@
 //! A board under a debugger.
 
-ghost use Rattle.std.specs.Prelude.{◌≡◌, ◌⊎◌, ◌≤◌, ◌<◌, ℕ, [], All, length, slice_index_or, true, false, string_bytes, Ok, Some, IfOk, IfErr, OnOk};
+ghost use Rattle.std.specs.Prelude.{◌≡◌, ◌⊎◌, ◌≤◌, ◌<◌, ℕ, [], All, length, slice_index_or, true, false, string_bytes, Ok, Some, IfOk, IfErr, OnErr, OnOk};
 ghost use Rattle.board_model.specs.declared.refusal.Refusal.TheVariants.{Memory};
 ghost use Rattle.bench_history.specs.Pasts.{IsBack, NoRow};
 ghost use Rattle.bench_report.specs.Bench.{no_payloads};
 ghost use Rattle.bench_rows.specs.Notes.{AreInRange};
-ghost use Rattle.debug_timeline.specs.Ats.{IsAt, IsBefore, Ran};
+ghost use Rattle.debug_timeline.specs.Ats.{IsAt, Ran};
 ghost use Rattle.debug_session.specs.Steps.{AreNoted, IsStep, MakesNone, Went};
 ghost use Rattle.debug_timeline.specs.Lives.{register_in};
 ghost use Rattle.debug_session.specs.Texts.{state_text};
-ghost use Rattle.debug_session.specs.Sessions.{begins_of, bench_of, history_of, machine_of_session, size_of, stops_of, timeline_of};
+ghost use Rattle.debug_session.specs.Sessions.{begins_of, bench_of, history_of, machine_of_session, plan_of, points_of, size_of, stops_of, timeline_of, watches_of};
+ghost use Rattle.debug_session.specs.Backs.{BackTo};
 ghost use Rattle.debug_session.specs.Firsts.{ToHalt};
+ghost use Rattle.debug_session.specs.Points.{with_point, with_watch, without_point, without_watch};
+ghost use Rattle.debug_session.specs.Withins.{StepsWithin, within_plan};
 ghost use Rattle.debug_session.specs.Texts.{history_text};
 ghost use Rattle.script_lang.specs.Lines.{IsLineInRange};
 ghost use Rattle.script_lang.specs.Scripts.{script_of};
@@ -25,7 +28,7 @@ use board::Payloads;
 use board_model::{HartId, Refusal};
 use crew::Crew;
 use debug_timeline::{DebuggedBench, Timeline};
-use machine::{Did, Word};
+use machine::State;
 use script_lang::Line;
 use std::sync::atomic::AtomicBool;
 
@@ -81,6 +84,9 @@ impl<'a, C: Crew> Session<'a, C> {
         ensures size { IfOk result (λ s. size_of s ≡ setting.entry.shape.now) }
         ensures noted { IfOk result (λ s. AreNoted lines.items [] (history_of s)) }
         ensures begins { IfOk result (λ s. begins_of s ≡ begins) }
+        ensures plan { IfOk result (λ s. plan_of s ≡ plan) }
+        ensures points { IfOk result (λ s. points_of s ≡ []) }
+        ensures watches { IfOk result (λ s. watches_of s ≡ []) }
         ensures refused { IfErr result (λ e. e ≡ Memory) }
     {
         let timeline = begun(&setting, begins, lines)?;
@@ -147,63 +153,74 @@ impl<'a, C: Crew> Session<'a, C> {
         ensures at { OnOk result (IsAt (size_of self.new) (timeline_of self.new)) }
         ensures ran { IfOk result (λ answer. Ran (size_of self.old) line answer (timeline_of self.old) (timeline_of self.new)) }
         ensures size { size_of self.new ≡ size_of self.old }
+        ensures stops { stops_of self.new ≡ stops_of self.old }
+        ensures plan { plan_of self.new ≡ plan_of self.old }
         ensures begins { begins_of self.new ≡ begins_of self.old }
         ensures refused { IfErr result (λ e. e ≡ Memory) }
     {
         self.timeline.line(&self.setting, line)
     }
 
-    /// Sets a breakpoint.
+    /// Sets a breakpoint, once.
     pub fn set_point(&mut self, address: u64) -> Result<(), Refusal>
+        ensures points { OnOk result (points_of self.new ≡ with_point address (points_of self.old)) }
+        ensures unset { OnErr result (points_of self.new ≡ points_of self.old) }
+        ensures watches { watches_of self.new ≡ watches_of self.old }
         ensures timeline { timeline_of self.new ≡ timeline_of self.old }
         ensures size { size_of self.new ≡ size_of self.old }
+        ensures plan { plan_of self.new ≡ plan_of self.old }
         ensures refused { IfErr result (λ e. e ≡ Memory) }
     {
         self.stops.set_point(address)
     }
 
-    /// Takes a breakpoint away.
+    /// Takes a breakpoint away, where it is set.
     pub fn clear_point(&mut self, address: u64)
+        ensures points { points_of self.new ≡ without_point address (points_of self.old) }
+        ensures watches { watches_of self.new ≡ watches_of self.old }
         ensures timeline { timeline_of self.new ≡ timeline_of self.old }
         ensures size { size_of self.new ≡ size_of self.old }
+        ensures plan { plan_of self.new ≡ plan_of self.old }
     {
         self.stops.clear_point(address);
     }
 
-    /// Watches bytes.
+    /// Watches bytes, once.
     pub fn set_watch(&mut self, watch: Watch) -> Result<(), Refusal>
+        ensures watches { OnOk result (watches_of self.new ≡ with_watch watch (watches_of self.old)) }
+        ensures unset { OnErr result (watches_of self.new ≡ watches_of self.old) }
+        ensures points { points_of self.new ≡ points_of self.old }
         ensures timeline { timeline_of self.new ≡ timeline_of self.old }
         ensures size { size_of self.new ≡ size_of self.old }
+        ensures plan { plan_of self.new ≡ plan_of self.old }
         ensures refused { IfErr result (λ e. e ≡ Memory) }
     {
         self.stops.set_watch(watch)
     }
 
-    /// Watches them no more.
+    /// Watches them no more, where they are watched.
     pub fn clear_watch(&mut self, watch: Watch)
+        ensures watches { watches_of self.new ≡ without_watch watch (watches_of self.old) }
+        ensures points { points_of self.new ≡ points_of self.old }
         ensures timeline { timeline_of self.new ≡ timeline_of self.old }
         ensures size { size_of self.new ≡ size_of self.old }
+        ensures plan { plan_of self.new ≡ plan_of self.old }
     {
         self.stops.clear_watch(watch);
     }
 
-    /// What a hart is, by what was last said of a turn of it in this life.
-    pub fn state_text(&self, hart: HartId) -> &'static str
-        ensures { result.now ≡ state_text hart (bench_of self.now) }
+    /// The state of a hart in the words of the SBI specification 2.0, chapter HSM; that the power is off, where no board
+    /// is on that has the hart. It is a look: the board stays as it was.
+    pub fn state_text(&mut self, hart: HartId) -> &'static str
+        ensures same { self.new ≡ self.old }
+        ensures text { result.now ≡ state_text hart (bench_of self.old) }
     {
-        if !self.timeline.bench().is_on() {
-            return "power off";
-        }
-        match self.timeline.bench().said(hart) {
-            None => "no turn yet",
-            Some(Word::Over(_)) => "power off",
-            Some(Word::Goes(did)) => match did {
-                Did::Idle => "idle",
-                Did::Stopped => "stopped",
-                Did::Suspended => "suspended",
-                Did::Dozing => "dozing",
-                Did::Entered | Did::Woke | Did::Resumed | Did::Next => "runs",
-            },
+        match self.timeline.state(hart) {
+            None => "power off",
+            Some(State::Started) => "STARTED",
+            Some(State::Stopped) => "STOPPED",
+            Some(State::StartPending) => "START_PENDING",
+            Some(State::Suspended) => "SUSPENDED",
         }
     }
 
@@ -213,8 +230,12 @@ impl<'a, C: Crew> Session<'a, C> {
         requires hart { hart < (size_of self.old).harts }
         ensures at { OnOk result (IsAt (size_of self.new) (timeline_of self.new)) }
         ensures step { OnOk result (IsStep (size_of self.old) hart (timeline_of self.old) (timeline_of self.new)) }
+        ensures first { IfOk result (λ stop. ToHalt (size_of self.old) (stops_of self.old) (Some stop.halt) (timeline_of self.old)
+            (timeline_of self.new)) }
         ensures there { IfOk result (λ stop. stop.hart < (size_of self.old).harts) }
         ensures size { size_of self.new ≡ size_of self.old }
+        ensures stops { stops_of self.new ≡ stops_of self.old }
+        ensures plan { plan_of self.new ≡ plan_of self.old }
         ensures begins { OnOk result (begins_of self.new ≡ begins_of self.old) }
         ensures refused { IfErr result (λ e. e ≡ Memory) }
     {
@@ -236,8 +257,14 @@ impl<'a, C: Crew> Session<'a, C> {
             × Went (λ h. h ≡ hart) n (size_of self.old) (timeline_of self.old) (timeline_of self.new)) }
         ensures first { IfOk result (λ stop. ToHalt (size_of self.old) (stops_of self.old) (Some stop.halt) (timeline_of self.old)
             (timeline_of self.new)) }
+        // It steps on while its pc lies there.
+        ensures within { IfOk result (λ stop. StepsWithin (size_of self.old)
+            (within_plan first end (plan_of self.old)) hart stop.halt (timeline_of self.old)
+            (timeline_of self.new)) }
         ensures there { IfOk result (λ stop. stop.hart < (size_of self.old).harts) }
         ensures size { size_of self.new ≡ size_of self.old }
+        ensures stops { stops_of self.new ≡ stops_of self.old }
+        ensures plan { plan_of self.new ≡ plan_of self.old }
         ensures refused { IfErr result (λ e. e ≡ Memory) }
     {
         let within = Within {
@@ -273,6 +300,8 @@ impl<'a, C: Crew> Session<'a, C> {
             (timeline_of self.new)) }
         ensures there { IfOk result (λ stop. stop.hart < (size_of self.old).harts) }
         ensures size { size_of self.new ≡ size_of self.old }
+        ensures stops { stops_of self.new ≡ stops_of self.old }
+        ensures plan { plan_of self.new ≡ plan_of self.old }
         ensures refused { IfErr result (λ e. e ≡ Memory) }
     {
         let round = Round {
@@ -304,6 +333,8 @@ impl<'a, C: Crew> Session<'a, C> {
             ⊎ ((stop.halt ≡ Halt.Begin) × NoRow hart (history_of self.old) × (timeline_of self.new ≡ timeline_of self.old)))) }
         ensures there { IfOk result (λ stop. stop.hart < (size_of self.old).harts) }
         ensures size { size_of self.new ≡ size_of self.old }
+        ensures stops { stops_of self.new ≡ stops_of self.old }
+        ensures plan { plan_of self.new ≡ plan_of self.old }
         ensures begins { begins_of self.new ≡ begins_of self.old }
         ensures refused { IfErr result (λ e. e ≡ Memory) }
     {
@@ -319,10 +350,13 @@ impl<'a, C: Crew> Session<'a, C> {
         requires at { IsAt (size_of self.old) (timeline_of self.old) }
         requires hart { hart < (size_of self.old).harts }
         ensures at { OnOk result (IsAt (size_of self.new) (timeline_of self.new)) }
-        ensures back { IfOk result (λ stop. IsBefore stop.hart (history_of self.old) (history_of self.new)
-            ⊎ (All MakesNone (history_of self.old) × (timeline_of self.new ≡ timeline_of self.old))) }
+        ensures back { IfOk result (λ stop. BackTo (size_of self.old) (stops_of self.old) stop (timeline_of self.old) (timeline_of self.new)
+            ⊎ ((stop.halt ≡ Halt.Begin) × (stop.hart ≡ hart) × All MakesNone (history_of self.old)
+            × (timeline_of self.new ≡ timeline_of self.old))) }
         ensures there { IfOk result (λ stop. stop.hart < (size_of self.old).harts) }
         ensures size { size_of self.new ≡ size_of self.old }
+        ensures stops { stops_of self.new ≡ stops_of self.old }
+        ensures plan { plan_of self.new ≡ plan_of self.old }
         ensures begins { OnOk result (begins_of self.new ≡ begins_of self.old) }
         ensures refused { IfErr result (λ e. e ≡ Memory) }
     {

@@ -1,7 +1,8 @@
 //! Where a debugged board halts: at addresses, and where bytes change.
 
-ghost use Rattle.std.specs.Prelude.{◌≡◌, [], true, false, ◌==◌, ◌++◌, IfErr, IfOk, OnOk};
+ghost use Rattle.std.specs.Prelude.{◌≡◌, [], true, false, ◌==◌, ◌++◌, IfErr, IfOk, OnErr, OnOk};
 ghost use Rattle.std.specs.List.{list_any};
+ghost use Rattle.debug_session.specs.Points.{with_point, with_watch, without_point, without_watch};
 ghost use Rattle.debug_session.specs.Firsts.{Tells, seen_by, watched_in};
 ghost use Rattle.debug_timeline.specs.Lives.{machine_of};
 ghost use Rattle.board_model.specs.declared.refusal.Refusal.TheVariants.{Memory};
@@ -28,7 +29,10 @@ pub struct Stops {
 
 impl Stops {
     /// None.
-    pub(crate) fn new(alloc: Global) -> Stops {
+    pub(crate) fn new(alloc: Global) -> Stops
+        ensures points { result.points.items ≡ [] }
+        ensures watches { result.watches.items ≡ [] }
+    {
         Stops {
             points: Vec::new(alloc),
             watches: Vec::new(alloc),
@@ -49,8 +53,11 @@ impl Stops {
         !self.watches.is_empty()
     }
 
-    /// Sets a breakpoint.
+    /// Sets a breakpoint, once.
     pub(crate) fn set_point(&mut self, address: u64) -> Result<(), Refusal>
+        ensures points { OnOk result (self.new.points.items ≡ with_point address self.old.points.items) }
+        ensures unset { OnErr result (self.new.points.items ≡ self.old.points.items) }
+        ensures watches { self.new.watches.items ≡ self.old.watches.items }
         ensures refused { IfErr result (λ e. e ≡ Memory) }
     {
         if !self.points.contains(&address) {
@@ -60,12 +67,18 @@ impl Stops {
     }
 
     /// Takes a breakpoint away.
-    pub(crate) fn clear_point(&mut self, address: u64) {
+    pub(crate) fn clear_point(&mut self, address: u64)
+        ensures points { self.new.points.items ≡ without_point address self.old.points.items }
+        ensures watches { self.new.watches.items ≡ self.old.watches.items }
+    {
         self.points.retain(|p| *p != address);
     }
 
-    /// Watches bytes.
+    /// Watches bytes, once.
     pub(crate) fn set_watch(&mut self, watch: Watch) -> Result<(), Refusal>
+        ensures watches { OnOk result (self.new.watches.items ≡ with_watch watch self.old.watches.items) }
+        ensures unset { OnErr result (self.new.watches.items ≡ self.old.watches.items) }
+        ensures points { self.new.points.items ≡ self.old.points.items }
         ensures refused { IfErr result (λ e. e ≡ Memory) }
     {
         if !self.watches.contains(&watch) {
@@ -75,7 +88,10 @@ impl Stops {
     }
 
     /// Watches them no more.
-    pub(crate) fn clear_watch(&mut self, watch: Watch) {
+    pub(crate) fn clear_watch(&mut self, watch: Watch)
+        ensures watches { self.new.watches.items ≡ without_watch watch self.old.watches.items }
+        ensures points { self.new.points.items ≡ self.old.points.items }
+    {
         self.watches.retain(|w| *w != watch);
     }
 

@@ -47,6 +47,11 @@ some_moments : (h k : ℕ) → moments (some_turns h k) ≡ replicate k (lines.T
 some_moments h zero = refl
 some_moments h (suc k) = append-nil (replicate (suc k) (lines.Turn h 1))
 
+-- those of what is left
+pub left_moments : (h i k : ℕ) (past : List Line) → moments (take i past ++ some_turns h k) ≡ moments (take i past) ++ replicate k (lines.Turn h 1)
+left_moments h i k past =
+    flat_map-append singles (take i past) (some_turns h k) ∙ ap (λ (xs : List Line). moments (take i past) ++ xs) (some_moments h k)
+
 split_row : (n k : ℕ) (turn : Line) → k < n → replicate n turn ≡ replicate k turn ++ turn ∷ replicate (n - suc k) turn
 split_row n k turn less =
     let sum : k + suc (n - suc k) ≡ n = omega (arith, less) in
@@ -61,8 +66,7 @@ place_before h i k past new (n, after, is, less) e =
     let whole : moments past ≡ moments front ++ (replicate n turn ++ moments after) = ap moments is ∙ flat_map-append singles front (lines.Turn h n ∷ after) in
     let parted : replicate n turn ++ moments after ≡ replicate k turn ++ (turn ∷ rest) =
     ap (λ (xs : List Line). xs ++ moments after) (split_row n k turn less) ∙ append_assoc (replicate k turn) (turn ∷ replicate (n - suc k) turn) (moments after) in
-    let left : moments new ≡ moments front ++ replicate k turn =
-    ap moments e ∙ flat_map-append singles front (some_turns h k) ∙ ap (λ (xs : List Line). moments front ++ xs) (some_moments h k) in
+    let left : moments new ≡ moments front ++ replicate k turn = ap moments e ∙ left_moments h i k past in
     (rest, whole ∙ ap (λ (xs : List Line). moments front ++ xs) parted ∙ sym (append_assoc (moments front) (replicate k turn) (turn ∷ rest)) ∙ ap (λ (xs : List Line). xs ++ turn ∷ rest) (sym left))
 
 -- a row that stands in a history

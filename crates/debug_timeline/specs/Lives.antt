@@ -1,12 +1,13 @@
 -- How the bench of a debugger stands for the bench of the model, and what it shows.
-use Rattle.std.specs.Prelude.{◌≡◌, ◌⊎◌, ℕ, ◌+◌, ◌-◌, Bool, true, false, List, Option, Some, None, nat_lt, nat_le, ◌==◌, ◌&&◌, if◌then◌else◌, length, slice_index_or, slice_range, ⊤}
+use Rattle.std.specs.Prelude.{◌≡◌, ◌⊎◌, ℕ, ◌+◌, ◌-◌, Bool, true, false, List, Option, Some, None, nat_lt, nat_le, ◌==◌, ◌&&◌, if◌then◌else◌, length, slice_range, ⊤}
 use Rattle.std.specs.List.{list_any}
 use Rattle.board_model.specs.Shapes.{Size}
 use Rattle.hart.specs.State.{reg}
 use Rattle.hart.specs.Csrs.{csr_read}
 use Rattle.hart.specs.declared.csr.Csr.{Csr}
 use Rattle.hart.specs.declared.csr.Csr.TheVariants as csrs
-use Rattle.machine.specs.Machine.{Machine, hart_at}
+use Rattle.hsm.specs.declared.state.State.{State}
+use Rattle.machine.specs.Machine.{Machine, hart_at, status_at}
 use Rattle.machine_lines.specs.declared.line.MachineLine.TheVariants as shown
 use Rattle.sbi.specs.declared.words.Word.{Word}
 use Rattle.script_lang.specs.declared.line.Line.TheVariants as lines
@@ -51,6 +52,11 @@ is_there (Some m) = true
 abbrev pub pc_in : ℕ → Option Machine → Option ℕ
 pc_in h None = None
 pc_in h (Some m) = if nat_lt h (length m.harts) then Some (hart_at m h).pc else None
+
+-- the state of a hart that the machine has, as `sbi_hart_get_status` names it
+abbrev pub state_in : ℕ → Option Machine → Option State
+state_in h None = None
+state_in h (Some m) = if nat_lt h (length m.harts) then Some (status_at m h) else None
 
 -- the nine control and status registers, from register 33 on
 abbrev pub csr_shown : ℕ → Csr
@@ -100,7 +106,3 @@ abbrev pub HasHalted : ℕ → List ℕ → Row → Option Machine → Type 0
 HasHalted h points row machine =
     ((is_off row ≡ false) × ((goes_on row ≡ false) ⊎ (stands_in points (pc_in h machine) ≡ true)))
     ⊎ (pc_in h machine ≡ None)
-
--- what was last said of a turn of hart h in this life
-abbrev pub said_of : ℕ → DebuggedBench → Option Word
-said_of h bench = slice_index_or bench.said h None

@@ -6,7 +6,7 @@ ghost use Rattle.board_model.specs.declared.refusal.Refusal.TheVariants.{Memory}
 ghost use Rattle.bench_report.specs.Agree.{fill_after};
 ghost use Rattle.bench_report.specs.Bench.{Bench, bench_with};
 ghost use Rattle.bench_report.specs.Steps.{Moves};
-ghost use Rattle.debug_timeline.specs.Lives.{HasHalted, IsSound, Rests, Shows, machine_of, pc_in, said_of, stands_in};
+ghost use Rattle.debug_timeline.specs.Lives.{HasHalted, IsSound, Rests, Shows, machine_of, pc_in, stands_in};
 ghost use Rattle.debug_timeline.specs.Passes.{GoesTo, machine_left};
 ghost use Rattle.bench_rows.specs.Rows.{IsOpenRow, IsWithin, RowMoves, is_idle_row, is_off, made_in, row_answer};
 ghost use Rattle.script_lang.specs.Lines.{IsLineInRange};
@@ -19,17 +19,14 @@ use bench_rows::{Row, idle_turns_change_nothing, rows_join};
 use board::Payloads;
 use board_model::{HartId, Refusal, Shape};
 use crew::Crew;
-use machine::Word;
 use script_lang::Line;
 use std::alloc::Global;
 
-/// A bench under way, and what was last said of its harts.
+/// A bench under way.
 #[derive(Drop)]
 pub struct DebuggedBench {
     /// The bench.
     pub live: LiveBench,
-    /// What was last said of a turn of each hart in this life.
-    said: [Option<Word>; 8],
 }
 
 /// Whether a row of turns goes on.
@@ -53,10 +50,7 @@ impl DebuggedBench {
         ensures refused { IfErr result (λ e. e ≡ Memory) }
     {
         let live = LiveBench::blank(alloc, shape, begins)?;
-        Ok(DebuggedBench {
-            live,
-            said: [None; 8],
-        })
+        Ok(DebuggedBench { live })
     }
 
     /// Runs a line, as `bench_report::line_with_cuts` does. Refused `Memory` alone, where a payload or a poke found
@@ -70,22 +64,7 @@ impl DebuggedBench {
         ensures fill { self.new.live.fill ≡ fill_after line.now self.old.live.fill }
         ensures refused { IfErr result (λ e. e ≡ Memory) }
     {
-        let answer = self.live.run(setting, line);
-        if !self.is_on() {
-            self.said = [None; 8];
-        }
-        answer
-    }
-
-    /// Keeps what was said of the last of some turns of a hart; nothing is said of a board that is off.
-    fn hear(&mut self, hart: HartId, row: Row)
-        ensures { self.new.live ≡ self.old.live }
-    {
-        match row {
-            Row::Off => {}
-            Row::Made(_, word) if self.is_on() => self.said[hart.index()] = Some(word),
-            Row::Made(_, _) | Row::Lost(_) => self.said = [None; 8],
-        }
+        self.live.run(setting, line)
     }
 
     /// Up to so many turns of a hart, one after another: what the line `turn` does.
@@ -102,9 +81,7 @@ impl DebuggedBench {
         ensures sound { IsSound self.new }
         ensures fill { self.new.live.fill ≡ self.old.live.fill }
     {
-        let row = self.live.turns(setting, hart, count);
-        self.hear(hart, row);
-        row
+        self.live.turns(setting, hart, count)
     }
 
     /// One turn more of a row that may go on, and how that goes on. An idle turn changes nothing and is left out.
@@ -185,13 +162,6 @@ impl DebuggedBench {
             }
         }
         (row, false)
-    }
-
-    /// What was last said of a turn of a hart in this life.
-    pub fn said(&self, hart: HartId) -> Option<Word>
-        ensures { result ≡ said_of hart self.now }
-    {
-        self.said[hart.index()]
     }
 
     /// The pc of a hart of a board that is on.

@@ -2,13 +2,14 @@
 
 ghost use Rattle.std.specs.Prelude.{◌≡◌, ◌<◌, None, Some, length, MatchOption};
 ghost use Rattle.bench_report.specs.Views.{machine_in};
-ghost use Rattle.debug_timeline.specs.Lives.{csr_shown, is_there, machine_of, machine_on, memory_in, register_at, register_in};
+ghost use Rattle.debug_timeline.specs.Lives.{csr_shown, is_there, machine_of, machine_on, memory_in, register_at, register_in, state_in};
 ghost use Rattle.hart.specs.Csrs.{csr_number};
 
 use crate::debugged::DebuggedBench;
 use bench_report::Power;
 use board::Board;
 use board_model::{HartId, RAM_BASE};
+use machine::State;
 use machine_lines::{MachineLine, csr_of};
 use rv_decode::Reg;
 use simdisk::SimDisk;
@@ -76,6 +77,23 @@ fn register_on(power: &mut Power, hart: HartId, number: u64) -> Option<u64>
     }
 }
 
+/// The state of a hart of a board that is on.
+fn state_on(power: &mut Power, hart: HartId) -> Option<State>
+    ensures same { power.new ≡ power.old }
+    ensures shown { result ≡ state_in hart (machine_on (Some power.old)) }
+{
+    match power {
+        Power::Off(_) => None,
+        Power::On(board) => {
+            if board.machine().has(hart) {
+                Some(board.state(hart))
+            } else {
+                None
+            }
+        }
+    }
+}
+
 impl DebuggedBench {
     /// A register of a hart of a board that is on: 0 to 31 its own, 32 the pc, 33 to 41 `sstatus`, `sie`, `stvec`,
     /// `sscratch`, `sepc`, `scause`, `stval`, `sip` and `satp`.
@@ -85,6 +103,17 @@ impl DebuggedBench {
     {
         match &mut self.live.power {
             Some(power) => register_on(power, hart, number),
+            None => None,
+        }
+    }
+
+    /// The state of a hart of a board that is on, as `sbi_hart_get_status` names it.
+    pub fn state(&mut self, hart: HartId) -> Option<State>
+        ensures same { self.new ≡ self.old }
+        ensures shown { result ≡ state_in hart (machine_of self.old) }
+    {
+        match &mut self.live.power {
+            Some(power) => state_on(power, hart),
             None => None,
         }
     }

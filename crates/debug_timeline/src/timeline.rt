@@ -8,7 +8,7 @@ ghost use Rattle.bench_report.specs.Bench.{Bench};
 ghost use Rattle.bench_report.specs.Steps.{Moves};
 ghost use Rattle.bench_rows.specs.Notes.{AreInRange};
 ghost use Rattle.debug_timeline.specs.Ats.{IsAt, IsBefore, IsLeft, IsPlace, MadeTurns, Ran};
-ghost use Rattle.debug_timeline.specs.Lives.{HasHalted, machine_of, register_in};
+ghost use Rattle.debug_timeline.specs.Lives.{HasHalted, machine_of, register_in, state_in};
 ghost use Rattle.bench_rows.specs.Rows.{IsWithin, made_in, row_answer};
 ghost use Rattle.script_lang.specs.Lines.{IsLineInRange};
 ghost use Rattle.script_lang.specs.declared.line.Line.TheVariants as lines;
@@ -21,6 +21,7 @@ use bench_rows::{Row, note};
 use board::Payloads;
 use board_model::{HartId, Refusal, Shape};
 use crew::Crew;
+use machine::State;
 use script_lang::Line;
 use std::alloc::Global;
 
@@ -78,6 +79,14 @@ impl Timeline {
         ensures shown { result ≡ register_in hart number (machine_of self.old.bench) }
     {
         self.bench.register(hart, number)
+    }
+
+    /// The state of a hart, as `DebuggedBench::state` shows it.
+    pub fn state(&mut self, hart: HartId) -> Option<State>
+        ensures same { self.new ≡ self.old }
+        ensures shown { result ≡ state_in hart (machine_of self.old.bench) }
+    {
+        self.bench.state(hart)
     }
 
     /// Up to so many turns of a hart, which become part of the history: what came of them. Refused `Memory` alone,

@@ -1,10 +1,13 @@
 //! The talk on the process's own streams. One thread reads, so that an interrupt is heard while turns run.
 
-ghost use Rattle.std.specs.Prelude.{◌≡◌, All, length, OnOk};
+ghost use Rattle.std.specs.Prelude.{◌≡◌, ℕ, List, [], All, length, codes, if◌then◌else◌, OnOk};
+ghost use Rattle.std.specs.Io.KnownBytes.{Appends};
 ghost use Rattle.debug_timeline.specs.Ats.{IsAt};
 ghost use Rattle.script_lang.specs.Lines.{IsLineInRange};
 ghost use Rattle.debug_session.specs.Sessions.{size_of, timeline_of};
-ghost use Rattle.debug_packets.specs.Talks.{session_in};
+ghost use Rattle.debug_packets.specs.Talks.{acknowledges_in, session_in};
+ghost use Rattle.gdb_packets.specs.declared.heard.Heard.{Heard};
+ghost use Rattle.sbigdb.specs.Responses.{Responds, RespondsAll};
 
 use crate::start::Start;
 use crate::told::{Told, told_payloads};
@@ -77,6 +80,17 @@ fn listen<R: Wait, I: Read + Drop>(
     }
 }
 
+/// What is sent for a packet that came damaged.
+fn again<C: Crew>(talk: &Talk<'_, C>) -> &'static [u8]
+    ensures { result.now ≡ (if acknowledges_in talk.now then codes "-" else []) }
+{
+    if talk.acknowledges() {
+        b"-".as_slice()
+    } else {
+        b"".as_slice()
+    }
+}
+
 /// Answers what was heard: a packet, or one that came damaged, where packets are acknowledged.
 fn respond<C: Crew, W: Write>(
     talk: &mut Talk<'_, C>,
@@ -87,17 +101,20 @@ fn respond<C: Crew, W: Write>(
 ) -> Result<(), Refusal>
     requires at { IsAt (size_of (session_in talk.old)) (timeline_of (session_in talk.old)) }
     ensures at { OnOk result (IsAt (size_of (session_in talk.new)) (timeline_of (session_in talk.new))) }
+    ensures sent { OnOk result ((sent : List ℕ) × Responds what talk.old talk.new sent
+        × Appends (W.contents out.old) (W.contents out.new) sent) }
 {
     match what {
         Heard::Packet(packet) => reply(talk, alloc, &packet, interrupt, out),
-        Heard::Damaged if talk.acknowledges() => {
-            out.write_all(b"-").map_err(|_| Refusal::Output)
+        Heard::Damaged => {
+            let again = again(talk);
+            out.write_all(again).map_err(|_| Refusal::Output)
         }
         _ => Ok(()),
     }
 }
 
-/// Answers whatever is heard until the talk is over, or the input ends.
+/// Answers whatever is heard, in its order, until the talk is over, or the input ends.
 fn answers<R: Wait, C: Crew, W: Write>(
     rt: &R,
     alloc: Global,
@@ -107,6 +124,8 @@ fn answers<R: Wait, C: Crew, W: Write>(
     out: &mut W,
 ) -> Result<(), Refusal>
     requires at { IsAt (size_of (session_in talk.old)) (timeline_of (session_in talk.old)) }
+    ensures sent { OnOk result ((heard : List Heard) × (sent : List ℕ) × RespondsAll heard talk.old talk.new sent
+        × Appends (W.contents out.old) (W.contents out.new) sent) }
 {
     for _ in 0..u64::MAX {
         let Ok(what) = heard.recv(rt) else {

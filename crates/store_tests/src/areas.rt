@@ -71,11 +71,15 @@ fn threads_write_the_memory(rt: HostRuntime) -> Result<(), Fail> {
     Ok(())
 }
 
-/// An area in which page k stands in lane `k mod L`, as savers wrote it before they drew their pages.
+/// Where the five pages of a board with four lanes stand by fixed stripes, page k in lane `k mod 4`: each with the first of its
+/// sectors. The area begins at sector 8, a lane has two places, and a place nine sectors.
+const STRIPES: [(u64, usize); 5] = [(0, 8), (1, 26), (2, 44), (3, 62), (4, 17)];
+
+/// An area as savers wrote it before they drew their pages.
 #[test]
 fn fixed_stripes_read_as_the_memory(rt: HostRuntime) -> Result<(), Fail> {
     let mut site = Site::new(rt.alloc(), 5, 4)?;
-    site.write_stripes(rt.alloc(), Side::first(), 9, 7)?;
+    site.write_pages(rt.alloc(), 9, 7, &STRIPES)?;
     let holds = site.holds(rt.alloc(), Side::first(), 9, 7, [2, 1, 1, 1])?;
     same(&rt, holds, true);
     Ok(())

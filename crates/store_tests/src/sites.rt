@@ -5,11 +5,10 @@ ghost use Rattle.layout.specs.Records.{AreCounts};
 
 use board_model::{Addr, HartId, ImageHead, PageNo, Reason, Refusal, Shape, Slot};
 use crew::Crew;
-use disk::{ArmedFault, Disk, Sector};
+use disk::{ArmedFault, Disk};
 use image::{read_area, write_area};
 use layout::{
-    PlaceHead, Record, Saved, Side, Version, area_start, parse_record, place_head_bytes,
-    record_bytes,
+    PlaceHead, Record, Saved, Side, Version, parse_record, place_head_bytes, record_bytes,
 };
 use ram::Ram;
 use savers::{LaneCounts, Snapshot};
@@ -120,48 +119,39 @@ impl Site {
         write_area(alloc, &mut self.disk, crew, area, &snapshot)
     }
 
-    /// Writes sectors where the disk has them.
-    fn write_at(&mut self, first: usize, sectors: &[Sector]) -> Result<(), Refusal> {
-        if self.disk.sectors() < first || self.disk.sectors() - first < sectors.len() {
-            return Err(Refusal::BadShape);
-        }
-        self.disk.write(first, sectors).map_err(|_| Refusal::Device)
-    }
-
-    /// Writes a page of the memory as fixed stripes do: page k into lane `k mod L`.
-    fn write_stripe(
+    /// Writes a page of the memory into the nine sectors from that one on.
+    fn write_page(
         &mut self,
-        area: Side,
+        at: usize,
         ram: &Ram,
-        page: PageNo,
-        serial: u64,
-    ) -> Result<(), Refusal>
-        requires { 4096 * page + 4096 ≤ length ram.now }
-    {
-        let lanes = self.shape.lanes() as usize;
-        let (lane, place) = (page.index() % lanes, page.index() / lanes);
-        let sector = area_start(&self.shape, area) + 9 * (lane * self.shape.places() + place);
-        let head = place_head_bytes(&PlaceHead { page, serial });
-        self.write_at(sector, &[head])?;
-        let (sectors, _) = ram.page(page).as_chunks::<512>();
-        self.write_at(sector + 1, sectors)
-    }
-
-    /// Writes the memory that begins with that byte as fixed stripes do.
-    pub fn write_stripes(
-        &mut self,
-        alloc: Global,
-        area: Side,
-        first: u8,
+        number: u64,
         serial: u64,
     ) -> Result<(), Refusal> {
+        let page = PageNo::new(number).ok_or(Refusal::BadShape)?;
+        if ram.pages() <= page.number() || self.disk.sectors() < 9 || self.disk.sectors() - 9 < at {
+            return Err(Refusal::BadShape);
+        }
+        let head = PlaceHead { page, serial };
+        self.disk
+            .write(at, &[place_head_bytes(&head)])
+            .map_err(|_| Refusal::Device)?;
+        let (sectors, _) = ram.page(page).as_chunks::<512>();
+        self.disk
+            .write(at + 1, sectors)
+            .map_err(|_| Refusal::Device)
+    }
+
+    /// Writes the memory that begins with that byte: of each page its number, and the first of its nine sectors.
+    pub fn write_pages(
+        &mut self,
+        alloc: Global,
+        first: u8,
+        serial: u64,
+        places: &[(u64, usize)],
+    ) -> Result<(), Refusal> {
         let ram = memory(alloc, &self.shape, first)?;
-        for number in 0..256 {
-            if let Some(page) = PageNo::new(number) {
-                if page.number() < ram.pages() {
-                    self.write_stripe(area, &ram, page, serial)?;
-                }
-            }
+        for &(number, at) in places {
+            self.write_page(at, &ram, number, serial)?;
         }
         Ok(())
     }

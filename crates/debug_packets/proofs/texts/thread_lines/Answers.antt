@@ -8,7 +8,13 @@ pub loop-number-preserved : goal.loop-number-preserved
 loop-number-preserved g c =
     let line = thread_line (bench_of c.args.session.now) in
     let n = c.loop-number.number in
-    c.in_ok-push_str.ensures.bytes
-    ∙ ap (λ x. string_bytes c.loop-number.text ++ x) (c.as_str.ensures.value ∙ c.in_ok-line.ensures ∙ ap line c.in-Some.ensures.some.0)
-    ∙ ap (λ x. x ++ line n) c.loop-number.invariant
-    ∙ sym (counted_more line n)
+    let before = c.loop-number.invariant.same in
+    record {
+      same = c.in_ok-line.ensures.same ∙ before;
+      text =
+          c.in_ok-push_str.ensures.bytes
+          ∙ ap (λ x. string_bytes c.loop-number.text ++ x)
+          (c.as_str.ensures.value ∙ c.in_ok-line.ensures.text ∙ ap (λ s. thread_line (bench_of s) c.in-Some.hart) before ∙ ap line c.in-Some.ensures.some.0)
+          ∙ ap (λ x. x ++ line n) c.loop-number.invariant.text
+          ∙ sym (counted_more line n);
+    }

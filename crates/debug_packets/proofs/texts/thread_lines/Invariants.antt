@@ -4,4 +4,7 @@ use Rattle.debug_packets.specs.Texts.{thread_lines}
 use Rattle.debug_packets.proofs.texts.thread_lines.Given as goal
 
 abbrev pub invariant-loop-number : goal.invariant-loop-number
-invariant-loop-number g l = string_bytes l.text ≡ thread_lines l.number (bench_of l.session)
+invariant-loop-number g l = record {
+  same : l.session ≡ l.fn.session;
+  text : string_bytes l.text ≡ thread_lines l.number (bench_of l.fn.session);
+}

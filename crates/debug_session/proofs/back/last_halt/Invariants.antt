@@ -1,10 +1,16 @@
+use Rattle.std.proofs.Common.{take}
 use Rattle.std.specs.Prelude.{IfSome}
+use Rattle.bench_history.specs.Pasts.{moments}
+use Rattle.bench_report.specs.Bench.{Bench, bench_with}
 use Rattle.debug_timeline.specs.Ats.{IsPlace}
-use Rattle.debug_timeline.specs.Lives.{IsSound}
+use Rattle.debug_timeline.specs.Lives.{IsSound, Shows}
+use Rattle.debug_session.specs.Backs.{FoundOf}
 use Rattle.debug_session.proofs.back.last_halt.Given as goal
 
 abbrev pub invariant-loop-number : goal.invariant-loop-number
 invariant-loop-number g l = record {
-  place : IfSome l.found (λ place. IsPlace place.stop.hart place.line place.turns l.timeline.history);
+  place : IfSome l.found (λ place. IsPlace place.stop.hart place.line place.turns l.lines);
+  found : (cur : Bench) × FoundOf l.setting.shape.now l.stops l.found l.lines (moments (take l.number l.lines)) (bench_with l.timeline.begins) cur
+      × Shows l.setting.shape.now cur l.bench;
   sound : IsSound l.bench;
 }

@@ -1,11 +1,14 @@
-use Rattle.std.proofs.Common.{None, Some, refl, ◌≡◌, ◌≤◌, ◌+◌, arith}
+use Rattle.std.proofs.Common.{None, Some, refl, ◌≡◌, ◌≤◌, ◌+◌, sym, ◌∙◌, arith}
 use Rattle.debug_session.specs.declared.halts.Halt.TheVariants as halts
 use Rattle.debug_session.proofs.Firsts.{halt_then, no_halt, other_halt}
 use Rattle.debug_session.proofs.Wents.{few_went, step_more, went_none}
+use Rattle.debug_session.proofs.Withins.{stayed_more, stayed_none, steps_asked, steps_end, steps_halt, steps_off, steps_on, steps_spent}
+use Rattle.debug_timeline.specs.Lives.{machine_of, pc_in}
+use Rattle.debug_session.specs.Withins.{is_in}
 use Rattle.debug_session.proofs.forth.step_within.Goals as goal
 
 pub loop-done-init : goal.loop-done-init
-loop-done-init g c = record { went = (0, omega arith, went_none (λ h. h ≡ c.args.hart) c.args.setting.now.shape.now c.args.timeline.now c.requires.at); first = no_halt c.args.setting.now.shape.now c.args.stops.now c.args.timeline.now; few = omega arith }
+loop-done-init g c = record { went = (0, omega arith, went_none (λ h. h ≡ c.args.hart) c.args.setting.now.shape.now c.args.timeline.now c.requires.at); first = no_halt c.args.setting.now.shape.now c.args.stops.now c.args.timeline.now; within = stayed_none c.args.setting.now.shape.now c.args.within c.args.hart c.args.timeline.now; few = omega arith }
 
 pub returns-in-Some-clause-went : goal.returns-in-Some-clause-went
 returns-in-Some-clause-went g c =
@@ -14,8 +17,8 @@ returns-in-Some-clause-went g c =
     let less : c.loop-done.done + 1 ≤ c.args.within.most = omega (arith, c.loop-done-test.true) in
     few_went (λ h. h ≡ c.args.hart) (c.loop-done.done + 1) c.args.within.most size c.args.timeline.now c.watched_turn.new.timeline less (step_more c.args.hart c.loop-done.done part.part.made size c.args.timeline.now c.loop-done.timeline c.watched_turn.new.timeline c.loop-done.invariant.went part.ensures.one part.ensures.went)
 
-pub returns-then-part-clause-went : goal.returns-then-part-clause-went
-returns-then-part-clause-went g c =
+pub returns-then-not-steps_on-clause-went : goal.returns-then-not-steps_on-clause-went
+returns-then-not-steps_on-clause-went g c =
     let size = c.args.setting.now.shape.now in
     let part = c.in_ok-part in
     let less : c.loop-done.done + 1 ≤ c.args.within.most = omega (arith, c.loop-done-test.true) in
@@ -31,13 +34,13 @@ returns-then-swap-clause-went g c =
 pub loop-done-preserved : goal.loop-done-preserved
 loop-done-preserved g c =
     let part = c.in_ok-part in
-    record { went = step_more c.args.hart c.loop-done.done part.part.made c.args.setting.now.shape.now c.args.timeline.now c.loop-done.timeline c.watched_turn.new.timeline c.loop-done.invariant.went part.ensures.one part.ensures.went; first = halt_then c.args.setting.now.shape.now c.args.stops.now c.in_ok-part.part.halt None c.args.timeline.now c.loop-done.timeline c.watched_turn.new.timeline c.in_default.is c.loop-done.invariant.first c.in_ok-part.ensures.first; few = omega (arith, c.loop-done-test.true) }
+    record { went = step_more c.args.hart c.loop-done.done part.part.made c.args.setting.now.shape.now c.args.timeline.now c.loop-done.timeline c.watched_turn.new.timeline c.loop-done.invariant.went part.ensures.one part.ensures.went; first = halt_then c.args.setting.now.shape.now c.args.stops.now c.in_ok-part.part.halt None c.args.timeline.now c.loop-done.timeline c.watched_turn.new.timeline c.in_default.is c.loop-done.invariant.first c.in_ok-part.ensures.first; within = (let on = steps_on part.part.rests (is_in c.args.within (pc_in c.args.hart (machine_of c.watched_turn.new.timeline.bench))) (sym c.steps_on.ensures ∙ c.if-not-steps_on.false) in stayed_more c.args.setting.now.shape.now c.args.within c.args.hart c.loop-done.done c.args.stops.now.points.items part.part.rests c.args.timeline.now c.loop-done.timeline c.watched_turn.new.timeline c.loop-done.invariant.within part.part.made part.part.halt part.ensures.made c.in_default.is on.0 on.1); few = omega (arith, c.loop-done-test.true) }
 
 pub returns-in-Some-clause-first : goal.returns-in-Some-clause-first
 returns-in-Some-clause-first g c = halt_then c.args.setting.now.shape.now c.args.stops.now c.in_ok-part.part.halt (Some c.in-Some.halt) c.args.timeline.now c.loop-done.timeline c.watched_turn.new.timeline c.in-Some.is c.loop-done.invariant.first c.in_ok-part.ensures.first
 
-pub returns-then-part-clause-first : goal.returns-then-part-clause-first
-returns-then-part-clause-first g c = other_halt c.args.setting.now.shape.now c.args.stops.now halts.Stepped c.args.timeline.now c.watched_turn.new.timeline refl (halt_then c.args.setting.now.shape.now c.args.stops.now c.in_ok-part.part.halt None c.args.timeline.now c.loop-done.timeline c.watched_turn.new.timeline c.in_default.is c.loop-done.invariant.first c.in_ok-part.ensures.first)
+pub returns-then-not-steps_on-clause-first : goal.returns-then-not-steps_on-clause-first
+returns-then-not-steps_on-clause-first g c = other_halt c.args.setting.now.shape.now c.args.stops.now halts.Stepped c.args.timeline.now c.watched_turn.new.timeline refl (halt_then c.args.setting.now.shape.now c.args.stops.now c.in_ok-part.part.halt None c.args.timeline.now c.loop-done.timeline c.watched_turn.new.timeline c.in_default.is c.loop-done.invariant.first c.in_ok-part.ensures.first)
 
 pub returns-then-swap-clause-first : goal.returns-then-swap-clause-first
 returns-then-swap-clause-first g c = other_halt c.args.setting.now.shape.now c.args.stops.now halts.Interrupted c.args.timeline.now c.watched_turn.new.timeline refl (halt_then c.args.setting.now.shape.now c.args.stops.now c.in_ok-part.part.halt None c.args.timeline.now c.loop-done.timeline c.watched_turn.new.timeline c.in_default.is c.loop-done.invariant.first c.in_ok-part.ensures.first)
@@ -47,3 +50,25 @@ returns-clause-went g c = few_went (λ h. h ≡ c.args.hart) c.loop-done.done c.
 
 pub returns-clause-first : goal.returns-clause-first
 returns-clause-first g c = other_halt c.args.setting.now.shape.now c.args.stops.now halts.Stepped c.args.timeline.now c.loop-done.timeline refl c.loop-done.invariant.first
+
+pub returns-in-Some-clause-within : goal.returns-in-Some-clause-within
+returns-in-Some-clause-within g c =
+    let part = c.in_ok-part in
+    steps_halt c.args.setting.now.shape.now c.args.within c.args.hart c.loop-done.done c.args.stops.now.points.items part.part.rests c.args.timeline.now c.loop-done.timeline c.watched_turn.new.timeline c.loop-done.invariant.within part.part.made part.part.halt c.in-Some.halt part.ensures.made c.in-Some.is
+
+pub returns-then-not-steps_on-clause-within : goal.returns-then-not-steps_on-clause-within
+returns-then-not-steps_on-clause-within g c =
+    let part = c.in_ok-part in
+    let off = steps_off part.part.rests (is_in c.args.within (pc_in c.args.hart (machine_of c.watched_turn.new.timeline.bench))) (sym c.steps_on.ensures ∙ c.if-not-steps_on.true) in
+    steps_end c.args.setting.now.shape.now c.args.within c.args.hart c.loop-done.done c.args.stops.now.points.items part.part.rests c.args.timeline.now c.loop-done.timeline c.watched_turn.new.timeline c.loop-done.invariant.within part.part.made part.part.halt part.ensures.made c.in_default.is off
+
+pub returns-then-swap-clause-within : goal.returns-then-swap-clause-within
+returns-then-swap-clause-within g c =
+    let part = c.in_ok-part in
+    let on = steps_on part.part.rests (is_in c.args.within (pc_in c.args.hart (machine_of c.watched_turn.new.timeline.bench))) (sym c.steps_on.ensures ∙ c.if-not-steps_on.false) in
+    steps_asked c.args.setting.now.shape.now c.args.within c.args.hart (c.loop-done.done + 1) c.args.timeline.now c.watched_turn.new.timeline (stayed_more c.args.setting.now.shape.now c.args.within c.args.hart c.loop-done.done c.args.stops.now.points.items part.part.rests c.args.timeline.now c.loop-done.timeline c.watched_turn.new.timeline c.loop-done.invariant.within part.part.made part.part.halt part.ensures.made c.in_default.is on.0 on.1)
+
+pub returns-clause-within : goal.returns-clause-within
+returns-clause-within g c =
+    let all : c.loop-done.done ≡ c.args.within.most = omega (arith, c.loop-done.invariant.few, c.loop-done-test.false) in
+    steps_spent c.args.setting.now.shape.now c.args.within c.args.hart c.loop-done.done c.args.timeline.now c.loop-done.timeline c.loop-done.invariant.within all

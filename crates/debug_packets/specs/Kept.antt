@@ -1,0 +1,62 @@
+-- What a request that moves nothing does to the debugger's lists, and to the talk.
+use Rattle.std.specs.Prelude.{◌≡◌, ℕ, Bool, true, false, List, ⊤}
+use Rattle.debug_session.specs.Points.{with_point, with_watch, without_point, without_watch}
+use Rattle.debug_session.specs.declared.halts.Stop.{Stop}
+use Rattle.debug_session.specs.declared.stops.Stops.{Stops}
+use Rattle.debug_session.specs.declared.stops.Watch.{Watch}
+use Rattle.gdb_requests.specs.declared.requests.Look.{Look}
+use Rattle.gdb_requests.specs.declared.requests.Look.TheVariants as looks
+use Rattle.gdb_requests.specs.declared.requests.Request.{Request}
+use Rattle.gdb_requests.specs.declared.requests.Request.TheVariants as asks
+use Rattle.debug_packets.specs.declared.talk.Talk.{Talk}
+use Rattle.debug_packets.specs.Talks.{acknowledges_in, is_over_in, last_in, takes_in}
+
+-- the breakpoints behind it
+abbrev pub points_after : Look → List ℕ → List ℕ
+points_after (looks.SetPoint address) points = with_point address points
+points_after (looks.ClearPoint address) points = without_point address points
+points_after look points = points
+
+-- the watchpoints behind it
+abbrev pub watches_after : Look → List Watch → List Watch
+watches_after (looks.SetWatch address count) watches = with_watch (record { address = address; count = count }) watches
+watches_after (looks.ClearWatch address count) watches = without_watch (record { address = address; count = count }) watches
+watches_after look watches = watches
+
+-- both lists behind a request; one that moves the board leaves them
+abbrev pub Listed : Request → Stops → Stops → Type 0
+Listed (asks.Look look) old new =
+    (new.points.items ≡ points_after look old.points.items) × (new.watches.items ≡ watches_after look old.watches.items)
+Listed (asks.Move move) old new = new ≡ old
+
+-- packets are acknowledged until GDB asks that they are not
+abbrev pub acknowledges_after : Look → Bool → Bool
+acknowledges_after looks.NoAcks acknowledges = false
+acknowledges_after look acknowledges = acknowledges
+
+-- the talk is over once the debugger leaves
+abbrev pub is_over_after : Look → Bool → Bool
+is_over_after looks.Detach over = true
+is_over_after looks.Kill over = true
+is_over_after look over = over
+
+-- GDB says in one request alone whether it takes `swbreak`
+abbrev pub TakesAs : Look → Bool → Bool → Type 0
+TakesAs looks.Supports old new = ⊤
+TakesAs look old new = new ≡ old
+
+-- the talk stands so
+abbrev pub IsTalk : {C : Type 0} → Stop → Bool → Bool → Bool → Talk C → Type 0
+IsTalk last takes acknowledges over talk =
+    (last_in talk ≡ last) × (takes_in talk ≡ takes) × (acknowledges_in talk ≡ acknowledges) × (is_over_in talk ≡ over)
+
+-- it goes on as it was
+abbrev pub StaysOpen : {C : Type 0} → Talk C → Talk C → Type 0
+StaysOpen old new = IsTalk (last_in old) (takes_in old) (acknowledges_in old) (is_over_in old) new
+
+-- the talk behind it
+pub record IsKept {C : Type 0} (look : Look) (old new : Talk C) : Type 0 where
+  pub last : last_in new ≡ last_in old
+  pub takes : TakesAs look (takes_in old) (takes_in new)
+  pub acknowledges : acknowledges_in new ≡ acknowledges_after look (acknowledges_in old)
+  pub over : is_over_in new ≡ is_over_after look (is_over_in old)

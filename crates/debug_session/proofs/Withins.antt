@@ -1,0 +1,187 @@
+-- Stepping while the pc lies within addresses.
+use Rattle.std.proofs.Common.{◌≡◌, ◌≤◌, ◌+◌, ◌⊎◌, inl, inr, ℕ, zero, suc, Bool, true, false, List, ◌∷◌, ◌++◌, Option, Some, None, refl, sym, ap, ◌∙◌, subst, append_assoc, arith}
+use Rattle.std.specs.Prelude.{IfSome, replicate, if◌then◌else◌}
+use Rattle.std.proofs.lemmas.List.{append-nil, replicate-append-replicate}
+use Rattle.board_model.specs.Shapes.{Size}
+use Rattle.machine.specs.Machine.{Machine}
+use Rattle.script_lang.specs.declared.line.Line.{Line}
+use Rattle.bench_history.specs.Pasts.{moments}
+use Rattle.bench_report.specs.Bench.{Bench}
+use Rattle.bench_rows.specs.declared.rows.Row.{Row}
+use Rattle.bench_rows.specs.declared.rows.Row.TheVariants as rows
+use Rattle.bench_rows.specs.Rows.{IsWithin, RowMoves, made_in}
+use Rattle.debug_timeline.specs.declared.timeline.Timeline.{Timeline}
+use Rattle.debug_timeline.specs.Ats.{IsLeft, MadeTurns}
+use Rattle.debug_timeline.specs.Lives.{Rests, machine_of, pc_in}
+use Rattle.debug_timeline.specs.Passes.{machine_left}
+use Rattle.debug_timeline.proofs.Passed.{shown_machine}
+use Rattle.debug_session.specs.declared.forth.Within.{Within}
+use Rattle.debug_session.specs.declared.halts.Halt.{Halt}
+use Rattle.debug_session.specs.declared.halts.Halt.TheVariants as halts
+use Rattle.debug_session.specs.Firsts.{Stretched, halt_after, halt_seen, halts_all, is_of_turn, one_turn}
+use Rattle.debug_session.specs.Withins.{HaltsBy, LeftBy, StayedWithin, StaysWithin, IsSpent, StepsTo, StepsWithin, TurnsOnce, is_in, is_pc_in}
+
+-- ---- one turn at most
+behind_turn : (ended stands : Bool) (changed : Option ℕ) → IfSome (halt_seen (if ended then Some halts.Ended else (if stands then Some halts.Point else None)) changed) (λ x. is_of_turn x ≡ true)
+behind_turn true stands changed = refl
+behind_turn false true None = refl
+behind_turn false true (Some address) = refl
+behind_turn false false None = tt
+behind_turn false false (Some address) = refl
+
+halts_by : (row : Row) (rests stands : Bool) (changed : Option ℕ) (halt : Option Halt) → halt ≡ halt_seen (halt_after row rests stands) changed → (made_in row ≡ 0 → changed ≡ None) → HaltsBy row rests halt
+halts_by rows.Off true stands changed halt is none = is ∙ ap (halt_seen None) (none refl)
+halts_by rows.Off false stands changed halt is none = is
+halts_by (rows.Made n word) rests stands changed halt is none =
+    let P : Option Halt → Type 0 = λ x. IfSome x (λ y. is_of_turn y ≡ true) in subst P (sym is) (behind_turn (halts_all word) stands changed)
+halts_by (rows.Lost n) rests stands changed halt is none = let P : Option Halt → Type 0 = λ x. IfSome x (λ y. is_of_turn y ≡ true) in subst P (sym is) refl
+
+pub made_one : (size : Size) (h made : ℕ) (points : List ℕ) (rests : Bool) (at halt : Option Halt) (changed : Option ℕ) (old new : Timeline) → Stretched size h 1 points made rests at old new → halt ≡ halt_seen at changed → (made ≡ 0 → changed ≡ None)
+    → (row : Row) × MadeTurns size h points row rests old new × IsWithin 1 row × (made ≡ made_in row) × HaltsBy row rests halt
+made_one size h made points rests at halt changed old new (row, turns, count, within, why, is) seen none =
+    (row, turns, within, count, halts_by row rests _ changed halt (seen ∙ ap (λ (x : Option Halt). halt_seen x changed) is) (λ e. none (count ∙ e)))
+
+-- whether it steps on
+pub steps_off : (rests inside : Bool) → (if rests then false else inside) ≡ false → (rests ≡ true) ⊎ (inside ≡ false)
+steps_off true inside is = inl refl
+steps_off false inside is = inr is
+
+pub steps_on : (rests inside : Bool) → (if rests then false else inside) ≡ true → (rests ≡ false) × (inside ≡ true)
+steps_on true inside is = absurd (let never : ⊥ = cc in never)
+steps_on false inside is = (refl, is)
+
+left_by : (within : Within) (h : ℕ) (halt : Halt) (b : Bench) → is_of_turn halt ≡ true → LeftBy within h halt b
+left_by within h halts.Stepped b of_turn = absurd (let never : ⊥ = cc in never)
+left_by within h halts.Point b of_turn = of_turn
+left_by within h (halts.Watched address) b of_turn = of_turn
+left_by within h halts.Ended b of_turn = of_turn
+left_by within h halts.Off b of_turn = of_turn
+left_by within h halts.Idle b of_turn = of_turn
+left_by within h halts.Spent b of_turn = of_turn
+left_by within h halts.Interrupted b of_turn = of_turn
+left_by within h halts.Begin b of_turn = of_turn
+
+some_is : (o : Option Halt) (halt : Halt) (P : Halt → Type 0) → o ≡ Some halt → IfSome o P → P halt
+some_is None halt P e has = absurd (let never : ⊥ = cc in never)
+some_is (Some x) halt P e has = let same : x ≡ halt = cc in subst P same has
+
+module _ (size : Size) (within : Within) (h : ℕ) where
+  is_shown : (t : Timeline) (b : Bench) → IsLeft size t b → is_in within (pc_in h (machine_of t.bench)) ≡ is_pc_in within h b
+  is_shown t b left = ap (λ (m : Option Machine). is_in within (pc_in h m)) (shown_machine size b t.bench.live.power t.bench.live.payloads left.2)
+
+  joined : (n made : ℕ) (old mid new : Timeline) → moments mid.history ≡ moments old.history ++ replicate n (one_turn h) → moments new.history ≡ moments mid.history ++ replicate made (one_turn h)
+      → moments new.history ≡ moments old.history ++ replicate (n + made) (one_turn h)
+  joined n made old mid new one two =
+      two ∙ ap (λ (xs : List Line). xs ++ replicate made (one_turn h)) one ∙ append_assoc (moments old.history) (replicate n (one_turn h)) (replicate made (one_turn h))
+      ∙ ap (λ (xs : List Line). moments old.history ++ xs) (replicate-append-replicate n made (one_turn h))
+
+  -- a turn more that left the pc within
+  one_more : (n : ℕ) (b mid new : Bench) → StaysWithin size within h n b mid → TurnsOnce size h mid new → is_pc_in within h new ≡ true → StaysWithin size within h (n + 1) b new
+  one_more n b mid new stays once is =
+      let more : suc n ≡ n + 1 = omega arith in
+      let P : ℕ → Type 0 = λ k. StaysWithin size within h k b new in
+      subst P more (mid, stays, (once, is))
+
+  same_bench : (n : ℕ) (b mid new : Bench) → new ≡ mid → StaysWithin size within h n b mid → StaysWithin size within h n b new
+  same_bench n b mid new same stays = let P : Bench → Type 0 = λ x. StaysWithin size within h n b x in subst P (sym same) stays
+
+  pub stayed_none : (t : Timeline) → StayedWithin size within h 0 t t
+  stayed_none t = record { grew = sym (append-nil (moments t.history)); ran = λ b left. (b, refl, left) }
+
+  -- the hart steps no more, though each turn left the pc within
+  of_stayed : (n : ℕ) (halt : Halt) (first last : Timeline) → StayedWithin size within h n first last → ((b : Bench) → IsSpent size within h halt n b) → StepsWithin size within h halt first last
+  of_stayed n halt first last stayed spent = record {
+    count = n;
+    grew = stayed.grew;
+    ran = λ b left. (let was = stayed.ran b left in (was.0, inl (was.1, spent was.0), was.2));
+  }
+
+  pub steps_spent : (n : ℕ) (first last : Timeline) → StayedWithin size within h n first last → n ≡ within.most → StepsWithin size within h halts.Stepped first last
+  steps_spent n first last stayed all = of_stayed n halts.Stepped first last stayed (λ b. inr all)
+
+  pub steps_asked : (n : ℕ) (first last : Timeline) → StayedWithin size within h n first last → StepsWithin size within h halts.Interrupted first last
+  steps_asked n first last stayed = of_stayed n halts.Interrupted first last stayed (λ b. tt)
+
+  module _ (n : ℕ) (points : List ℕ) (rests : Bool) (first mid last : Timeline) (stayed : StayedWithin size within h n first mid) where
+    -- a turn was made
+    once_grew : (row : Row) → MadeTurns size h points row rests mid last → made_in row ≡ 1 → moments last.history ≡ moments first.history ++ replicate (n + 1) (one_turn h)
+    once_grew row turns one =
+        let P : ℕ → Type 0 = λ j. moments last.history ≡ moments first.history ++ replicate (n + j) (one_turn h) in
+        subst P one (joined n (made_in row) first mid last stayed.grew turns.grew)
+
+    -- and the hart steps on
+    once_more : (row : Row) → MadeTurns size h points row rests mid last → made_in row ≡ 1 → is_in within (pc_in h (machine_of last.bench)) ≡ true → StayedWithin size within h (n + 1) first last
+    once_more row turns one is = record {
+      grew = once_grew row turns one;
+      ran = λ b left. (let was = stayed.ran b left in let did = turns.moves was.0 was.2 in (did.0, one_more n b was.0 did.0 was.1 (row, one, did.1) (sym (is_shown last did.0 did.2) ∙ is), did.2));
+    }
+
+    -- and is the last
+    once_left : (row : Row) (halt : Halt) → MadeTurns size h points row rests mid last → made_in row ≡ 1 → ((b : Bench) → IsLeft size last b → LeftBy within h halt b) → StepsWithin size within h halt first last
+    once_left row halt turns one why = record {
+      count = n + 1;
+      grew = once_grew row turns one;
+      ran = λ b left. (let was = stayed.ran b left in let did = turns.moves was.0 was.2 in (did.0, inr (n, was.0, refl, was.1, (row, one, did.1), why did.0 did.2), did.2));
+    }
+
+    -- and the next is idle
+    once_rests : (row : Row) → MadeTurns size h points row rests mid last → made_in row ≡ 1 → is_in within (pc_in h (machine_of last.bench)) ≡ true → rests ≡ true → StepsWithin size within h halts.Stepped first last
+    once_rests row turns one is idle = record {
+      count = n + 1;
+      grew = once_grew row turns one;
+      ran =
+          λ b left. (let was = stayed.ran b left in
+          let did = turns.moves was.0 was.2 in
+          let P : Bool → Type 0 = λ x. Rests size h x did.0 in
+          (did.0, inl (one_more n b was.0 did.0 was.1 (row, one, did.1) (sym (is_shown last did.0 did.2) ∙ is), inl (subst P idle did.3)), did.2));
+    }
+
+    -- no turn was made
+    none_made : (halt : Halt) → MadeTurns size h points rows.Off rests mid last → ((b : Bench) → Rests size h rests b → IsSpent size within h halt n b) → StepsWithin size within h halt first last
+    none_made halt turns spent = record {
+      count = n;
+      grew = (let same : n + 0 ≡ n = omega arith in
+          let P : ℕ → Type 0 = λ j. moments last.history ≡ moments first.history ++ replicate j (one_turn h) in
+          subst P same (joined n 0 first mid last stayed.grew turns.grew));
+      ran = λ b left. (let was = stayed.ran b left in let did = turns.moves was.0 was.2 in (did.0, inl (same_bench n b was.0 did.0 did.1 was.1, spent did.0 did.3), did.2));
+    }
+
+    rests_so : (idle : rests ≡ true) (b : Bench) → Rests size h rests b → Rests size h true b
+    rests_so idle b so = let P : Bool → Type 0 = λ x. Rests size h x b in subst P idle so
+
+    outside : (row : Row) (e : Bool) → is_in within (pc_in h (machine_of last.bench)) ≡ e → MadeTurns size h points row rests mid last → made_in row ≡ 1 → (rests ≡ true) ⊎ (is_in within (pc_in h (machine_of last.bench)) ≡ false)
+        → StepsWithin size within h halts.Stepped first last
+    outside row false is turns one why = once_left row halts.Stepped turns one (λ b left. sym (is_shown last b left) ∙ is)
+    outside row true is turns one (inl idle) = once_rests row turns one is idle
+    outside row true is turns one (inr no) = absurd (let same : true ≡ false = sym is ∙ no in let never : ⊥ = cc in never)
+
+    -- by what came of it
+    pub stayed_more : (made : ℕ) (halt : Option Halt) → (row : Row) × MadeTurns size h points row rests mid last × IsWithin 1 row × (made ≡ made_in row) × HaltsBy row rests halt → halt ≡ None → rests ≡ false → is_in within (pc_in h (machine_of last.bench)) ≡ true
+        → StayedWithin size within h (n + 1) first last
+    stayed_more made halt (rows.Off, turns, few, count, halts) none goes is =
+        absurd (let never : ◌≡◌ {A = Option Halt} None (Some halts.Off) = sym none ∙ halts ∙ ap (λ (x : Bool). if x then None else Some halts.Off) goes in let no : ⊥ = cc in no)
+    stayed_more made halt (rows.Made k word, turns, few, count, halts) none goes is = once_more (rows.Made k word) turns (omega (arith, few)) is
+    stayed_more made halt (rows.Lost k, turns, few, count, halts) none goes is = once_more (rows.Lost k) turns (omega (arith, few)) is
+
+    pub steps_end : (made : ℕ) (halt : Option Halt) → (row : Row) × MadeTurns size h points row rests mid last × IsWithin 1 row × (made ≡ made_in row) × HaltsBy row rests halt → halt ≡ None
+        → (rests ≡ true) ⊎ (is_in within (pc_in h (machine_of last.bench)) ≡ false) → StepsWithin size within h halts.Stepped first last
+    steps_end made halt (rows.Off, turns, few, count, halts) none why = none_made halts.Stepped turns (λ b so. inl (rests_so (idle rests halts) b so))
+      where
+        idle : (e : Bool) → halt ≡ (if e then None else Some halts.Off) → e ≡ true
+        idle true is = refl
+        idle false is = absurd (let never : ◌≡◌ {A = Option Halt} None (Some halts.Off) = sym none ∙ is in let no : ⊥ = cc in no)
+    steps_end made halt (rows.Made k word, turns, few, count, halts) none why = outside (rows.Made k word) (is_in within (pc_in h (machine_of last.bench))) refl turns (omega (arith, few)) why
+    steps_end made halt (rows.Lost k, turns, few, count, halts) none why = outside (rows.Lost k) (is_in within (pc_in h (machine_of last.bench))) refl turns (omega (arith, few)) why
+
+    pub steps_halt : (made : ℕ) (halt : Option Halt) (why : Halt) → (row : Row) × MadeTurns size h points row rests mid last × IsWithin 1 row × (made ≡ made_in row) × HaltsBy row rests halt → halt ≡ Some why → StepsWithin size within h why first last
+    steps_halt made halt why (rows.Off, turns, few, count, halts) is = off rests halts turns
+      where
+        off : (e : Bool) → halt ≡ (if e then None else Some halts.Off) → MadeTurns size h points rows.Off rests mid last → StepsWithin size within h why first last
+        off true none made_none = absurd (let never : ◌≡◌ {A = Option Halt} None (Some why) = sym none ∙ is in let no : ⊥ = cc in no)
+        off false some made_none =
+            let both : ◌≡◌ {A = Option Halt} (Some halts.Off) (Some why) = sym some ∙ is in
+            let same : halts.Off ≡ why = cc in
+            let P : Halt → Type 0 = λ x. StepsWithin size within h x first last in
+            subst P same (none_made halts.Off made_none (λ b so. tt))
+    steps_halt made halt why (rows.Made k word, turns, few, count, halts) is = once_left (rows.Made k word) why turns (omega (arith, few)) (λ b left. left_by within h why b (some_is halt why (λ x. is_of_turn x ≡ true) is halts))
+    steps_halt made halt why (rows.Lost k, turns, few, count, halts) is = once_left (rows.Lost k) why turns (omega (arith, few)) (λ b left. left_by within h why b (some_is halt why (λ x. is_of_turn x ≡ true) is halts))

@@ -1,0 +1,34 @@
+use Rattle.std.proofs.Common.{◌≡◌, List, Option, take, subst}
+use Rattle.std.specs.Prelude.{All, IfSome}
+use Rattle.bench_history.specs.Pasts.{moments}
+use Rattle.bench_report.specs.Bench.{bench_with}
+use Rattle.script_lang.specs.declared.line.Line.{Line}
+use Rattle.debug_timeline.specs.Ats.{IsPlace}
+use Rattle.debug_session.specs.declared.back.Place.{Place}
+use Rattle.debug_session.specs.declared.halts.Halt.TheVariants as halts
+use Rattle.debug_session.specs.Backs.{FoundOf, IsEnd}
+use Rattle.debug_session.specs.Steps.{MakesNone}
+use Rattle.debug_session.proofs.Backs.{end_first, end_found, some_more}
+use Rattle.debug_session.proofs.back.place_back.Goals as goal
+
+pub returns-in-Some-clause-end : goal.returns-in-Some-clause-end
+returns-in-Some-clause-end g c =
+    let size = c.args.setting.now.shape.now in
+    let stops = c.args.stops.now in
+    let past = c.args.timeline.now.history in
+    let begin = bench_with c.args.timeline.now.begins in
+    let had = c.in-Some.ensures.found in
+    end_found size stops c.in-Some.place past begin had.0 had.1
+
+pub returns-in-None-clause-end : goal.returns-in-None-clause-end
+returns-in-None-clause-end g c =
+    let size = c.args.setting.now.shape.now in
+    let stops = c.args.stops.now in
+    let past = c.args.timeline.now.history in
+    let begin = bench_with c.args.timeline.now.begins in
+    let had = c.in-None.ensures.found in
+    let P : List Line → Type 0 = λ lines. IfSome c.first_turn.result (λ place. IsPlace place.stop.hart place.line place.turns lines) in
+    let Q : List Line → Type 0 = λ lines. IfSome c.first_turn.result (λ place. (place.turns ≡ 0) × (place.stop.halt ≡ halts.Begin) × All MakesNone (take place.line lines)) in
+    let same = c.lines.ensures in
+    some_more c.first_turn.result (λ place. IsPlace place.stop.hart place.line place.turns past) (λ place. (place.turns ≡ 0) × (place.stop.halt ≡ halts.Begin) × All MakesNone (take place.line past)) (λ place. IsEnd size stops place past begin)
+    (subst P same c.first_turn.ensures.some) (subst Q same c.first_turn.ensures.first) (λ place at first. end_first size stops place past begin had.0 at first.0 first.1 first.2 had.1)

@@ -1,0 +1,25 @@
+-- The lists of breakpoints and watchpoints. Source: "Debugging with GDB", appendix "GDB Remote Serial Protocol", "Packets",
+-- `z` and `Z`: a packet sets one or takes it away. To set one that is set, or to take away one that is not, changes nothing.
+use Rattle.std.specs.Prelude.{ℕ, Bool, List, [], ◌∷◌, ◌++◌, ◌==◌, ◌&&◌, not, if◌then◌else◌}
+use Rattle.std.specs.List.{filter, list_any}
+use Rattle.debug_session.specs.declared.stops.Watch.{Watch}
+
+-- a breakpoint more: it stands once
+abbrev pub with_point : ℕ → List ℕ → List ℕ
+with_point address points = if list_any (λ p. p == address) points then points else points ++ address ∷ []
+
+-- all but that one
+abbrev pub without_point : ℕ → List ℕ → List ℕ
+without_point address points = filter (λ p. not (p == address)) points
+
+-- the same bytes
+abbrev pub is_same : Watch → Watch → Bool
+is_same watch w = w.address == watch.address && w.count == watch.count
+
+-- a watchpoint more: it stands once
+abbrev pub with_watch : Watch → List Watch → List Watch
+with_watch watch watches = if list_any (is_same watch) watches then watches else watches ++ watch ∷ []
+
+-- all but that one
+abbrev pub without_watch : Watch → List Watch → List Watch
+without_watch watch watches = filter (λ w. not (is_same watch w)) watches
