@@ -83,8 +83,8 @@ issued_grows d c life b o x issued = by d issued
     writes : (r : Option ℕ) → Writes r c life b o x → x.growths ≡ b.growths
     writes (Some n) w = grows x b w.1 refl
     writes None (inl w) = grows x (acknowledged c life b) w.1 refl
-    writes None (inr (inl (is, m, cause, e))) = grows x (failed m b) e refl
-    writes None (inr (inr (is, m, cause, e))) = grows x (failed m (in_doubt c life b)) e refl
+    writes None (inr (inl (is, (m, cause, e)))) = grows x (failed m b) e refl
+    writes None (inr (inr (is, (m, cause, e)))) = grows x (failed m (in_doubt c life b)) e refl
 
     by : (d : Option Change) → IssuedBy d c life b o x → x.growths ≡ b.growths
     by (Some e) i = grows x b i.1 refl
