@@ -109,12 +109,13 @@ writes_at bench caller number Is So a b s t n then w =
     At : Cell → Type 0
     At x = (x.caller ≡ caller) × (x.number ≡ number)
 
-    more : (fill : Option Fill) (xs : List Cell) → All At xs → All At (cell caller number fill ∷ xs)
-    more fill xs at = All-cons At (cell caller number fill) xs (refl, refl) at
+    fills : (fs : List Fill) → All At (map (λ (fill : Fill). cell caller number (Some fill)) fs)
+    fills [] = All-nil At
+    fills (fill ∷ fs) = All-cons At (cell caller number (Some fill)) (map (λ (f : Fill). cell caller number (Some f)) fs) (refl, refl) (fills fs)
 
     all : (kind : Bench) → All At (runs_of kind caller number)
-    all Cuts = more _ _ (more _ _ (more _ _ (more _ _ (more _ _ (All-nil At)))))
-    all Fails = more _ _ (All-nil At)
+    all Cuts = fills (Byte 0 ∷ Byte 255 ∷ Alternating ∷ Old ∷ New ∷ [])
+    all Fails = All-cons At (cell caller number None) [] (refl, refl) (All-nil At)
 
     by : (rows : List Row) → All At (map cell_of rows) → All Is rows → All So rows
     by [] at is = All-nil So
