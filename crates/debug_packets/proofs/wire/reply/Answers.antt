@@ -11,7 +11,7 @@ returns-clause-sent g c =
     let payloads : List (List ℕ) = map (λ v. v.items) c.in_ok-payloads.payloads.items in
     let by = c.in_ok-payloads.ensures in
     let told : IsAnswer c.args.packet.now c.args.talk.now c.answer.new.self payloads =
-        record { replied = by.replied; shown = by.shown; moved = by.moved; listed = by.listed; kept = by.kept; plan = by.plan } in
+    record { replied = by.replied; shown = by.shown; moved = by.moved; listed = by.listed; kept = by.kept; plan = by.plan } in
     let here : OnOk c.send.result (Appends (g.W.Write.contents c.args.out.now) (g.W.Write.contents c.send.new.out)
-        (front_text (acknowledges_in c.args.talk.now) ++ packets_of payloads)) = search rules in
+    (front_text (acknowledges_in c.args.talk.now) ++ packets_of payloads)) = search rules in
     on_ok_weaker c.send.result (λ sent. (payloads, told, sent)) here
