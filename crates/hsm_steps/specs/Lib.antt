@@ -1,6 +1,5 @@
 pub mod Words
 pub mod Rule
 pub mod States
-pub mod Truth
 pub mod Outcomes
 pub mod Seating

@@ -30,7 +30,8 @@ fn asked(rt: &impl Abort, ram: &mut Ram, page: u64, word: u64)
     requires page { page ≤ 255 }
     requires word { word ≤ 1023 }
 {
-    same(rt, ram.instr(BASE + 4096 * page + 4 * word), Ok(None));
+    let kept = ram.instr(BASE + 4096 * page + 4 * word);
+    assert!(rt; matches!(kept, Ok(None)));
 }
 
 /// The first word of each of the first eight pages is asked for.
@@ -74,8 +75,10 @@ fn nine_pages_keep_eight(rt: HostRuntime) -> Result<(), Fail> {
 #[test]
 fn what_is_written_is_dropped(rt: HostRuntime) -> Result<(), Fail> {
     let mut ram = memory(&rt)?;
-    same(&rt, ram.instr(BASE + 2), Err(Access::Misaligned));
-    same(&rt, ram.instr(BASE + 10 * 4096), Err(Access::Outside));
+    let between = ram.instr(BASE + 2);
+    assert!(&rt; matches!(between, Err(Access::Misaligned)));
+    let beyond = ram.instr(BASE + 10 * 4096);
+    assert!(&rt; matches!(beyond, Err(Access::Outside)));
     only_kept(&rt, &ram, &[]);
     eight_asked(&rt, &mut ram);
     same(&rt, ram.load(BASE, Width::Double), Ok(0));

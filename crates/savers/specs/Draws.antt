@@ -1,13 +1,9 @@
 -- The rule of a ticket: one word, which counts the draws. Source: docs/IMAGE.md, "The ticket".
-use Rattle.std.specs.Prelude.{◌≡◌, ℕ, ◌+◌, ◌-◌, List, [], ◌∷◌, ◌++◌, ◌==◌, length, slice_index, nat_lt, if◌then◌else◌}
+use Rattle.std.specs.Prelude.{◌≡◌, ℕ, ◌+◌, ◌-◌, List, [], ◌++◌, length, slice_index, nat_lt, if◌then◌else◌}
 use Rattle.atomic_table.specs.Table.{State, Me, Step}
+pub use Rattle.crew.specs.Orders.{times}
 use Rattle.tallies.specs.Sums.{total}
 use Rattle.savers.specs.declared.view.TicketView.{TicketView}
-
--- how often x stands in the list
-abbrev pub times : ℕ → List ℕ → ℕ
-times x [] = 0
-times x (y ∷ ys) = (if x == y then 1 else 0) + times x ys
 
 -- 1 where x is below n, and else 0
 abbrev pub once_below : ℕ → ℕ → ℕ

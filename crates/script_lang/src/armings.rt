@@ -10,7 +10,7 @@ use board_model::Shape;
 use simdisk::Fill;
 
 /// A fault of the disk that a line arms; of several cuts that are armed the newest says what a cut leaves.
-#[derive(Clone, Copy, PartialEq, Eq, Drop)]
+#[derive(Clone, Copy, Drop)]
 pub enum Arming {
     /// `cutat N FILL`: power fails at the N-th disk call from here on, 1 to 1,000,000.
     CutAt(u32, Fill),

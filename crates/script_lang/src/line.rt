@@ -13,7 +13,7 @@ use simdisk::Fill;
 use std::alloc::{AllocError, Global};
 
 /// A line after the board line. Harts, lanes, addresses and sectors are in the ranges of that board.
-#[derive(PartialEq, Eq, Drop)]
+#[derive(Drop)]
 pub enum Line {
     /// `payload S HEX`: what the slot boots, 1 to 1,024 bytes.
     Payload(Slot, Bytes),

@@ -7,7 +7,7 @@ use crate::words::{alone, hart, in_range, number, one, two};
 use board_model::{HartId, RAM_BASE, Shape};
 
 /// What a line shows of a board that is on.
-#[derive(Clone, Copy, PartialEq, Eq, Drop)]
+#[derive(Clone, Copy, Drop)]
 pub enum Look {
     /// `reg H R`: a register, 0 to 31.
     Reg(HartId, u32),

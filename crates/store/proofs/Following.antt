@@ -122,8 +122,3 @@ module _ (size : Size) (r : Record) where
     pub follows : (command : Command) (d : Durable) → refusal_of here (change_of command) ≡ None → d ≡ durable_of (after here (change_of command))
         → Follows size r (entries.Command command) (next_of r d)
     follows command d goes is = subst (λ (e : Durable). Follows size r (entries.Command command) (next_of r e)) (sym is) (follows_so command goes)
-
-at_most : (xs : List ℕ) (i : ℕ) → slice_index xs i ≤ sum xs
-at_most [] i = omega arith
-at_most (x ∷ xs) zero = let all : sum (x ∷ xs) ≡ x + sum xs = sum_by-cons (λ y. y) x xs in omega (arith, all)
-at_most (x ∷ xs) (suc i) = let all : sum (x ∷ xs) ≡ x + sum xs = sum_by-cons (λ y. y) x xs in let rest = at_most xs i in omega (arith, all, rest)

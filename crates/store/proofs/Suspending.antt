@@ -4,9 +4,6 @@ use Rattle.board_model.specs.Durable.{DurableState, Change}
 use Rattle.board_model.specs.declared.refusal.Refusal.{Refusal}
 use Rattle.store.specs.Lives.{Life, now_of, Applied, SuspendApplied, IsReseen}
 
-found_of : (l m : Life) → m ≡ l → m.found ≡ l.found
-found_of l m is = ap (λ (x : Life). x.found) is
-
 pub applied_found : (old : Life) (c : Change) (r : Result ℕ Refusal) (new : Life) → Applied old c r new → new.found ≡ old.found
 applied_found old c (Ok n) new did = ap (λ (x : Life). x.found) did.2
 applied_found old c (Err e) new did =

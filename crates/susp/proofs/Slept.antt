@@ -35,14 +35,6 @@ module _ {D L : Type 0} {g : Ghosts D L} {l : Lanes L} (harts by kind address op
     slept = (looked.0, mid, looked.2, inl ((λ are. absurd (true≢false (sym (looked.1.1 are) ∙ off))), refl, refl, refl, refl));
   }
 
-  pub fallen_steps : (quiet : Bool) (vs mid vs' : List HartView) (fell : Result Sleep SbiError) (bus' : Bus) (new : Store D L g l) → quiet ≡ true → Looked harts by quiet vs mid
-      → FallsAsleep sleep by site opaque mid bus old fell vs' bus' new → Sleeps harts by kind address opaque vs bus old fell vs' bus' new
-  fallen_steps quiet vs mid vs' fell bus' new holds looked fallen = record {
-    asked = Ok (sleep, site);
-    checked = checked;
-    slept = (looked.0, mid, looked.2, inr (looked.1.0 holds, fallen));
-  }
-
   pub denied_alone : (quiet : Bool) (c c' : HartSeatView) → quiet ≡ false → LookedAlone harts by quiet c c' → (states : ℕ → HartState) → Shows harts c states
       → SleepsAlone harts by kind address opaque states bus old (Err Denied) bus old × Shows harts c' states
   denied_alone quiet c c' off looked states shows =
