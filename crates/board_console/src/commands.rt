@@ -32,7 +32,8 @@ fn issue<D: Disk + Drop, J: Journal>(
 /// Does what a line says, with the store that it is lent for this one moment: on a board of threads, under
 /// the store's lock. A command that was acknowledged is durable, and its receipt is its place in the journal
 /// of this life (`Store::entry` has it there from then on), which the console's part is told; of a refusal and of
-/// the state that it is shown the console has heard, and after a refusal what stands is what `Store::apply` says. `wake` asks the bus (`rouse`), and the other lines ask nothing.
+/// the state that it is shown the console has heard, and after a refusal what stands is what `Store::apply` says.
+/// `wake` asks the bus (`rouse`), and the other lines ask nothing.
 pub fn obey<D: Disk + Drop, J: Journal>(
     store: &mut SharedStore<D, J>,
     part: Part<J>,

@@ -191,8 +191,8 @@ fn compare_held<R: Threads + Sync>(
     Ok(())
 }
 
-/// Makes the run that the text asks for, with payload files of that folder, and with an output as a terminal is and as a pipe is. `Ok` where each
-/// time the status and both outputs are those of the text.
+/// Makes the run that the text asks for, with payload files of that folder, and with an output as a terminal is and as a pipe
+/// is. `Ok` where each time the status and both outputs are those of the text.
 pub fn compare_run<'a, R: Threads + Sync>(
     alloc: Global,
     threads: &R,

@@ -36,8 +36,8 @@ type Row = (u32, u64, FileFate, Option<Result<u32, Refusal>>, u32);
 
 /// The four calls of the disk are four of the file: the record's sector and its sync, the gate's sector and its sync. Before
 /// the gate is written the state is the old one; a failure of its write or its sync leaves the command in doubt, and the next
-/// process finds what the file then holds, which is the old state where a failed sync loses what was written. A process that is killed leaves the state before the command until the gate was
-/// written, and then the one after it.
+/// process finds what the file then holds, which is the old state where a failed sync loses what was written. A process that
+/// is killed leaves the state before the command until the gate was written, and then the one after it.
 const ROWS: [Row; 12] = [
     (2, 4, FileFate::Killed, Some(Ok(1)), 2),
     (3, 4, FileFate::Fails, Some(Ok(1)), 3),

@@ -1,7 +1,7 @@
 //! The theorem of this repository: what is promised where power fails, in the words of docs/PROOFS.md (`headline.rt`, and
-//! `sessions.rt` for a board on threads, `files.rt` for a disk that is kept in a file). Each promise is a public function. A promise of a call makes the call, and its
-//! clause says what comes of it; a promise over all runs does nothing, or calls the law that carries it. So a body shows
-//! which contract below carries its promise. Nothing stands on this crate.
+//! `sessions.rt` for a board on threads, `files.rt` for a disk that is kept in a file). Each promise is a public function.
+//! A promise of a call makes the call, and its clause says what comes of it; a promise over all runs does nothing, or calls
+//! the law that carries it. So a body shows which contract below carries its promise. Nothing stands on this crate.
 #![tactic(auto)]
 
 mod files;
