@@ -1,6 +1,8 @@
 -- In reading order.
 -- Why a command line asks for no work.
 pub mod Kinds
+-- The command of a program.
+pub mod Programs
 -- An option without a value.
 pub mod Flags
 -- Options with a value, and those of the payload files.

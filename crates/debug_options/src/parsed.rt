@@ -1,15 +1,16 @@
 //! From words to options.
 
-ghost use Rattle.std.specs.Prelude.{◌≡◌, ◌≤◌, ◌<◌, ◌^◌, map, codes, Some, IfOk, IfSome};
+ghost use Rattle.std.specs.Prelude.{◌≡◌, ◌≤◌, ◌<◌, ◌^◌, map, codes, Some, IfOk, IfSome, option_and_then};
 ghost use Rattle.clap.specs.Words.{first_value, found_of};
-ghost use Rattle.debug_options.specs.Reads.{IsNamedBy, ReadsOptions, number_named};
+ghost use Rattle.script_lang.specs.Words.{number_of};
+ghost use Rattle.debug_options.specs.Reads.{IsNamedBy, ReadsOptions};
 
 use crate::given::Options;
 use crate::help::{MOST, MOST_QUANTUM, MOST_TURNS, QUANTUM, SCRIPT, command};
 use clap::error::ErrorKind;
 use clap::{ArgMatches, Error};
 use command_line::{path_given, payload_paths};
-use script_lang::number as number_of;
+use script_lang::number as number_in;
 use std::alloc::{AllocError, Global};
 use std::convert::AsStr;
 
@@ -17,9 +18,9 @@ use std::convert::AsStr;
 fn number(matches: &ArgMatches<'_>, id: &str, most: u64) -> Option<u32>
     requires { most < 2 ^ 32 }
     ensures range { IfSome result (λ n. (1 ≤ n) × (n ≤ most)) }
-    ensures named { IfSome result (λ n. number_named (first_value (found_of matches.now) id.now) ≡ Some n) }
+    ensures named { IfSome result (λ n. option_and_then number_of (first_value (found_of matches.now) id.now) ≡ Some n) }
 {
-    let number = number_of(matches.get_str(id)?.as_bytes())?;
+    let number = number_in(matches.get_str(id)?.as_bytes())?;
     if number < 1 || most < number {
         return None;
     }

@@ -1,10 +1,11 @@
 -- The command as its parser reads it, and the work that its words name. Source: docs/CONSOLE.md, "The program `sbidisk`".
 use Rattle.std.specs.Prelude.{◌≡◌, ◌⊎◌, ℕ, Bool, List, true, false, Some, None}
 use Rattle.std.specs.Borrow.{Bor}
-use Rattle.clap.specs.Words.{App, Rule, first_value, matches_of, new_app, new_rule, one_text, rows_of, takes, with_rule}
+use Rattle.clap.specs.Words.{App, Rule, first_value, matches_of, new_rule, one_text, rows_of, takes, with_rule}
 use Rattle.clap.specs.declared.builder.action.ArgAction.TheVariants.{Set}
 use Rattle.clap.specs.declared.parser.matches.Found.{Found}
 use Rattle.command_line.specs.Flags.{flag_rule}
+use Rattle.command_line.specs.Programs.{named_app}
 use Rattle.command_line.specs.declared.NoWork.{NoWork}
 use Rattle.command_line.specs.declared.NoWork.TheVariants as whys
 use Rattle.disk_program.specs.declared.usage.Work.{Work}
@@ -15,12 +16,8 @@ use lib.Chars.{codes}
 abbrev pub path_rule : Rule
 path_rule = record (new_rule (codes "PATH")) { required = true; action = Some Set }
 
--- the command by its name alone, with a version
-abbrev pub named_app : App
-named_app = record (new_app (codes "sbidisk")) { top = record (new_app (codes "sbidisk")).top { has_version = true } }
-
 abbrev pub sbidisk : App
-sbidisk = with_rule (with_rule named_app path_rule) (flag_rule (codes "memory"))
+sbidisk = with_rule (with_rule (named_app (codes "sbidisk")) path_rule) (flag_rule (codes "memory"))
 
 -- the work that these values ask for: the memory only where the flag stands there
 abbrev pub ReadsWork : Found → Work → Type 0

@@ -2,16 +2,13 @@
 
 ghost use Rattle.std.specs.Prelude.{◌≡◌, ◌⊎◌, false, map, None, IfErr, IfOk, IfSome};
 ghost use Rattle.clap.specs.Words.{app_of, found_of, kind_of, matches_of, rows_of, rule_of, takes};
-ghost use Rattle.disk_program.specs.Usage.{IsNamedBy, NamesNoPath, asked_of, named_app, path_rule, sbidisk};
+ghost use Rattle.disk_program.specs.Usage.{IsNamedBy, NamesNoPath, asked_of, path_rule, sbidisk};
 
 use clap::error::ErrorKind;
 use clap::{Arg, ArgAction, ArgMatches, Command, Error};
-use command_line::flag;
+use command_line::{flag, program};
 use std::alloc::{AllocError, Global};
 use std::convert::AsStr;
-
-/// The version of the firmware.
-const VERSION: &str = "1";
 
 /// How the program is called.
 pub const USAGE: &str = "sbidisk [--memory] PATH";
@@ -78,26 +75,17 @@ fn path<'a>(alloc: Global) -> Arg<'a>
         .help("The disk's file")
 }
 
-/// The command without a word or an option.
-fn named<'a>(alloc: Global) -> Command<'a>
-    ensures { app_of result ≡ named_app }
-{
-    Command::new(alloc, "sbidisk")
-        .version(VERSION)
-        .override_usage(USAGE)
-        .about(ABOUT)
-        .after_help(LINES)
-}
-
 /// The command.
 fn command<'a>(alloc: Global) -> Result<Command<'a>, AllocError>
     ensures { IfOk result (λ c. app_of c ≡ sbidisk) }
 {
-    named(alloc).arg(path(alloc))?.arg(flag(
-        alloc,
-        MEMORY,
-        "Writes the memory of the image that stands, and nothing else",
-    ))
+    program(alloc, "sbidisk", USAGE, ABOUT, LINES)
+        .arg(path(alloc))?
+        .arg(flag(
+            alloc,
+            MEMORY,
+            "Writes the memory of the image that stands, and nothing else",
+        ))
 }
 
 /// The words as the command's parser reads them, the program's name first.
