@@ -3,6 +3,8 @@
 pub mod Kinds
 -- The command of a program.
 pub mod Programs
+-- What its parser makes of words.
+pub mod Parses
 -- An option without a value.
 pub mod Flags
 -- Options with a value, and those of the payload files.

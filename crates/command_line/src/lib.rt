@@ -6,6 +6,7 @@ mod fault;
 mod files;
 mod flags;
 mod options;
+mod parses;
 mod pipe;
 mod programs;
 mod reads;
@@ -21,6 +22,7 @@ pub use crate::files::{
 };
 pub use crate::flags::flag;
 pub use crate::options::{number, option, path, path_given, payload_paths, with_payloads};
+pub use crate::parses::{out_of_range, parse};
 pub use crate::pipe::Pipe;
 pub use crate::programs::program;
 pub use crate::reads::read_at_most;
