@@ -1,4 +1,3 @@
 pub mod Limits
-pub mod Modes
 pub mod Reads
 pub mod Refused

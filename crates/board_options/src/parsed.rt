@@ -1,6 +1,6 @@
 //! From words to options.
 
-ghost use Rattle.std.specs.Prelude.{◌≡◌, ◌<◌, ◌⊎◌, map, ℕ, string_len, codes, None, Some, IfErr, IfOk, IfSome};
+ghost use Rattle.std.specs.Prelude.{◌≡◌, ◌<◌, ◌⊎◌, map, ℕ, string_len, codes, None, Some, IfErr, IfOk, IfSome, option_and_then};
 ghost use Rattle.board_model.specs.Shapes.{IsSize, Size};
 ghost use Rattle.clap.specs.Facts.{is_present};
 ghost use Rattle.clap.specs.Words.{first_value, found_of, kind_of, rows_of, matches_of};
@@ -8,9 +8,10 @@ ghost use Rattle.clap.specs.declared.builder.value_parser.ValueParser.{ValuePars
 ghost use Rattle.clap.specs.declared.parser.matches.Found.{Found};
 ghost use Rattle.board_options.specs.Limits.{AreTurns};
 ghost use Rattle.board_help.specs.Lines.{TakesModes, sbiboard};
-ghost use Rattle.board_options.specs.Modes.{mode_named};
-ghost use Rattle.board_options.specs.Reads.{ReadsOptions, number_named};
+ghost use Rattle.board_options.specs.Reads.{ReadsOptions};
 ghost use Rattle.board_options.specs.Refused.{AreNoOptions, AreNotTaken, GivesNone};
+ghost use Rattle.script_lang.specs.Lines.{mode_of};
+ghost use Rattle.script_lang.specs.Words.{number_of};
 
 use crate::given::{Options, ShapeGiven};
 use board_help::{DISK, HARTS, LANES, MODE, MOST_TURNS, NEW, PAGES, SYNC, TELL, TURNS, command};
@@ -19,36 +20,36 @@ use clap::error::ErrorKind;
 use clap::parser::ValueSource;
 use clap::{ArgMatches, Error};
 use command_line::{path_given, payload_paths};
-use script_lang::{mode, number as number_of};
+use script_lang::{mode, number as number_in};
 use std::alloc::{AllocError, Global};
 use std::convert::AsStr;
 
 /// The boot mode that was named.
 fn boot_mode(matches: &ArgMatches<'_>) -> Option<BootMode>
-    ensures { result ≡ mode_named (first_value (found_of matches.now) (codes "mode")) }
+    ensures { result ≡ option_and_then mode_of (first_value (found_of matches.now) (codes "mode")) }
 {
     mode(matches.get_str(MODE)?.as_bytes())
 }
 
 /// The number of an option, which is written in decimal digits.
 fn number(matches: &ArgMatches<'_>, id: &str) -> Option<u64>
-    ensures { result ≡ number_named (first_value (found_of matches.now) id.now) }
+    ensures { result ≡ option_and_then number_of (first_value (found_of matches.now) id.now) }
 {
-    number_of(matches.get_str(id)?.as_bytes())
+    number_in(matches.get_str(id)?.as_bytes())
 }
 
 /// The shape of a new disk.
 fn shape(matches: &ArgMatches<'_>) -> Option<Shape>
-    ensures harts { IfSome result (λ size. number_named (first_value (found_of matches.now) (codes "harts"))
+    ensures harts { IfSome result (λ size. option_and_then number_of (first_value (found_of matches.now) (codes "harts"))
         ≡ Some size.harts) }
-    ensures pages { IfSome result (λ size. number_named (first_value (found_of matches.now) (codes "pages"))
+    ensures pages { IfSome result (λ size. option_and_then number_of (first_value (found_of matches.now) (codes "pages"))
         ≡ Some size.pages) }
-    ensures lanes { IfSome result (λ size. number_named (first_value (found_of matches.now) (codes "lanes"))
+    ensures lanes { IfSome result (λ size. option_and_then number_of (first_value (found_of matches.now) (codes "lanes"))
         ≡ Some size.lanes) }
     ensures none { result ≡ None → (size : Size) → IsSize size
-        → number_named (first_value (found_of matches.now) (codes "harts")) ≡ Some size.harts
-        → number_named (first_value (found_of matches.now) (codes "pages")) ≡ Some size.pages
-        → number_named (first_value (found_of matches.now) (codes "lanes")) ≡ Some size.lanes → ⊥ }
+        → option_and_then number_of (first_value (found_of matches.now) (codes "harts")) ≡ Some size.harts
+        → option_and_then number_of (first_value (found_of matches.now) (codes "pages")) ≡ Some size.pages
+        → option_and_then number_of (first_value (found_of matches.now) (codes "lanes")) ≡ Some size.lanes → ⊥ }
 {
     let harts = number(matches, HARTS)?;
     let pages = number(matches, PAGES)?;
@@ -79,10 +80,10 @@ fn shape_given(matches: &ArgMatches<'_>) -> ShapeGiven
 /// How many turns a hart makes at most.
 fn turns(matches: &ArgMatches<'_>) -> Option<u64>
     ensures range { IfSome result AreTurns }
-    ensures named { IfSome result (λ turns. number_named (first_value (found_of matches.now) (codes "turns"))
+    ensures named { IfSome result (λ turns. option_and_then number_of (first_value (found_of matches.now) (codes "turns"))
         ≡ Some turns) }
     ensures none { result ≡ None → (turns : ℕ) → AreTurns turns
-        → number_named (first_value (found_of matches.now) (codes "turns")) ≡ Some turns → ⊥ }
+        → option_and_then number_of (first_value (found_of matches.now) (codes "turns")) ≡ Some turns → ⊥ }
 {
     let turns = number(matches, TURNS)?;
     if turns < 1 || MOST_TURNS < turns {
