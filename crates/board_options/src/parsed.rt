@@ -3,14 +3,12 @@
 ghost use Rattle.std.specs.Prelude.{◌≡◌, ◌<◌, ◌⊎◌, map, ℕ, string_len, codes, None, Some, IfErr, IfOk, IfSome};
 ghost use Rattle.board_model.specs.Shapes.{IsSize, Size};
 ghost use Rattle.clap.specs.Facts.{is_present};
-ghost use Rattle.clap.specs.Words.{first_value, found_of, kind_of, rows_of, matches_of};
-ghost use Rattle.clap.specs.declared.builder.value_parser.ValueParser.{ValueParser};
+ghost use Rattle.clap.specs.Words.{first_value, found_of, kind_of};
 ghost use Rattle.clap.specs.declared.parser.matches.Found.{Found};
 ghost use Rattle.board_options.specs.Limits.{AreTurns};
-ghost use Rattle.board_help.specs.Lines.{TakesModes, sbiboard};
 ghost use Rattle.board_options.specs.Modes.{mode_named};
-ghost use Rattle.board_options.specs.Reads.{ReadsOptions, number_named};
-ghost use Rattle.board_options.specs.Refused.{AreNoOptions, AreNotTaken, GivesNone};
+ghost use Rattle.board_options.specs.Reads.{AreParsed, ReadsOptions, number_named};
+ghost use Rattle.board_options.specs.Refused.{AreNoOptions, AreRefused, GivesNone};
 
 use crate::given::{Options, ShapeGiven};
 use board_help::{DISK, HARTS, LANES, MODE, MOST_TURNS, NEW, PAGES, SYNC, TELL, TURNS, command};
@@ -125,7 +123,7 @@ fn options_of(alloc: Global, matches: &ArgMatches<'_>) -> Result<Option<Options>
 
 /// The fault of a value that is out of range, although the parser let it through.
 fn out_of_range(alloc: Global) -> Result<Error, AllocError>
-    ensures { IfOk result (λ e. (kind_of e ≡ ErrorKind.ValueValidation) ⊎ (kind_of e ≡ ErrorKind.OutOfMemory)) }
+    ensures { IfOk result (λ e. kind_of e ≡ ErrorKind.ValueValidation) }
 {
     let mut again = command(alloc)?;
     again.error(ErrorKind::ValueValidation, "a value is out of its range")
@@ -133,10 +131,10 @@ fn out_of_range(alloc: Global) -> Result<Error, AllocError>
 
 /// The words as the command's parser reads them, the program's name first.
 fn parsed<'a, S: AsStr>(alloc: Global, words: &'a [S]) -> Result<ArgMatches<'a>, Error>
-    ensures matches { IfOk result (λ m. (modes : ValueParser) × TakesModes modes
-        × (rows_of (found_of m) ≡ matches_of (sbiboard modes) (map S.text words.entry.now))) }
-    // It fails for memory, or since the words are no command line.
-    ensures refused { IfErr result (λ e. (kind_of e ≡ ErrorKind.OutOfMemory) ⊎ AreNotTaken (map S.text words.entry.now)) }
+    ensures matches { IfOk result (λ m. AreParsed (map S.text words.entry.now) (found_of m)) }
+    // It fails for memory, or since the parser refuses the words.
+    ensures refused { IfErr result (λ e. (kind_of e ≡ ErrorKind.OutOfMemory)
+        ⊎ AreRefused (map S.text words.entry.now) (kind_of e)) }
 {
     command(alloc)?.try_get_matches_from(words)
 }
@@ -147,15 +145,18 @@ fn parsed<'a, S: AsStr>(alloc: Global, words: &'a [S]) -> Result<ArgMatches<'a>,
 pub fn read_options<'a, S: AsStr>(alloc: Global, words: &'a [S]) -> Result<Options, Error>
     ensures limits { IfOk result (λ o. (0 < string_len o.disk) × IsSize o.shape × AreTurns o.turns) }
     // And each option is what the words say, as the command line's parser reads them.
-    ensures reads { IfOk result (λ o. (modes : ValueParser) × (f : Found)
-        × TakesModes modes × (rows_of f ≡ matches_of (sbiboard modes) (map S.text words.now)) × ReadsOptions f o) }
-    // Else memory was refused, or the parser does not take the words, or their values give no options.
+    ensures reads { IfOk result (λ o. (f : Found) × AreParsed (map S.text words.now) f × ReadsOptions f o) }
+    // Else memory was refused, or the parser refuses the words, or their values give no options. The kind of the error says which.
     ensures refused { IfErr result (λ e. (kind_of e ≡ ErrorKind.OutOfMemory)
-        ⊎ AreNotTaken (map S.text words.now) ⊎ AreNoOptions (map S.text words.now)) }
+        ⊎ AreRefused (map S.text words.now) (kind_of e)
+        ⊎ ((kind_of e ≡ ErrorKind.ValueValidation) × AreNoOptions (map S.text words.now))) }
 {
     let matches = parsed(alloc, words)?;
     match options_of(alloc, &matches)? {
         Some(options) => Ok(options),
-        None => Err(out_of_range(alloc)?),
+        None => {
+            let fault = out_of_range(alloc)?;
+            Err(fault)
+        }
     }
 }

@@ -11,7 +11,7 @@ use Rattle.board_model.specs.declared.refusal.Refusal.{Refusal}
 use Rattle.board_model.specs.declared.refusal.Refusal.TheVariants.{Memory}
 use Rattle.board_options.specs.declared.given.Options.{Options}
 use Rattle.board_program.proofs.DiskBegun.{begins_unchanged}
-use Rattle.board_options.specs.Refused.{AreNoOptions, AreNotTaken}
+use Rattle.board_options.specs.Refused.{AreNoOptions, AreRefused}
 use Rattle.board_program.specs.Operated.{AskForNone, Begins, HasLeft, IsUnread, IsWritten, Known, RunsOver, known}
 use Rattle.board_program.specs.Ran.{HasRun, told_of}
 use Rattle.board_program.specs.declared.runs.FileLeft.{FileLeft}
@@ -19,7 +19,7 @@ use Rattle.board_program.specs.declared.runs.FileLeft.TheVariants as lefts
 use Rattle.board_files.specs.Faults.{IsFileFault}
 use Rattle.board_session.specs.Sessions.{RanOver, RefusesSession, outcome_of}
 use Rattle.clap.specs.declared.error.kind.ErrorKind.{ErrorKind}
-use Rattle.clap.specs.declared.error.kind.ErrorKind.TheVariants.{OutOfMemory}
+use Rattle.clap.specs.declared.error.kind.ErrorKind.TheVariants.{OutOfMemory, ValueValidation}
 use Rattle.command_line.specs.Kinds.{no_work}
 use Rattle.command_line.specs.declared.NoWork.{NoWork}
 use Rattle.command_line.specs.declared.fault.ProgramFault.{ProgramFault}
@@ -125,6 +125,7 @@ stays_in_file facts in_file o payloads begun now kept input out written ran done
 -- ---- no session
 -- the words of a command line whose own text has an error of that kind ask for none
 pub asks_for_none : (words : List (List ℕ)) (kind : ErrorKind) (why : NoWork) → why ≡ no_work kind
-    → (kind ≡ OutOfMemory) ⊎ AreNotTaken words ⊎ AreNoOptions words → AskForNone words why
+    → (kind ≡ OutOfMemory) ⊎ AreRefused words kind ⊎ ((kind ≡ ValueValidation) × AreNoOptions words) → AskForNone words why
 asks_for_none words kind why is (inl memory) = inl (rw (is, memory) refl)
-asks_for_none words kind why is (inr none) = inr none
+asks_for_none words kind why is (inr (inl refused)) = inr (inl (kind, refused, is))
+asks_for_none words kind why is (inr (inr none)) = inr (inr (rw (is, none.0) refl, none.1))

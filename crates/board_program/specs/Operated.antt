@@ -5,19 +5,18 @@ use Rattle.board_files.specs.Disks.{HoldsDisk, IsDiskFile, RefusesFile, first_se
 use Rattle.board_files.specs.Faults.{IsFileFault}
 use Rattle.board_model.specs.Shapes.{Size, sectors_of}
 use Rattle.board_model.specs.declared.refusal.Refusal.{Refusal}
-use Rattle.board_help.specs.Lines.{TakesModes, sbiboard}
-use Rattle.board_options.specs.Reads.{ReadsOptions}
-use Rattle.board_options.specs.Refused.{AreNoOptions, AreNotTaken}
+use Rattle.board_options.specs.Reads.{AreParsed, ReadsOptions}
+use Rattle.board_options.specs.Refused.{AreNoOptions, AreRefused}
 use Rattle.board_options.specs.declared.given.Options.{Options}
 use Rattle.board_program.specs.Ran.{HasRun, told_of}
 use Rattle.board_program.specs.declared.runs.FileLeft.{FileLeft}
 use Rattle.board_program.specs.declared.runs.FileLeft.TheVariants.{None, AtEnd, AllAlong}
-use Rattle.clap.specs.Words.{matches_of, rows_of}
-use Rattle.clap.specs.declared.builder.value_parser.ValueParser.{ValueParser}
+use Rattle.clap.specs.declared.error.kind.ErrorKind.{ErrorKind}
 use Rattle.clap.specs.declared.parser.matches.Found.{Found}
 use Rattle.command_line.specs.Faults.{first_fault}
+use Rattle.command_line.specs.Kinds.{no_work}
 use Rattle.command_line.specs.declared.NoWork.{NoWork}
-use Rattle.command_line.specs.declared.NoWork.TheVariants.{Memory}
+use Rattle.command_line.specs.declared.NoWork.TheVariants.{Memory, Usage}
 use Rattle.command_line.specs.declared.fault.ProgramFault.{ProgramFault}
 use Rattle.command_line.specs.declared.fault.ProgramFault.TheVariants.{Refused}
 use Rattle.disk.specs.Facts.{Facts, IsFresh, Unchanged}
@@ -103,10 +102,10 @@ HasLeft {H} {D} {K} bytes facts file_facts in_file o bytes_at s left done =
 
 -- the options that the words of a command line give, as the command's parser reads them
 abbrev pub IsReadFrom : List (List ℕ) → Options → Type 0
-IsReadFrom words o =
-    (modes : ValueParser) × (f : Found) × TakesModes modes × (rows_of f ≡ matches_of (sbiboard modes) words) × ReadsOptions f o
+IsReadFrom words o = (f : Found) × AreParsed words f × ReadsOptions f o
 
--- They ask for no session: they are no command line, as they are not where they ask for the help, or their values give no
--- options; or memory was refused.
+-- They ask for no session, for that reason. Memory was refused; or the parser refuses them, by an error that shows what they
+-- ask to be shown or says a fault; or it takes them, and their values give no options, which is a fault.
 abbrev pub AskForNone : List (List ℕ) → NoWork → Type 0
-AskForNone words why = (why ≡ Memory) ⊎ AreNotTaken words ⊎ AreNoOptions words
+AskForNone words why = (why ≡ Memory) ⊎ ((kind : ErrorKind) × AreRefused words kind × (why ≡ no_work kind))
+    ⊎ ((why ≡ Usage) × AreNoOptions words)
