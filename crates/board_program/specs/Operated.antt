@@ -109,3 +109,7 @@ IsReadFrom words o = (f : Found) × AreParsed words f × ReadsOptions f o
 abbrev pub AskForNone : List (List ℕ) → NoWork → Type 0
 AskForNone words why = (why ≡ Memory) ⊎ ((kind : ErrorKind) × AreRefused words kind × (why ≡ no_work kind))
     ⊎ ((why ≡ Usage) × AreNoOptions words)
+
+-- they are no command line, by a fault of their own
+abbrev pub GiveNoOptions : List (List ℕ) → Type 0
+GiveNoOptions words = ((kind : ErrorKind) × AreRefused words kind × (no_work kind ≡ Usage)) ⊎ AreNoOptions words

@@ -6,7 +6,7 @@ ghost use Rattle.command_line.specs.Faults.{status_after, without_work};
 ghost use Rattle.command_line.specs.Told.{fault_of};
 ghost use Rattle.command_line.specs.declared.NoWork.{NoWork};
 ghost use Rattle.command_line.specs.declared.fault.ProgramFault.{ProgramFault};
-ghost use Rattle.board_program.specs.Operated.{AskForNone, HasLeft, IsReadFrom, known};
+ghost use Rattle.board_program.specs.Operated.{AskForNone, GiveNoOptions, HasLeft, IsReadFrom, known};
 
 use crate::runs::{FileLeft, run_from_files};
 use crate::sessions::Answers;
@@ -76,6 +76,8 @@ pub fn operate_on<
         result.left done)
         ⊎ ((why : NoWork) × AskForNone (map S.text words.now) why × (done ≡ without_work why)
         × (result.left ≡ FileLeft.None))) }
+    // 2 is the status of words that are no command line, and of no session.
+    ensures usage { result.status ≡ 2 → GiveNoOptions (map S.text words.now) }
 {
     match options(alloc, words) {
         Ok(options) => {
