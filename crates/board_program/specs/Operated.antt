@@ -43,10 +43,10 @@ IsNotBegun new bytes (Err fault) = IsUnread new bytes fault
 
 -- The disk was written into its file at the end, whatever the session was refused, or that could not be done. Of two faults
 -- the first is told.
-pub record IsWritten (new : Bool) (disk : Facts) (ran : Result (Unit {0}) Refusal) (held left : Option (List ℕ))
+pub record IsWritten (new : Bool) (disk : Facts) (ran : Result (Unit {0}) Refusal) (held now : Option (List ℕ))
     (done : Result (Unit {0}) ProgramFault) : Type 0 where
   pub written : Result (Unit {0}) ProgramFault
-  pub stands : OnOk written (IfSome left (HoldsDisk new disk.content held))
+  pub stands : OnOk written (IfSome now (HoldsDisk new disk.content held))
   pub failed : IfErr written IsFileFault
   pub told : done ≡ first_fault (told_of ran) written
 
@@ -81,24 +81,24 @@ StaysInFile {D = D} facts in_file o payloads begun s (AllAlong kept) done = (now
 -- None was begun, since the file could not be kept; or it is over the disk in memory, or over that disk in its file.
 abbrev pub RunsOver : {H D K : Type 0} → (H → Option (List ℕ)) → (SimDisk → Facts) → (D → Facts) → (K → FileKnown) → Options
     → List (List ℕ) → SimDisk → Known → FileLeft H K → Result (Unit {0}) ProgramFault → Type 0
-RunsOver {H} {D} {K} bytes facts file_facts in_file o payloads memory s left done =
-    ((left ≡ None) × OnOk done ⊥ × IfErr done IsFileFault × (s.written ≡ s.out))
-    ⊎ ((o.sync ≡ false) × EndsInFile bytes facts o payloads (facts memory) s left done)
+RunsOver {H} {D} {K} bytes facts file_facts in_file o payloads memory s file_left done =
+    ((file_left ≡ None) × OnOk done ⊥ × IfErr done IsFileFault × (s.written ≡ s.out))
+    ⊎ ((o.sync ≡ false) × EndsInFile bytes facts o payloads (facts memory) s file_left done)
     ⊎ ((o.sync ≡ true) × (begun : D) × Unchanged (facts memory) (file_facts begun)
-    × StaysInFile file_facts in_file o payloads (file_facts begun) s left done)
+    × StaysInFile file_facts in_file o payloads (file_facts begun) s file_left done)
 
 -- ---- from the files to the file
 -- Each slot boots what stands in the file that is named for it. A session began with the disk of the file or a blank one,
 -- and it was written into the file at the end, or kept there all along, as was asked for; or none was begun.
 abbrev pub HasLeft : {H D K : Type 0} → (H → Option (List ℕ)) → (SimDisk → Facts) → (D → Facts) → (K → FileKnown) → Options
     → (List ℕ → Option (List ℕ)) → Known → FileLeft H K → Result (Unit {0}) ProgramFault → Type 0
-HasLeft {H} {D} {K} bytes facts file_facts in_file o bytes_at s left done =
-    ((left ≡ None) × IsNotBegun o.new s.disk done × (s.written ≡ s.out))
+HasLeft {H} {D} {K} bytes facts file_facts in_file o bytes_at s file_left done =
+    ((file_left ≡ None) × IsNotBegun o.new s.disk done × (s.written ≡ s.out))
     ⊎ ((payloads : List (List ℕ)) × AreFilesOf bytes_at (map (option_map string_bytes) o.payloads) payloads
     × (((o.sync ≡ false) × (begun : SimDisk) × Begins o.new o.shape s.disk (facts begun)
-    × EndsInFile bytes facts o payloads (facts begun) s left done)
+    × EndsInFile bytes facts o payloads (facts begun) s file_left done)
     ⊎ ((o.sync ≡ true) × (begun : D) × Begins o.new o.shape s.disk (file_facts begun)
-    × StaysInFile file_facts in_file o payloads (file_facts begun) s left done)))
+    × StaysInFile file_facts in_file o payloads (file_facts begun) s file_left done)))
 
 -- the options that the words of a command line give, as the command's parser reads them
 abbrev pub IsReadFrom : List (List ℕ) → Options → Type 0

@@ -30,7 +30,7 @@ pub struct Operated<H: Drop, K: Drop, O: Write + Drop> {
     /// Its status.
     pub status: u8,
     /// What stands of the file of its disk.
-    pub left: FileLeft<H, K>,
+    pub file_left: FileLeft<H, K>,
     /// What the answers were written to.
     pub out: O,
 }
@@ -73,9 +73,9 @@ pub fn operate_on<
         (B.bytes_at files.now)
         (known (B.disk_at files.now (string_bytes options.disk)) (I.remaining streams.input) (O.contents streams.out)
         (O.contents result.out))
-        result.left done)
+        result.file_left done)
         ⊎ ((why : NoWork) × AskForNone (map S.text words.now) why × (done ≡ without_work why)
-        × (result.left ≡ FileLeft.None))) }
+        × (result.file_left ≡ FileLeft.None))) }
     // 2 is the status of words that are no command line, and of no session.
     ensures usage { result.status ≡ 2 → GiveNoOptions (map S.text words.now) }
 {
@@ -84,7 +84,7 @@ pub fn operate_on<
             let done = run_from_files(alloc, threads, files, &options, streams, faults);
             Operated {
                 status: end_with(faults, "sbiboard", &done.ended),
-                left: done.left,
+                file_left: done.file_left,
                 out: done.out,
             }
         }
@@ -94,7 +94,7 @@ pub fn operate_on<
             let done = no_work(why);
             Operated {
                 status: end_with(faults, "sbiboard", &done),
-                left: FileLeft::None,
+                file_left: FileLeft::None,
                 out,
             }
         }

@@ -41,7 +41,7 @@ pub enum FileLeft<H: Drop, K: Drop> {
 /// What a run gives back: what stands of the file, what the answers were written to, and the fault, where there is one.
 #[derive(Drop)]
 pub struct RunEnd<H: Drop, K: Drop, O: Write + Drop> {
-    pub left: FileLeft<H, K>,
+    pub file_left: FileLeft<H, K>,
     pub out: O,
     pub ended: Result<(), FileFault>,
 }
@@ -125,12 +125,12 @@ fn disk_in_file<B: BoardFiles>(
 
 /// What a run gives back that could not begin a session, for that fault.
 fn no_session<H: Drop, K: Drop, O: Write + Drop>(out: O, fault: FileFault) -> RunEnd<H, K, O>
-    ensures left { result.left ≡ FileLeft.None }
+    ensures file_left { result.file_left ≡ FileLeft.None }
     ensures out { result.out ≡ out }
     ensures ended { result.ended ≡ Err fault }
 {
     RunEnd {
-        left: FileLeft::None,
+        file_left: FileLeft::None,
         out,
         ended: Err(fault),
     }
@@ -158,7 +158,7 @@ fn run_then_write<
     ensures { EndsInFile H.bytes ⟦<SimDisk as Disk>⟧.facts setup.now.options.now setup.now.payloads.now
         (⟦<SimDisk as Disk>⟧.facts disk)
         (known (H.bytes held) (I.remaining streams.input) (O.contents streams.out) (O.contents result.out))
-        result.left (fault_of result.ended) }
+        result.file_left (fault_of result.ended) }
 {
     let mut held = held;
     let session = run_session(alloc, threads, setup, disk, streams);
@@ -171,7 +171,7 @@ fn run_then_write<
     } = session;
     let ended = write_at_the_end(alloc, setup.options, &mut held, &disk, ran);
     RunEnd {
-        left: FileLeft::AtEnd(held, disk),
+        file_left: FileLeft::AtEnd(held, disk),
         out,
         ended,
     }
@@ -198,7 +198,7 @@ fn run_in_file<
     ensures { (bytes : Option (List ℕ)) → StaysInFile ⟦<FileDisk<K> as Disk>⟧.facts K.file_facts setup.now.options.now
         setup.now.payloads.now (⟦<FileDisk<K> as Disk>⟧.facts disk)
         (known bytes (I.remaining streams.input) (O.contents streams.out) (O.contents result.out))
-        result.left (fault_of result.ended) }
+        result.file_left (fault_of result.ended) }
 {
     let session = run_session(alloc, threads, setup, disk, streams);
     tell_harts(faults, setup.options, &session.harts);
@@ -209,7 +209,7 @@ fn run_in_file<
         harts: _,
     } = session;
     RunEnd {
-        left: FileLeft::AllAlong(disk.into_file()),
+        file_left: FileLeft::AllAlong(disk.into_file()),
         out,
         ended: as_file_fault(ran),
     }
@@ -236,7 +236,7 @@ fn run_taken<
     ensures { RunsOver B.Held.bytes ⟦<SimDisk as Disk>⟧.facts ⟦<FileDisk<B::Kept> as Disk>⟧.facts
         B.Kept.file_facts setup.now.options.now setup.now.payloads.now taken.disk
         (known (B.Held.bytes taken.held) (I.remaining streams.input) (O.contents streams.out) (O.contents result.out))
-        result.left (fault_of result.ended) }
+        result.file_left (fault_of result.ended) }
 {
     let TakenDisk { held, disk } = taken;
     if !setup.options.sync {
@@ -270,7 +270,7 @@ pub fn run_from_files<
         options.now (B.bytes_at files.now)
         (known (B.disk_at files.now (string_bytes options.now.disk)) (I.remaining streams.input)
         (O.contents streams.out) (O.contents result.out))
-        result.left (fault_of result.ended) }
+        result.file_left (fault_of result.ended) }
 {
     let payloads = match read_payloads(alloc, files, &options.payloads) {
         Ok(payloads) => payloads,

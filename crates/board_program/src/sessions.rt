@@ -74,7 +74,7 @@ fn talk<R: Threads + Wait + Sync, D: Disk + Drop + Send, I: Read + Drop, O: Answ
         disk,
         ran,
         streams,
-        left: _,
+        console_left: _,
         heard: _,
         harts,
     } = ended;

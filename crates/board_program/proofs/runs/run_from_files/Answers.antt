@@ -12,5 +12,5 @@ returns-in-Ok-take_disk g c =
     let done = c.run_taken.result in
     has_left g.B.Held.DiskFile.bytes sim_disk.facts-value.it kept.it g.B.Kept.SectorFile.file_facts c.args.options.now (g.B.PayloadFiles.bytes_at c.args.files.now) c.in-Ok.payloads taken.disk
     (g.B.Held.DiskFile.bytes taken.held) (g.B.BoardFiles.disk_at c.args.files.now (string_bytes c.args.options.now.disk)) (g.I.Read.remaining c.args.streams.input)
-    (g.O.Write.contents c.args.streams.out) (g.O.Write.contents done.out) done.left (fault_of done.ended) c.run_taken.ensures c.in-Ok-take_disk.ensures.held
+    (g.O.Write.contents c.args.streams.out) (g.O.Write.contents done.out) done.file_left (fault_of done.ended) c.run_taken.ensures c.in-Ok-take_disk.ensures.held
     c.in-Ok.ensures.read c.in-Ok-take_disk.ensures.begins

@@ -95,7 +95,7 @@ pub(crate) fn disk_of<D: Disk + Drop, J: Threaded>(
     requires boot { boot.told ≡ boot_told J.issued }
     requires all { J.parts ≡ J.size.harts + 2 }
     ensures none_out { IsIdle (D.facts result) }
-    ensures left { IsOfLife J.size J.found J.issued J.memory console.told (D.facts result) }
+    ensures life { IsOfLife J.size J.found J.issued J.memory console.told (D.facts result) }
 {
     let mut whole = whole;
     gather_loops(&mut whole, loops);
@@ -110,7 +110,7 @@ pub(crate) fn disk_at_once<D: Disk + Drop>(store: Store<D>) -> D
     requires few { length (journal_of store) ≤ 2 }
     requires carried { (begins : List ℕ) → IsCarried begins (life_of store) }
     ensures none_out { IsIdle (D.facts result) }
-    ensures left { (begins : List ℕ)
+    ensures life { (begins : List ℕ)
         → IsOfLife (size_of_store store) (found_state store) (journal_of store) begins [] (D.facts result) }
 {
     store.into_disk()
