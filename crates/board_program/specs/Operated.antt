@@ -19,7 +19,7 @@ use Rattle.command_line.specs.declared.NoWork.{NoWork}
 use Rattle.command_line.specs.declared.NoWork.TheVariants.{Memory, Usage}
 use Rattle.command_line.specs.declared.fault.ProgramFault.{ProgramFault}
 use Rattle.command_line.specs.declared.fault.ProgramFault.TheVariants.{Refused}
-use Rattle.disk.specs.Facts.{Facts, IsFresh, Unchanged}
+use Rattle.disk.specs.Facts.{Facts, IsFresh}
 use Rattle.file_disk.specs.Files.{FileKnown, IfKnown, LeavesNoMore}
 use Rattle.payload_files.specs.Named.{AreFilesOf}
 use Rattle.simdisk.specs.declared.sim.SimDisk.{SimDisk}
@@ -77,15 +77,6 @@ StaysInFile {D = D} facts in_file o payloads begun s (AtEnd held now) done = ⊥
 StaysInFile {D = D} facts in_file o payloads begun s (AllAlong kept) done = (now : D) × (ran : Result (Unit {0}) Refusal)
     × HasRun o payloads begun (facts now) s.input s.out s.written ran × IfKnown (in_file kept) (LeavesNoMore (facts now))
     × (done ≡ told_of ran)
-
--- None was begun, since the file could not be kept; or it is over the disk in memory, or over that disk in its file.
-abbrev pub RunsOver : {H D K : Type 0} → (H → Option (List ℕ)) → (SimDisk → Facts) → (D → Facts) → (K → FileKnown) → Options
-    → List (List ℕ) → SimDisk → Known → FileLeft H K → Result (Unit {0}) ProgramFault → Type 0
-RunsOver {H} {D} {K} bytes facts file_facts in_file o payloads memory s file_left done =
-    ((file_left ≡ None) × OnOk done ⊥ × IfErr done IsFileFault × (s.written ≡ s.out))
-    ⊎ ((o.sync ≡ false) × EndsInFile bytes facts o payloads (facts memory) s file_left done)
-    ⊎ ((o.sync ≡ true) × (begun : D) × Unchanged (facts memory) (file_facts begun)
-    × StaysInFile file_facts in_file o payloads (file_facts begun) s file_left done)
 
 -- ---- from the files to the file
 -- Each slot boots what stands in the file that is named for it. A session began with the disk of the file or a blank one,

@@ -8,8 +8,8 @@ ghost use Rattle.command_line.specs.declared.NoWork.{NoWork};
 ghost use Rattle.command_line.specs.declared.fault.ProgramFault.{ProgramFault};
 ghost use Rattle.board_program.specs.Operated.{AskForNone, GiveNoOptions, HasLeft, IsReadFrom, known};
 
+use crate::answers::Answers;
 use crate::runs::{FileLeft, run_from_files};
-use crate::sessions::Answers;
 use board_files::BoardFiles;
 use board_options::options;
 use board_session::Streams;
