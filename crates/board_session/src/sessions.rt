@@ -1,6 +1,6 @@
 //! A board from its power-on to the end of its threads.
 
-ghost use Rattle.std.specs.Prelude.{◌≡◌, ◌⊎◌, ◌≤◌, ◌+◌, ℕ, List, [], All, length, Some, None, true, false, OnOk, IfOk, IfErr, MatchResult, vec_len, vec_capacity};
+ghost use Rattle.std.specs.Prelude.{◌≡◌, ◌⊎◌, ◌≤◌, ◌+◌, ℕ, List, [], All, length, Some, None, true, false, Err, OnOk, IfOk, IfErr, MatchResult, vec_len, vec_capacity};
 ghost use Rattle.std.specs.Option.{option_to_list};
 ghost use Rattle.board_model.specs.Durable.{formatted};
 ghost use Rattle.board_model.specs.Shapes.{Size};
@@ -347,6 +347,30 @@ fn over<D: Disk + Drop, J: Threaded, I: Read + Drop, W: Write + Drop>(
     }
 }
 
+/// What a session gives back whose console was not begun.
+fn unbegun<D: Disk + Drop, I: Read + Drop, W: Write + Drop>(
+    alloc: Global,
+    disk: D,
+    refusal: Refusal,
+    streams: Streams<I, W>,
+) -> SessionEnd<D, I, W>
+    ensures disk { result.disk ≡ disk }
+    ensures ran { result.ran ≡ Err refusal }
+    ensures streams { result.streams ≡ streams }
+    ensures console_left { result.console_left ≡ None }
+    ensures heard { result.heard ≡ heard_nothing }
+    ensures harts { result.harts.items ≡ [] }
+{
+    SessionEnd {
+        disk,
+        ran: Err(refusal),
+        streams,
+        console_left: None,
+        heard: ConsoleHeard::nothing(),
+        harts: Vec::new(alloc),
+    }
+}
+
 /// The disk that a board is powered on with: formatted, where it is new. A refusal is that of the format, and
 /// gives the disk back.
 fn prepared<D: Disk + Drop>(options: &Options, disk: D) -> Result<D, (D, Refusal)>
@@ -441,43 +465,28 @@ pub fn session<R: Threads + Wait + Sync, D: Disk + Drop + Send, I: Read + Drop, 
     // Whatever it answers, a disk of which each crash leaves a state is given back as one.
     ensures kept { (size : Size) → IsKept (D.facts disk) size → (z : Size) × IsKept (D.facts result.disk) z }
 {
-    match powered(alloc, options, disk, payloads) {
-        Err((disk, refusal)) => SessionEnd {
-            disk,
-            ran: Err(refusal),
-            streams,
-            console_left: None,
-            heard: ConsoleHeard::nothing(),
-            harts: Vec::new(alloc),
-        },
-        Ok(board) => {
-            let shape = board.shape();
-            let parts = board.into_parts();
-            match NewBook::new(alloc, shape.harts() + 2) {
-                Ok(book) => {
-                    let booted = BootedBoard { parts, shape, book };
-                    let lock = OnceLock::new();
-                    let turns = options.turns;
-                    run_board::<D, Brand, R, I, W>(rt, alloc, booted, turns, lock, streams)
-                }
-                Err(_) => {
-                    let Parts {
-                        harts: _,
-                        seats: _,
-                        tables: _,
-                        bus: _,
-                        store,
-                    } = parts;
-                    SessionEnd {
-                        disk: disk_at_once(store),
-                        ran: Err(Refusal::Memory),
-                        streams,
-                        console_left: None,
-                        heard: ConsoleHeard::nothing(),
-                        harts: Vec::new(alloc),
-                    }
-                }
-            }
+    let board = match powered(alloc, options, disk, payloads) {
+        Ok(board) => board,
+        Err((disk, refusal)) => return unbegun(alloc, disk, refusal, streams),
+    };
+    let shape = board.shape();
+    let parts = board.into_parts();
+    match NewBook::new(alloc, shape.harts() + 2) {
+        Ok(book) => {
+            let booted = BootedBoard { parts, shape, book };
+            let lock = OnceLock::new();
+            let turns = options.turns;
+            run_board::<D, Brand, R, I, W>(rt, alloc, booted, turns, lock, streams)
+        }
+        Err(_) => {
+            let Parts {
+                harts: _,
+                seats: _,
+                tables: _,
+                bus: _,
+                store,
+            } = parts;
+            unbegun(alloc, disk_at_once(store), Refusal::Memory, streams)
         }
     }
 }
