@@ -131,7 +131,7 @@ fn disk_in_file<B: BoardFiles>(
     }
 }
 
-/// What a run gives back that could not begin a session, for that fault.
+/// What a run gives back where that fault kept it from beginning a session.
 fn no_session<H: Drop, K: Drop, O: Write + Drop>(out: O, fault: FileFault) -> RunEnd<H, K, O>
     ensures file_left { result.file_left ≡ FileLeft.None }
     ensures out { result.out ≡ out }

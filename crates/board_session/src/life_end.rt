@@ -16,8 +16,8 @@ use hart_threads::{HartEnd, HartLocal, Parted, Rested, Threaded};
 use shared_store::{Part, Unshared};
 use store::Store;
 
-/// The harts of those loops without their life, in the order of their numbers: the loop of the highest comes first. Their
-/// console has said that when it left.
+/// How the harts of those loops ended, in the order of their numbers. In the list of loops the highest number comes first.
+/// `parted` holds what their console said of the harts when it left.
 pub(crate) fn ends_of<'c, J: Threaded>(
     loops: &[Rested<'c, J>],
     parted: &Parted<'c, J>,
@@ -54,7 +54,7 @@ fn gather_loops<D: Disk + Drop, J: Threaded>(whole: &mut Unshared<D, J>, loops: 
     }
 }
 
-/// Parts that no loop had come back to the store.
+/// Parts that were given to no loop come back to the store.
 fn gather_parts<D: Disk + Drop, J: Threaded>(whole: &mut Unshared<D, J>, parts: Vec<Part<J>>)
     requires back { AreBack (parts_with whole.old) }
     requires fresh { All (λ p. p.told ≡ []) parts.items }
@@ -104,7 +104,7 @@ pub(crate) fn disk_of<D: Disk + Drop, J: Threaded>(
     whole.close().into_disk()
 }
 
-/// The disk of a store of a life that ends where the boot left it.
+/// The disk of a store whose life ends as the boot left it, before any part of the receipts was handed out.
 pub(crate) fn disk_at_once<D: Disk + Drop>(store: Store<D>) -> D
     requires taken { are_taken (found_state store) (journal_of store) ≡ true }
     requires few { length (journal_of store) ≤ 2 }

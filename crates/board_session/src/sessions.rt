@@ -140,9 +140,9 @@ fn outcome(left: Option<Left>) -> Result<(), Refusal>
     }
 }
 
-/// Runs the harts of a board on threads and the console beside them, and gives back the disk, the input and
-/// the output. Refused `Memory` where a thread could not be started, and `Output` where an answer could not be
-/// written. The book of receipts has a part for each hart, one for the console and one for the boot.
+/// Runs the harts of a board on threads and the console beside them, and gives back the disk, the input and the output. Refused
+/// `Memory` where a thread could not be started, and `Output` where an answer could not be written. The book of receipts has a
+/// part for each hart, one for the console and one for the boot.
 fn run_board<
     D: Disk + Drop + Send,
     J: Threaded + Send + Sync,
@@ -267,7 +267,7 @@ fn run_board<
     }
 }
 
-/// Why the console left, and the harts as their loops ended then; or none was begun.
+/// Why the console left, and how the harts' loops ended. Where none was begun it is `None`, and no hart is listed.
 #[derive(Drop)]
 struct Led {
     console_left: Option<Left>,
@@ -284,7 +284,7 @@ fn unled(alloc: Global) -> Led
     }
 }
 
-/// The console has left so, and those are the loops of the harts.
+/// The console has left for that reason, and the loop of each hart has ended.
 fn led_by<'c, J: Threaded>(
     left: Left,
     loops: &[Rested<'c, J>],
