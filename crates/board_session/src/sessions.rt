@@ -257,7 +257,7 @@ fn run_board<
         }
         Err(undriven) => {
             let Undriven {
-                ends: side,
+                side,
                 refusal: _,
                 loops,
                 parts,
