@@ -30,7 +30,7 @@ not_begun : (new : Bool) (bytes : Option (List ℕ)) (done : Result (Unit {0}) P
 not_begun new bytes (Ok u) is = absurd is
 not_begun true bytes (Err fault) is = by_file (Err fault) fault refl is
 not_begun false bytes (Err fault) (inl is) = by_file (Err fault) fault refl is
-not_begun false bytes (Err fault) (inr (why, is, shows)) = rw is (omega arith)
+not_begun false bytes (Err fault) (inr (why, three_or_one, is, shows)) = rw is (omega arith)
 
 told : (ran : Result (Unit {0}) Refusal) → status_after (told_of ran) ≤ 1
 told (Ok u) = omega arith

@@ -1,7 +1,7 @@
 -- What the program makes of its files, and how it ends. Source: docs/CONSOLE.md, "Statuses and faults".
 use Rattle.std.specs.Prelude.{◌≡◌, ◌⊎◌, ℕ, Bool, true, false, List, map, Option, Result, Ok, Err, IfErr, IfSome, OnOk, replicate, string_bytes}
 use Rattle.std.specs.Option.{option_map}
-use Rattle.board_files.specs.Disks.{HoldsDisk, IsDiskFile, RefusesFile, first_sectors}
+use Rattle.board_files.specs.Disks.{HoldsDisk, IsDiskFile, IsNoDisk, first_sectors}
 use Rattle.board_files.specs.Faults.{IsFileFault}
 use Rattle.board_model.specs.Shapes.{Size, sectors_of}
 use Rattle.board_model.specs.declared.refusal.Refusal.{Refusal}
@@ -18,7 +18,6 @@ use Rattle.command_line.specs.Kinds.{no_work}
 use Rattle.command_line.specs.declared.NoWork.{NoWork}
 use Rattle.command_line.specs.declared.NoWork.TheVariants.{Memory, Usage}
 use Rattle.command_line.specs.declared.fault.ProgramFault.{ProgramFault}
-use Rattle.command_line.specs.declared.fault.ProgramFault.TheVariants.{Refused}
 use Rattle.disk.specs.Facts.{Facts, IsFresh}
 use Rattle.file_disk.specs.Files.{FileKnown, IfKnown, LeavesNoMore}
 use Rattle.payload_files.specs.Named.{AreFilesOf}
@@ -34,8 +33,7 @@ Begins false shape bytes disk =
 -- why none begins: a file could not be read or made, or memory was refused; or a file that is read is no board's
 abbrev pub IsUnread : Bool → Option (List ℕ) → ProgramFault → Type 0
 IsUnread true bytes fault = IsFileFault fault
-IsUnread false bytes fault =
-    IsFileFault fault ⊎ ((why : Refusal) × (fault ≡ Refused why) × IfSome bytes (λ all. RefusesFile all why))
+IsUnread false bytes fault = IsFileFault fault ⊎ IsNoDisk bytes fault
 
 abbrev pub IsNotBegun : Bool → Option (List ℕ) → Result (Unit {0}) ProgramFault → Type 0
 IsNotBegun new bytes (Ok done) = ⊥
