@@ -1,5 +1,5 @@
 -- Which words are no command line of the program. Source: docs/CONSOLE.md, "The command line".
-use Rattle.std.specs.Prelude.{◌≡◌, ℕ, List}
+use Rattle.std.specs.Prelude.{ℕ, List}
 use Rattle.board_help.specs.Lines.{TakesModes, sbiboard}
 use Rattle.board_model.specs.Shapes.{IsSize}
 use Rattle.board_options.specs.Limits.{AreTurns}

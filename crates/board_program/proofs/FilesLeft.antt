@@ -1,5 +1,5 @@
 -- From the clause of a session to what the program made of its files.
-use Rattle.std.proofs.Common.{◌≡◌, ◌⊎◌, ◌∙◌, ◌==◌, ℕ, Bool, true, false, List, [], Option, None, Some, Result, Err, if◌then◌else◌, inl, inr, map, refl, string_bytes}
+use Rattle.std.proofs.Common.{◌≡◌, ◌⊎◌, ◌∙◌, ◌==◌, ℕ, true, false, List, [], Option, None, Some, Result, Err, if◌then◌else◌, inl, inr, map, refl, string_bytes}
 use Rattle.std.specs.Io.Buffered.{reader_buffer, reader_capacity, reader_inner, reader_remaining}
 use Rattle.std.specs.Io.KnownBytes.{prepend_known}
 use Rattle.std.specs.Option.{option_map}

@@ -1,5 +1,5 @@
 -- No session has the status of a fault of the command line.
-use Rattle.std.proofs.Common.{◌≡◌, ◌⊎◌, ◌∙◌, ◌≤◌, ℕ, Bool, true, false, List, Option, Result, Ok, Err, IfErr, arith, inl, inr, refl, sym}
+use Rattle.std.proofs.Common.{◌≡◌, ◌≤◌, ℕ, Bool, true, false, List, Option, Result, Ok, Err, IfErr, arith, inl, inr, refl, sym}
 use Rattle.board_files.specs.Faults.{IsFileFault}
 use Rattle.board_model.specs.declared.refusal.Refusal.{Refusal}
 use Rattle.board_options.specs.declared.given.Options.{Options}
