@@ -257,8 +257,10 @@ pub fn run_from_files<
         Ok(taken) => taken,
         Err(fault) => return no_session(out, fault),
     };
-    let payloads = &payloads;
-    let setup = BoardSetup { options, payloads };
+    let setup = BoardSetup {
+        options,
+        payloads: &payloads,
+    };
     let streams = Streams { input, out };
     if !options.sync {
         return run_then_write(alloc, threads, &setup, held, disk, streams, faults);
