@@ -66,7 +66,7 @@ pub fn operate_on<
 ) -> Operated<B::Held, B::Kept, O>
     ensures range { result.status ≤ 2 }
     // The status is the one of what was done; and what was done is what the words ask for, over the files and the streams,
-    // where they ask for a session. Else no file is touched.
+    // where they ask for a session. Else none is begun, and the fault is the one of the words, or refused memory.
     ensures status { (done : Result (Unit {0}) ProgramFault) × (result.status ≡ status_after done)
         × (((options : Options) × IsReadFrom (map S.text words.now) options
         × HasLeft B.Held.bytes ⟦<SimDisk as Disk>⟧.facts ⟦<FileDisk<B::Kept> as Disk>⟧.facts B.Kept.file_facts options
