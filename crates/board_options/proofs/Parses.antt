@@ -2,8 +2,7 @@
 use Rattle.std.proofs.Common.{◌≡◌, ◌∙◌, ◌⊎◌, ℕ, true, List, Result, Ok, Err, IfErr, IfOk, ap, inl, inr, refl, subst, sym}
 use Rattle.board_help.proofs.Simple.{sbiboard_simple}
 use Rattle.board_help.specs.Lines.{TakesModes, sbiboard}
-use Rattle.board_options.specs.Reads.{AreParsed}
-use Rattle.board_options.specs.Refused.{AreRefused}
+use Rattle.board_options.specs.Parses.{AreParsed, AreRefused}
 use Rattle.clap.proofs.OnLiterals.{clap_on_literals}
 use Rattle.clap.specs.Words.{App, FailsBy, HasMatchesOf, IsAmong, fault_of, found_of, is_simple, is_simple_and_free, kind_of, matches_of}
 use Rattle.clap.specs.declared.builder.value_parser.ValueParser.{ValueParser}

@@ -1,4 +1,5 @@
 pub mod Limits
 pub mod Modes
+pub mod Parses
 pub mod Reads
 pub mod Refused

@@ -1,21 +1,14 @@
 -- The options that the values of a command line give. Source: docs/CONSOLE.md, "The command line".
-use Rattle.std.specs.Prelude.{◌≡◌, ℕ, true, false, List, [], map, Option, Some, None, string_bytes}
+use Rattle.std.specs.Prelude.{◌≡◌, ℕ, true, false, List, map, Option, Some, None, string_bytes}
 use Rattle.std.specs.Option.{option_map}
-use Rattle.board_help.specs.Lines.{TakesModes, sbiboard}
 use Rattle.clap.specs.Facts.{is_present}
-use Rattle.clap.specs.Words.{fault_of, first_value, matches_of, one_text, rows_of}
-use Rattle.clap.specs.declared.builder.value_parser.ValueParser.{ValueParser}
+use Rattle.clap.specs.Words.{first_value, one_text}
 use Rattle.clap.specs.declared.parser.matches.Found.{Found}
 use Rattle.command_line.specs.Options.{path_named, payload_paths}
 use Rattle.script_lang.specs.Words.{number_of}
 use Rattle.board_options.specs.Modes.{mode_named}
 use Rattle.board_options.specs.declared.given.Options.{Options}
 use lib.Chars.{codes}
-
--- the command's parser takes the words, and finds these values
-abbrev pub AreParsed : List (List ℕ) → Found → Type 0
-AreParsed words f = (modes : ValueParser) × TakesModes modes × (fault_of (sbiboard modes) words ≡ [])
-    × (rows_of f ≡ matches_of (sbiboard modes) words)
 
 abbrev pub number_named : Option (List ℕ) → Option ℕ
 number_named None = None

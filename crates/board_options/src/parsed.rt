@@ -7,8 +7,9 @@ ghost use Rattle.clap.specs.Words.{first_value, found_of, kind_of};
 ghost use Rattle.clap.specs.declared.parser.matches.Found.{Found};
 ghost use Rattle.board_options.specs.Limits.{AreTurns};
 ghost use Rattle.board_options.specs.Modes.{mode_named};
-ghost use Rattle.board_options.specs.Reads.{AreParsed, ReadsOptions, number_named};
-ghost use Rattle.board_options.specs.Refused.{AreNoOptions, AreRefused, GivesNone};
+ghost use Rattle.board_options.specs.Parses.{AreParsed, AreRefused};
+ghost use Rattle.board_options.specs.Reads.{ReadsOptions, number_named};
+ghost use Rattle.board_options.specs.Refused.{AreNoOptions, GivesNone};
 
 use crate::given::{Options, ShapeGiven};
 use board_help::{DISK, HARTS, LANES, MODE, MOST_TURNS, NEW, PAGES, SYNC, TELL, TURNS, command};

@@ -11,7 +11,8 @@ use Rattle.board_model.specs.declared.refusal.Refusal.{Refusal}
 use Rattle.board_model.specs.declared.refusal.Refusal.TheVariants.{Memory}
 use Rattle.board_options.specs.declared.given.Options.{Options}
 use Rattle.board_program.proofs.DiskBegun.{begins_unchanged}
-use Rattle.board_options.specs.Refused.{AreNoOptions, AreRefused}
+use Rattle.board_options.specs.Parses.{AreRefused}
+use Rattle.board_options.specs.Refused.{AreNoOptions}
 use Rattle.board_program.specs.Operated.{AskForNone, Begins, EndsInFile, HasLeft, IsUnread, IsWritten, Known, StaysInFile, known}
 use Rattle.board_program.specs.Ran.{HasRun, told_of}
 use Rattle.board_program.specs.declared.runs.FileLeft.{FileLeft}

@@ -15,7 +15,7 @@ use Rattle.command_line.specs.declared.NoWork.TheVariants as whys
 use Rattle.command_line.specs.declared.fault.ProgramFault.{ProgramFault}
 use Rattle.disk.specs.Facts.{Facts}
 use Rattle.file_disk.specs.Files.{FileKnown}
-use Rattle.board_options.specs.Refused.{AreRefused}
+use Rattle.board_options.specs.Parses.{AreRefused}
 use Rattle.simdisk.specs.declared.sim.SimDisk.{SimDisk}
 
 by_file : (done : Result (Unit {0}) ProgramFault) (fault : ProgramFault) → done ≡ Err fault → IsFileFault fault → status_after done ≤ 1
