@@ -1,7 +1,7 @@
 -- The command as its parser reads it, and what its words ask for. Source: docs/SCRIPT.md, "The program".
 use Rattle.std.specs.Prelude.{◌≡◌, ◌≤◌, ⊤, ℕ, Bool, true, false, List, [], ◌∷◌, Option, Some, None, if◌then◌else◌, nat_lt, bytes_eq, map, string_bytes}
 use Rattle.std.specs.Option.{option_map}
-use Rattle.clap.specs.Words.{App, Rule, Text, first_value, matches_of, new_app, new_rule, one_text, rows_of, takes, with_rule}
+use Rattle.clap.specs.Words.{App, Rule, Text, first_value, matches_of, new_rule, one_text, rows_of, takes, with_rule}
 use Rattle.clap.specs.declared.builder.action.ArgAction.TheVariants.{Set}
 use Rattle.clap.specs.declared.parser.matches.Found.{Found}
 use Rattle.clap.specs.declared.builder.value_parser.ValueParser.{ValueParser}
@@ -9,6 +9,7 @@ use Rattle.clap.specs.declared.builder.value_parser.ValueParser.TheVariants.{Uns
 use Rattle.script_lang.specs.Words.{number_of}
 use Rattle.command_line.specs.Flags.{flag_rule}
 use Rattle.command_line.specs.Options.{option_rule, payload_paths, value_rule, with_payloads}
+use Rattle.command_line.specs.Programs.{named_app}
 use Rattle.bench_program.specs.declared.usage.Bench.TheVariants.{Sweep, Faults}
 use Rattle.bench_program.specs.declared.usage.Options.{Options}
 use Rattle.bench_program.specs.declared.usage.Work.{Work}
@@ -28,10 +29,6 @@ crew_rule crews =
       defaults = codes "turns" ∷ [];
     }
 
--- the command by its name alone, with a version
-abbrev pub named_app : App
-named_app = record (new_app (codes "sbibench")) { top = record (new_app (codes "sbibench")).top { has_version = true } }
-
 -- an option with a number of schedules, or of one of them
 abbrev pub count_rule : Text → Rule
 count_rule id = value_rule id (Unsigned 1 1000000)
@@ -44,7 +41,7 @@ abbrev pub sbibench : ValueParser → App
 sbibench crews =
     with_payloads
     (with_schedules
-    (with_rule (with_rule (with_rule named_app (crew_rule crews)) (flag_rule (codes "sweep"))) (flag_rule (codes "faults"))))
+    (with_rule (with_rule (with_rule (named_app (codes "sbibench")) (crew_rule crews)) (flag_rule (codes "sweep"))) (flag_rule (codes "faults"))))
 
 -- the payload files, by their paths
 abbrev pub payload_files : Options → List (Option (List ℕ))

@@ -11,13 +11,10 @@ use board_model::refusal_lines;
 use clap::builder::ValueParser;
 use clap::error::ErrorKind;
 use clap::{Arg, ArgAction, ArgMatches, Command, Error};
-use command_line::{flag, option, payload_paths, with_payloads};
+use command_line::{flag, option, payload_paths, program, with_payloads};
 use script_lang::number;
 use std::alloc::{AllocError, Global};
 use std::convert::AsStr;
-
-/// The version of the firmware.
-const VERSION: &str = "1";
 
 /// How the program is called.
 pub const USAGE: &str = "sbibench [--crew CREW] [--sweep | --faults | --schedules N] < SCRIPT";
@@ -189,11 +186,7 @@ fn command<'a>(alloc: Global) -> Result<Command<'a>, AllocError>
 {
     let sweep = "Cuts power at each call of the disk, and judges what is found";
     let faults = "Fails each call of the disk in turn, and judges what is found";
-    let command = Command::new(alloc, "sbibench")
-        .version(VERSION)
-        .override_usage(USAGE)
-        .about(ABOUT)
-        .after_help(NUMBERS)
+    let command = program(alloc, "sbibench", USAGE, ABOUT, NUMBERS)
         .arg(crew(alloc))?
         .arg(flag(alloc, SWEEP, sweep))?
         .arg(flag(alloc, FAULTS, faults))?;

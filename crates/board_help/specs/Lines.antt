@@ -1,21 +1,15 @@
 -- The command as its parser reads it. Source: docs/CONSOLE.md, "The command line".
-use Rattle.std.specs.Prelude.{◌≡◌, ℕ, List, [], ◌∷◌, map, true}
-use Rattle.clap.specs.Words.{App, Rule, Text, new_app, with_rule}
+use Rattle.std.specs.Prelude.{◌≡◌, List, [], ◌∷◌, map, true}
+use Rattle.clap.specs.Words.{App, Rule, Text, with_rule}
 use Rattle.clap.specs.declared.builder.value_parser.ValueParser.{ValueParser}
-use Rattle.clap.specs.declared.builder.value_parser.ValueParser.TheVariants.{Names, Unsigned}
+use Rattle.clap.specs.declared.builder.value_parser.ValueParser.TheVariants.{Names}
 use Rattle.command_line.specs.Flags.{flag_rule}
-use Rattle.command_line.specs.Options.{path_rule, value_rule, with_payloads}
+use Rattle.command_line.specs.Options.{number_rule, path_rule, value_rule, with_payloads}
+use Rattle.command_line.specs.Programs.{named_app}
 use lib.Chars.{codes}
-
-abbrev pub number_rule : Text → ℕ → Text → Rule
-number_rule id most default = record (value_rule id (Unsigned 1 most)) { defaults = default ∷ [] }
 
 abbrev pub required : Rule → Rule
 required r = record r { required = true }
-
--- the command by its name alone, with a version
-abbrev pub named_app : App
-named_app = record (new_app (codes "sbiboard")) { top = record (new_app (codes "sbiboard")).top { has_version = true } }
 
 -- the words of the boot modes
 abbrev pub mode_words : List Text
@@ -33,7 +27,7 @@ mode_rule modes = required (value_rule (codes "mode") modes)
 abbrev pub board_line : ValueParser → App
 board_line modes =
     with_rule
-    (with_rule (with_rule (with_rule named_app (required (path_rule (codes "disk")))) (mode_rule modes))
+    (with_rule (with_rule (with_rule (named_app (codes "sbiboard")) (required (path_rule (codes "disk")))) (mode_rule modes))
     (flag_rule (codes "new"))) (flag_rule (codes "sync"))
 
 -- with the shape of a new disk

@@ -3,16 +3,12 @@
 ghost use Rattle.std.specs.Prelude.{◌≡◌, false, IfOk};
 ghost use Rattle.clap.specs.Words.{app_of, rule_of};
 ghost use Rattle.clap.specs.declared.builder.value_parser.ValueParser.{ValueParser as Parser};
-ghost use Rattle.board_help.specs.Lines.{TakesModes, number_rule, mode_rule, named_app, board_line, with_shape, sbiboard};
+ghost use Rattle.board_help.specs.Lines.{TakesModes, mode_rule, board_line, with_shape, sbiboard};
 
 use board_model::refusal_lines;
-use clap::builder::ValueParser;
 use clap::{Arg, Command};
-use command_line::{flag, option, path, with_payloads};
+use command_line::{flag, number, option, path, program, with_payloads};
 use std::alloc::{AllocError, Global};
-
-/// The version of the firmware.
-const VERSION: &str = "1";
 
 /// How the program is called.
 pub const USAGE: &str = "sbiboard --disk PATH --mode MODE [--new] [--sync] [OPTIONS]";
@@ -104,16 +100,6 @@ pub const TURNS: &str = "turns";
 /// The most turns of a hart.
 pub const MOST_TURNS: u64 = 1_000_000_000;
 
-/// An option with a number from 1 to `most`.
-fn number<'a>(alloc: Global, id: &'a str, most: u64, default: &'a str, help: &'a str) -> Arg<'a>
-    ensures rule { rule_of result ≡ number_rule id.entry.now most default.entry.now }
-    ensures local { result.global ≡ false }
-{
-    option(alloc, id, "N", help)
-        .value_parser(ValueParser::unsigned(1, most))
-        .default_value(default)
-}
-
 /// How the board is powered on.
 fn mode<'a>(alloc: Global) -> Arg<'a>
     ensures rule { (modes : Parser) × TakesModes modes × (rule_of result ≡ mode_rule modes) }
@@ -124,22 +110,11 @@ fn mode<'a>(alloc: Global) -> Arg<'a>
         .required(true)
 }
 
-/// The command without an option.
-fn named<'a>(alloc: Global) -> Command<'a>
-    ensures { app_of result ≡ named_app }
-{
-    Command::new(alloc, "sbiboard")
-        .version(VERSION)
-        .override_usage(USAGE)
-        .about(ABOUT)
-        .after_help(NUMBERS)
-}
-
 /// The command with the disk's options.
 fn board<'a>(alloc: Global) -> Result<Command<'a>, AllocError>
     ensures { IfOk result (λ c. (modes : Parser) × TakesModes modes × (app_of c ≡ board_line modes)) }
 {
-    named(alloc)
+    program(alloc, "sbiboard", USAGE, ABOUT, NUMBERS)
         .arg(path(alloc, DISK, "The disk's file").required(true))?
         .arg(mode(alloc))?
         .arg(flag(

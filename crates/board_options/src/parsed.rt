@@ -1,15 +1,16 @@
 //! From words to options.
 
-ghost use Rattle.std.specs.Prelude.{◌≡◌, ◌<◌, ◌⊎◌, map, ℕ, string_len, codes, None, Some, IfErr, IfOk, IfSome};
+ghost use Rattle.std.specs.Prelude.{◌≡◌, ◌<◌, ◌⊎◌, map, ℕ, string_len, codes, None, Some, IfErr, IfOk, IfSome, option_and_then};
 ghost use Rattle.board_model.specs.Shapes.{IsSize, Size};
 ghost use Rattle.clap.specs.Facts.{is_present};
 ghost use Rattle.clap.specs.Words.{first_value, found_of, kind_of};
 ghost use Rattle.clap.specs.declared.parser.matches.Found.{Found};
 ghost use Rattle.board_options.specs.Limits.{AreTurns};
-ghost use Rattle.board_options.specs.Modes.{mode_named};
 ghost use Rattle.board_options.specs.Parses.{AreParsed, AreRefused};
-ghost use Rattle.board_options.specs.Reads.{ReadsOptions, number_named};
+ghost use Rattle.board_options.specs.Reads.{ReadsOptions};
 ghost use Rattle.board_options.specs.Refused.{AreNoOptions, GivesNone};
+ghost use Rattle.script_lang.specs.Lines.{mode_of};
+ghost use Rattle.script_lang.specs.Words.{number_of};
 
 use crate::given::{Options, ShapeGiven};
 use board_help::{DISK, HARTS, LANES, MODE, MOST_TURNS, NEW, PAGES, SYNC, TELL, TURNS, command};
@@ -17,37 +18,37 @@ use board_model::{BootMode, Shape};
 use clap::error::ErrorKind;
 use clap::parser::ValueSource;
 use clap::{ArgMatches, Error};
-use command_line::{path_given, payload_paths};
-use script_lang::{mode, number as number_of};
+use command_line::{out_of_range, parse, path_given, payload_paths};
+use script_lang::{mode, number as number_in};
 use std::alloc::{AllocError, Global};
 use std::convert::AsStr;
 
 /// The boot mode that was named.
 fn boot_mode(matches: &ArgMatches<'_>) -> Option<BootMode>
-    ensures { result ≡ mode_named (first_value (found_of matches.now) (codes "mode")) }
+    ensures { result ≡ option_and_then mode_of (first_value (found_of matches.now) (codes "mode")) }
 {
     mode(matches.get_str(MODE)?.as_bytes())
 }
 
 /// The number of an option, which is written in decimal digits.
 fn number(matches: &ArgMatches<'_>, id: &str) -> Option<u64>
-    ensures { result ≡ number_named (first_value (found_of matches.now) id.now) }
+    ensures { result ≡ option_and_then number_of (first_value (found_of matches.now) id.now) }
 {
-    number_of(matches.get_str(id)?.as_bytes())
+    number_in(matches.get_str(id)?.as_bytes())
 }
 
 /// The shape of a new disk.
 fn shape(matches: &ArgMatches<'_>) -> Option<Shape>
-    ensures harts { IfSome result (λ size. number_named (first_value (found_of matches.now) (codes "harts"))
+    ensures harts { IfSome result (λ size. option_and_then number_of (first_value (found_of matches.now) (codes "harts"))
         ≡ Some size.harts) }
-    ensures pages { IfSome result (λ size. number_named (first_value (found_of matches.now) (codes "pages"))
+    ensures pages { IfSome result (λ size. option_and_then number_of (first_value (found_of matches.now) (codes "pages"))
         ≡ Some size.pages) }
-    ensures lanes { IfSome result (λ size. number_named (first_value (found_of matches.now) (codes "lanes"))
+    ensures lanes { IfSome result (λ size. option_and_then number_of (first_value (found_of matches.now) (codes "lanes"))
         ≡ Some size.lanes) }
     ensures none { result ≡ None → (size : Size) → IsSize size
-        → number_named (first_value (found_of matches.now) (codes "harts")) ≡ Some size.harts
-        → number_named (first_value (found_of matches.now) (codes "pages")) ≡ Some size.pages
-        → number_named (first_value (found_of matches.now) (codes "lanes")) ≡ Some size.lanes → ⊥ }
+        → option_and_then number_of (first_value (found_of matches.now) (codes "harts")) ≡ Some size.harts
+        → option_and_then number_of (first_value (found_of matches.now) (codes "pages")) ≡ Some size.pages
+        → option_and_then number_of (first_value (found_of matches.now) (codes "lanes")) ≡ Some size.lanes → ⊥ }
 {
     let harts = number(matches, HARTS)?;
     let pages = number(matches, PAGES)?;
@@ -78,10 +79,10 @@ fn shape_given(matches: &ArgMatches<'_>) -> ShapeGiven
 /// How many turns a hart makes at most.
 fn turns(matches: &ArgMatches<'_>) -> Option<u64>
     ensures range { IfSome result AreTurns }
-    ensures named { IfSome result (λ turns. number_named (first_value (found_of matches.now) (codes "turns"))
+    ensures named { IfSome result (λ turns. option_and_then number_of (first_value (found_of matches.now) (codes "turns"))
         ≡ Some turns) }
     ensures none { result ≡ None → (turns : ℕ) → AreTurns turns
-        → number_named (first_value (found_of matches.now) (codes "turns")) ≡ Some turns → ⊥ }
+        → option_and_then number_of (first_value (found_of matches.now) (codes "turns")) ≡ Some turns → ⊥ }
 {
     let turns = number(matches, TURNS)?;
     if turns < 1 || MOST_TURNS < turns {
@@ -122,14 +123,6 @@ fn options_of(alloc: Global, matches: &ArgMatches<'_>) -> Result<Option<Options>
     }))
 }
 
-/// The fault of a value that is out of range, although the parser let it through.
-fn out_of_range(alloc: Global) -> Result<Error, AllocError>
-    ensures { IfOk result (λ e. kind_of e ≡ ErrorKind.ValueValidation) }
-{
-    let mut again = command(alloc)?;
-    again.error(ErrorKind::ValueValidation, "a value is out of its range")
-}
-
 /// The words as the command's parser reads them, the program's name first.
 fn parsed<'a, S: AsStr>(alloc: Global, words: &'a [S]) -> Result<ArgMatches<'a>, Error>
     ensures matches { IfOk result (λ m. AreParsed (map S.text words.entry.now) (found_of m)) }
@@ -137,7 +130,7 @@ fn parsed<'a, S: AsStr>(alloc: Global, words: &'a [S]) -> Result<ArgMatches<'a>,
     ensures refused { IfErr result (λ e. (kind_of e ≡ ErrorKind.OutOfMemory)
         ⊎ AreRefused (map S.text words.entry.now) (kind_of e)) }
 {
-    command(alloc)?.try_get_matches_from(words)
+    parse(command(alloc)?, words)
 }
 
 /// Reads a command line, the program's name first. Where it answers `Ok` there is a path, one of the four
@@ -156,7 +149,7 @@ pub fn read_options<'a, S: AsStr>(alloc: Global, words: &'a [S]) -> Result<Optio
     match options_of(alloc, &matches)? {
         Some(options) => Ok(options),
         None => {
-            let fault = out_of_range(alloc)?;
+            let fault = out_of_range(command(alloc)?)?;
             Err(fault)
         }
     }

@@ -3,7 +3,7 @@ use Rattle.std.specs.Prelude.{ℕ, List, [], ◌∷◌, Option, None, Some}
 use Rattle.clap.specs.Words.{App, Rule, Text, first_value, new_rule, with_rule}
 use Rattle.clap.specs.declared.builder.action.ArgAction.TheVariants.{Set}
 use Rattle.clap.specs.declared.builder.value_parser.ValueParser.{ValueParser}
-use Rattle.clap.specs.declared.builder.value_parser.ValueParser.TheVariants.{NonEmptyString}
+use Rattle.clap.specs.declared.builder.value_parser.ValueParser.TheVariants.{NonEmptyString, Unsigned}
 use Rattle.clap.specs.declared.parser.matches.Found.{Found}
 use lib.Chars.{codes}
 
@@ -17,6 +17,10 @@ value_rule id parser = record (option_rule id) { parser = Some parser }
 
 abbrev pub path_rule : Text → Rule
 path_rule id = value_rule id NonEmptyString
+
+-- an option with a number from 1 to `most`, which has a default
+abbrev pub number_rule : Text → ℕ → Text → Rule
+number_rule id most default = record (value_rule id (Unsigned 1 most)) { defaults = default ∷ [] }
 
 -- a command with the files of the payloads
 abbrev pub with_payloads : App → App

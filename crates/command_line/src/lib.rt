@@ -6,7 +6,9 @@ mod fault;
 mod files;
 mod flags;
 mod options;
+mod parses;
 mod pipe;
+mod programs;
 mod reads;
 mod written;
 
@@ -19,8 +21,10 @@ pub use crate::files::{
     FileFault, end_with, explain_fault, first_of, not_regular, open_regular, read_file, tell_fault,
 };
 pub use crate::flags::flag;
-pub use crate::options::{option, path, path_given, payload_paths, with_payloads};
+pub use crate::options::{number, option, path, path_given, payload_paths, with_payloads};
+pub use crate::parses::{out_of_range, parse};
 pub use crate::pipe::Pipe;
+pub use crate::programs::program;
 pub use crate::reads::read_at_most;
 pub use crate::written::write_to_end;
 use clap::Error;

@@ -3,7 +3,7 @@
 ghost use Rattle.std.specs.Prelude.{◌≡◌, ◌<◌, false, map, string_bytes, string_len, IfOk, IfSome};
 ghost use Rattle.std.specs.Option.{option_map};
 ghost use Rattle.clap.specs.Words.{app_of, first_value, found_of, rule_of};
-ghost use Rattle.command_line.specs.Options.{option_rule, path_rule, path_named, payload_paths, with_payloads};
+ghost use Rattle.command_line.specs.Options.{number_rule, option_rule, path_rule, path_named, payload_paths, with_payloads};
 
 use clap::builder::ValueParser;
 use clap::{Arg, ArgAction, ArgMatches, Command};
@@ -30,6 +30,22 @@ pub fn path<'a>(alloc: Global, id: &'a str, help: &'a str) -> Arg<'a>
     ensures local { result.global ≡ false }
 {
     option(alloc, id, "PATH", help).value_parser(ValueParser::NonEmptyString)
+}
+
+/// An option with a number from 1 to `most`, which is `default` where the option is not given.
+pub fn number<'a>(
+    alloc: Global,
+    id: &'a str,
+    most: u64,
+    default: &'a str,
+    help: &'a str,
+) -> Arg<'a>
+    ensures rule { rule_of result ≡ number_rule id.entry.now most default.entry.now }
+    ensures local { result.global ≡ false }
+{
+    option(alloc, id, "N", help)
+        .value_parser(ValueParser::unsigned(1, most))
+        .default_value(default)
 }
 
 /// The command with the options of the payload files, `--p0` to `--p3`.

@@ -1,6 +1,6 @@
 //! What the words of a command line ask for.
 
-ghost use Rattle.std.specs.Prelude.{◌≤◌};
+ghost use Rattle.debug_options.specs.Limits.{IsUpTo};
 
 /// What the command line asks for.
 #[derive(Drop)]
@@ -13,6 +13,6 @@ pub struct Options {
     pub quantum: u32,
     /// How many turns a command makes at most, 1 to 1,000,000,000.
     pub most: u32,
-    ghost quanta: { (1 ≤ quantum) × (quantum ≤ 1000000) },
-    ghost turns: { 1 ≤ most },
+    ghost quanta: { IsUpTo 1000000 quantum },
+    ghost turns: { IsUpTo 1000000000 most },
 }

@@ -2,15 +2,12 @@
 
 ghost use Rattle.std.specs.Prelude.{◌≡◌, false, IfOk};
 ghost use Rattle.clap.specs.Words.{app_of, rule_of};
-ghost use Rattle.debug_options.specs.Lines.{named_app, number_rule, sbigdb, script_rule};
+ghost use Rattle.debug_options.specs.Lines.{sbigdb, script_rule};
 
 use clap::builder::ValueParser;
 use clap::{Arg, ArgAction, Command};
-use command_line::{option, with_payloads};
+use command_line::{number, program, with_payloads};
 use std::alloc::{AllocError, Global};
-
-/// The version of the firmware.
-const VERSION: &str = "1";
 
 /// How the program is called.
 pub const USAGE: &str = "sbigdb SCRIPT [--p0 PATH .. --p3 PATH] [--quantum N] [--most N]";
@@ -63,34 +60,13 @@ fn script<'a>(alloc: Global) -> Arg<'a>
         .help("The file of the script whose end the session begins at")
 }
 
-/// An option with a number from 1 to `most`.
-fn number<'a>(alloc: Global, id: &'a str, most: u64, default: &'a str, help: &'a str) -> Arg<'a>
-    ensures rule { rule_of result ≡ number_rule id.entry.now most default.entry.now }
-    ensures local { result.global ≡ false }
-{
-    option(alloc, id, "N", help)
-        .value_parser(ValueParser::unsigned(1, most))
-        .default_value(default)
-}
-
-/// The command without an option.
-fn named<'a>(alloc: Global) -> Command<'a>
-    ensures { app_of result ≡ named_app }
-{
-    Command::new(alloc, "sbigdb")
-        .version(VERSION)
-        .override_usage(USAGE)
-        .about(ABOUT)
-        .after_help(STATUS)
-}
-
 /// The command.
 pub fn command<'a>(alloc: Global) -> Result<Command<'a>, AllocError>
     ensures { IfOk result (λ c. app_of c ≡ sbigdb) }
 {
     let quantum = "How many turns a hart makes before the next one's, 1 to 1000000";
     let most = "How many turns a command makes at most, 1 to 1000000000";
-    let command = named(alloc).arg(script(alloc))?;
+    let command = program(alloc, "sbigdb", USAGE, ABOUT, STATUS).arg(script(alloc))?;
     with_payloads(alloc, command)?
         .arg(number(alloc, QUANTUM, MOST_QUANTUM, "1000", quantum))?
         .arg(number(alloc, MOST, MOST_TURNS, "20000000", most))

@@ -1,35 +1,42 @@
 //! From words to options.
 
-ghost use Rattle.std.specs.Prelude.{◌≡◌, ◌≤◌, ◌<◌, ◌^◌, map, codes, Some, IfOk, IfSome};
-ghost use Rattle.clap.specs.Words.{first_value, found_of};
-ghost use Rattle.debug_options.specs.Reads.{IsNamedBy, ReadsOptions, number_named};
+ghost use Rattle.std.specs.Prelude.{◌≡◌, ◌<◌, ◌⊎◌, ◌^◌, ℕ, map, codes, None, Some, IfErr, IfOk, IfSome, option_and_then};
+ghost use Rattle.clap.specs.Words.{HasKind, fault_of, first_value, found_of, kind_of};
+ghost use Rattle.command_line.specs.Parses.{AreParsed};
+ghost use Rattle.script_lang.specs.Words.{number_of};
+ghost use Rattle.debug_options.specs.Limits.{IsUpTo};
+ghost use Rattle.debug_options.specs.Lines.{sbigdb};
+ghost use Rattle.debug_options.specs.Reads.{GivesNone, IsNamedBy, NamesNone, ReadsOptions};
 
 use crate::given::Options;
 use crate::help::{MOST, MOST_QUANTUM, MOST_TURNS, QUANTUM, SCRIPT, command};
 use clap::error::ErrorKind;
 use clap::{ArgMatches, Error};
-use command_line::{path_given, payload_paths};
-use script_lang::number as number_of;
+use command_line::{out_of_range, parse, path_given, payload_paths};
+use script_lang::number as number_in;
 use std::alloc::{AllocError, Global};
 use std::convert::AsStr;
 
 /// A number that was given, 1 to `most`, in decimal digits.
 fn number(matches: &ArgMatches<'_>, id: &str, most: u64) -> Option<u32>
     requires { most < 2 ^ 32 }
-    ensures range { IfSome result (λ n. (1 ≤ n) × (n ≤ most)) }
-    ensures named { IfSome result (λ n. number_named (first_value (found_of matches.now) id.now) ≡ Some n) }
+    ensures range { IfSome result (IsUpTo most) }
+    ensures named { IfSome result (λ n. option_and_then number_of (first_value (found_of matches.now) id.now) ≡ Some n) }
+    ensures none { result ≡ None → (n : ℕ) → IsUpTo most n
+        → option_and_then number_of (first_value (found_of matches.now) id.now) ≡ Some n → ⊥ }
 {
-    let number = number_of(matches.get_str(id)?.as_bytes())?;
+    let number = number_in(matches.get_str(id)?.as_bytes())?;
     if number < 1 || most < number {
         return None;
     }
     Some(number as u32)
 }
 
-/// The options of a command line that was parsed. None where something that the command asks for is not there, which
-/// its own checks rule out.
+/// The options of a command line that was parsed. None where a value is missing or out of range. The parser's own checks
+/// let no such command line through.
 fn options_in(alloc: Global, matches: &ArgMatches<'_>) -> Result<Option<Options>, AllocError>
-    ensures { IfOk result (λ found. IfSome found (ReadsOptions (found_of matches.now))) }
+    ensures reads { IfOk result (λ found. IfSome found (ReadsOptions (found_of matches.now))) }
+    ensures none { IfOk result (λ found. found ≡ None → GivesNone (found_of matches.now)) }
 {
     let Some(script) = path_given(alloc, matches, SCRIPT)? else {
         return Ok(None);
@@ -49,10 +56,13 @@ fn options_in(alloc: Global, matches: &ArgMatches<'_>) -> Result<Option<Options>
     }))
 }
 
-/// The fault of a value that no check of the command's own refused.
-fn out_of_range(alloc: Global) -> Result<Error, AllocError> {
-    let mut again = command(alloc)?;
-    again.error(ErrorKind::ValueValidation, "a value is out of its range")
+/// The words as the command's parser reads them, the program's name first.
+fn parsed<'a, S: AsStr>(alloc: Global, words: &'a [S]) -> Result<ArgMatches<'a>, Error>
+    ensures parsed { IfOk result (λ m. AreParsed sbigdb (map S.text words.entry.now) (found_of m)) }
+    // It fails for memory, or since the parser refuses the words.
+    ensures refused { IfErr result (HasKind (fault_of sbigdb (map S.text words.entry.now))) }
+{
+    parse(command(alloc)?, words)
 }
 
 /// Reads a command line, the program's name first. The error is the command line's own text, which is the help or the
@@ -60,10 +70,16 @@ fn out_of_range(alloc: Global) -> Result<Error, AllocError> {
 pub fn options_of<'a, S: AsStr>(alloc: Global, words: &'a [S]) -> Result<Options, Error>
     // Each option is what the words say, as the command line's parser reads them.
     ensures named { IfOk result (IsNamedBy (map S.text words.now)) }
+    // Else memory was refused, or the words name no session. The kind of the error says which.
+    ensures refused { IfErr result (λ e. (kind_of e ≡ ErrorKind.OutOfMemory)
+        ⊎ NamesNone (map S.text words.now) (kind_of e)) }
 {
-    let matches = command(alloc)?.try_get_matches_from(words)?;
+    let matches = parsed(alloc, words)?;
     match options_in(alloc, &matches)? {
         Some(options) => Ok(options),
-        None => Err(out_of_range(alloc)?),
+        None => {
+            let fault = out_of_range(command(alloc)?)?;
+            Err(fault)
+        }
     }
 }

@@ -1,8 +1,13 @@
 -- From what an examiner makes of a disk to what the program writes of its file.
-use Rattle.std.proofs.Common.{◌≡◌, ◌⊎◌, ℕ, Bool, true, false, List, Option, None, Some, Result, Ok, Err, IfSome, OnOk, inl, inr, refl, subst}
+use Rattle.std.proofs.Common.{◌≡◌, ◌≢◌, ◌⊎◌, ◌%◌, ℕ, Bool, true, false, List, Option, None, Some, Result, Ok, Err, IfErr, IfSome, OnOk, inl, inr, length, refl, subst}
 use Rattle.std.specs.Io.KnownBytes.{Appends}
 use Rattle.board_files.specs.Disks.{IsLookedAt, first_sectors}
-use Rattle.clap.specs.Words.{takes}
+use Rattle.board_files.specs.Faults.{IsFileFault}
+use Rattle.board_model.specs.declared.refusal.Refusal.{Refusal}
+use Rattle.board_model.specs.declared.refusal.Refusal.TheVariants.{NotFormatted, BadShape, BadRecord, Device, Memory, NoImage, BadImage, Output}
+use Rattle.command_line.specs.declared.fault.ProgramFault.{ProgramFault}
+use Rattle.command_line.specs.declared.fault.ProgramFault.TheVariants.{Refused}
+use Rattle.clap.specs.Words.{IsAmong, fault_of}
 use Rattle.clap.specs.declared.error.kind.ErrorKind.{ErrorKind}
 use Rattle.clap.specs.declared.error.kind.ErrorKind.TheVariants.{OutOfMemory}
 use Rattle.command_line.specs.Faults.{status_after}
@@ -11,12 +16,12 @@ use Rattle.command_line.specs.Told.{fault_of}
 use Rattle.command_line.specs.declared.NoWork.{NoWork}
 use Rattle.command_line.specs.declared.files.FileFault.{FileFault}
 use Rattle.disk.specs.Facts.{Content, Facts, IsFresh}
-use Rattle.disk_program.specs.Examined.{IfLookedAt, IsWorked, WritesMemory, WritesSeen, WritesWork}
+use Rattle.disk_program.specs.Examined.{IfLookedAt, IsFaultOf, IsFaultOver, IsWorked, RefusesBytes, RefusesLines, RefusesMemory, WritesMemory, WritesSeen, WritesWork}
 use Rattle.disk_program.specs.Texts.{seen_text}
 use Rattle.disk_program.specs.Usage.{AskForNone, sbidisk}
 use Rattle.disk_program.specs.declared.usage.Work.{Work}
-use Rattle.examined.specs.Memories.{HoldsMemory}
-use Rattle.examined.specs.Sights.{IsSeen}
+use Rattle.examined.specs.Memories.{HoldsMemory, MemoryRefused}
+use Rattle.examined.specs.Sights.{IsSeen, SeeRefused}
 use Rattle.examined.specs.declared.sees.Seen.{Seen}
 
 -- a disk that has just the sectors of the file that are looked at
@@ -39,22 +44,81 @@ pub writes_memory : (bytes at old now : Option (List ℕ)) (disk : Facts) (memor
 writes_memory bytes at old now disk memory is shows holds written =
     (memory, looked_at bytes disk (λ c. HoldsMemory c memory) (rw (← is) shows) holds, written)
 
+-- ---- why it was not written
+pub unread : (Refuses : Content → Refusal → Type 0) (bytes : Option (List ℕ)) (fault : ProgramFault) → IsFileFault fault → IsFaultOver Refuses bytes fault
+unread Refuses bytes fault is = inl is
+
+pub unwritten : (Refuses : Content → Refusal → Type 0) (bytes : Option (List ℕ)) (fault : ProgramFault) (e : Refusal) → fault ≡ Refused e → e ≡ Output → IsFaultOver Refuses bytes fault
+unwritten Refuses bytes fault e is output = let P : Refusal → Type 0 = λ x. fault ≡ Refused x in inr (inl (subst P output is))
+
+of_bytes : (Refuses : Content → Refusal → Type 0) (bytes : Option (List ℕ)) (e : Refusal) (P : List ℕ → Type 0) → IfSome bytes P → ((all : List ℕ) → P all → RefusesBytes Refuses all e) → IfSome bytes (λ all. RefusesBytes Refuses all e)
+of_bytes Refuses None e P has from = tt
+of_bytes Refuses (Some all) e P has from = from all has
+
+pub not_whole : (Refuses : Content → Refusal → Type 0) (bytes at : Option (List ℕ)) (fault : ProgramFault) → at ≡ bytes
+    → IsFileFault fault ⊎ ((fault ≡ Refused BadShape) × IfSome at (λ all. length all % 512 ≢ 0)) → IsFaultOver Refuses bytes fault
+not_whole Refuses bytes at fault is (inl file) = inl file
+not_whole Refuses bytes at fault is (inr (e, has)) =
+    let P : Option (List ℕ) → Type 0 = λ b. IfSome b (λ all. length all % 512 ≢ 0) in
+    inr (inr (BadShape, e, of_bytes Refuses bytes BadShape (λ all. length all % 512 ≢ 0) (subst P is has) (λ all odd. inl (refl, odd))))
+
+-- a disk of the sectors that are looked at is refused: by what it holds, or for want of memory
+over_disk : (Refuses : Content → Refusal → Type 0) (bytes at : Option (List ℕ)) (disk : Facts) (fault : ProgramFault) (e : Refusal) → fault ≡ Refused e → at ≡ bytes
+    → Shows at disk → (e ≡ Memory) ⊎ Refuses disk.content e → IsFaultOver Refuses bytes fault
+over_disk Refuses bytes at disk fault e is same shows (inl memory) = let P : Refusal → Type 0 = λ x. fault ≡ Refused x in inl (inr (subst P memory is))
+over_disk Refuses bytes at disk fault e is same shows (inr refuses) =
+    let P : Option (List ℕ) → Type 0 = λ b. Shows b disk in
+    let Q : List ℕ → Type 0 = λ all. (n : ℕ) × IsLookedAt n all × IsFresh (first_sectors n all) disk in
+    let R : Content → Type 0 = λ c. Refuses c e in
+    inr (inr (e, is, of_bytes Refuses bytes e Q (subst P same shows) (λ all x. inr (x.0, x.1, subst R x.2.reads refuses))))
+
+pub lines_refused : (bytes at : Option (List ℕ)) (disk new : Facts) (fault : ProgramFault) (e : Refusal) → fault ≡ Refused e → at ≡ bytes
+    → IfSome at (λ all. (n : ℕ) × IsLookedAt n all × IsFresh (first_sectors n all) disk) → SeeRefused disk e new → IsFaultOver RefusesLines bytes fault
+lines_refused bytes at disk new fault e is same shows refuses = over_disk RefusesLines bytes at disk fault e is same shows (by e refuses)
+  where
+    by : (e : Refusal) → SeeRefused disk e new → (e ≡ Memory) ⊎ RefusesLines disk.content e
+    by NotFormatted x = inr x
+    by BadShape x = inr x
+    by Device x = inr tt
+    by Memory x = inl refl
+    by e x = absurd x
+
+pub memory_refused : (bytes at : Option (List ℕ)) (disk new : Facts) (fault : ProgramFault) (e : Refusal) → fault ≡ Refused e → at ≡ bytes
+    → IfSome at (λ all. (n : ℕ) × IsLookedAt n all × IsFresh (first_sectors n all) disk) → MemoryRefused disk e new → IsFaultOver RefusesMemory bytes fault
+memory_refused bytes at disk new fault e is same shows refuses = over_disk RefusesMemory bytes at disk fault e is same shows (by e refuses)
+  where
+    by : (e : Refusal) → MemoryRefused disk e new → (e ≡ Memory) ⊎ RefusesMemory disk.content e
+    by NotFormatted x = inr x
+    by BadShape x = inr x
+    by BadRecord x = inr x
+    by NoImage x = inr x
+    by BadImage x = inr x
+    by Device x = inr tt
+    by Memory x = inl refl
+    by e x = absurd x
+
+-- ---- the status
+if_err : (Is : ProgramFault → Type 0) (r : Result (Unit {0}) FileFault) → IfErr r (λ e. Is e.fault) → IfErr (fault_of r) Is
+if_err Is (Ok done) is = tt
+if_err Is (Err e) is = is
+
 on_ok : (P : Type 0) (r : Result (Unit {0}) FileFault) → OnOk r P → OnOk (fault_of r) P
 on_ok P (Ok done) p = p
 on_ok P (Err e) p = tt
 
 pub ends_closed : (disk_at : List ℕ → Option (List ℕ)) (work : Work) (old now : Option (List ℕ)) (closed : Bool)
     (r : Result (Unit {0}) FileFault) → closed ≡ true → OnOk r (WritesWork disk_at work old now)
-    → IsWorked disk_at work old now closed 1
-ends_closed disk_at work old now closed r is did = (fault_of r, rw is refl, on_ok _ r did)
+    → IfErr r (λ e. IsFaultOf disk_at work e.fault) → IsWorked disk_at work old now closed 1
+ends_closed disk_at work old now closed r is did failed = (fault_of r, rw is refl, on_ok _ r did, if_err _ r failed)
 
 pub ends_open : (disk_at : List ℕ → Option (List ℕ)) (work : Work) (old now : Option (List ℕ)) (closed : Bool) (status : ℕ)
     (r : Result (Unit {0}) FileFault) → closed ≡ false → status ≡ status_after (fault_of r)
-    → OnOk r (WritesWork disk_at work old now) → IsWorked disk_at work old now closed status
-ends_open disk_at work old now closed status r shut is did = (fault_of r, rw shut is, on_ok _ r did)
+    → OnOk r (WritesWork disk_at work old now) → IfErr r (λ e. IsFaultOf disk_at work e.fault)
+    → IsWorked disk_at work old now closed status
+ends_open disk_at work old now closed status r shut is did failed = (fault_of r, rw shut is, on_ok _ r did, if_err _ r failed)
 
 -- the words of a command line whose own text has an error of that kind ask for none
 pub asks_for_none : (words : List (List ℕ)) (kind : ErrorKind) (why : NoWork) → why ≡ no_work kind
-    → (kind ≡ OutOfMemory) ⊎ (takes sbidisk words ≡ false) → AskForNone words why
+    → (kind ≡ OutOfMemory) ⊎ IsAmong kind (fault_of sbidisk words) → AskForNone words why
 asks_for_none words kind why is (inl memory) = inl (rw (is, memory) refl)
-asks_for_none words kind why is (inr none) = inr (inl none)
+asks_for_none words kind why is (inr among) = inr (inl (kind, among, is))

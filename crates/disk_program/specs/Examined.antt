@@ -1,18 +1,23 @@
 -- What the examiner makes of a disk's file, and its status. Source: docs/CONSOLE.md, "The program `sbidisk`".
-use Rattle.std.specs.Prelude.{◌≡◌, ◌⊎◌, ℕ, Bool, true, false, List, Option, IfSome, OnOk, Result}
+use Rattle.std.specs.Prelude.{◌≡◌, ◌≢◌, ◌⊎◌, ◌%◌, ℕ, Bool, true, false, List, Option, IfErr, IfSome, OnOk, Result, length, ⊤}
 use Rattle.std.specs.Io.KnownBytes.{Appends}
 use Rattle.board_files.specs.Disks.{IsLookedAt, first_sectors}
+use Rattle.board_files.specs.Faults.{IsFileFault}
+use Rattle.board_model.specs.declared.refusal.Refusal.{Refusal}
+use Rattle.board_model.specs.declared.refusal.Refusal.TheVariants.{NotFormatted, BadShape, BadRecord, Device, NoImage, BadImage, Output}
 use Rattle.command_line.specs.Faults.{status_after, without_work}
 use Rattle.command_line.specs.declared.NoWork.{NoWork}
 use Rattle.command_line.specs.declared.fault.ProgramFault.{ProgramFault}
+use Rattle.command_line.specs.declared.fault.ProgramFault.TheVariants.{Refused}
 use Rattle.disk.specs.Facts.{Content}
 use Rattle.disk_program.specs.Texts.{seen_text}
 use Rattle.disk_program.specs.Usage.{AskForNone, IsNamedBy}
 use Rattle.disk_program.specs.declared.usage.Work.{Work}
 use Rattle.disk_program.specs.declared.usage.Work.TheVariants.{Lines, Memory}
-use Rattle.examined.specs.Memories.{HoldsMemory}
+use Rattle.examined.specs.Memories.{HoldsBadImage, HoldsMemory, HoldsNoImage}
 use Rattle.examined.specs.Sights.{IsSeen}
 use Rattle.examined.specs.declared.sees.Seen.{Seen}
+use Rattle.store.specs.Opens.{ReadsAs}
 
 -- P of the sectors that are looked at of a file of these bytes, where they are known
 abbrev pub IfLookedAt : Option (List ℕ) → (Content → Type 0) → Type 0
@@ -31,15 +36,53 @@ abbrev pub WritesWork : (List ℕ → Option (List ℕ)) → Work → Option (Li
 WritesWork disk_at (Lines path) old now = WritesSeen (disk_at path.now) old now
 WritesWork disk_at (Memory path) old now = WritesMemory (disk_at path.now) old now
 
--- the status, by whether nobody reads the output any more
+-- ---- why it was not written
+-- The disk of these sectors is refused, where lines are asked for: by what it holds, or since it failed (5). The disk of a
+-- board is refused by its failure alone.
+abbrev pub RefusesLines : Content → Refusal → Type 0
+RefusesLines c NotFormatted = ReadsAs c NotFormatted
+RefusesLines c BadShape = ReadsAs c BadShape
+RefusesLines c Device = ⊤
+RefusesLines c e = ⊥
+
+-- The same, where the memory of its image is asked for: no state stands on it, or one without an image, or with one that is
+-- not whole.
+abbrev pub RefusesMemory : Content → Refusal → Type 0
+RefusesMemory c NotFormatted = ReadsAs c NotFormatted
+RefusesMemory c BadShape = ReadsAs c BadShape
+RefusesMemory c BadRecord = ReadsAs c BadRecord
+RefusesMemory c NoImage = HoldsNoImage c
+RefusesMemory c BadImage = HoldsBadImage c
+RefusesMemory c Device = ⊤
+RefusesMemory c e = ⊥
+
+-- a file of these bytes is refused: it is not whole sectors; or the disk of the sectors that are looked at is refused
+abbrev pub RefusesBytes : (Content → Refusal → Type 0) → List ℕ → Refusal → Type 0
+RefusesBytes Refuses all e =
+    ((e ≡ BadShape) × (length all % 512 ≢ 0)) ⊎ ((n : ℕ) × IsLookedAt n all × Refuses (first_sectors n all) e)
+
+-- Why the work over such a file failed: the file could not be read, or memory was refused; or the output failed; or the bytes
+-- of the file are refused, where they are known.
+abbrev pub IsFaultOver : (Content → Refusal → Type 0) → Option (List ℕ) → ProgramFault → Type 0
+IsFaultOver Refuses bytes fault =
+    IsFileFault fault ⊎ (fault ≡ Refused Output)
+    ⊎ ((e : Refusal) × (fault ≡ Refused e) × IfSome bytes (λ all. RefusesBytes Refuses all e))
+
+-- a fault that the work may have: it is none of the command line
+abbrev pub IsFaultOf : (List ℕ → Option (List ℕ)) → Work → ProgramFault → Type 0
+IsFaultOf disk_at (Lines path) fault = IsFaultOver RefusesLines (disk_at path.now) fault
+IsFaultOf disk_at (Memory path) fault = IsFaultOver RefusesMemory (disk_at path.now) fault
+
+-- ---- the status
+-- by whether nobody reads the output any more
 abbrev pub status_by : Bool → Result (Unit {0}) ProgramFault → ℕ
 status_by true done = 1
 status_by false done = status_after done
 
--- the status is the one of the work, which was done whole where it has no fault
+-- the status is the one of the work, which was done whole where it has no fault, or of a fault that it may have
 abbrev pub IsWorked : (List ℕ → Option (List ℕ)) → Work → Option (List ℕ) → Option (List ℕ) → Bool → ℕ → Type 0
 IsWorked disk_at work old now closed status = (done : Result (Unit {0}) ProgramFault) × (status ≡ status_by closed done)
-    × OnOk done (WritesWork disk_at work old now)
+    × OnOk done (WritesWork disk_at work old now) × IfErr done (λ fault. IsFaultOf disk_at work fault)
 
 -- What comes of the words: the work that they name was done, or has a fault; or they ask for none.
 abbrev pub IsExamined : (List ℕ → Option (List ℕ)) → List (List ℕ) → Option (List ℕ) → Option (List ℕ) → Bool → ℕ → Type 0

@@ -1,10 +1,10 @@
 //! The program over files and streams: it tells what a disk's file holds (docs/CONSOLE.md, "The program `sbidisk`").
 
-ghost use Rattle.std.specs.Prelude.{◌≡◌, ◌≤◌, map, OnOk};
+ghost use Rattle.std.specs.Prelude.{◌≡◌, ◌≤◌, map, IfErr, OnOk};
 ghost use Rattle.std.specs.Io.Buffered.{writer_contents, writer_inner};
 ghost use Rattle.command_line.specs.Faults.{status_after, without_work};
 ghost use Rattle.command_line.specs.Pipes.{is_closed_pipe, pipe_contents};
-ghost use Rattle.disk_program.specs.Examined.{IsExamined, IsWorked, WritesMemory, WritesSeen, WritesWork};
+ghost use Rattle.disk_program.specs.Examined.{IsExamined, IsFaultOf, IsFaultOver, IsWorked, RefusesLines, RefusesMemory, WritesMemory, WritesSeen, WritesWork};
 
 use crate::shows::write_seen;
 use crate::usage::{Work, work_of};
@@ -19,15 +19,16 @@ use std::io::{BufWriter, IsTerminal, Write};
 type Out<W> = BufWriter<Pipe<W>>;
 
 /// Writes the lines that tell what the file holds.
-#[tactic(auto, using(crate::proofs::FileSeen::writes_seen))]
+#[tactic(auto, using(crate::proofs::FileSeen::writes_seen, crate::proofs::FileSeen::unread, crate::proofs::FileSeen::not_whole, crate::proofs::FileSeen::lines_refused, crate::proofs::FileSeen::unwritten))]
 fn look<D: DiskFiles, W: Write + Drop>(
     alloc: Global,
     files: &D,
     path: &str,
     out: &mut Out<W>,
 ) -> Result<(), FileFault>
-    ensures { OnOk result (WritesSeen (D.disk_at files.now path.now)
+    ensures done { OnOk result (WritesSeen (D.disk_at files.now path.now)
         (writer_contents (pipe_contents W.contents) out.old) (writer_contents (pipe_contents W.contents) out.new)) }
+    ensures failed { IfErr result (λ e. IsFaultOver RefusesLines (D.disk_at files.now path.now) e.fault) }
 {
     let file = files.open(path)?;
     let disk = seen_in(alloc, &file)?;
@@ -43,15 +44,16 @@ fn look<D: DiskFiles, W: Write + Drop>(
 }
 
 /// Writes the memory of the image that the file holds.
-#[tactic(auto, using(crate::proofs::FileSeen::writes_memory))]
+#[tactic(auto, using(crate::proofs::FileSeen::writes_memory, crate::proofs::FileSeen::unread, crate::proofs::FileSeen::not_whole, crate::proofs::FileSeen::memory_refused, crate::proofs::FileSeen::unwritten))]
 fn recall<D: DiskFiles, W: Write + Drop>(
     alloc: Global,
     files: &D,
     path: &str,
     out: &mut Out<W>,
 ) -> Result<(), FileFault>
-    ensures { OnOk result (WritesMemory (D.disk_at files.now path.now)
+    ensures done { OnOk result (WritesMemory (D.disk_at files.now path.now)
         (writer_contents (pipe_contents W.contents) out.old) (writer_contents (pipe_contents W.contents) out.new)) }
+    ensures failed { IfErr result (λ e. IsFaultOver RefusesMemory (D.disk_at files.now path.now) e.fault) }
 {
     let file = files.open(path)?;
     let disk = seen_in(alloc, &file)?;
@@ -73,8 +75,9 @@ fn do_work<D: DiskFiles, W: Write + Drop>(
     work: Work<'_>,
     out: &mut Out<W>,
 ) -> Result<(), FileFault>
-    ensures { OnOk result (WritesWork (D.disk_at files.now) work.entry
+    ensures done { OnOk result (WritesWork (D.disk_at files.now) work.entry
         (writer_contents (pipe_contents W.contents) out.old) (writer_contents (pipe_contents W.contents) out.new)) }
+    ensures failed { IfErr result (λ e. IsFaultOf (D.disk_at files.now) work.entry e.fault) }
 {
     match work {
         Work::Lines(path) => look(alloc, files, path, out),
@@ -129,8 +132,9 @@ pub fn examine_on<D: DiskFiles, S: AsStr, W: Write + Drop, F: Write + IsTerminal
 ) -> u8
     ensures range { result ≤ 2 }
     // The status is the one of the work that the words name, or 1 where nobody reads the output any more. It is 0 only where
-    // the lines or the memory of the file that they name were written whole, and nothing else, or where the words ask for no
-    // work.
+    // the lines or the memory of the file that they name were written whole, and nothing else, or where the words ask for the
+    // help or the version. A work that fails has a fault that it may have over that file, so 2 is the status of words alone
+    // that name none.
     ensures status { IsExamined (D.disk_at files.now) (map S.text words.now)
         (writer_contents (pipe_contents W.contents) out.old) (writer_contents (pipe_contents W.contents) out.new)
         (is_closed_pipe (writer_inner out.new)) result }

@@ -1,17 +1,14 @@
 //! The command line, and what `--help` says.
 
-ghost use Rattle.std.specs.Prelude.{◌≡◌, ◌⊎◌, false, map, None, IfErr, IfOk, IfSome};
-ghost use Rattle.clap.specs.Words.{app_of, found_of, kind_of, matches_of, rows_of, rule_of, takes};
-ghost use Rattle.disk_program.specs.Usage.{IsNamedBy, NamesNoPath, asked_of, named_app, path_rule, sbidisk};
+ghost use Rattle.std.specs.Prelude.{◌≡◌, false, map, None, IfErr, IfOk, IfSome};
+ghost use Rattle.clap.specs.Words.{HasKind, app_of, fault_of, found_of, rule_of};
+ghost use Rattle.command_line.specs.Parses.{AreParsed};
+ghost use Rattle.disk_program.specs.Usage.{IsNamedBy, NamesNoPath, asked_of, path_rule, sbidisk};
 
-use clap::error::ErrorKind;
 use clap::{Arg, ArgAction, ArgMatches, Command, Error};
-use command_line::flag;
+use command_line::{flag, parse, program};
 use std::alloc::{AllocError, Global};
 use std::convert::AsStr;
-
-/// The version of the firmware.
-const VERSION: &str = "1";
 
 /// How the program is called.
 pub const USAGE: &str = "sbidisk [--memory] PATH";
@@ -78,36 +75,26 @@ fn path<'a>(alloc: Global) -> Arg<'a>
         .help("The disk's file")
 }
 
-/// The command without a word or an option.
-fn named<'a>(alloc: Global) -> Command<'a>
-    ensures { app_of result ≡ named_app }
-{
-    Command::new(alloc, "sbidisk")
-        .version(VERSION)
-        .override_usage(USAGE)
-        .about(ABOUT)
-        .after_help(LINES)
-}
-
 /// The command.
 fn command<'a>(alloc: Global) -> Result<Command<'a>, AllocError>
     ensures { IfOk result (λ c. app_of c ≡ sbidisk) }
 {
-    named(alloc).arg(path(alloc))?.arg(flag(
-        alloc,
-        MEMORY,
-        "Writes the memory of the image that stands, and nothing else",
-    ))
+    program(alloc, "sbidisk", USAGE, ABOUT, LINES)
+        .arg(path(alloc))?
+        .arg(flag(
+            alloc,
+            MEMORY,
+            "Writes the memory of the image that stands, and nothing else",
+        ))
 }
 
 /// The words as the command's parser reads them, the program's name first.
 fn parsed<'a, S: AsStr>(alloc: Global, words: &'a [S]) -> Result<ArgMatches<'a>, Error>
-    ensures matches { IfOk result (λ m. rows_of (found_of m) ≡ matches_of sbidisk (map S.text words.entry.now)) }
-    // It fails for memory, or since it does not take the words.
-    ensures refused { IfErr result (λ e. (kind_of e ≡ ErrorKind.OutOfMemory)
-        ⊎ (takes sbidisk (map S.text words.entry.now) ≡ false)) }
+    ensures parsed { IfOk result (λ m. AreParsed sbidisk (map S.text words.entry.now) (found_of m)) }
+    // It fails for memory, or since the parser refuses the words.
+    ensures refused { IfErr result (HasKind (fault_of sbidisk (map S.text words.entry.now))) }
 {
-    command(alloc)?.try_get_matches_from(words)
+    parse(command(alloc)?, words)
 }
 
 /// The work over the file at a path, by whether the memory is asked for.
@@ -126,9 +113,8 @@ fn asked_of(path: &str, is_memory: bool) -> Work<'_>
 pub fn work_of<'a, S: AsStr>(alloc: Global, words: &'a [S]) -> Result<Option<Work<'a>>, Error>
     ensures named { IfOk result (λ found. IfSome found (IsNamedBy (map S.text words.entry.now))) }
     ensures none { IfOk result (λ found. found ≡ None → NamesNoPath (map S.text words.entry.now)) }
-    // Else memory was refused, or the parser does not take the words.
-    ensures refused { IfErr result (λ e. (kind_of e ≡ ErrorKind.OutOfMemory)
-        ⊎ (takes sbidisk (map S.text words.entry.now) ≡ false)) }
+    // Else memory was refused, or the parser refuses the words. The kind of the error says which.
+    ensures refused { IfErr result (HasKind (fault_of sbidisk (map S.text words.entry.now))) }
 {
     let matches = parsed(alloc, words)?;
     let Some(path) = matches.get_str(PATH) else {

@@ -84,7 +84,7 @@ impl SectorFile for MemoryFile {
     ghost use Rattle.file_disk.specs.Kept.{kept_facts};
     ghost use Rattle.std.proofs.Common.{inl, refl};
 
-    ghost file_facts = { λ k. Known (kept_facts k.sectors.items k.stood.items k.past.contents) };
+    ghost file_facts = { λ k. Known (kept_facts k.sectors.items k.stood.items k.past.kept.contents) };
 
     fn write_sector(&mut self, number: usize, sector: &Sector) -> io::Result<()> {
         self.called()?;

@@ -1,49 +1,30 @@
 //! Contents of a file that only contracts remember. They take no memory, and nothing is done for them at run time.
-ghost use Rattle.std.specs.Prelude.{◌≡◌, List, [], ◌∷◌};
-ghost use Rattle.std.specs.Borrow.{ftrue};
-ghost use Rattle.disk.specs.Facts.{Content};
+ghost use Rattle.std.specs.Prelude.{◌≡◌, [], ◌∷◌};
 
 use disk::Sector;
-use std::marker::{Model, PhantomData};
+use write_log::Log;
 
 /// What a crash might have left of a file at earlier moments, for those who know what their file does
 /// ([`SectorFile`](crate::SectorFile)).
 #[derive(Drop)]
 pub struct Past {
-    marker: PhantomData<u8>,
-    pub ghost contents: { List Content },
+    pub kept: Log,
 }
-
-impl Model for Past {
-    ghost also_owns = { λ _. ftrue };
-}
-
-// It holds no data, so it may go to any thread.
-unsafe impl Send for Past {}
 
 impl Past {
     /// Nothing yet.
     pub fn begun() -> Past
-        ensures { result.contents ≡ [] }
+        ensures { result.kept.contents ≡ [] }
     {
-        Past::picked(&())
+        Past {
+            kept: Log::with_parts(&()),
+        }
     }
 
     /// These sectors too.
     pub fn note(&mut self, sectors: &[Sector])
-        ensures { self.new.contents ≡ sectors.now ∷ self.old.contents }
+        ensures { self.new.kept.contents ≡ sectors.now ∷ self.old.kept.contents }
     {
-        *self = Past::picked(&(&*self, sectors));
-    }
-
-    /// What the caller's proof picks, from the values that are passed. No other function makes the struct, so
-    /// that one proof by hand is enough.
-    fn picked<T>(_values: &T) -> Past
-        ghost past: { List Content }
-        ensures { result.contents ≡ past }
-    {
-        Past {
-            marker: PhantomData,
-        }
+        self.kept = Log::with_parts(&(&self.kept, sectors));
     }
 }

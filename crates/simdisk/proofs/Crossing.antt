@@ -2,6 +2,7 @@
 use denote.Param.Send.{IsSend, recorded_send, sendable, struct_send}
 use denote.Struct.Declared.{shape}
 use Rattle.std.proofs.Crossing.{crosses}
+use Rattle.write_log.specs.contracts.log.Log as Log
 use Rattle.simdisk.specs.contracts.remembered.Remembered as Remembered
 use Rattle.simdisk.specs.contracts.history.History as History
 use Rattle.simdisk.specs.contracts.patch.Patch as Patch
@@ -10,8 +11,11 @@ use Rattle.simdisk.specs.contracts.loan.Loan as Loan
 use Rattle.simdisk.specs.contracts.faults.Faults as Faults
 use Rattle.simdisk.specs.contracts.sim.SimDisk as SimDisk
 
+log : IsSend (Log.the_field).row
+log = record { owned = λ d vs. ((λ vss. (tt, ((λ uss. (tt, tt)), tt))), tt); leaving = λ k f vs. tt }
+
 remembered : IsSend (Remembered.the_field).row
-remembered = record { owned = λ d vs. ((λ vss. (tt, ((λ uss. (tt, tt)), tt))), tt); leaving = λ k f vs. tt }
+remembered = search (log, crosses, sendable) depth 20
 
 patch : IsSend (Patch.the_field).row
 patch = search (remembered, crosses, sendable) depth 20

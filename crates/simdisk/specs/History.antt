@@ -4,4 +4,4 @@ use Rattle.write_log.specs.WriteLog.{WriteLog}
 use Rattle.simdisk.specs.Views.{pieces}
 
 abbrev pub log_of : History → WriteLog
-log_of h = record { began = h.past.sectors; past = h.past.epochs; written = pieces h.written.items }
+log_of h = record h.past.kept.log { written = pieces h.written.items }

@@ -11,7 +11,7 @@ use Rattle.simdisk.specs.declared.fill.Fill.TheVariants.{Byte, Alternating, Old,
 use Rattle.simdisk.specs.declared.loan.Loan.{Loan}
 
 abbrev pub piece : Patch → Piece
-piece patch = (patch.first, patch.bytes.sectors)
+piece patch = (patch.first, patch.bytes.kept.log.began)
 
 abbrev pub pieces : List Patch → List Piece
 pieces patches = map piece patches

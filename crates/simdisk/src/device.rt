@@ -32,7 +32,7 @@ impl Disk for SimDisk {
     ghost facts = { λ d. sim_facts d.content.items (synced (log_of d.history)) (log_of d.history) d.failures d.calls
         (lent_of d.loan) };
 
-    ghost fault_state = { λ d. fault_state_by d.faults d.refused d.past.armings };
+    ghost fault_state = { λ d. fault_state_by d.faults d.refused d.past.kept.armings };
 
     ghost arms = { λ d fault. d.faults.armed ≡ Some fault };
 
@@ -261,8 +261,8 @@ impl Disk for SimDisk {
     ghost counts_now = { λ d t c le now. inl now };
 
     ghost only_now = { λ d c left. only_the_last
-        (synced_after (take (length d.history.past.epochs) d.history.past.epochs) d.history.past.sectors)
-        d.history.past.epochs c (AgreesOutside (synced (log_of d.history)) (ranges (pieces d.history.written.items)) c)
+        (synced_after (take (length d.history.past.kept.log.past) d.history.past.kept.log.past) d.history.past.kept.log.began)
+        d.history.past.kept.log.past c (AgreesOutside (synced (log_of d.history)) (ranges (pieces d.history.written.items)) c)
         left };
 
     ghost bounded = { λ d. below_most d.failures d.few };

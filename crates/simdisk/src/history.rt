@@ -14,6 +14,6 @@ pub(crate) struct History {
     pub(crate) stood: Vec<Sector>,
     pub(crate) written: Vec<Patch>,
     pub(crate) past: Remembered,
-    ghost stood_so: { synced_after past.epochs past.sectors ≡ stood.items },
+    ghost stood_so: { synced_after past.kept.log.past past.kept.log.began ≡ stood.items },
     ghost fits: { AreWithin (length stood.items) (ranges (pieces written.items)) },
 }

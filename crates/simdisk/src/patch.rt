@@ -13,7 +13,7 @@ pub(crate) struct Patch {
     pub(crate) first: usize,
     pub(crate) count: usize,
     pub(crate) bytes: Remembered,
-    ghost long: { length bytes.sectors ≡ count },
+    ghost long: { length bytes.kept.log.began ≡ count },
 }
 
 impl Patch {

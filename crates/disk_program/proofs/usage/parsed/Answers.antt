@@ -1,17 +1,18 @@
-use Rattle.std.proofs.Common.{◌≡◌, ◌∙◌, map, true, ap}
-use Rattle.std.proofs.lemmas.Result.{IfOk-weaker}
-use Rattle.clap.specs.Words.{App, app_of, is_simple, matches_of}
-use Rattle.disk_program.specs.Usage.{sbidisk}
-use Rattle.disk_program.proofs.Words.{not_taken, sbidisk_simple}
+use Rattle.std.proofs.Common.{◌∙◌, map, IfErr, IfOk, ap, subst}
+use Rattle.clap.specs.Words.{App, HasKind, fault_of, found_of, is_simple_and_free}
+use Rattle.command_line.specs.Parses.{AreParsed}
+use Rattle.disk_program.proofs.Words.{sbidisk_free}
 use Rattle.disk_program.proofs.usage.parsed.Goals as goal
 
-pub returns-clause-matches : goal.returns-clause-matches
-returns-clause-matches g c =
-    let is : app_of c.in_ok-command.field-0 ≡ sbidisk = c.in_ok-command.ensures in
-    let simple : is_simple (app_of c.in_ok-command.field-0) ≡ true = ap is_simple is ∙ sbidisk_simple in
+pub parse-requires : goal.parse-requires
+parse-requires g c = ap is_simple_and_free c.in_ok-command.ensures ∙ sbidisk_free
+
+pub returns-clause-parsed : goal.returns-clause-parsed
+returns-clause-parsed g c =
     let words = map g.S.AsStr.text c.args.words.now in
-    IfOk-weaker c.try_get_matches_from.result _ _ (λ m h. (h simple).0 ∙ ap (λ (a : App). matches_of a words) is) c.try_get_matches_from.ensures.matches
+    subst (λ (a : App). IfOk c.parse.result (λ m. AreParsed a words (found_of m))) c.in_ok-command.ensures c.parse.ensures.parsed
 
 pub returns-clause-refused : goal.returns-clause-refused
 returns-clause-refused g c =
-    not_taken c.try_get_matches_from.result (app_of c.in_ok-command.field-0) (map g.S.AsStr.text c.args.words.now) c.in_ok-command.ensures c.try_get_matches_from.ensures.passes
+    let words = map g.S.AsStr.text c.args.words.now in
+    subst (λ (a : App). IfErr c.parse.result (HasKind (fault_of a words))) c.in_ok-command.ensures c.parse.ensures.refused

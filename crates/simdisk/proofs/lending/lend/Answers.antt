@@ -21,7 +21,7 @@ loop-lane-preserved c =
     let written = take c.args.each (drop start c.args.newest.now) in
     let faults = c.of_lane-faults.result in
     let last = last_of c.in_ok-last_in.field-0 held in
-    let x : LaneFacts = record { content = held; failures = 0; first = start; calls = c.no_call-log.result.calls } in
+    let x : LaneFacts = record { content = held; failures = 0; first = start; calls = c.no_call-log.result.kept.calls } in
     let y : LaneState = record { newest = last; armed = faults.armed; cut = faults.cut; calls = 0 } in
     let held_is : held ≡ take c.args.each (drop start c.args.content.now) = grind (arith, common_steps) in
     let in_step : c.stays_in_step-as_read.result ≡ true → written ≡ held =

@@ -1,5 +1,6 @@
 use Rattle.std.proofs.Common.{[]}
+use Rattle.write_log.specs.WriteLog.{new_log}
 use Rattle.file_disk.proofs.past.Past.begun.Given as goal
 
-abbrev pub ghost-picked : goal.ghost-picked
-ghost-picked a = []
+abbrev pub ghost-with_parts : goal.ghost-with_parts
+ghost-with_parts a = (new_log [], [], [], [])

@@ -1,5 +1,6 @@
-use Rattle.std.proofs.Common.{◌∷◌}
+use Rattle.std.proofs.Common.{[], ◌∷◌}
+use Rattle.write_log.specs.WriteLog.{new_log}
 use Rattle.file_disk.proofs.past.Past.note.Given as goal
 
-abbrev pub ghost-picked : goal.ghost-picked
-ghost-picked a = let passed = a._values.now in passed.1.now ∷ passed.0.now.contents
+abbrev pub ghost-with_parts : goal.ghost-with_parts
+ghost-with_parts a = let passed = a._values.now in (new_log [], [], [], passed.1.now ∷ passed.0.now.contents)

@@ -12,6 +12,6 @@ invariant_of-self c =
     let past = c.of-self.result in
     let written : pieces c.in_ok-written.written.items ≡ flat_map (parted c.args.sector) (pieces s.written.items) = rw (← c.deref.ensures.value) c.in_ok-written.ensures in
     record {
-      stood_so = ap (λ (es : List (List Piece)). synced_after es past.sectors) c.of-self.ensures.1 ∙ c.of-self.ensures.0 ∙ c.deref-2.ensures.value;
+      stood_so = ap (λ (es : List (List Piece)). synced_after es past.kept.log.began) c.of-self.ensures.1 ∙ c.of-self.ensures.0 ∙ c.deref-2.ensures.value;
       fits = rw (written, c.overwrite.ensures.written.elsewhere.as_long) (fits_parted (length s.stood.items) c.args.sector (pieces s.written.items) s.fits);
     }

@@ -29,7 +29,7 @@ invariant_of-self c =
     let laid : c.copy_patches.new.stood.items ≡ replay epoch s.stood.items = rw (← c.deref-2.ensures.value) c.copy_patches.ensures in
     let all : replay epoch s.stood.items ≡ now = ap (λ (k : Content). replay epoch k) (sym s.stood_so) ∙ replay_copied (synced (log_of s)) now (pieces s.written.items) c.requires.agrees (fits_synced s) in
     record {
-      stood_so = epoch_more s.past.epochs c.sync.new.self.epochs s.past.sectors c.sync.new.self.sectors s.stood.items epoch past.0 (rw (← c.deref.ensures.value) past.1) s.stood_so ∙ sym laid;
+      stood_so = epoch_more s.past.kept.log.past c.sync.new.self.kept.log.past s.past.kept.log.began c.sync.new.self.kept.log.began s.stood.items epoch past.0 (rw (← c.deref.ensures.value) past.1) s.stood_so ∙ sym laid;
       fits = rw (laid ∙ all, c.requires.agrees.as_long) c.requires.fits;
     }
 
@@ -39,5 +39,5 @@ returns-clause-synced c =
     let now = c.args.content.now in
     let past = c.sync.ensures in
     let epoch = map (piece_in now) (pieces s.written.items) in
-    epoch_more s.past.epochs c.sync.new.self.epochs s.past.sectors c.sync.new.self.sectors (synced (log_of s)) epoch past.0 (rw (← c.deref.ensures.value) past.1) refl
+    epoch_more s.past.kept.log.past c.sync.new.self.kept.log.past s.past.kept.log.began c.sync.new.self.kept.log.began (synced (log_of s)) epoch past.0 (rw (← c.deref.ensures.value) past.1) refl
     ∙ replay_copied (synced (log_of s)) now (pieces s.written.items) c.requires.agrees (fits_synced s)

@@ -1,6 +1,7 @@
 use Rattle.std.proofs.Common.{[], ◌∷◌, ◌++◌}
+use Rattle.write_log.specs.WriteLog.{new_log}
 use Rattle.disk.specs.declared.device.LaneCall.TheVariants.{Read}
 use Rattle.simdisk.proofs.remembered.Remembered.note_read.Given as goal
 
-abbrev pub ghost-picked : goal.ghost-picked
-ghost-picked a = let passed = a._values.now in ([], [], passed.0.now.calls ++ Read passed.1 passed.2 passed.3 ∷ [], [])
+abbrev pub ghost-with_parts : goal.ghost-with_parts
+ghost-with_parts a = let passed = a._values.now in (new_log [], passed.0.now.calls ++ Read passed.1 passed.2 passed.3 ∷ [], [], [])

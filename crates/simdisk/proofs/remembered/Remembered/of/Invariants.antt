@@ -1,5 +1,5 @@
-use Rattle.std.proofs.Common.{[]}
+use Rattle.write_log.specs.WriteLog.{new_log}
 use Rattle.simdisk.proofs.remembered.Remembered.of.Given as goal
 
 abbrev pub ghost-picked : goal.ghost-picked
-ghost-picked a = (a._values.now.now, [], [], [])
+ghost-picked a = new_log a._values.now.now

@@ -1,5 +1,6 @@
 use Rattle.std.proofs.Common.{[]}
+use Rattle.write_log.specs.WriteLog.{new_log}
 use Rattle.simdisk.proofs.remembered.Remembered.same_armings.Given as goal
 
-abbrev pub ghost-picked : goal.ghost-picked
-ghost-picked a = ([], [], [], a._values.now.now.armings)
+abbrev pub ghost-with_parts : goal.ghost-with_parts
+ghost-with_parts a = (new_log [], [], a._values.now.armings, [])

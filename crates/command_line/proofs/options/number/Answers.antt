@@ -3,7 +3,7 @@ use Rattle.clap.specs.Words.{Rule, rule_of}
 use Rattle.clap.specs.declared.builder.arg.Arg.{Arg}
 use Rattle.clap.specs.declared.builder.value_parser.ValueParser.{ValueParser}
 use Rattle.command_line.specs.Options.{value_rule}
-use Rattle.debug_options.proofs.help.number.Goals as goal
+use Rattle.command_line.proofs.options.number.Goals as goal
 
 abbrev is_global : Arg → Bool
 is_global a = a.global

@@ -28,12 +28,12 @@ use denote.Triple.Entry.{alive}
 use denote.Triple.Spec.{Meets, triple_of}
 use denote.Triple.Table.{entered}
 use denote.Triple.Walked.{says, Stays, stay_dropped, walk_of, ends_at, walk_Meets, Goes-dropped}
-use Rattle.simdisk.specs.declared.remembered.Remembered.{Remembered}
-use Rattle.simdisk.specs.contracts.remembered.Remembered as T
-use Rattle.simdisk.specs.contracts.remembered.Remembered.picked as it
-use Rattle.simdisk.specs.contracts.remembered.Remembered.picked.Key.{name as #it}
-use Rattle.simdisk.proofs.remembered.Remembered.picked.Statement as stated
-use Rattle.simdisk.proofs.remembered.Remembered.picked.Code as code
+use Rattle.write_log.specs.declared.log.Log.{Log}
+use Rattle.write_log.specs.contracts.log.Log as T
+use Rattle.write_log.specs.contracts.log.Log.with_parts as it
+use Rattle.write_log.specs.contracts.log.Log.with_parts.Key.{name as #it}
+use Rattle.write_log.proofs.log.Log.with_parts.Statement as stated
+use Rattle.write_log.proofs.log.Log.with_parts.Code as code
 
 -- what it is in memory
 abbrev bare : Val
@@ -65,8 +65,8 @@ module _ (A : RattleType) where
       abbrev toks : SProp 𝓤
       toks = alive 𝓛 ended.signature z.0.0 z.0.1
 
-      abbrev made : Remembered
-      made = record { marker = record {}; sectors = z.1.0; epochs = z.1.1; calls = z.1.2; armings = z.1.3 }
+      abbrev made : Log
+      made = record { marker = record {}; log = z.1.0; calls = z.1.1; armings = z.1.2; contents = z.1.3 }
 
       walks : ent 𝓤 ((walk_of 𝓛 ended stayed held).pre z) (WpFn 𝓤 H C Λ function ((walk_of 𝓛 ended stayed held).args z) Post)
       walks =
@@ -90,9 +90,9 @@ module _ (A : RattleType) where
         walk_Meets 𝓛 ended stayed (Goes-dropped 𝓛 2 (RefOf (0 ∷ []) tt (plain (λ _. param 0 A)) (λ _. tt)) yes (λ κs x f. refl), tt) held
         (WpFn 𝓤 H 𝓣.C 𝓣.Λ function) (WpFn-mono 𝓤 H 𝓛.laws 𝓣 function) (walks 𝓣.C 𝓣.Λ)
 
-pub picked_spec : {M : Type 1} → stated.statement M
+pub with_parts_spec : {M : Type 1} → stated.statement M
 unfolding tables_of
-picked_spec 𝓤 𝓛 𝓜 𝓡 wired A LA =
+with_parts_spec 𝓤 𝓛 𝓜 𝓡 wired A LA =
     let 𝓣 : Tables 𝓤 𝓛.H = tables_of 𝓤 𝓛.H 𝓜 (tables 𝓤 𝓛.H 𝓜 𝓡 𝓡.env) in
     entered 𝓤 𝓛.H (triple_of 𝓛 (ended A).signature (closing 𝓛 (ended A) (held A 𝓛 𝓜.mem 𝓡.returns))) 𝓣.C 𝓣.Λ (#it (args A)) (function A)
     (code.unfolded 𝓤 𝓛.H 𝓜 𝓡 wired (A, tt)) (meets A 𝓛 𝓜.mem 𝓡.returns 𝓣)
