@@ -29,11 +29,11 @@ fn issue<D: Disk + Drop, J: Journal>(
     }
 }
 
-/// Does what a line says, with the store that it is lent for this one moment: on a board of threads, under
-/// the store's lock. A command that was acknowledged is durable, and its receipt is its place in the journal
-/// of this life (`Store::entry` has it there from then on), which the console's part is told; of a refusal and of
-/// the state that it is shown the console has heard, and after a refusal what stands is what `Store::apply` says.
-/// `wake` asks the bus (`rouse`), and the other lines ask nothing.
+/// Does what a line says, with the store that it is lent for this one moment: on a board of threads, under the store's lock.
+///
+/// A command that was acknowledged is durable. Its receipt is its place in the journal of this life, where `Store::entry` has it
+/// from then on, and the console's part is told it. After a refusal what stands is what `Store::apply` says. The console hears of
+/// each refusal and of each state that it is shown. `wake` asks the bus (`rouse`), and the other lines ask nothing.
 pub fn obey<D: Disk + Drop, J: Journal>(
     store: &mut SharedStore<D, J>,
     part: Part<J>,
@@ -55,8 +55,8 @@ pub fn obey<D: Disk + Drop, J: Journal>(
     }
 }
 
-/// Does what the line `wake` says, with the bus that it is lent for this one moment: on a board of threads, under
-/// the bus's lock. It calls the wake-up device once.
+/// Does what the line `wake` says, with the bus that it is lent for this one moment: on a board of threads, under the bus's lock.
+/// It calls the wake-up device once.
 pub fn rouse<J: Journal>(bus: &mut SharedBus<J>) -> Reply
     ensures wakes { AnswersWake (bus_in bus.old) (bus_in bus.new) result }
     ensures fits { IsWakeAnswer result }

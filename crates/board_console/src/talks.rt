@@ -33,7 +33,7 @@ pub enum Left {
     Unwritten,
 }
 
-/// Whether what was kept is a line: it is where its line feed came, and else where there are bytes.
+/// Whether what was kept is a line. With its line feed it is one in any case, and without it where it has bytes.
 fn is_line(ended: LineEnd, kept: &[u8]) -> bool
     ensures { result ≡ is_line ended kept.now }
 {
@@ -54,7 +54,7 @@ fn left_without(ended: LineEnd) -> Option<Left>
     }
 }
 
-/// Why the console leaves before it answers, if it does so: no line came.
+/// Why the console leaves without an answer, if it does so: no line came.
 fn left_before(ended: LineEnd, kept: &[u8]) -> Option<Left>
     ensures { result ≡ left_before ended kept.now }
 {
@@ -75,7 +75,7 @@ fn left_after(ended: LineEnd, said: Said) -> Option<Left>
     }
 }
 
-/// The same of a line that does not say so.
+/// Why the console leaves after a line that does not say `quit`, if it does so: the input failed in that line.
 fn left_behind(ended: LineEnd) -> Option<Left>
     ensures { result ≡ left_behind ended }
 {

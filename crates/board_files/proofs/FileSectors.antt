@@ -7,7 +7,9 @@ use Rattle.board_model.specs.declared.refusal.Refusal.{Refusal}
 use Rattle.board_model.specs.declared.refusal.Refusal.TheVariants.{BadShape, NotFormatted}
 use Rattle.disk.specs.Facts.{Facts, IsFresh}
 use Rattle.layout.specs.Superblocks.{HasMagic, IsSuperblock}
-use Rattle.board_files.specs.Disks.{IsDiskFile, IsLookedAt, RefusesFile, first_sectors}
+use Rattle.board_files.specs.Disks.{IsDiskFile, IsLookedAt, IsNoDisk, RefusesFile, first_sectors}
+use Rattle.command_line.specs.declared.fault.ProgramFault.{ProgramFault}
+use Rattle.command_line.specs.declared.fault.ProgramFault.TheVariants.{Refused}
 
 -- what is seen of a file: a shape, or why there is none
 abbrev pub seen : Size → Result Size Refusal
@@ -67,9 +69,17 @@ pub exact_err : (known : Option (List ℕ)) (n : ℕ) (first : List ℕ) (e : Re
 exact_err known n first e A begin exact =
     is_exact known n first (λ size. A) begin (λ size is whole room. absurd (err_is_not e size (exact size is whole room)))
 
-pub is_refused : (known : Option (List ℕ)) (n : ℕ) (first : List ℕ) (e : Refusal) → Begin known n first
-    → ((e ≡ BadShape) × ((n % 512 ≢ 0) ⊎ (n ≡ 0)))
+-- why a file of so many bytes that begins so is no board's
+abbrev pub Refuses : ℕ → List ℕ → Refusal → Type 0
+Refuses n first e = ((e ≡ BadShape) × ((n % 512 ≢ 0) ⊎ (n ≡ 0)))
     ⊎ ((n % 512 ≡ 0) × (512 ≤ n) × (((e ≡ NotFormatted) × (HasMagic first → ⊥)) ⊎ ((e ≡ BadShape) × HasMagic first)))
+
+refused_by : (n : ℕ) (first : List ℕ) (e : Refusal) → Refuses n first e → (e ≡ BadShape) ⊎ (e ≡ NotFormatted)
+refused_by n first e (inl (bad, why)) = inl bad
+refused_by n first e (inr (whole, some, inl (bad, un))) = inr bad
+refused_by n first e (inr (whole, some, inr (bad, has))) = inl bad
+
+is_refused : (known : Option (List ℕ)) (n : ℕ) (first : List ℕ) (e : Refusal) → Begin known n first → Refuses n first e
     → IfSome known (λ all. RefusesFile all e)
 is_refused None n first e begin why = tt
 is_refused (Some all) n first e begin (inl (bad, inl broken)) = inl (bad, inl (rw (← begin.0) broken))
@@ -78,6 +88,10 @@ is_refused (Some all) n first e begin (inr (whole, some, inl (bad, un))) =
     inr (inl (bad, rw (← begin.1 (rw (← begin.0) some)) un))
 is_refused (Some all) n first e begin (inr (whole, some, inr (bad, has))) =
     inr (inr (bad, rw (← begin.1 (rw (← begin.0) some)) has))
+
+pub is_no_disk : (known : Option (List ℕ)) (n : ℕ) (first : List ℕ) (e : Refusal) (fault : ProgramFault) → Begin known n first → Refuses n first e
+    → fault ≡ Refused e → IsNoDisk known fault
+is_no_disk known n first e fault begin why is = (e, refused_by n first e why, is, is_refused known n first e begin why)
 
 pub is_fresh : (known : Option (List ℕ)) (read : List ℕ) (n room : ℕ) (disk : Facts) → length read ≡ n * 512 → room ≡ n * 512
     → IfSome known (λ all. read ≡ take room all) → IsFresh (first_chunks 512 (length read / 512) read) disk

@@ -5,6 +5,8 @@ use Rattle.std.specs.Simd.{first_chunks}
 use Rattle.board_model.specs.Shapes.{Size, sectors_of}
 use Rattle.board_model.specs.declared.refusal.Refusal.{Refusal}
 use Rattle.board_model.specs.declared.refusal.Refusal.TheVariants.{BadShape, NotFormatted}
+use Rattle.command_line.specs.declared.fault.ProgramFault.{ProgramFault}
+use Rattle.command_line.specs.declared.fault.ProgramFault.TheVariants.{Refused}
 use Rattle.disk.specs.Facts.{Content}
 use Rattle.layout.specs.Superblocks.{HasMagic, IsSuperblock}
 
@@ -25,6 +27,11 @@ RefusesFile bytes e =
     ((e ≡ BadShape) × ((length bytes % 512 ≢ 0) ⊎ (length bytes ≡ 0)))
     ⊎ ((e ≡ NotFormatted) × (HasMagic (take 512 bytes) → ⊥))
     ⊎ ((e ≡ BadShape) × HasMagic (take 512 bytes))
+
+-- the fault of a file that holds no board's disk: refused 3 or 1, as its bytes are refused, where they are known
+abbrev pub IsNoDisk : Option (List ℕ) → ProgramFault → Type 0
+IsNoDisk bytes fault = (why : Refusal) × ((why ≡ BadShape) ⊎ (why ≡ NotFormatted)) × (fault ≡ Refused why)
+    × IfSome bytes (λ all. RefusesFile all why)
 
 -- How many sectors of a file of whole sectors an examiner looks at: none of an empty one; those of its board; and of another
 -- file the first alone.

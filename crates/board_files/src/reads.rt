@@ -5,7 +5,7 @@ ghost use Rattle.disk.specs.Facts.{IsFresh};
 ghost use Rattle.board_model.specs.Shapes.{Size, sectors_of};
 ghost use Rattle.layout.specs.Superblocks.{HasMagic, IsSuperblock};
 ghost use Rattle.command_line.specs.declared.fault.ProgramFault.TheVariants.{Refused};
-ghost use Rattle.board_files.specs.Disks.{IsDiskFile, IsLookedAt, RefusesFile, first_sectors};
+ghost use Rattle.board_files.specs.Disks.{IsDiskFile, IsLookedAt, IsNoDisk, first_sectors};
 ghost use Rattle.board_files.specs.Faults.{IsFileFault};
 
 use crate::files::DiskFile;
@@ -59,13 +59,12 @@ fn shape_of(bytes: u64, first: &Sector) -> Result<Shape, Refusal>
 }
 
 /// The shape of the board whose disk the file holds. Only the first sector is read. Refused where the file is no board's.
-#[tactic(auto, using(crate::proofs::FileSectors::is_board, crate::proofs::FileSectors::exact_ok, crate::proofs::FileSectors::exact_err, crate::proofs::FileSectors::is_refused))]
+#[tactic(auto, using(crate::proofs::FileSectors::is_board, crate::proofs::FileSectors::exact_ok, crate::proofs::FileSectors::exact_err, crate::proofs::FileSectors::is_no_disk))]
 pub fn shape_in<F: DiskFile>(file: &F) -> Result<Shape, FileFault>
     ensures board { IfOk result (λ shape. IfSome (F.bytes file.now) (IsDiskFile shape)) }
     ensures exact { IfSome (F.bytes file.now) (λ all. (size : Size) → IsDiskFile size all
         → MatchResult result (λ shape. shape ≡ size) (λ e. IsFileFault e.fault)) }
-    ensures refused { IfErr result (λ e. IsFileFault e.fault ⊎ ((why : Refusal) × (e.fault ≡ Refused why)
-        × IfSome (F.bytes file.now) (λ all. RefusesFile all why))) }
+    ensures refused { IfErr result (λ e. IsFileFault e.fault ⊎ IsNoDisk (F.bytes file.now) e.fault) }
 {
     let (bytes, first) = read_begin(file)?;
     match shape_of(bytes, &first) {

@@ -1,1 +1,1 @@
-pub mod NotTaken
+pub mod Parses

@@ -1,3 +1,4 @@
 pub mod Limits
+pub mod Parses
 pub mod Reads
 pub mod Refused

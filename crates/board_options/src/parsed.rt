@@ -3,13 +3,12 @@
 ghost use Rattle.std.specs.Prelude.{◌≡◌, ◌<◌, ◌⊎◌, map, ℕ, string_len, codes, None, Some, IfErr, IfOk, IfSome, option_and_then};
 ghost use Rattle.board_model.specs.Shapes.{IsSize, Size};
 ghost use Rattle.clap.specs.Facts.{is_present};
-ghost use Rattle.clap.specs.Words.{first_value, found_of, kind_of, rows_of, matches_of};
-ghost use Rattle.clap.specs.declared.builder.value_parser.ValueParser.{ValueParser};
+ghost use Rattle.clap.specs.Words.{first_value, found_of, kind_of};
 ghost use Rattle.clap.specs.declared.parser.matches.Found.{Found};
 ghost use Rattle.board_options.specs.Limits.{AreTurns};
-ghost use Rattle.board_help.specs.Lines.{TakesModes, sbiboard};
+ghost use Rattle.board_options.specs.Parses.{AreParsed, AreRefused};
 ghost use Rattle.board_options.specs.Reads.{ReadsOptions};
-ghost use Rattle.board_options.specs.Refused.{AreNoOptions, AreNotTaken, GivesNone};
+ghost use Rattle.board_options.specs.Refused.{AreNoOptions, GivesNone};
 ghost use Rattle.script_lang.specs.Lines.{mode_of};
 ghost use Rattle.script_lang.specs.Words.{number_of};
 
@@ -19,7 +18,7 @@ use board_model::{BootMode, Shape};
 use clap::error::ErrorKind;
 use clap::parser::ValueSource;
 use clap::{ArgMatches, Error};
-use command_line::{path_given, payload_paths};
+use command_line::{out_of_range, parse, path_given, payload_paths};
 use script_lang::{mode, number as number_in};
 use std::alloc::{AllocError, Global};
 use std::convert::AsStr;
@@ -124,22 +123,14 @@ fn options_of(alloc: Global, matches: &ArgMatches<'_>) -> Result<Option<Options>
     }))
 }
 
-/// The fault of a value that is out of range, although the parser let it through.
-fn out_of_range(alloc: Global) -> Result<Error, AllocError>
-    ensures { IfOk result (λ e. (kind_of e ≡ ErrorKind.ValueValidation) ⊎ (kind_of e ≡ ErrorKind.OutOfMemory)) }
-{
-    let mut again = command(alloc)?;
-    again.error(ErrorKind::ValueValidation, "a value is out of its range")
-}
-
 /// The words as the command's parser reads them, the program's name first.
 fn parsed<'a, S: AsStr>(alloc: Global, words: &'a [S]) -> Result<ArgMatches<'a>, Error>
-    ensures matches { IfOk result (λ m. (modes : ValueParser) × TakesModes modes
-        × (rows_of (found_of m) ≡ matches_of (sbiboard modes) (map S.text words.entry.now))) }
-    // It fails for memory, or since the words are no command line.
-    ensures refused { IfErr result (λ e. (kind_of e ≡ ErrorKind.OutOfMemory) ⊎ AreNotTaken (map S.text words.entry.now)) }
+    ensures matches { IfOk result (λ m. AreParsed (map S.text words.entry.now) (found_of m)) }
+    // It fails for memory, or since the parser refuses the words.
+    ensures refused { IfErr result (λ e. (kind_of e ≡ ErrorKind.OutOfMemory)
+        ⊎ AreRefused (map S.text words.entry.now) (kind_of e)) }
 {
-    command(alloc)?.try_get_matches_from(words)
+    parse(command(alloc)?, words)
 }
 
 /// Reads a command line, the program's name first. Where it answers `Ok` there is a path, one of the four
@@ -148,15 +139,18 @@ fn parsed<'a, S: AsStr>(alloc: Global, words: &'a [S]) -> Result<ArgMatches<'a>,
 pub fn read_options<'a, S: AsStr>(alloc: Global, words: &'a [S]) -> Result<Options, Error>
     ensures limits { IfOk result (λ o. (0 < string_len o.disk) × IsSize o.shape × AreTurns o.turns) }
     // And each option is what the words say, as the command line's parser reads them.
-    ensures reads { IfOk result (λ o. (modes : ValueParser) × (f : Found)
-        × TakesModes modes × (rows_of f ≡ matches_of (sbiboard modes) (map S.text words.now)) × ReadsOptions f o) }
-    // Else memory was refused, or the parser does not take the words, or their values give no options.
+    ensures reads { IfOk result (λ o. (f : Found) × AreParsed (map S.text words.now) f × ReadsOptions f o) }
+    // Else memory was refused, or the parser refuses the words, or their values give no options. The kind of the error says which.
     ensures refused { IfErr result (λ e. (kind_of e ≡ ErrorKind.OutOfMemory)
-        ⊎ AreNotTaken (map S.text words.now) ⊎ AreNoOptions (map S.text words.now)) }
+        ⊎ AreRefused (map S.text words.now) (kind_of e)
+        ⊎ ((kind_of e ≡ ErrorKind.ValueValidation) × AreNoOptions (map S.text words.now))) }
 {
     let matches = parsed(alloc, words)?;
     match options_of(alloc, &matches)? {
         Some(options) => Ok(options),
-        None => Err(out_of_range(alloc)?),
+        None => {
+            let fault = out_of_range(command(alloc)?)?;
+            Err(fault)
+        }
     }
 }

@@ -1,5 +1,5 @@
 -- From the clause of a session to what the program made of its files.
-use Rattle.std.proofs.Common.{◌≡◌, ◌⊎◌, ◌∙◌, ◌==◌, ℕ, Bool, true, false, List, [], Option, None, Some, Result, Ok, Err, IfErr, OnOk, if◌then◌else◌, inl, inr, map, refl, string_bytes}
+use Rattle.std.proofs.Common.{◌≡◌, ◌⊎◌, ◌∙◌, ◌==◌, ℕ, true, false, List, [], Option, None, Some, Result, Err, if◌then◌else◌, inl, inr, map, refl, string_bytes}
 use Rattle.std.specs.Io.Buffered.{reader_buffer, reader_capacity, reader_inner, reader_remaining}
 use Rattle.std.specs.Io.KnownBytes.{prepend_known}
 use Rattle.std.specs.Option.{option_map}
@@ -11,18 +11,20 @@ use Rattle.board_model.specs.declared.refusal.Refusal.{Refusal}
 use Rattle.board_model.specs.declared.refusal.Refusal.TheVariants.{Memory}
 use Rattle.board_options.specs.declared.given.Options.{Options}
 use Rattle.board_program.proofs.DiskBegun.{begins_unchanged}
-use Rattle.board_options.specs.Refused.{AreNoOptions, AreNotTaken}
-use Rattle.board_program.specs.Operated.{AskForNone, Begins, HasLeft, IsUnread, IsWritten, Known, RunsOver, known}
+use Rattle.board_options.specs.Parses.{AreRefused}
+use Rattle.board_options.specs.Refused.{AreNoOptions}
+use Rattle.board_program.specs.Operated.{AskForNone, Begins, EndsInFile, HasLeft, IsUnread, IsWritten, Known, StaysInFile, known}
 use Rattle.board_program.specs.Ran.{HasRun, told_of}
 use Rattle.board_program.specs.declared.runs.FileLeft.{FileLeft}
 use Rattle.board_program.specs.declared.runs.FileLeft.TheVariants as lefts
 use Rattle.board_files.specs.Faults.{IsFileFault}
 use Rattle.board_session.specs.Sessions.{RanOver, RefusesSession, outcome_of}
 use Rattle.clap.specs.declared.error.kind.ErrorKind.{ErrorKind}
-use Rattle.clap.specs.declared.error.kind.ErrorKind.TheVariants.{OutOfMemory}
+use Rattle.clap.specs.declared.error.kind.ErrorKind.TheVariants.{OutOfMemory, ValueValidation}
 use Rattle.command_line.specs.Kinds.{no_work}
 use Rattle.command_line.specs.declared.NoWork.{NoWork}
 use Rattle.command_line.specs.declared.fault.ProgramFault.{ProgramFault}
+use Rattle.command_line.specs.declared.fault.ProgramFault.TheVariants.{Refused}
 use Rattle.file_disk.specs.Files.{FileKnown, IfKnown, LeavesNoMore}
 use Rattle.disk.specs.Facts.{Facts, Unchanged}
 use Rattle.hart_threads.specs.Ends.{Ending}
@@ -30,34 +32,43 @@ use Rattle.payload_files.specs.Named.{AreFilesOf}
 use Rattle.shared_store.specs.Heard.{Hearing, heard_nothing}
 use Rattle.simdisk.specs.declared.sim.SimDisk.{SimDisk}
 
--- the output is told that the console begins, which changes nothing that is known of it
-pub has_run : (o : Options) (payloads : List (List ℕ)) (old now : Facts) (input out begun rest written : Option (List ℕ))
-    (left : Option Left) (heard : Hearing) (ends : List Ending) (ran : Result (Unit {0}) Refusal)
-    → (RefusesSession o.new o.shape o.mode payloads old ran now × (left ≡ None))
+-- ---- a session
+-- what a session gives back of a disk, an input and an output, by why its console left
+abbrev pub HasEnded : Options → List (List ℕ) → Facts → Facts → Option (List ℕ) → Option (List ℕ) → Option (List ℕ) → Option (List ℕ) → Option Left → Hearing → List Ending
+    → Result (Unit {0}) Refusal → Type 0
+HasEnded o payloads old now input begun rest written left heard ends ran =
+    (RefusesSession o.new o.shape o.mode payloads old ran now × (left ≡ None))
     ⊎ (RanOver o.new o.shape o.mode payloads o.turns old now left (dialogue_ends input begun (party [] heard_nothing)) rest written heard ends
     × (ran ≡ outcome_of left))
+
+-- the output is told that the console begins, which changes nothing that is known of it
+has_run : (o : Options) (payloads : List (List ℕ)) (old now : Facts) (input out begun rest written : Option (List ℕ))
+    (left : Option Left) (heard : Hearing) (ends : List Ending) (ran : Result (Unit {0}) Refusal)
+    → HasEnded o payloads old now input begun rest written left heard ends ran
     → (left ≡ None → written ≡ begun) → begun ≡ out → HasRun o payloads old now input out written ran
 has_run o payloads old now input out begun rest written left heard ends ran (inl refused) same u =
-    inr (inl (refused.0, same refused.1 ∙ u))
+    inl (refused.0, same refused.1 ∙ u)
 has_run o payloads old now input out begun rest written left heard ends ran (inr over) same u =
-    inr (inr (left, (rest, heard, ends, rw (← u) over.0), over.1))
+    inr (left, (rest, heard, ends, rw (← u) over.0), over.1)
 
-same_disk : (disk : Facts) → Unchanged disk disk
-same_disk disk =
-    record {
-      content = refl;
-      moment = refl;
-      failures = refl;
-      calls = refl;
-      lent = refl;
-      now = λ c. (λ left. left, λ left. left);
-      since = λ t c. (λ left. left, λ left. left);
-    }
+pub ends_in_file : (o : Options) (payloads : List (List ℕ)) (old now : Facts) (input out begun rest written : Option (List ℕ))
+    (left : Option Left) (heard : Hearing) (ends : List Ending) (ran : Result (Unit {0}) Refusal)
+    (held held_now : Option (List ℕ)) (done : Result (Unit {0}) ProgramFault)
+    → HasEnded o payloads old now input begun rest written left heard ends ran
+    → (left ≡ None → written ≡ begun) → begun ≡ out → IsWritten o.new now ran held held_now done
+    → (r : Result (Unit {0}) Refusal) × HasRun o payloads old now input out written r × IsWritten o.new now r held held_now done
+ends_in_file o payloads old now input out begun rest written left heard ends ran held held_now done ended same u is =
+    (ran, has_run o payloads old now input out begun rest written left heard ends ran ended same u, is)
 
--- memory was refused, and nothing was done
-pub nothing_ran : (o : Options) (payloads : List (List ℕ)) (disk : Facts) (input out : Option (List ℕ))
-    → HasRun o payloads disk disk input out out (Err Memory)
-nothing_ran o payloads disk input out = inl (refl, same_disk disk, refl)
+pub stays_in_file : {D K : Type 0} (facts : D → Facts) (in_file : K → FileKnown) (o : Options) (payloads : List (List ℕ)) (old : Facts)
+    (now : D) (kept : K) (input out begun rest written : Option (List ℕ))
+    (left : Option Left) (heard : Hearing) (ends : List Ending) (ran : Result (Unit {0}) Refusal) (done : Result (Unit {0}) ProgramFault)
+    → HasEnded o payloads old (facts now) input begun rest written left heard ends ran
+    → (left ≡ None → written ≡ begun) → begun ≡ out → IfKnown (in_file kept) (LeavesNoMore (facts now)) → done ≡ told_of ran
+    → (now : D) × (r : Result (Unit {0}) Refusal) × HasRun o payloads old (facts now) input out written r
+    × IfKnown (in_file kept) (LeavesNoMore (facts now)) × (done ≡ told_of r)
+stays_in_file facts in_file o payloads old now kept input out begun rest written left heard ends ran done ended same u leaves is =
+    (now, ran, has_run o payloads old (facts now) input out begun rest written left heard ends ran ended same u, leaves, is)
 
 through : (bytes : Option (List ℕ)) (held : List ℕ) (size : ℕ) → held ≡ [] → size ≡ 8192
     → (if size == 0 then None else prepend_known held bytes) ≡ bytes
@@ -65,17 +76,10 @@ through None held size h s = rw s refl
 through (Some bytes) held size h s = rw (h, s) refl
 
 -- a reader with an empty buffer gives what the reader behind it does
-read_through : {R A : Type 0} (remaining : R → Option (List ℕ)) (input : R) (r : BufReader R A) → reader_inner r ≡ input
+pub read_through : {R A : Type 0} (remaining : R → Option (List ℕ)) (input : R) (r : BufReader R A) → reader_inner r ≡ input
     → reader_buffer r ≡ [] → reader_capacity r ≡ 8192 → reader_remaining remaining r ≡ remaining input
 read_through remaining input r i h s =
     rw (← i) (through (remaining (reader_inner r)) (reader_buffer r) (reader_capacity r) h s)
-
-pub runs_through : {R A : Type 0} (remaining : R → Option (List ℕ)) (input : R) (r : BufReader R A) (o : Options)
-    (payloads : List (List ℕ)) (old now : Facts) (out written : Option (List ℕ)) (ran : Result (Unit {0}) Refusal)
-    → HasRun o payloads old now (reader_remaining remaining r) out written ran → reader_inner r ≡ input → reader_buffer r ≡ []
-    → reader_capacity r ≡ 8192 → HasRun o payloads old now (remaining input) out written ran
-runs_through remaining input r o payloads old now out written ran run i h s =
-    rw (← read_through remaining input r i h s) run
 
 -- ---- what is left
 -- None was begun, and the fault is one of that.
@@ -85,46 +89,29 @@ pub none_left : {H D K : Type 0} (bytes : H → Option (List ℕ)) (facts : SimD
     → HasLeft bytes facts file_facts in_file o bytes_at s left done
 none_left bytes facts file_facts in_file o bytes_at s left done fault none is unread same = inl (none, rw is unread, same)
 
-unread_over : (new : Bool) (at : Option (List ℕ)) (fault : ProgramFault) → IsFileFault fault → IsUnread new at fault
-unread_over true at fault is = is
-unread_over false at fault is = inl is
+pub no_memory : (fault : ProgramFault) → fault ≡ Refused Memory → IsFileFault fault
+no_memory fault is = inr is
 
-not_kept : {H D K : Type 0} (bytes : H → Option (List ℕ)) (facts : SimDisk → Facts) (file_facts : D → Facts) (in_file : K → FileKnown) (o : Options)
-    (bytes_at : List ℕ → Option (List ℕ)) (s : Known) (left : FileLeft H K) (done : Result (Unit {0}) ProgramFault) → left ≡ lefts.None
-    → OnOk done ⊥ → IfErr done IsFileFault → s.written ≡ s.out → HasLeft bytes facts file_facts in_file o bytes_at s left done
-not_kept bytes facts file_facts in_file o bytes_at s left (Ok u) none un is same = absurd un
-not_kept bytes facts file_facts in_file o bytes_at s left (Err fault) none un is same = inl (none, unread_over o.new s.disk fault is, same)
+module _ {H D K : Type 0} (bytes : H → Option (List ℕ)) (facts : SimDisk → Facts) (file_facts : D → Facts) (in_file : K → FileKnown) (o : Options)
+    (bytes_at : List ℕ → Option (List ℕ)) (payloads : List (List ℕ)) (begun : SimDisk) (held disk read input out written : Option (List ℕ))
+    (left : FileLeft H K) (done : Result (Unit {0}) ProgramFault) (files : AreFilesOf bytes_at (map (option_map string_bytes) o.payloads) payloads)
+    (begins : Begins o.new o.shape disk (facts begun)) (buffered : read ≡ input) where
+  -- The disk that is there where the session begins is that of the file. It was written there at the end.
+  pub ended_left : EndsInFile bytes facts o payloads (facts begun) (known held read out written) left done → held ≡ disk → o.sync ≡ false
+      → HasLeft bytes facts file_facts in_file o bytes_at (known disk input out written) left done
+  ended_left ended same unsynced = inr (payloads, files, inl (unsynced, begun, begins, rw (← same, ← buffered) ended))
 
--- the disk that is there where the session begins is that of the file
-pub has_left : {H D K : Type 0} (bytes : H → Option (List ℕ)) (facts : SimDisk → Facts) (file_facts : D → Facts) (in_file : K → FileKnown) (o : Options)
-    (bytes_at : List ℕ → Option (List ℕ)) (payloads : List (List ℕ)) (begun : SimDisk) (held disk input out written : Option (List ℕ))
-    (left : FileLeft H K) (done : Result (Unit {0}) ProgramFault)
-    → RunsOver bytes facts file_facts in_file o payloads begun (known held input out written) left done → held ≡ disk
-    → AreFilesOf bytes_at (map (option_map string_bytes) o.payloads) payloads → Begins o.new o.shape disk (facts begun)
-    → HasLeft bytes facts file_facts in_file o bytes_at (known disk input out written) left done
-has_left bytes facts file_facts in_file o bytes_at payloads begun held disk input out written left done (inl none) same files begins =
-    not_kept bytes facts file_facts in_file o bytes_at (known disk input out written) left done none.0 none.1 none.2 none.3
-has_left bytes facts file_facts in_file o bytes_at payloads begun held disk input out written left done (inr (inl over)) same files begins =
-    inr (payloads, files, inl (over.0, begun, begins, rw (← same) over.1))
-has_left bytes facts file_facts in_file o bytes_at payloads begun held disk input out written left done (inr (inr over)) same files begins =
-    inr (payloads, files, inr (over.0, over.1, begins_unchanged o.new o.shape disk (facts begun) (file_facts over.1) over.2 begins, rw (← same) over.3))
-
-pub ends_in_file : (o : Options) (payloads : List (List ℕ)) (begun now : Facts) (input out written held left : Option (List ℕ))
-    (ran : Result (Unit {0}) Refusal) (done : Result (Unit {0}) ProgramFault) → HasRun o payloads begun now input out written ran
-    → IsWritten o.new now ran held left done
-    → (r : Result (Unit {0}) Refusal) × HasRun o payloads begun now input out written r × IsWritten o.new now r held left done
-ends_in_file o payloads begun now input out written held left ran done run is = (ran, run, is)
-
-pub stays_in_file : {D K : Type 0} (facts : D → Facts) (in_file : K → FileKnown) (o : Options) (payloads : List (List ℕ)) (begun : Facts)
-    (now : D) (kept : K) (input out written : Option (List ℕ)) (ran : Result (Unit {0}) Refusal) (done : Result (Unit {0}) ProgramFault)
-    → HasRun o payloads begun (facts now) input out written ran → IfKnown (in_file kept) (LeavesNoMore (facts now)) → done ≡ told_of ran
-    → (now : D) × (r : Result (Unit {0}) Refusal) × HasRun o payloads begun (facts now) input out written r
-    × IfKnown (in_file kept) (LeavesNoMore (facts now)) × (done ≡ told_of r)
-stays_in_file facts in_file o payloads begun now kept input out written ran done run leaves is = (now, ran, run, leaves, is)
+  -- or it was kept there all along
+  pub stayed_left : (kept : D) → Unchanged (facts begun) (file_facts kept)
+      → StaysInFile file_facts in_file o payloads (file_facts kept) (known disk read out written) left done → o.sync ≡ true
+      → HasLeft bytes facts file_facts in_file o bytes_at (known disk input out written) left done
+  stayed_left kept same stayed synced =
+      inr (payloads, files, inr (synced, kept, begins_unchanged o.new o.shape disk (facts begun) (file_facts kept) same begins, rw (← buffered) stayed))
 
 -- ---- no session
 -- the words of a command line whose own text has an error of that kind ask for none
 pub asks_for_none : (words : List (List ℕ)) (kind : ErrorKind) (why : NoWork) → why ≡ no_work kind
-    → (kind ≡ OutOfMemory) ⊎ AreNotTaken words ⊎ AreNoOptions words → AskForNone words why
+    → (kind ≡ OutOfMemory) ⊎ AreRefused words kind ⊎ ((kind ≡ ValueValidation) × AreNoOptions words) → AskForNone words why
 asks_for_none words kind why is (inl memory) = inl (rw (is, memory) refl)
-asks_for_none words kind why is (inr none) = inr none
+asks_for_none words kind why is (inr (inl refused)) = inr (inl (kind, refused, is))
+asks_for_none words kind why is (inr (inr none)) = inr (inr (rw (is, none.0) refl, none.1))

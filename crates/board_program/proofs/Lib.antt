@@ -1,3 +1,4 @@
 pub mod DiskBegun
 pub mod FaultsEnded
 pub mod FilesLeft
+pub mod Statuses

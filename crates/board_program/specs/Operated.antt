@@ -1,26 +1,25 @@
 -- What the program makes of its files, and how it ends. Source: docs/CONSOLE.md, "Statuses and faults".
 use Rattle.std.specs.Prelude.{◌≡◌, ◌⊎◌, ℕ, Bool, true, false, List, map, Option, Result, Ok, Err, IfErr, IfSome, OnOk, replicate, string_bytes}
 use Rattle.std.specs.Option.{option_map}
-use Rattle.board_files.specs.Disks.{HoldsDisk, IsDiskFile, RefusesFile, first_sectors}
+use Rattle.board_files.specs.Disks.{HoldsDisk, IsDiskFile, IsNoDisk, first_sectors}
 use Rattle.board_files.specs.Faults.{IsFileFault}
 use Rattle.board_model.specs.Shapes.{Size, sectors_of}
 use Rattle.board_model.specs.declared.refusal.Refusal.{Refusal}
-use Rattle.board_help.specs.Lines.{TakesModes, sbiboard}
+use Rattle.board_options.specs.Parses.{AreParsed, AreRefused}
 use Rattle.board_options.specs.Reads.{ReadsOptions}
-use Rattle.board_options.specs.Refused.{AreNoOptions, AreNotTaken}
+use Rattle.board_options.specs.Refused.{AreNoOptions}
 use Rattle.board_options.specs.declared.given.Options.{Options}
 use Rattle.board_program.specs.Ran.{HasRun, told_of}
 use Rattle.board_program.specs.declared.runs.FileLeft.{FileLeft}
 use Rattle.board_program.specs.declared.runs.FileLeft.TheVariants.{None, AtEnd, AllAlong}
-use Rattle.clap.specs.Words.{matches_of, rows_of}
-use Rattle.clap.specs.declared.builder.value_parser.ValueParser.{ValueParser}
+use Rattle.clap.specs.declared.error.kind.ErrorKind.{ErrorKind}
 use Rattle.clap.specs.declared.parser.matches.Found.{Found}
 use Rattle.command_line.specs.Faults.{first_fault}
+use Rattle.command_line.specs.Kinds.{no_work}
 use Rattle.command_line.specs.declared.NoWork.{NoWork}
-use Rattle.command_line.specs.declared.NoWork.TheVariants.{Memory}
+use Rattle.command_line.specs.declared.NoWork.TheVariants.{Memory, Usage}
 use Rattle.command_line.specs.declared.fault.ProgramFault.{ProgramFault}
-use Rattle.command_line.specs.declared.fault.ProgramFault.TheVariants.{Refused}
-use Rattle.disk.specs.Facts.{Facts, IsFresh, Unchanged}
+use Rattle.disk.specs.Facts.{Facts, IsFresh}
 use Rattle.file_disk.specs.Files.{FileKnown, IfKnown, LeavesNoMore}
 use Rattle.payload_files.specs.Named.{AreFilesOf}
 use Rattle.simdisk.specs.declared.sim.SimDisk.{SimDisk}
@@ -35,8 +34,7 @@ Begins false shape bytes disk =
 -- why none begins: a file could not be read or made, or memory was refused; or a file that is read is no board's
 abbrev pub IsUnread : Bool → Option (List ℕ) → ProgramFault → Type 0
 IsUnread true bytes fault = IsFileFault fault
-IsUnread false bytes fault =
-    IsFileFault fault ⊎ ((why : Refusal) × (fault ≡ Refused why) × IfSome bytes (λ all. RefusesFile all why))
+IsUnread false bytes fault = IsFileFault fault ⊎ IsNoDisk bytes fault
 
 abbrev pub IsNotBegun : Bool → Option (List ℕ) → Result (Unit {0}) ProgramFault → Type 0
 IsNotBegun new bytes (Ok done) = ⊥
@@ -44,10 +42,10 @@ IsNotBegun new bytes (Err fault) = IsUnread new bytes fault
 
 -- The disk was written into its file at the end, whatever the session was refused, or that could not be done. Of two faults
 -- the first is told.
-pub record IsWritten (new : Bool) (disk : Facts) (ran : Result (Unit {0}) Refusal) (held left : Option (List ℕ))
+pub record IsWritten (new : Bool) (disk : Facts) (ran : Result (Unit {0}) Refusal) (held now : Option (List ℕ))
     (done : Result (Unit {0}) ProgramFault) : Type 0 where
   pub written : Result (Unit {0}) ProgramFault
-  pub stands : OnOk written (IfSome left (HoldsDisk new disk.content held))
+  pub stands : OnOk written (IfSome now (HoldsDisk new disk.content held))
   pub failed : IfErr written IsFileFault
   pub told : done ≡ first_fault (told_of ran) written
 
@@ -79,34 +77,29 @@ StaysInFile {D = D} facts in_file o payloads begun s (AllAlong kept) done = (now
     × HasRun o payloads begun (facts now) s.input s.out s.written ran × IfKnown (in_file kept) (LeavesNoMore (facts now))
     × (done ≡ told_of ran)
 
--- None was begun, since the file could not be kept; or it is over the disk in memory, or over that disk in its file.
-abbrev pub RunsOver : {H D K : Type 0} → (H → Option (List ℕ)) → (SimDisk → Facts) → (D → Facts) → (K → FileKnown) → Options
-    → List (List ℕ) → SimDisk → Known → FileLeft H K → Result (Unit {0}) ProgramFault → Type 0
-RunsOver {H} {D} {K} bytes facts file_facts in_file o payloads memory s left done =
-    ((left ≡ None) × OnOk done ⊥ × IfErr done IsFileFault × (s.written ≡ s.out))
-    ⊎ ((o.sync ≡ false) × EndsInFile bytes facts o payloads (facts memory) s left done)
-    ⊎ ((o.sync ≡ true) × (begun : D) × Unchanged (facts memory) (file_facts begun)
-    × StaysInFile file_facts in_file o payloads (file_facts begun) s left done)
-
 -- ---- from the files to the file
 -- Each slot boots what stands in the file that is named for it. A session began with the disk of the file or a blank one,
 -- and it was written into the file at the end, or kept there all along, as was asked for; or none was begun.
 abbrev pub HasLeft : {H D K : Type 0} → (H → Option (List ℕ)) → (SimDisk → Facts) → (D → Facts) → (K → FileKnown) → Options
     → (List ℕ → Option (List ℕ)) → Known → FileLeft H K → Result (Unit {0}) ProgramFault → Type 0
-HasLeft {H} {D} {K} bytes facts file_facts in_file o bytes_at s left done =
-    ((left ≡ None) × IsNotBegun o.new s.disk done × (s.written ≡ s.out))
+HasLeft {H} {D} {K} bytes facts file_facts in_file o bytes_at s file_left done =
+    ((file_left ≡ None) × IsNotBegun o.new s.disk done × (s.written ≡ s.out))
     ⊎ ((payloads : List (List ℕ)) × AreFilesOf bytes_at (map (option_map string_bytes) o.payloads) payloads
     × (((o.sync ≡ false) × (begun : SimDisk) × Begins o.new o.shape s.disk (facts begun)
-    × EndsInFile bytes facts o payloads (facts begun) s left done)
+    × EndsInFile bytes facts o payloads (facts begun) s file_left done)
     ⊎ ((o.sync ≡ true) × (begun : D) × Begins o.new o.shape s.disk (file_facts begun)
-    × StaysInFile file_facts in_file o payloads (file_facts begun) s left done)))
+    × StaysInFile file_facts in_file o payloads (file_facts begun) s file_left done)))
 
 -- the options that the words of a command line give, as the command's parser reads them
 abbrev pub IsReadFrom : List (List ℕ) → Options → Type 0
-IsReadFrom words o =
-    (modes : ValueParser) × (f : Found) × TakesModes modes × (rows_of f ≡ matches_of (sbiboard modes) words) × ReadsOptions f o
+IsReadFrom words o = (f : Found) × AreParsed words f × ReadsOptions f o
 
--- They ask for no session: they are no command line, as they are not where they ask for the help, or their values give no
--- options; or memory was refused.
+-- They ask for no session, for that reason. Memory was refused; or the parser refuses them, by an error that shows what they
+-- ask to be shown or says a fault; or it takes them, and their values give no options, which is a fault.
 abbrev pub AskForNone : List (List ℕ) → NoWork → Type 0
-AskForNone words why = (why ≡ Memory) ⊎ AreNotTaken words ⊎ AreNoOptions words
+AskForNone words why = (why ≡ Memory) ⊎ ((kind : ErrorKind) × AreRefused words kind × (why ≡ no_work kind))
+    ⊎ ((why ≡ Usage) × AreNoOptions words)
+
+-- they are no command line, by a fault of their own
+abbrev pub GiveNoOptions : List (List ℕ) → Type 0
+GiveNoOptions words = ((kind : ErrorKind) × AreRefused words kind × (no_work kind ≡ Usage)) ⊎ AreNoOptions words

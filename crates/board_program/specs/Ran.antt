@@ -2,7 +2,6 @@
 -- and faults".
 use Rattle.std.specs.Prelude.{◌≡◌, ◌⊎◌, ℕ, List, [], Option, Result, Ok, Err}
 use Rattle.board_model.specs.declared.refusal.Refusal.{Refusal}
-use Rattle.board_model.specs.declared.refusal.Refusal.TheVariants.{Memory}
 use Rattle.board_console.specs.Commands.{party}
 use Rattle.board_console.specs.Dialogues.{dialogue_ends}
 use Rattle.board_console.specs.declared.talks.Left.{Left}
@@ -10,7 +9,7 @@ use Rattle.board_options.specs.declared.given.Options.{Options}
 use Rattle.board_session.specs.Sessions.{RanOver, RefusesSession, outcome_of}
 use Rattle.command_line.specs.declared.fault.ProgramFault.{ProgramFault}
 use Rattle.command_line.specs.declared.fault.ProgramFault.TheVariants.{Refused}
-use Rattle.disk.specs.Facts.{Facts, Unchanged}
+use Rattle.disk.specs.Facts.{Facts}
 use Rattle.hart_threads.specs.Ends.{Ending}
 use Rattle.shared_store.specs.Heard.{Hearing, heard_nothing}
 
@@ -20,12 +19,11 @@ RanUntil o payloads old now input out written left =
     (rest : Option (List ℕ)) × (heard : Hearing) × (ends : List Ending)
     × RanOver o.new o.shape o.mode payloads o.turns old now left (dialogue_ends input out (party [] heard_nothing)) rest written heard ends
 
--- Memory was refused and nothing was done; or it was refused by its disk, before any line was answered; or it ran. From one
--- disk to the other, with an input and an output of which these bytes are known.
+-- It was refused by its disk, before any line was answered; or it ran. From one disk to the other, with an input and an output
+-- of which these bytes are known.
 abbrev pub HasRun : Options → List (List ℕ) → Facts → Facts → Option (List ℕ) → Option (List ℕ) → Option (List ℕ) → Result (Unit {0}) Refusal → Type 0
 HasRun o payloads old now input out written ran =
-    ((ran ≡ Err Memory) × Unchanged old now × (written ≡ out))
-    ⊎ (RefusesSession o.new o.shape o.mode payloads old ran now × (written ≡ out))
+    (RefusesSession o.new o.shape o.mode payloads old ran now × (written ≡ out))
     ⊎ ((left : Option Left) × RanUntil o payloads old now input out written left × (ran ≡ outcome_of left))
 
 -- the fault of a program for it

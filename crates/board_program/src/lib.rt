@@ -2,12 +2,12 @@
 //! of its disk, and its status (docs/CONSOLE.md, "Statuses and faults").
 #![tactic(auto)]
 
+mod answers;
 mod disks;
 mod notices;
 mod operates;
 mod runs;
-mod sessions;
 
+pub use answers::Answers;
 pub use operates::{Operated, operate_on};
 pub use runs::FileLeft;
-pub use sessions::Answers;

@@ -6,10 +6,10 @@ ghost use Rattle.command_line.specs.Faults.{status_after, without_work};
 ghost use Rattle.command_line.specs.Told.{fault_of};
 ghost use Rattle.command_line.specs.declared.NoWork.{NoWork};
 ghost use Rattle.command_line.specs.declared.fault.ProgramFault.{ProgramFault};
-ghost use Rattle.board_program.specs.Operated.{AskForNone, HasLeft, IsReadFrom, known};
+ghost use Rattle.board_program.specs.Operated.{AskForNone, GiveNoOptions, HasLeft, IsReadFrom, known};
 
+use crate::answers::Answers;
 use crate::runs::{FileLeft, run_from_files};
-use crate::sessions::Answers;
 use board_files::BoardFiles;
 use board_options::options;
 use board_session::Streams;
@@ -30,7 +30,7 @@ pub struct Operated<H: Drop, K: Drop, O: Write + Drop> {
     /// Its status.
     pub status: u8,
     /// What stands of the file of its disk.
-    pub left: FileLeft<H, K>,
+    pub file_left: FileLeft<H, K>,
     /// What the answers were written to.
     pub out: O,
 }
@@ -66,23 +66,25 @@ pub fn operate_on<
 ) -> Operated<B::Held, B::Kept, O>
     ensures range { result.status ≤ 2 }
     // The status is the one of what was done; and what was done is what the words ask for, over the files and the streams,
-    // where they ask for a session. Else no file is touched.
+    // where they ask for a session. Else none is begun, and the fault is the one of the words, or refused memory.
     ensures status { (done : Result (Unit {0}) ProgramFault) × (result.status ≡ status_after done)
         × (((options : Options) × IsReadFrom (map S.text words.now) options
         × HasLeft B.Held.bytes ⟦<SimDisk as Disk>⟧.facts ⟦<FileDisk<B::Kept> as Disk>⟧.facts B.Kept.file_facts options
         (B.bytes_at files.now)
         (known (B.disk_at files.now (string_bytes options.disk)) (I.remaining streams.input) (O.contents streams.out)
         (O.contents result.out))
-        result.left done)
+        result.file_left done)
         ⊎ ((why : NoWork) × AskForNone (map S.text words.now) why × (done ≡ without_work why)
-        × (result.left ≡ FileLeft.None))) }
+        × (result.file_left ≡ FileLeft.None))) }
+    // 2 is the status of words that are no command line, and of no session.
+    ensures usage { result.status ≡ 2 → GiveNoOptions (map S.text words.now) }
 {
     match options(alloc, words) {
         Ok(options) => {
             let done = run_from_files(alloc, threads, files, &options, streams, faults);
             Operated {
                 status: end_with(faults, "sbiboard", &done.ended),
-                left: done.left,
+                file_left: done.file_left,
                 out: done.out,
             }
         }
@@ -92,7 +94,7 @@ pub fn operate_on<
             let done = no_work(why);
             Operated {
                 status: end_with(faults, "sbiboard", &done),
-                left: FileLeft::None,
+                file_left: FileLeft::None,
                 out,
             }
         }

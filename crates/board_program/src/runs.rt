@@ -6,26 +6,34 @@ ghost use Rattle.command_line.specs.Told.{fault_of};
 ghost use Rattle.board_files.specs.Disks.{HoldsDisk};
 ghost use Rattle.board_files.specs.Faults.{IsFileFault};
 ghost use Rattle.disk.specs.Facts.{Unchanged};
-ghost use Rattle.board_program.specs.Operated.{EndsInFile, HasLeft, IsWritten, RunsOver, StaysInFile, known};
+ghost use Rattle.board_program.specs.Operated.{EndsInFile, HasLeft, IsWritten, StaysInFile, known};
 ghost use Rattle.board_program.specs.Ran.{told_of};
 
+use crate::answers::Answers;
 use crate::disks::{TakenDisk, take_disk};
 use crate::notices::{tell_elf, tell_harts};
-use crate::sessions::{Answers, BoardSetup, EndedSession, run_session};
+use board::Payloads;
 use board_files::{BoardFiles, DiskFile, HeldFile};
 use board_model::Refusal;
 use board_options::Options;
-use board_session::Streams;
+use board_session::{Streams, session};
 use command_line::{FileFault, first_of};
 use disk::Disk;
 use file_disk::{FileDisk, SectorFile};
 use payload_files::{PayloadFiles, read_payloads};
 use simdisk::SimDisk;
 use std::alloc::Global;
-use std::io::{IsTerminal, Read, Write};
+use std::io::{BufReader, IsTerminal, Read, Write};
 use std::sync::Wait;
 use std::thread::Threads;
 use store::format;
+
+/// The board that the command line asks for, and the bytes that its slots boot.
+#[derive(Clone, Copy)]
+struct BoardSetup<'a> {
+    options: &'a Options,
+    payloads: &'a Payloads,
+}
 
 /// What stands of the file of a session's disk, once the session has ended.
 #[derive(Drop)]
@@ -41,7 +49,7 @@ pub enum FileLeft<H: Drop, K: Drop> {
 /// What a run gives back: what stands of the file, what the answers were written to, and the fault, where there is one.
 #[derive(Drop)]
 pub struct RunEnd<H: Drop, K: Drop, O: Write + Drop> {
-    pub left: FileLeft<H, K>,
+    pub file_left: FileLeft<H, K>,
     pub out: O,
     pub ended: Result<(), FileFault>,
 }
@@ -123,14 +131,14 @@ fn disk_in_file<B: BoardFiles>(
     }
 }
 
-/// What a run gives back that could not begin a session, for that fault.
+/// What a run gives back where that fault kept it from beginning a session.
 fn no_session<H: Drop, K: Drop, O: Write + Drop>(out: O, fault: FileFault) -> RunEnd<H, K, O>
-    ensures left { result.left ≡ FileLeft.None }
+    ensures file_left { result.file_left ≡ FileLeft.None }
     ensures out { result.out ≡ out }
     ensures ended { result.ended ≡ Err fault }
 {
     RunEnd {
-        left: FileLeft::None,
+        file_left: FileLeft::None,
         out,
         ended: Err(fault),
     }
@@ -158,21 +166,19 @@ fn run_then_write<
     ensures { EndsInFile H.bytes ⟦<SimDisk as Disk>⟧.facts setup.now.options.now setup.now.payloads.now
         (⟦<SimDisk as Disk>⟧.facts disk)
         (known (H.bytes held) (I.remaining streams.input) (O.contents streams.out) (O.contents result.out))
-        result.left (fault_of result.ended) }
+        result.file_left (fault_of result.ended) }
 {
+    let BoardSetup { options, payloads } = *setup;
     let mut held = held;
-    let session = run_session(alloc, threads, setup, disk, streams);
-    tell_harts(faults, setup.options, &session.harts);
-    let EndedSession {
-        disk,
-        ran,
-        out,
-        harts: _,
-    } = session;
-    let ended = write_at_the_end(alloc, setup.options, &mut held, &disk, ran);
+    let Streams { input, mut out } = streams;
+    out.begin(options.sync);
+    let streams = Streams { input, out };
+    let end = session(threads, alloc, options, disk, payloads, streams);
+    tell_harts(faults, options, &end.harts);
+    let ended = write_at_the_end(alloc, options, &mut held, &end.disk, end.ran);
     RunEnd {
-        left: FileLeft::AtEnd(held, disk),
-        out,
+        file_left: FileLeft::AtEnd(held, end.disk),
+        out: end.streams.out,
         ended,
     }
 }
@@ -198,60 +204,26 @@ fn run_in_file<
     ensures { (bytes : Option (List ℕ)) → StaysInFile ⟦<FileDisk<K> as Disk>⟧.facts K.file_facts setup.now.options.now
         setup.now.payloads.now (⟦<FileDisk<K> as Disk>⟧.facts disk)
         (known bytes (I.remaining streams.input) (O.contents streams.out) (O.contents result.out))
-        result.left (fault_of result.ended) }
+        result.file_left (fault_of result.ended) }
 {
-    let session = run_session(alloc, threads, setup, disk, streams);
-    tell_harts(faults, setup.options, &session.harts);
-    let EndedSession {
-        disk,
-        ran,
-        out,
-        harts: _,
-    } = session;
+    let BoardSetup { options, payloads } = *setup;
+    let Streams { input, mut out } = streams;
+    out.begin(options.sync);
+    let streams = Streams { input, out };
+    let end = session(threads, alloc, options, disk, payloads, streams);
+    tell_harts(faults, options, &end.harts);
     RunEnd {
-        left: FileLeft::AllAlong(disk.into_file()),
-        out,
-        ended: as_file_fault(ran),
-    }
-}
-
-/// Runs the session over the disk that was taken for it. The disk is kept in its file all along where `--sync` asks for
-/// that; else it is written into the file at the end.
-fn run_taken<
-    R: Threads + Wait + Sync,
-    B: BoardFiles,
-    I: Read + Drop,
-    O: Answers + Drop,
-    F: Write + IsTerminal,
->(
-    alloc: Global,
-    threads: &R,
-    files: &B,
-    setup: &BoardSetup<'_>,
-    taken: TakenDisk<B::Held>,
-    streams: Streams<I, O>,
-    faults: &mut F,
-) -> RunEnd<B::Held, B::Kept, O>
-    requires { IsIdle (⟦<SimDisk as Disk>⟧.facts taken.disk) }
-    ensures { RunsOver B.Held.bytes ⟦<SimDisk as Disk>⟧.facts ⟦<FileDisk<B::Kept> as Disk>⟧.facts
-        B.Kept.file_facts setup.now.options.now setup.now.payloads.now taken.disk
-        (known (B.Held.bytes taken.held) (I.remaining streams.input) (O.contents streams.out) (O.contents result.out))
-        result.left (fault_of result.ended) }
-{
-    let TakenDisk { held, disk } = taken;
-    if !setup.options.sync {
-        return run_then_write(alloc, threads, setup, held, disk, streams, faults);
-    }
-    match disk_in_file(alloc, files, setup.options, held, disk) {
-        Ok(disk) => run_in_file(alloc, threads, setup, disk, streams, faults),
-        Err(fault) => no_session(streams.out, fault),
+        file_left: FileLeft::AllAlong(end.disk.into_file()),
+        out: end.streams.out,
+        ended: as_file_fault(end.ran),
     }
 }
 
 /// Runs the board that the options ask for: reads the payloads and the disk, runs the session, and leaves the disk in its
 /// file. With `--sync` the disk is kept in the file all along. Else the file is written at the end, also after a refusal,
-/// unless its bytes are the same. Of two faults the first is told.
-#[tactic(auto, using(crate::proofs::FilesLeft::has_left, crate::proofs::FilesLeft::none_left, crate::proofs::DiskBegun::unread_file))]
+/// unless its bytes are the same. Of two faults the first is told. The input is read through a buffer; where memory is
+/// refused for it, no file of a disk is touched.
+#[tactic(auto, using(crate::proofs::FilesLeft::none_left, crate::proofs::DiskBegun::unread_file, crate::proofs::FilesLeft::no_memory))]
 pub fn run_from_files<
     R: Threads + Wait + Sync,
     B: PayloadFiles + BoardFiles,
@@ -270,21 +242,31 @@ pub fn run_from_files<
         options.now (B.bytes_at files.now)
         (known (B.disk_at files.now (string_bytes options.now.disk)) (I.remaining streams.input)
         (O.contents streams.out) (O.contents result.out))
-        result.left (fault_of result.ended) }
+        result.file_left (fault_of result.ended) }
 {
+    let Streams { input, out } = streams;
     let payloads = match read_payloads(alloc, files, &options.payloads) {
         Ok(payloads) => payloads,
-        Err(fault) => return no_session(streams.out, fault),
+        Err(fault) => return no_session(out, fault),
     };
     tell_elf(faults, &payloads);
-    match take_disk(alloc, files, options, faults) {
-        Ok(taken) => {
-            let setup = BoardSetup {
-                options,
-                payloads: &payloads,
-            };
-            run_taken(alloc, threads, files, &setup, taken, streams, faults)
-        }
+    let Ok(input) = BufReader::new(alloc, input) else {
+        return no_session(out, FileFault::refused(Refusal::Memory));
+    };
+    let TakenDisk { held, disk } = match take_disk(alloc, files, options, faults) {
+        Ok(taken) => taken,
+        Err(fault) => return no_session(out, fault),
+    };
+    let setup = BoardSetup {
+        options,
+        payloads: &payloads,
+    };
+    let streams = Streams { input, out };
+    if !options.sync {
+        return run_then_write(alloc, threads, &setup, held, disk, streams, faults);
+    }
+    match disk_in_file(alloc, files, options, held, disk) {
+        Ok(disk) => run_in_file(alloc, threads, &setup, disk, streams, faults),
         Err(fault) => no_session(streams.out, fault),
     }
 }

@@ -62,7 +62,7 @@ unfolding IsKept
 kept_reads disk size kept may_keep = kept disk.content may_keep
 
 pub of_life_kept : (size : Size) (found : DurableState) (issued : List Change) (begins : List ℕ) (told : List (ℕ × Entry)) (disk : Facts) → IsOfLife size found issued begins told disk → (z : Size) × IsKept disk z
-of_life_kept size found issued begins told disk is = (size, life_kept is.doubt disk size (fold found is.journal) is.left)
+of_life_kept size found issued begins told disk is = (size, life_kept is.doubt disk size (fold found is.journal) is.leaves)
 
 -- ---- of a board that is not on
 -- The formatted state has no image: a mode that issues a command is refused 8 there, and nothing is in doubt.

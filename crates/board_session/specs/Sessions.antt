@@ -104,7 +104,7 @@ pub record IsOfLife (size : Size) (found : DurableState) (issued : List Change) 
   pub begun : (later : List Change) × (journal ≡ issued ++ later)
   pub taken : are_taken found journal ≡ true
   pub doubt : Option Change
-  pub left : LeavesLife doubt disk size (fold found journal)
+  pub leaves : LeavesLife doubt disk size (fold found journal)
   pub allowed : (c : Change) → doubt ≡ Some c → refusal_of (fold found journal) c ≡ None
   pub reads : (s : DurableState) × StandsFor disk.content size s
   pub carried : AllCarrySteps begins journal

@@ -27,7 +27,7 @@ impl ConsoleHeard {
         ConsoleHeard { heard: None }
     }
 
-    /// One has left.
+    /// A console has left, which heard that.
     pub(crate) fn of(heard: Heard) -> ConsoleHeard
         ensures { result ≡ heard }
     {

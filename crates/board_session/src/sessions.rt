@@ -1,6 +1,6 @@
 //! A board from its power-on to the end of its threads.
 
-ghost use Rattle.std.specs.Prelude.{◌≡◌, ◌⊎◌, ◌≤◌, ◌+◌, ℕ, List, [], All, length, Some, None, true, false, OnOk, IfOk, IfErr, MatchResult, vec_len, vec_capacity};
+ghost use Rattle.std.specs.Prelude.{◌≡◌, ◌⊎◌, ◌≤◌, ◌+◌, ℕ, List, [], All, length, Some, None, true, false, Err, OnOk, IfOk, IfErr, MatchResult, vec_len, vec_capacity};
 ghost use Rattle.std.specs.Option.{option_to_list};
 ghost use Rattle.board_model.specs.Durable.{formatted};
 ghost use Rattle.board_model.specs.Shapes.{Size};
@@ -25,9 +25,9 @@ ghost use Rattle.board_console.specs.Dialogues.{Talks, dialogue_ends};
 ghost use Rattle.board_session.specs.Backs.{AreBack};
 ghost use Rattle.board_session.specs.Sessions.{TakesFormat, RunsOver, RefusesDisk, RefusesSession, Begins, IsOfLife, RanOver, TalksIf, outcome_of, harts_after, AreDriven};
 
-use crate::ends::{disk_at_once, disk_of, ends_of};
 use crate::gate::{Open, harts_after};
 use crate::heard::ConsoleHeard;
+use crate::life_end::{disk_at_once, disk_of, ends_of};
 use board::{Board, Parts, Payloads};
 use board_console::{Left, console};
 use board_model::{Refusal, Shape};
@@ -61,7 +61,7 @@ pub struct SessionEnd<D: Disk + Drop, I: Read + Drop, W: Write + Drop> {
     /// What the console left of its input, and its output.
     pub streams: Streams<I, W>,
     /// Why the console left; `None` where it was not begun.
-    pub left: Option<Left>,
+    pub console_left: Option<Left>,
     /// What the console heard of the store beside its receipts.
     pub heard: ConsoleHeard,
     /// The harts as their loops ended, in the order of their numbers; none where the console was not begun.
@@ -78,7 +78,7 @@ struct BootedBoard<D: Disk + Drop> {
 
 /// The streams of a console, its part of the receipts, and what it heard beside them.
 #[derive(Drop)]
-struct Ends<J: Journal, I: Read + Drop, W: Write + Drop> {
+struct ConsoleSide<J: Journal, I: Read + Drop, W: Write + Drop> {
     streams: Streams<I, W>,
     part: Part<J>,
     heard: Heard,
@@ -87,7 +87,7 @@ struct Ends<J: Journal, I: Read + Drop, W: Write + Drop> {
 /// A console that has left, and what it said of the harts.
 #[derive(Drop)]
 struct Talked<'c, J: Threaded, I: Read + Drop, W: Write + Drop> {
-    ends: Ends<J, I, W>,
+    side: ConsoleSide<J, I, W>,
     left: Left,
     parted: Parted<'c, J>,
     ghost parts: { parted.token.value ≡ harts_after left },
@@ -100,25 +100,25 @@ fn attend<'c, R: Wait, D: Disk + Drop, J: Threaded, I: Read + Drop, W: Write + D
     bus: &Mutex<SharedBus<J>>,
     store: &Mutex<SharedStore<D, J>>,
     closing: &'c Closing<J>,
-    ends: Ends<J, I, W>,
+    side: ConsoleSide<J, I, W>,
 ) -> Talked<'c, J, I, W>
     ensures { Talks J.found J.issued result.left
-        (dialogue_ends (I.remaining ends.streams.input) (W.contents ends.streams.out) (party ends.part.told ends.heard))
-        (dialogue_ends (I.remaining result.ends.streams.input) (W.contents result.ends.streams.out)
-        (party result.ends.part.told result.ends.heard)) }
+        (dialogue_ends (I.remaining side.streams.input) (W.contents side.streams.out) (party side.part.told side.heard))
+        (dialogue_ends (I.remaining result.side.streams.input) (W.contents result.side.streams.out)
+        (party result.side.part.told result.side.heard)) }
 {
-    let Ends {
+    let ConsoleSide {
         streams,
         part,
         heard,
-    } = ends;
+    } = side;
     let Streams { mut input, mut out } = streams;
     let mut heard = heard;
     let mut locks = Locks::new(bus, store);
     let (part, left) = console(rt, &mut locks, part, &mut heard, &mut input, &mut out);
     let parted = closing.part(rt, harts_after(left));
     Talked {
-        ends: Ends {
+        side: ConsoleSide {
             streams: Streams { input, out },
             part,
             heard,
@@ -140,9 +140,9 @@ fn outcome(left: Option<Left>) -> Result<(), Refusal>
     }
 }
 
-/// Runs the harts of a board on threads and the console beside them, and gives back the disk, the input and
-/// the output. Refused `Memory` where a thread could not be started, and `Output` where an answer could not be
-/// written. The book of receipts has a part for each hart, one for the console and one for the boot.
+/// Runs the harts of a board on threads and the console beside them, and gives back the disk, the input and the output. Refused
+/// `Memory` where a thread could not be started, and `Output` where an answer could not be written. The book of receipts has a
+/// part for each hart, one for the console and one for the boot.
 fn run_board<
     D: Disk + Drop + Send,
     J: Threaded + Send + Sync,
@@ -172,13 +172,13 @@ fn run_board<
     requires book { (id_of booted.book ≡ J.book) × (parts_of booted.book ≡ J.parts)
         × (J.parts ≡ J.size.harts + 2) }
     ensures none_out { IsIdle (D.facts result.disk) }
-    ensures left { (console : List (ℕ × Entry)) × IsOfLife J.size J.found J.issued J.memory console (D.facts result.disk)
-        × TalksIf J.found J.issued result.left
+    ensures life { (console : List (ℕ × Entry)) × IsOfLife J.size J.found J.issued J.memory console (D.facts result.disk)
+        × TalksIf J.found J.issued result.console_left
         (dialogue_ends (I.remaining streams.input) (W.contents streams.out) (party [] heard_nothing))
         (dialogue_ends (I.remaining result.streams.input) (W.contents result.streams.out) (party console result.heard)) }
-    ensures ran { result.ran ≡ outcome_of result.left }
-    ensures driven { AreDriven J.size.harts J.turns J.found result.left result.harts.items }
-    ensures unheard { result.left ≡ None → (result.streams ≡ streams) × (result.heard ≡ heard_nothing) }
+    ensures ran { result.ran ≡ outcome_of result.console_left }
+    ensures driven { AreDriven J.size.harts J.turns J.found result.console_left result.harts.items }
+    ensures unheard { result.console_left ≡ None → (result.streams ≡ streams) × (result.heard ≡ heard_nothing) }
 {
     let BootedBoard { parts, shape, book } = booted;
     let Parts {
@@ -190,7 +190,7 @@ fn run_board<
     } = parts;
     let (mut whole, boot) = Unshared::<D, J>::new(store, book);
     let part = whole.hand_out();
-    let ends = Ends {
+    let side = ConsoleSide {
         streams,
         part,
         heard: whole.listener(),
@@ -200,7 +200,7 @@ fn run_board<
             whole,
             Vec::new(alloc),
             Vec::new(alloc),
-            ends,
+            side,
             boot,
             unled(alloc),
         );
@@ -210,7 +210,7 @@ fn run_board<
             whole,
             Vec::new(alloc),
             Vec::new(alloc),
-            ends,
+            side,
             boot,
             unled(alloc),
         );
@@ -238,53 +238,53 @@ fn run_board<
         doze,
         turns,
         given,
-        ends,
-        move |ends: Ends<J, I, W>| -> Talked<'_, J, I, W>
+        side,
+        move |side: ConsoleSide<J, I, W>| -> Talked<'_, J, I, W>
             ensures { Talks J.found J.issued result.left
-                (dialogue_ends (I.remaining ends.streams.input) (W.contents ends.streams.out)
-                (party ends.part.told ends.heard))
-                (dialogue_ends (I.remaining result.ends.streams.input) (W.contents result.ends.streams.out)
-                (party result.ends.part.told result.ends.heard)) }
-        { attend(rt, rung, shared, shut, ends) },
+                (dialogue_ends (I.remaining side.streams.input) (W.contents side.streams.out)
+                (party side.part.told side.heard))
+                (dialogue_ends (I.remaining result.side.streams.input) (W.contents result.side.streams.out)
+                (party result.side.part.told result.side.heard)) }
+        { attend(rt, rung, shared, shut, side) },
     );
     let whole = store.into_inner().unshare();
     match driven {
         Ok(done) => {
             let (loops, talked) = done;
-            let Talked { ends, left, parted } = talked;
+            let Talked { side, left, parted } = talked;
             let led = led_by(left, &loops, &parted, room);
-            over(whole, loops, Vec::new(alloc), ends, boot, led)
+            over(whole, loops, Vec::new(alloc), side, boot, led)
         }
         Err(undriven) => {
             let Undriven {
-                ends,
+                side,
                 refusal: _,
                 loops,
                 parts,
             } = undriven;
-            over(whole, loops, parts, ends, boot, unled(alloc))
+            over(whole, loops, parts, side, boot, unled(alloc))
         }
     }
 }
 
-/// Why the console left, and the harts as their loops ended then; or none was begun.
+/// Why the console left, and how the harts' loops ended. Where none was begun it is `None`, and no hart is listed.
 #[derive(Drop)]
 struct Led {
-    left: Option<Left>,
+    console_left: Option<Left>,
     harts: Vec<HartEnd>,
 }
 
 /// No console was begun.
 fn unled(alloc: Global) -> Led
-    ensures { (result.left ≡ None) × (result.harts.items ≡ []) }
+    ensures { (result.console_left ≡ None) × (result.harts.items ≡ []) }
 {
     Led {
-        left: None,
+        console_left: None,
         harts: Vec::new(alloc),
     }
 }
 
-/// The console has left so, and those are the loops of the harts.
+/// The console has left for that reason, and the loop of each hart has ended.
 fn led_by<'c, J: Threaded>(
     left: Left,
     loops: &[Rested<'c, J>],
@@ -296,11 +296,11 @@ fn led_by<'c, J: Threaded>(
     requires many { length loops.now ≡ J.size.harts }
     requires empty { vec_len room ≡ 0 }
     requires room { length loops.now ≤ vec_capacity room }
-    ensures left { result.left ≡ Some left }
+    ensures console_left { result.console_left ≡ Some left }
     ensures driven { AreDriven J.size.harts J.turns J.found (Some left) result.harts.items }
 {
     Led {
-        left: Some(left),
+        console_left: Some(left),
         harts: ends_of(loops, parted, room),
     }
 }
@@ -310,7 +310,7 @@ fn over<D: Disk + Drop, J: Threaded, I: Read + Drop, W: Write + Drop>(
     whole: Unshared<D, J>,
     loops: Vec<Rested<'_, J>>,
     parts: Vec<Part<J>>,
-    ends: Ends<J, I, W>,
+    side: ConsoleSide<J, I, W>,
     boot: Part<J>,
     led: Led,
 ) -> SessionEnd<D, I, W>
@@ -320,27 +320,54 @@ fn over<D: Disk + Drop, J: Threaded, I: Read + Drop, W: Write + Drop>(
     requires boot { boot.told ≡ boot_told J.issued }
     requires all { J.parts ≡ J.size.harts + 2 }
     ensures none_out { IsIdle (D.facts result.disk) }
-    ensures life { IsOfLife J.size J.found J.issued J.memory ends.part.told (D.facts result.disk) }
-    ensures streams { result.streams ≡ ends.streams }
-    ensures heard { result.heard ≡ ends.heard }
-    ensures left { result.left ≡ led.left }
+    ensures life { IsOfLife J.size J.found J.issued J.memory side.part.told (D.facts result.disk) }
+    ensures streams { result.streams ≡ side.streams }
+    ensures heard { result.heard ≡ side.heard }
+    ensures console_left { result.console_left ≡ led.console_left }
     ensures harts { result.harts.items ≡ led.harts.items }
-    ensures ran { result.ran ≡ outcome_of led.left }
+    ensures ran { result.ran ≡ outcome_of led.console_left }
 {
-    let Ends {
+    let ConsoleSide {
         streams,
         part,
         heard,
-    } = ends;
-    let Led { left, harts } = led;
+    } = side;
+    let Led {
+        console_left,
+        harts,
+    } = led;
     let disk = disk_of(whole, loops, parts, part, boot);
     SessionEnd {
         disk,
-        ran: outcome(left),
+        ran: outcome(console_left),
         streams,
-        left,
+        console_left,
         heard: ConsoleHeard::of(heard),
         harts,
+    }
+}
+
+/// What a session gives back whose console was not begun.
+fn unbegun<D: Disk + Drop, I: Read + Drop, W: Write + Drop>(
+    alloc: Global,
+    disk: D,
+    refusal: Refusal,
+    streams: Streams<I, W>,
+) -> SessionEnd<D, I, W>
+    ensures disk { result.disk ≡ disk }
+    ensures ran { result.ran ≡ Err refusal }
+    ensures streams { result.streams ≡ streams }
+    ensures console_left { result.console_left ≡ None }
+    ensures heard { result.heard ≡ heard_nothing }
+    ensures harts { result.harts.items ≡ [] }
+{
+    SessionEnd {
+        disk,
+        ran: Err(refusal),
+        streams,
+        console_left: None,
+        heard: ConsoleHeard::nothing(),
+        harts: Vec::new(alloc),
     }
 }
 
@@ -428,53 +455,38 @@ pub fn session<R: Threads + Wait + Sync, D: Disk + Drop + Send, I: Read + Drop, 
     // Each hart made all its turns, or one of them ended the life, or the console left so that
     // they were halted. It is then refused by why the console left alone.
     ensures ended { (RefusesSession options.now.new options.now.shape options.now.mode payloads.now (D.facts disk)
-        result.ran (D.facts result.disk) × (result.left ≡ None))
+        result.ran (D.facts result.disk) × (result.console_left ≡ None))
         ⊎ (RanOver options.now.new options.now.shape options.now.mode payloads.now options.now.turns (D.facts disk)
-        (D.facts result.disk) result.left
+        (D.facts result.disk) result.console_left
         (dialogue_ends (I.remaining streams.input) (W.contents streams.out) (party [] heard_nothing))
         (I.remaining result.streams.input) (W.contents result.streams.out) result.heard result.harts.items
-        × (result.ran ≡ outcome_of result.left)) }
-    ensures unheard { result.left ≡ None → (result.streams ≡ streams) × (result.heard ≡ heard_nothing) }
+        × (result.ran ≡ outcome_of result.console_left)) }
+    ensures unheard { result.console_left ≡ None → (result.streams ≡ streams) × (result.heard ≡ heard_nothing) }
     // Whatever it answers, a disk of which each crash leaves a state is given back as one.
     ensures kept { (size : Size) → IsKept (D.facts disk) size → (z : Size) × IsKept (D.facts result.disk) z }
 {
-    match powered(alloc, options, disk, payloads) {
-        Err((disk, refusal)) => SessionEnd {
-            disk,
-            ran: Err(refusal),
-            streams,
-            left: None,
-            heard: ConsoleHeard::nothing(),
-            harts: Vec::new(alloc),
-        },
-        Ok(board) => {
-            let shape = board.shape();
-            let parts = board.into_parts();
-            match NewBook::new(alloc, shape.harts() + 2) {
-                Ok(book) => {
-                    let booted = BootedBoard { parts, shape, book };
-                    let lock = OnceLock::new();
-                    let turns = options.turns;
-                    run_board::<D, Brand, R, I, W>(rt, alloc, booted, turns, lock, streams)
-                }
-                Err(_) => {
-                    let Parts {
-                        harts: _,
-                        seats: _,
-                        tables: _,
-                        bus: _,
-                        store,
-                    } = parts;
-                    SessionEnd {
-                        disk: disk_at_once(store),
-                        ran: Err(Refusal::Memory),
-                        streams,
-                        left: None,
-                        heard: ConsoleHeard::nothing(),
-                        harts: Vec::new(alloc),
-                    }
-                }
-            }
+    let board = match powered(alloc, options, disk, payloads) {
+        Ok(board) => board,
+        Err((disk, refusal)) => return unbegun(alloc, disk, refusal, streams),
+    };
+    let shape = board.shape();
+    let parts = board.into_parts();
+    match NewBook::new(alloc, shape.harts() + 2) {
+        Ok(book) => {
+            let booted = BootedBoard { parts, shape, book };
+            let lock = OnceLock::new();
+            let turns = options.turns;
+            run_board::<D, Brand, R, I, W>(rt, alloc, booted, turns, lock, streams)
+        }
+        Err(_) => {
+            let Parts {
+                harts: _,
+                seats: _,
+                tables: _,
+                bus: _,
+                store,
+            } = parts;
+            unbegun(alloc, disk_at_once(store), Refusal::Memory, streams)
         }
     }
 }

@@ -78,7 +78,7 @@ pub fn after<R: Abort + Threads + Wait + Sync>(
     same(rt, ended.status, run.status);
     same(rt, ended.out.text.as_slice(), run.told);
     same(rt, faults.0.as_slice(), run.faults);
-    let disk = bytes_left(alloc, ended.left)?;
+    let disk = bytes_left(alloc, ended.file_left)?;
     Ok(MemoryFiles { disk, ..files })
 }
 

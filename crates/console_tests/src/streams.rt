@@ -109,7 +109,7 @@ fn over_a_blank_disk<R: Threads + Wait + Sync, I: Read + Drop, W: Write + Drop>(
     let ended = session(rt, alloc, &given, disk_of(alloc)?, &none, streams);
     Ok(Ended {
         ran: ended.ran,
-        left: ended.left,
+        left: ended.console_left,
         streams: ended.streams,
     })
 }

@@ -29,8 +29,8 @@ use susp::Doze;
 #[derive(Drop)]
 pub struct Undriven<'a, J: Threaded, E: Drop> {
     /// What the console was to be given.
-    pub ends: E,
-    /// Why.
+    pub side: E,
+    /// Why none was begun.
     pub refusal: Refusal,
     /// The loops, which have ended: of each hart, or none.
     pub loops: Vec<Rested<'a, J>>,
@@ -43,14 +43,14 @@ fn unbegun<'a, J: Threaded, E: Drop>(
     alloc: Global,
     refusal: Refusal,
     parts: Vec<Part<J>>,
-    ends: E,
+    side: E,
 ) -> Undriven<'a, J, E>
-    ensures refused { (result.ends ≡ ends) × (result.refusal ≡ refusal) }
+    ensures refused { (result.side ≡ side) × (result.refusal ≡ refusal) }
     ensures loops { vec_len result.loops ≡ 0 }
     ensures parts { result.parts.items ≡ parts.items }
 {
     Undriven {
-        ends,
+        side,
         refusal,
         loops: Vec::new(alloc),
         parts,
@@ -68,7 +68,7 @@ fn unbegun<'a, J: Threaded, E: Drop>(
 /// A loop that ended with its turns made all that the life gives each hart, which is `turns`; one that ended before has
 /// what ended it.
 ///
-/// The console is given `ends`, as its input and its output, and what it gives back comes back with the loops
+/// The console is given `side`, as its input and its output, and what it gives back comes back with the loops
 /// that ended, one for each hart. Each has one of `parts`, which were told nothing yet. Refused `Memory` where
 /// there is no room for the harts' seats, or where a thread could not be started: the loops of all harts have
 /// then ended, or none has begun, and the console was not called.
@@ -90,7 +90,7 @@ pub fn drive<
     doze: Option<Doze>,
     turns: u64,
     parts: Vec<Part<J>>,
-    ends: E,
+    side: E,
     console: K,
 ) -> Result<(Vec<Rested<'c, J>>, T), Undriven<'c, J, E>>
     requires console { K.IsAlwaysCallable console }
@@ -100,23 +100,23 @@ pub fn drive<
     requires parts { vec_len parts ≡ vec_len harts }
     requires fresh { All (λ p. p.told ≡ []) parts.items }
     requires held { IsHeld board.shape.now harts.items board.tables.now (Some seats) doze }
-    ensures said { IfOk result (λ r. K.post console ends r.1) }
+    ensures said { IfOk result (λ r. K.post console side r.1) }
     ensures loops { IfOk result (λ r. vec_len r.0 ≡ vec_len harts) }
-    ensures refused { IfErr result (λ e. (e.ends ≡ ends) × (e.refusal ≡ Memory)) }
+    ensures refused { IfErr result (λ e. (e.side ≡ side) × (e.refusal ≡ Memory)) }
     ensures back { IfErr result (λ e. vec_len e.loops + vec_len e.parts ≡ vec_len harts) }
     ensures fresh { IfErr result (λ e. All (λ p. p.told ≡ []) e.parts.items) }
 {
     let alloc = board.saving.alloc;
     let all = match seat_harts(alloc, harts, seats, doze, board.tables) {
         Ok(all) => all,
-        Err(refusal) => return Err(unbegun(alloc, refusal, parts, ends)),
+        Err(refusal) => return Err(unbegun(alloc, refusal, parts, side)),
     };
     let many = all.len();
     let Ok(rooms) = Rooms::new(alloc, many) else {
-        return Err(unbegun(alloc, Refusal::Memory, parts, ends));
+        return Err(unbegun(alloc, Refusal::Memory, parts, side));
     };
     let Ok(room) = Vec::with_capacity(alloc, many) else {
-        return Err(unbegun(alloc, Refusal::Memory, parts, ends));
+        return Err(unbegun(alloc, Refusal::Memory, parts, side));
     };
     let (works, parts) = works_of(rt, gate, board, all, parts, turns, room);
     let done = on_threads(
@@ -127,13 +127,13 @@ pub fn drive<
         &|work|
             requires { IsSeated work.board.tables.now work.acting.hart.id work.acting.seats work.acting.doze }
         { loop_of(work) },
-        ends,
+        side,
         console,
     );
     match done {
         Ok(done) => Ok(done),
-        Err((loops, ends)) => Err(Undriven {
-            ends,
+        Err((loops, side)) => Err(Undriven {
+            side,
             refusal: Refusal::Memory,
             loops,
             parts,
@@ -250,7 +250,8 @@ fn works_of<
     (works, parts)
 }
 
-/// What is known of a hart that comes out of the list of all.
+/// A hart that is taken out of the list has its seats, as each hart of the list has. The tables are an argument only so that
+/// this can be said of them.
 fn known_seated(acting: &Acting, tables: &Tables)
     requires { IsSeated tables.now acting.now.hart.id acting.now.seats acting.now.doze }
     ensures { IsSeated tables.now acting.now.hart.id acting.now.seats acting.now.doze }

@@ -38,7 +38,7 @@ pub struct Rested<'a, J: Threaded> {
     state: State,
 }
 
-/// A hart whose loop has ended, without its life. Only such a loop makes one.
+/// How a hart's loop ended and where the hart then stood, as plain data that does not name the life. Only such a loop makes one.
 #[derive(Drop)]
 pub struct HartEnd {
     hart: HartId,
@@ -200,7 +200,7 @@ fn csr(hart: &Hart, number: u16) -> u64
     hart.csr(CsrNumber::new(number), false).unwrap_or(0)
 }
 
-/// What ended a loop, beside what the console said when it left.
+/// What ended a loop. It agrees with what the console said when it left.
 fn shut_by<'a, J: Threaded>(shut: &Option<Shut<'a, J>>, parted: &Parted<'a, J>) -> Option<ShutBy>
     ensures { IsTrue (is_some shut.now) → IsShutBy J.found parted.now.token.value result }
 {
@@ -217,7 +217,7 @@ fn shut_by<'a, J: Threaded>(shut: &Option<Shut<'a, J>>, parted: &Parted<'a, J>) 
     }
 }
 
-/// The receipt of a loop that ended the life is that of a command that does.
+/// The receipt with which a loop ended the life is of a command that ends one.
 fn known_told<J: Threaded>(told: &Option<Told<J>>)
     requires { ends_life told.now ≡ true }
     ensures { IsTrue (is_some told.now) → (n : ℕ) × (entry : Entry) × EndsLife J.found n entry }
@@ -228,7 +228,7 @@ fn known_told<J: Threaded>(told: &Option<Told<J>>)
 }
 
 impl<'a, J: Threaded> Rested<'a, J> {
-    /// The hart without its life, whose console has said that when it left.
+    /// How the hart ended. `parted` holds what its console said of the harts when it left.
     pub fn end(&self, parted: &Parted<'a, J>) -> HartEnd
         ensures told { result ≡ ending self.now.ended.hart self.now.state self.now.ended.local.doze self.now.ended.made
             self.now.ended.asked self.now.ended.why result.by }

@@ -36,7 +36,8 @@ pub enum Why {
     Turns,
 }
 
-/// A loop that ended. With its turns it made all that the life gives each hart; before them it has what ended it.
+/// A loop that ended. Where it ended with its turns, it made all that the life gives each hart. Where it ended before, it has
+/// what ended it.
 #[derive(Drop)]
 pub struct Ended<'a, J: Threaded> {
     /// The hart, as its last turn left it.
@@ -63,7 +64,7 @@ pub struct Ended<'a, J: Threaded> {
     pub ghost looked: { made ≤ asked },
 }
 
-/// Whether the life goes on after a turn of which that is said.
+/// Whether the life goes on after a turn that came to that.
 fn goes_on(word: Word) -> bool
     ensures { result ≡ loop_goes_on word }
 {

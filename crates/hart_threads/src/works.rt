@@ -47,7 +47,7 @@ fn joined<R: Threads + Wait, T: Send + Drop>(
     given
 }
 
-/// What is known of a work that comes out of the list of all, before its thread takes it.
+/// A work that is taken out of the list can be run, as each of the list can. It is said here, before its thread takes it.
 fn known_ready<W, T, F: Fn(W) -> T>(run: &F, work: &W)
     requires { F.pre run.now work.now }
     ensures { F.pre run.now work.now }
@@ -73,16 +73,16 @@ pub(crate) fn on_threads<
     rooms: Rooms<T>,
     works: Vec<W>,
     run: &F,
-    ends: E,
+    side: E,
     last: K,
 ) -> Result<(Vec<T>, U), (Vec<T>, E)>
     requires last { K.IsAlwaysCallable last }
     requires ready { All (λ w. F.pre run.now w) works.items }
     requires handles { (vec_len rooms.handles ≡ 0) × (vec_capacity rooms.handles ≡ vec_len works) }
     requires given { (vec_len rooms.given ≡ 0) × (vec_capacity rooms.given ≡ vec_len works) }
-    ensures said { IfOk result (λ r. K.post last ends r.1) }
+    ensures said { IfOk result (λ r. K.post last side r.1) }
     ensures all { IfOk result (λ r. vec_len r.0 ≡ vec_len works) }
-    ensures back { IfErr result (λ e. (vec_len e.0 ≡ vec_len works) × (e.1 ≡ ends)) }
+    ensures back { IfErr result (λ e. (vec_len e.0 ≡ vec_len works) × (e.1 ≡ side)) }
 {
     thread::scope(
         thread::scope_env(),
@@ -91,8 +91,8 @@ pub(crate) fn on_threads<
             requires { K.IsAlwaysCallable last × All (λ w. F.pre run.now w) works.items
                 × (vec_len rooms.handles ≡ 0) × (vec_capacity rooms.handles ≡ vec_len works)
                 × (vec_len rooms.given ≡ 0) × (vec_capacity rooms.given ≡ vec_len works) }
-            ensures { IfOk result (λ r. K.post last ends r.1 × (vec_len r.0 ≡ vec_len works))
-                × IfErr result (λ e. (vec_len e.0 ≡ vec_len works) × (e.1 ≡ ends)) }
+            ensures { IfOk result (λ r. K.post last side r.1 × (vec_len r.0 ≡ vec_len works))
+                × IfErr result (λ e. (vec_len e.0 ≡ vec_len works) × (e.1 ≡ side)) }
         {
             let Rooms {
                 mut handles,
@@ -117,9 +117,9 @@ pub(crate) fn on_threads<
                 }
             }
             if unstarted {
-                return Err((joined(rt, handles, given), ends));
+                return Err((joined(rt, handles, given), side));
             }
-            let said = last(ends);
+            let said = last(side);
             Ok((joined(rt, handles, given), said))
         },
     )

@@ -11,12 +11,12 @@ use std::fs::{self, File, OpenOptions, TryLockError};
 use std::io::{self, ErrorKind};
 use std::os::unix::fs::MetadataExt;
 
-/// Where the disk's file is, and the file itself, which is this session's as long as this stands.
+/// Where the disk's file is, and the file itself, which this session has for as long as this value is there.
 #[derive(Drop)]
 pub struct Held<'a> {
     /// Whose file it is.
     pub rt: &'a HostRuntime,
-    /// The path of the file, behind what symbolic links lead there.
+    /// The path of the file, to which symbolic links were followed.
     pub path: String,
     /// Open for reading and writing.
     pub file: File,
@@ -35,9 +35,9 @@ fn real_path(rt: &HostRuntime, path: &str) -> Result<String, FileFault>
     }
 }
 
-/// The file as this session's: a fault where another session has it, or has just put another one in its place, and
-/// where it is no regular file. The lock goes with the process, so that of a session that was killed locks nobody
-/// out. Where a file system has no locks there is none.
+/// Takes the lock of the file for this session. It is a fault where another session has the lock, where it has just put another
+/// file there, and where the file is no regular one. The lock ends with the process, so a session that was killed keeps nobody
+/// out. On a file system without locks none is taken.
 pub fn locked(rt: &HostRuntime, path: &str, file: File) -> io::Result<File> {
     if let Err(TryLockError::WouldBlock) = file.try_lock() {
         return Err(io::Error::other("another session has it"));
@@ -54,9 +54,8 @@ pub fn locked(rt: &HostRuntime, path: &str, file: File) -> io::Result<File> {
     }
 }
 
-/// The file that stands at that path, or an empty one where none stands and a new disk is asked for. It is open for
-/// writing too: a file that may not be written is no disk of a session, also where another one would be put in its
-/// place.
+/// The file at that path, or an empty one where there is none and a new disk is asked for. It is opened for writing too: so a
+/// file that may not be written is refused, although a new file would take its place.
 fn opened(rt: &HostRuntime, path: &str, is_new: bool) -> io::Result<File> {
     if let Ok(found) = fs::metadata(rt, path) {
         if !found.is_file() {
@@ -76,8 +75,8 @@ fn opened(rt: &HostRuntime, path: &str, is_new: bool) -> io::Result<File> {
     locked(rt, path, file)
 }
 
-/// Tries whether the folder takes the file that is to be put into the place of the disk's, so that nobody is told so
-/// only when commands were made. What it makes it removes.
+/// Tries whether a file can be made beside the disk's, as the end of the session has to, and removes it. So a folder that takes
+/// no file is told at the start, and not once commands were acknowledged.
 fn try_beside(held: &Held<'_>) -> Result<(), FileFault>
     ensures failed { IfErr result (λ e. IsFileFault e.fault) }
 {
@@ -92,8 +91,8 @@ fn try_beside(held: &Held<'_>) -> Result<(), FileFault>
     }
 }
 
-/// Takes the disk's file for this session. What is there and no regular file, as a device or a folder, is a
-/// fault, and so is a file that another session has, and one that could not be written or replaced at the end.
+/// Takes the disk's file for this session. A device, a folder or another thing that is no regular file is a fault. So is a file
+/// that another session has, and one that could not be written or replaced at the end.
 pub fn hold<'a>(
     rt: &'a HostRuntime,
     path: &str,

@@ -32,8 +32,8 @@ fn bytes_of(sectors: usize) -> u64 {
     (sectors as u64).saturating_mul(512)
 }
 
-/// Whether nothing is to be written: the file holds the disk. What stands behind that in the file of a disk that was
-/// there is not the disk's; behind a new disk nothing stands.
+/// Whether the file holds the disk already, so that nothing is to be written. Of a disk that was there, more bytes may follow its
+/// sectors, which are no part of it. Of a new disk none may.
 fn holds(file: &File, sectors: &[Sector], is_new: bool) -> io::Result<bool> {
     let length = file.metadata()?.len();
     let whole = bytes_of(sectors.len());
@@ -43,8 +43,8 @@ fn holds(file: &File, sectors: &[Sector], is_new: bool) -> io::Result<bool> {
     begins_with(file, sectors)
 }
 
-/// Makes an empty file at that path, in the place of a file that was left there, with the mode of the disk's, and
-/// its owner where the system lets it be given.
+/// Makes an empty file at that path, which replaces one that an earlier session left. It has the mode of the disk's file, and its
+/// owner where the system allows that.
 pub fn make_beside(held: &Held<'_>, beside: &str) -> io::Result<File> {
     let rt = held.rt;
     if let Ok(left) = fs::symlink_metadata(rt, beside) {
@@ -59,15 +59,14 @@ pub fn make_beside(held: &Held<'_>, beside: &str) -> io::Result<File> {
     Ok(file)
 }
 
-/// Writes what stands in a file from that byte on.
+/// Writes the bytes of a file from that one on.
 fn copy_behind<W: Write>(mut from: File, at: u64, out: &mut W) -> io::Result<()> {
     let _at = from.seek(SeekFrom::Start(at))?;
     let _count = io::copy(&mut from, out)?;
     Ok(())
 }
 
-/// Makes a file of these sectors, and behind them of what stood behind them in the file of a disk that was there;
-/// and makes it durable.
+/// Writes these sectors into a new file and makes it durable. Of a disk that was there, the bytes after its sectors follow.
 fn write_sectors(
     rt: &HostRuntime,
     file: File,
@@ -85,7 +84,7 @@ fn write_sectors(
     out.get_ref().sync_all()
 }
 
-/// Makes durable which files a folder has: that of this path.
+/// Makes it durable that the file at this path is in its folder.
 fn sync_folder(rt: &HostRuntime, path: &str) -> io::Result<()> {
     let folder = match Path::new(path).parent() {
         Some(parent) if !parent.as_str().is_empty() => parent.as_str(),
@@ -94,7 +93,7 @@ fn sync_folder(rt: &HostRuntime, path: &str) -> io::Result<()> {
     fs::open(rt, folder)?.sync_all()
 }
 
-/// Puts the file beside into the place of the disk's, and makes that durable.
+/// Renames the file beside over the disk's, and makes that durable.
 fn replace(held: &Held<'_>, beside: &str) -> io::Result<()> {
     fs::rename(held.rt, beside, held.path.as_str())?;
     sync_folder(held.rt, &held.path)
@@ -131,9 +130,9 @@ fn write_beside(held: &Held<'_>, beside: &str, sectors: &[Sector], is_new: bool)
     Ok(())
 }
 
-/// Writes the disk's file, where it doesn't hold the disk: into a file beside it, named `.new`, which is then
-/// renamed over it. So a host that crashes meanwhile leaves the file as it was or as it is written, and perhaps
-/// the other one. Where the other one cannot be written whole it is removed.
+/// Writes the disk into its file, unless the file holds it already. It is written into a file beside, named `.new`, which is then
+/// renamed over the disk's. So a host that crashes meanwhile leaves the old file or the new one whole, and perhaps the file beside.
+/// Where that cannot be written whole it is removed.
 pub fn write_disk(held: &Held<'_>, sectors: &[Sector], is_new: bool) -> Result<(), FileFault>
     ensures failed { IfErr result (λ e. IsFileFault e.fault) }
 {
@@ -150,7 +149,7 @@ pub fn write_disk(held: &Held<'_>, sectors: &[Sector], is_new: bool) -> Result<(
     }
 }
 
-/// A file of so many zero sectors at that path, which is this session's before it stands in the disk's place.
+/// A file of so many zero sectors at that path. Its lock is taken first, so that no other session has it once it is renamed.
 fn blank_beside(held: &Held<'_>, beside: &str, sectors: usize) -> io::Result<File> {
     let file = locked(held.rt, beside, make_beside(held, beside)?)?;
     let made = file
@@ -178,8 +177,8 @@ fn blank_file(held: &Held<'_>, sectors: usize) -> Result<File, FileFault>
     }
 }
 
-/// The file that a session keeps its disk in: of a new disk a blank one of so many sectors, in the place of what was there;
-/// else the one that was read, which is made durable as it was read.
+/// The file in which a session keeps its disk all along. For a new disk it is a blank one of so many sectors, which replaces what
+/// was there. Else it is the one that was read, which is made durable first.
 pub fn kept_file(held: Held<'_>, sectors: usize, is_new: bool) -> Result<File, FileFault>
     ensures failed { IfErr result (λ e. IsFileFault e.fault) }
 {

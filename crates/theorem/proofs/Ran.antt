@@ -69,7 +69,7 @@ finds size z s found mode payloads disk given left a input output heard session 
       taken = life.taken;
       carried = life.carried;
       talks = session.4;
-      is = by (read_after life.doubt disk given size z (fold s life.journal) found life.left gone reads);
+      is = by (read_after life.doubt disk given size z (fold s life.journal) found life.leaves gone reads);
     }
   where
     by : (found ≡ fold s session.3.journal) ⊎ ((c : Change) × (session.3.doubt ≡ Some c) × (found ≡ after (fold s session.3.journal) c))

@@ -46,13 +46,13 @@ pub fn a_session<R: Threads + Wait + Sync, D: Disk + Drop + Send, I: Read + Drop
 ) -> SessionEnd<D, I, W>
     requires { IsIdle (D.facts disk) }
     ensures { (size : Size) (s : DurableState) → options.now.new ≡ false → StandsFor (D.facts disk).content size s
-        → (result.left ≡ None → ⊥) → (machine : Machine) × IsBegun options.now.mode size payloads.now s machine
+        → (result.console_left ≡ None → ⊥) → (machine : Machine) × IsBegun options.now.mode size payloads.now s machine
         × (console : List (ℕ × Entry))
         × IsOfLife size s (commands_by options.now.mode s) machine.memory console (D.facts result.disk)
-        × TalksIf s (commands_by options.now.mode s) result.left
+        × TalksIf s (commands_by options.now.mode s) result.console_left
         (dialogue_ends (I.remaining streams.input) (W.contents streams.out) (party [] heard_nothing))
         (dialogue_ends (I.remaining result.streams.input) (W.contents result.streams.out) (party console result.heard))
-        × AreDriven size.harts options.now.turns s result.left result.harts.items }
+        × AreDriven size.harts options.now.turns s result.console_left result.harts.items }
 {
     one_standing();
     session(rt, alloc, options, disk, payloads, streams)
@@ -66,7 +66,7 @@ pub struct Said<I: Read + Drop, W: Write + Drop> {
     /// What the console left of its input, and its output.
     pub streams: Streams<I, W>,
     /// Why the console left; `None` where it was not begun.
-    pub left: Option<Left>,
+    pub console_left: Option<Left>,
     /// What the console heard of the store beside its receipts.
     pub heard: ConsoleHeard,
     /// The harts as their loops ended.
@@ -86,8 +86,8 @@ pub fn power_lost_between_sessions<R: Threads + Wait + Sync, I: Read + Drop, W: 
 ) -> (Said<I, W>, Result<Store<SimDisk>, (SimDisk, Refusal)>)
     requires { IsIdle (⟦<SimDisk as Disk>⟧.facts disk) }
     ensures { (size : Size) (s : DurableState) → options.now.new ≡ false
-        → StandsFor (⟦<SimDisk as Disk>⟧.facts disk).content size s → (result.0.left ≡ None → ⊥)
-        → IfOk result.1 (λ next. FindsSession size s options.now.mode payloads.now result.0.left
+        → StandsFor (⟦<SimDisk as Disk>⟧.facts disk).content size s → (result.0.console_left ≡ None → ⊥)
+        → IfOk result.1 (λ next. FindsSession size s options.now.mode payloads.now result.0.console_left
         (dialogue_ends (I.remaining streams.input) (W.contents streams.out) (party [] heard_nothing))
         (I.remaining result.0.streams.input) (W.contents result.0.streams.out) result.0.heard (found_state next)) }
 {
@@ -96,14 +96,14 @@ pub fn power_lost_between_sessions<R: Threads + Wait + Sync, I: Read + Drop, W: 
         disk,
         ran,
         streams,
-        left,
+        console_left,
         heard,
         harts,
     } = session(rt, alloc, options, disk, payloads, streams);
     let said = Said {
         ran,
         streams,
-        left,
+        console_left,
         heard,
         harts,
     };

@@ -4,11 +4,9 @@ use Rattle.board_options.proofs.parsed.read_options.Goals as goal
 
 pub returns-in-Some-clause-reads : goal.returns-in-Some-clause-reads
 returns-in-Some-clause-reads g c =
-    let parsed = c.in_ok-matches.ensures.matches in
     let reads = rw c.in-Some.is at c.in_ok-options.ensures.reads in
-    (parsed.0, found_of c.in_ok-matches.matches, parsed.1, parsed.2, reads)
+    (found_of c.in_ok-matches.matches, c.in_ok-matches.ensures.matches, reads)
 
 pub returns-clause-refused : goal.returns-clause-refused
 returns-clause-refused g c =
-    let parsed = c.in_ok-matches.ensures.matches in
-    inr (inr (parsed.0, parsed.1, found_of c.in_ok-matches.matches, parsed.2, c.in_ok-options.ensures.none c.in-None.is))
+    inr (inr (c.in_ok-fault.ensures, found_of c.in_ok-matches.matches, c.in_ok-matches.ensures.matches, c.in_ok-options.ensures.none c.in-None.is))

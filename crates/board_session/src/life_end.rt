@@ -16,8 +16,8 @@ use hart_threads::{HartEnd, HartLocal, Parted, Rested, Threaded};
 use shared_store::{Part, Unshared};
 use store::Store;
 
-/// The harts of those loops without their life, in the order of their numbers: the loop of the highest comes first. Their
-/// console has said that when it left.
+/// How the harts of those loops ended, in the order of their numbers. In the list of loops the highest number comes first.
+/// `parted` holds what their console said of the harts when it left.
 pub(crate) fn ends_of<'c, J: Threaded>(
     loops: &[Rested<'c, J>],
     parted: &Parted<'c, J>,
@@ -54,7 +54,7 @@ fn gather_loops<D: Disk + Drop, J: Threaded>(whole: &mut Unshared<D, J>, loops: 
     }
 }
 
-/// Parts that no loop had come back to the store.
+/// Parts that were given to no loop come back to the store.
 fn gather_parts<D: Disk + Drop, J: Threaded>(whole: &mut Unshared<D, J>, parts: Vec<Part<J>>)
     requires back { AreBack (parts_with whole.old) }
     requires fresh { All (λ p. p.told ≡ []) parts.items }
@@ -95,7 +95,7 @@ pub(crate) fn disk_of<D: Disk + Drop, J: Threaded>(
     requires boot { boot.told ≡ boot_told J.issued }
     requires all { J.parts ≡ J.size.harts + 2 }
     ensures none_out { IsIdle (D.facts result) }
-    ensures left { IsOfLife J.size J.found J.issued J.memory console.told (D.facts result) }
+    ensures life { IsOfLife J.size J.found J.issued J.memory console.told (D.facts result) }
 {
     let mut whole = whole;
     gather_loops(&mut whole, loops);
@@ -104,13 +104,13 @@ pub(crate) fn disk_of<D: Disk + Drop, J: Threaded>(
     whole.close().into_disk()
 }
 
-/// The disk of a store of a life that ends where the boot left it.
+/// The disk of a store whose life ends as the boot left it, before any part of the receipts was handed out.
 pub(crate) fn disk_at_once<D: Disk + Drop>(store: Store<D>) -> D
     requires taken { are_taken (found_state store) (journal_of store) ≡ true }
     requires few { length (journal_of store) ≤ 2 }
     requires carried { (begins : List ℕ) → IsCarried begins (life_of store) }
     ensures none_out { IsIdle (D.facts result) }
-    ensures left { (begins : List ℕ)
+    ensures life { (begins : List ℕ)
         → IsOfLife (size_of_store store) (found_state store) (journal_of store) begins [] (D.facts result) }
 {
     store.into_disk()

@@ -4,7 +4,7 @@ use Rattle.receipts.specs.declared.views.PartView.{PartView}
 use Rattle.shared_store.specs.Views.{parts_with}
 use Rattle.board_session.specs.Backs.{AreBack}
 use Rattle.board_session.proofs.Backing.{fresh_back}
-use Rattle.board_session.proofs.ends.gather_parts.Goals as goal
+use Rattle.board_session.proofs.life_end.gather_parts.Goals as goal
 
 pub loop-part-preserved : goal.loop-part-preserved
 loop-part-preserved g c =

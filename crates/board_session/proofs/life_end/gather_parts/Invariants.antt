@@ -1,7 +1,7 @@
 use Rattle.std.proofs.Common.{◌≡◌, ◌+◌, [], All, length, vec_len}
 use Rattle.shared_store.specs.Views.{inside, parts_with}
 use Rattle.board_session.specs.Backs.{AreBack}
-use Rattle.board_session.proofs.ends.gather_parts.Given as goal
+use Rattle.board_session.proofs.life_end.gather_parts.Given as goal
 
 abbrev pub invariant-loop-part : goal.invariant-loop-part
 invariant-loop-part g l = record {

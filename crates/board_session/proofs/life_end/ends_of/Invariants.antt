@@ -1,6 +1,6 @@
 use Rattle.std.proofs.Common.{◌≡◌, All, vec_len, vec_capacity}
 use Rattle.hart_threads.specs.Ends.{IsEnding}
-use Rattle.board_session.proofs.ends.ends_of.Given as goal
+use Rattle.board_session.proofs.life_end.ends_of.Given as goal
 
 abbrev pub invariant-loop-k : goal.invariant-loop-k
 invariant-loop-k g l =

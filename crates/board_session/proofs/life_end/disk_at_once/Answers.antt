@@ -2,10 +2,10 @@ use Rattle.std.proofs.Common.{[], refl}
 use Rattle.store.specs.Views.{size_of_store, now_state, journal_of, doubt_of}
 use Rattle.board_session.proofs.Backing.{at_once, none_later}
 use Rattle.board_session.proofs.Powering.{kept_reads, life_kept, life_leaves}
-use Rattle.board_session.proofs.ends.disk_at_once.Goals as goal
+use Rattle.board_session.proofs.life_end.disk_at_once.Goals as goal
 
-pub returns-clause-left : goal.returns-clause-left
-returns-clause-left g c = λ begins.
+pub returns-clause-life : goal.returns-clause-life
+returns-clause-life g c = λ begins.
     let store = c.args.store in
     let o = c.into_disk.ensures in
     let disk = g.D.Disk.facts c.into_disk.result in
@@ -17,7 +17,7 @@ returns-clause-left g c = λ begins.
       begun = ([], none_later (journal_of store));
       taken = c.requires.taken;
       doubt = doubt_of store;
-      left = left;
+      leaves = left;
       allowed = o.allowed;
       reads = kept_reads disk size (life_kept (doubt_of store) disk size (now_state store) left) (g.met.D.Disk.may_keep c.into_disk.result);
       carried = (c.requires.carried begins).journal;

@@ -1,7 +1,7 @@
 use Rattle.std.proofs.Common.{◌≡◌, ◌+◌, length, vec_len}
 use Rattle.shared_store.specs.Views.{inside, parts_with}
 use Rattle.board_session.specs.Backs.{AreBack}
-use Rattle.board_session.proofs.ends.gather_loops.Given as goal
+use Rattle.board_session.proofs.life_end.gather_loops.Given as goal
 
 abbrev pub invariant-loop-rested : goal.invariant-loop-rested
 invariant-loop-rested g l = record {

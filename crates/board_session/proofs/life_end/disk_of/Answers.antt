@@ -9,10 +9,10 @@ use Rattle.shared_store.specs.Views.{parts_with}
 use Rattle.store.specs.Views.{size_of_store, now_state, journal_of, doubt_of}
 use Rattle.board_session.proofs.Backing.{acknowledged}
 use Rattle.board_session.proofs.Powering.{begins_so, kept_reads, life_kept, life_leaves}
-use Rattle.board_session.proofs.ends.disk_of.Goals as goal
+use Rattle.board_session.proofs.life_end.disk_of.Goals as goal
 
-pub returns-clause-left : goal.returns-clause-left
-returns-clause-left g c =
+pub returns-clause-life : goal.returns-clause-life
+returns-clause-life g c =
     let store = c.close.result in
     let o = c.into_disk.ensures in
     let named = c.close.ensures.named in
@@ -37,7 +37,7 @@ returns-clause-left g c =
       begun = begins_so g.J.Journal.issued (journal_of store) c.close.ensures.issued;
       taken = named.life.taken;
       doubt = doubt_of store;
-      left = left';
+      leaves = left';
       allowed = λ x is. subst (λ (s : DurableState). refusal_of s x ≡ None) named.life.now (o.allowed x is);
       reads = kept_reads disk size (life_kept (doubt_of store) disk size now left') (g.met.D.Disk.may_keep c.into_disk.result);
       carried = c.close.ensures.carried.journal;

@@ -3,7 +3,7 @@ use Rattle.receipts.specs.declared.views.PartView.{PartView}
 use Rattle.shared_store.specs.Views.{parts_with}
 use Rattle.board_session.specs.Backs.{AreBack}
 use Rattle.board_session.proofs.Backing.{one_back}
-use Rattle.board_session.proofs.ends.gather_loops.Goals as goal
+use Rattle.board_session.proofs.life_end.gather_loops.Goals as goal
 
 pub loop-rested-preserved-in-Some : goal.loop-rested-preserved-in-Some
 loop-rested-preserved-in-Some g c =
