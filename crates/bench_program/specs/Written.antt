@@ -9,7 +9,7 @@ use Rattle.bench_report.specs.Prefix.{KeepsPrefixLaw}
 use Rattle.bench_report.specs.Reports.{AreByFirmware, IsReportWith, report_text}
 use Rattle.bench_report.specs.declared.printed.Answer.{Answer}
 use Rattle.bench_sweep.specs.Made.{four_of}
-use Rattle.bench_sweep.specs.Swept.{IsBenchOf}
+use Rattle.bench_sweep.specs.Swept.{IsBenchOf, IsOfNoBench}
 use Rattle.bench_schedules.specs.Numbers.{number_of_other}
 use Rattle.bench_schedules.specs.Schedules.{Shown, WroteSchedules}
 use Rattle.bench_judge.specs.declared.judges.Sweep.{Sweep as Counts}
@@ -81,12 +81,12 @@ IsWrong words bytes_at input old now =
     (options : Options) × IsNamedBy words options × AreWrong options bytes_at input old now
 
 -- ---- faults
--- a bench does not take the script, nor does any other work say so
-abbrev pub IsNotTaken : Work → Refusal → Type 0
-IsNotTaken (Report savers) e = ⊥
-IsNotTaken (Judge bench) e = e ≡ NotPlain
-IsNotTaken (Compare drawn) e = ⊥
-IsNotTaken (Show drawn) e = ⊥
+-- The work is a bench, and no bench runs the script: a line of it is not plain, or none formats a disk.
+abbrev pub IsNotTaken : Work → List ℕ → Refusal → Type 0
+IsNotTaken (Report savers) script e = ⊥
+IsNotTaken (Judge bench) script e = (e ≡ NotPlain) × IsOfNoBench script
+IsNotTaken (Compare drawn) script e = ⊥
+IsNotTaken (Show drawn) script e = ⊥
 
 -- a work may tell that something is wrong: the benches of power cuts and failures never do
 abbrev pub MayTellWrong : Work → Type 0
@@ -94,9 +94,9 @@ MayTellWrong (Compare drawn) = ⊤
 MayTellWrong work = ⊥
 
 -- a fault of a work over that script: memory was refused, the output failed or nobody reads it, the script has it, or no
--- bench takes the script; or it told that something is wrong. The command line has none
+-- bench runs the script; or it told that something is wrong. The command line has none
 abbrev pub IsFaultIn : Work → List ℕ → BenchFault → Type 0
-IsFaultIn work script (Refused e) = (e ≡ Memory) ⊎ (e ≡ Output) ⊎ (script_of script ≡ Err e) ⊎ IsNotTaken work e
+IsFaultIn work script (Refused e) = (e ≡ Memory) ⊎ (e ≡ Output) ⊎ (script_of script ≡ Err e) ⊎ IsNotTaken work script e
 IsFaultIn work script Closed = ⊤
 IsFaultIn work script Input = ⊥
 IsFaultIn work script File = ⊥

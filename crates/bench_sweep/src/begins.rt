@@ -1,8 +1,8 @@
 //! Where a bench begins: behind the first format of its script that answers Ok.
 
-ghost use Rattle.std.specs.Prelude.{◌≡◌, ◌≤◌, ◌⊎◌, ℕ, List, false, true, length, take, All, IfOk, IfErr, OnOk, ◌↔◌, IsTrue};
+ghost use Rattle.std.specs.Prelude.{◌≡◌, ◌≤◌, ℕ, List, false, true, length, take, All, IfOk, IfErr, OnOk, ◌↔◌, IsTrue};
 ghost use Rattle.board_model.specs.Shapes.{Size};
-ghost use Rattle.board_model.specs.declared.refusal.Refusal.TheVariants.{Memory, NotPlain};
+ghost use Rattle.board_model.specs.declared.refusal.Refusal.TheVariants.{Memory};
 ghost use Rattle.script_lang.specs.Lines.{IsLineInRange};
 ghost use Rattle.bench_report.specs.Agree.{Agrees, IsBench};
 ghost use Rattle.bench_report.specs.Bench.{Bench, bench_with};
@@ -20,7 +20,7 @@ use bench_report::{
 use board::Payloads;
 use board_model::{Refusal, Shape};
 use crew::Crew;
-use script_lang::{Line, Script};
+use script_lang::Line;
 use simdisk::{Fill, SimDisk};
 use std::alloc::Global;
 use store::blank_disks;
@@ -111,19 +111,8 @@ fn formatted_site(alloc: Global, shape: &Shape, bench: BenchBoard) -> Result<Sit
     })
 }
 
-/// Why no line formatted the disk: the disk's record found no memory, or the script formats none.
-fn unformatted(power: Power) -> Refusal
-    ensures { (result ≡ Memory) ⊎ (result ≡ NotPlain) }
-{
-    if disk_left(power).refused() == 0 {
-        Refusal::NotPlain
-    } else {
-        Refusal::Memory
-    }
-}
-
 /// Runs a script that begins with these payloads up to the first format that answers Ok: how many lines that were,
-/// and the board then. Refused `NotPlain` where no format does, and `Memory`.
+/// and the board then. Refused `Memory` alone, also where no format does.
 pub fn run_to_format<C: Crew>(
     setting: &Setting<'_, C>,
     lines: &[Line],
@@ -132,7 +121,7 @@ pub fn run_to_format<C: Crew>(
     requires { All (IsLineInRange setting.now.shape.now) lines.now }
     ensures few { IfOk result (λ did. did.0 ≤ length lines.now) }
     ensures runs { IfOk result (λ did. IsFormattedAt setting.now.shape.now (four_of payloads) (take did.0 lines.now) did.1) }
-    ensures refused { IfErr result (λ e. (e ≡ Memory) ⊎ (e ≡ NotPlain)) }
+    ensures refused { IfErr result (λ e. e ≡ Memory) }
 {
     let alloc = setting.alloc;
     let shape = setting.shape;
@@ -147,5 +136,6 @@ pub fn run_to_format<C: Crew>(
         }
         bench = after;
     }
-    Err(unformatted(bench.power))
+    // A line formats the disk, which is blank, and nothing is armed. Only want of memory lets each format fail.
+    Err(Refusal::Memory)
 }
