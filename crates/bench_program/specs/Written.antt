@@ -8,7 +8,6 @@ use Rattle.bench_report.specs.Bench.{Bench as ModelBench}
 use Rattle.bench_report.specs.Prefix.{KeepsPrefixLaw}
 use Rattle.bench_report.specs.Reports.{AreByFirmware, IsReportWith, report_text}
 use Rattle.bench_report.specs.declared.printed.Answer.{Answer}
-use Rattle.bench_sweep.specs.Made.{four_of}
 use Rattle.bench_sweep.specs.Swept.{IsBenchOf, IsOfNoBench}
 use Rattle.bench_schedules.specs.Numbers.{number_of_other}
 use Rattle.bench_schedules.specs.Schedules.{Shown, WroteSchedules}
@@ -42,7 +41,7 @@ IsShown script old now = (said : Said) × (script_of script ≡ Ok said) × Show
 -- schedules, of which none differs, or one of them
 abbrev pub IsWritten : Work → List (List ℕ) → List ℕ → Option (List ℕ) → Option (List ℕ) → Type 0
 IsWritten (Report savers) payloads script old now = IsReported payloads script old now
-IsWritten (Judge bench) payloads script old now = (counts : Counts) × IsBenchOf (judged bench) (four_of payloads) script old now counts
+IsWritten (Judge bench) payloads script old now = (counts : Counts) × IsBenchOf (judged bench) payloads script old now counts
 IsWritten (Compare drawn) payloads script old now = IsCompared drawn.number payloads script old now 0
 IsWritten (Show drawn) payloads script old now = IsShown script old now
 

@@ -9,7 +9,7 @@ ghost use Rattle.script_lang.specs.Lines.{IsLineInRange};
 ghost use Rattle.script_lang.specs.Scripts.{script_of, Script as Said};
 ghost use Rattle.bench_report.specs.Bench.{Bench as ModelBench};
 ghost use Rattle.bench_report.specs.Happens.{off, unpowered};
-ghost use Rattle.bench_sweep.specs.Made.{IsPlainRun, four_of};
+ghost use Rattle.bench_sweep.specs.Made.{IsPlainRun};
 ghost use Rattle.bench_sweep.specs.Points.{calls_of, MadeCalls};
 ghost use Rattle.bench_sweep.specs.Runs.{Runs, RunsAt, LeftAt, Sits, SitsLeft, IsLife};
 ghost use Rattle.bench_sweep.specs.Swept.{IsPlainLine, IsNoFormat, IsNotPlain, IsOfNoBench, AreSwept, cell, runs_of, runs_from, all_runs, callers, total, WroteAll, IsBenchOf};
@@ -483,7 +483,7 @@ fn sweep_lines<'a, C: Crew, W: Write>(
     out: &mut W,
 ) -> Result<Sweep, Refusal>
     requires lines { AreSwept shape.now lines.now }
-    ensures wrote { IfOk result (λ sweep. WroteAll bench shape.now (four_of payloads) lines.now (W.contents out.old)
+    ensures wrote { IfOk result (λ sweep. WroteAll bench shape.now payloads lines.now (W.contents out.old)
         (W.contents out.new) sweep) }
     ensures refused { IfErr result (λ e. (e ≡ Memory) ⊎ (e ≡ Output)) }
 {
@@ -517,7 +517,7 @@ fn sweep_plain_script<R: Threads + Sync, W: Write>(
 ) -> Result<Sweep, Refusal>
     requires ranges { All (IsLineInRange script.now.shape) script.now.lines.items }
     requires plain { All IsPlainLine script.now.lines.items }
-    ensures wrote { IfOk result (λ sweep. WroteAll bench script.now.shape (four_of payloads) script.now.lines.items (W.contents out.old)
+    ensures wrote { IfOk result (λ sweep. WroteAll bench script.now.shape payloads script.now.lines.items (W.contents out.old)
         (W.contents out.new) sweep) }
     ensures refused { IfErr result (λ e. (e ≡ Memory) ⊎ (e ≡ Output)) }
 {
@@ -554,7 +554,7 @@ pub fn run_bench<R: Threads + Sync, W: Write>(
     // What was written is a line for each run, in order, and the line of the counts. The runs are those of the points
     // of each caller, from number 1 on: as many as the script makes calls of it. Each is a run of the script's own lines
     // with that call armed, and tells what a power-on then said. None was wrong.
-    ensures wrote { IfOk result (λ sweep. IsBenchOf bench (four_of payloads) script.now (W.contents out.old) (W.contents out.new) sweep) }
+    ensures wrote { IfOk result (λ sweep. IsBenchOf bench payloads script.now (W.contents out.old) (W.contents out.new) sweep) }
     // A refusal is want of memory, or the writer's, or the script's fault, or no bench runs the script.
     ensures refused { IfErr result (λ e. (e ≡ Memory) ⊎ (e ≡ Output) ⊎ (script_of script.now ≡ Err e)
         ⊎ ((e ≡ NotPlain) × IsOfNoBench script.now)) }
