@@ -21,7 +21,6 @@ returns-clause-at g c =
       sound = ran.sound;
       fill = ran.fill ∙ ap (fill_after c.args.line) at.fill ∙ sym (ap (λ (xs : List Line). fills_after xs fills.Old) same ∙ fills_snoc old.history c.args.line fills.Old);
       ranges = subst (AreInRange size) (sym same) (ranges_more size old.history c.args.line at.ranges c.requires.range);
-      four = at.four;
     }
 
 pub returns-clause-moves : goal.returns-clause-moves
