@@ -8,7 +8,7 @@ use Rattle.bench_report.specs.Bench.{Bench as ModelBench}
 use Rattle.bench_report.specs.Prefix.{KeepsPrefixLaw}
 use Rattle.bench_report.specs.Reports.{AreByFirmware, IsReportWith, report_text}
 use Rattle.bench_report.specs.declared.printed.Answer.{Answer}
-use Rattle.bench_sweep.specs.Swept.{IsBenchOf, IsOfNoBench}
+use Rattle.bench_sweep.specs.Swept.{IsBenchOf, NoBenchRuns}
 use Rattle.bench_schedules.specs.Numbers.{number_of_other}
 use Rattle.bench_schedules.specs.Schedules.{Shown, WroteSchedules}
 use Rattle.bench_judge.specs.declared.judges.Sweep.{Sweep as Counts}
@@ -83,7 +83,7 @@ IsWrong words bytes_at input old now =
 -- The work is a bench, and no bench runs the script: a line of it is not plain, or none formats a disk.
 abbrev pub IsNotTaken : Work → List ℕ → Refusal → Type 0
 IsNotTaken (Report savers) script e = ⊥
-IsNotTaken (Judge bench) script e = (e ≡ NotPlain) × IsOfNoBench script
+IsNotTaken (Judge bench) script e = (e ≡ NotPlain) × NoBenchRuns script
 IsNotTaken (Compare drawn) script e = ⊥
 IsNotTaken (Show drawn) script e = ⊥
 

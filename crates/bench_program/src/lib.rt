@@ -15,7 +15,7 @@ ghost use Rattle.bench_program.specs.Faults.{status_after};
 ghost use Rattle.bench_program.specs.declared.fault.BenchFault.{BenchFault};
 ghost use Rattle.bench_program.specs.declared.fault.BenchFault.TheVariants.{Input, Refused};
 ghost use Rattle.script_lang.specs.Scripts.{script_of, Script as Said};
-ghost use Rattle.bench_sweep.specs.Swept.{IsBenchOf, IsNotPlain, IsOfNoBench};
+ghost use Rattle.bench_sweep.specs.Swept.{IsBenchOf, IsNotPlain, NoBenchRuns};
 ghost use Rattle.bench_program.specs.Benches.{judged};
 ghost use Rattle.bench_program.specs.Written.{IsCompared, IsReported, IsShown};
 
@@ -100,7 +100,7 @@ fn run_named_bench<R: Threads + Sync, W: Write + Drop>(
     ensures wrote { IfOk result (λ sweep. IsBenchOf (judged bench) payloads script.now
         (writer_contents W.contents out.old) (writer_contents W.contents out.new) sweep) }
     ensures refused { IfErr result (λ e. (e ≡ Refusal.Memory) ⊎ (e ≡ Refusal.Output) ⊎ (script_of script.now ≡ Err e)
-        ⊎ ((e ≡ Refusal.NotPlain) × IsOfNoBench script.now)) }
+        ⊎ ((e ≡ Refusal.NotPlain) × NoBenchRuns script.now)) }
     ensures nothing { (e : Refusal) → script_of script.now ≡ Err e
         → (writer_contents W.contents out.new ≡ writer_contents W.contents out.old)
         × ((result ≡ Err e) ⊎ (result ≡ Err Refusal.Memory)) }
@@ -131,7 +131,7 @@ pub fn write_bench<R: Threads + Sync, W: Write + Drop>(
     ensures flushed { OnOk result (writer_buffer out.new ≡ []) }
     // A refusal is out of memory, or the writer's, or the script's fault, or no bench runs the script.
     ensures refused { IfErr result (λ e. (e ≡ Refusal.Memory) ⊎ (e ≡ Refusal.Output) ⊎ (script_of script.now ≡ Err e)
-        ⊎ ((e ≡ Refusal.NotPlain) × IsOfNoBench script.now)) }
+        ⊎ ((e ≡ Refusal.NotPlain) × NoBenchRuns script.now)) }
     // A script with a fault writes nothing, and neither does one that no bench runs.
     ensures nothing { (e : Refusal) → script_of script.now ≡ Err e
         → (writer_contents W.contents out.new ≡ writer_contents W.contents out.old)

@@ -130,6 +130,6 @@ abbrev pub IsBenchOf : Bench → List (List ℕ) → List ℕ → Option (List �
 IsBenchOf bench start script old now sweep =
     (said : Script) × (script_of script ≡ Ok said) × WroteAll bench said.size start said.lines old now sweep
 
--- a script that no bench runs, which has no fault
-abbrev pub IsOfNoBench : List ℕ → Type 0
-IsOfNoBench script = (said : Script) × (script_of script ≡ Ok said) × IsNotPlain said.lines
+-- no bench runs the script, which has no fault
+abbrev pub NoBenchRuns : List ℕ → Type 0
+NoBenchRuns script = (said : Script) × (script_of script ≡ Ok said) × IsNotPlain said.lines

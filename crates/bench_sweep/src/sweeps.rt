@@ -12,7 +12,7 @@ ghost use Rattle.bench_report.specs.Happens.{off, unpowered};
 ghost use Rattle.bench_sweep.specs.Made.{IsPlainRun};
 ghost use Rattle.bench_sweep.specs.Points.{calls_of, MadeCalls};
 ghost use Rattle.bench_sweep.specs.Runs.{Runs, RunsAt, LeftAt, Sits, SitsLeft, IsLife};
-ghost use Rattle.bench_sweep.specs.Swept.{IsPlainLine, IsNoFormat, IsNotPlain, IsOfNoBench, AreSwept, cell, runs_of, runs_from, all_runs, callers, total, WroteAll, IsBenchOf};
+ghost use Rattle.bench_sweep.specs.Swept.{IsPlainLine, IsNoFormat, IsNotPlain, NoBenchRuns, AreSwept, cell, runs_of, runs_from, all_runs, callers, total, WroteAll, IsBenchOf};
 ghost use Rattle.bench_sweep.specs.Reports.{Reports, IsLeft, RunsRow, IsRow};
 
 use crate::begins::run_to_format;
@@ -557,7 +557,7 @@ pub fn run_bench<R: Threads + Sync, W: Write>(
     ensures wrote { IfOk result (λ sweep. IsBenchOf bench payloads script.now (W.contents out.old) (W.contents out.new) sweep) }
     // A refusal is want of memory, or the writer's, or the script's fault, or no bench runs the script.
     ensures refused { IfErr result (λ e. (e ≡ Memory) ⊎ (e ≡ Output) ⊎ (script_of script.now ≡ Err e)
-        ⊎ ((e ≡ NotPlain) × IsOfNoBench script.now)) }
+        ⊎ ((e ≡ NotPlain) × NoBenchRuns script.now)) }
     // A script with a fault runs nothing, and neither does one that no bench runs.
     ensures nothing { (e : Refusal) → script_of script.now ≡ Err e
         → (W.contents out.new ≡ W.contents out.old) × ((result ≡ Err e) ⊎ (result ≡ Err Memory)) }
