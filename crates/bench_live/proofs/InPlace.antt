@@ -7,28 +7,24 @@ use Rattle.board_model.specs.declared.refusal.Refusal.{Refusal}
 use Rattle.machine.specs.Machine.{Machine}
 use Rattle.machine_lines.specs.Shows.{HasHart}
 use Rattle.sbi.specs.declared.words.Word.{Word}
-use Rattle.sbi.specs.declared.words.Word.TheVariants as words
 use Rattle.script_lang.specs.declared.line.Line.{Line}
 use Rattle.script_lang.specs.declared.line.Line.TheVariants as lines
 use Rattle.bench_report.specs.declared.power.Power.{Power}
 use Rattle.bench_report.specs.declared.power.Power.TheVariants.{On}
 use Rattle.bench_report.specs.declared.printed.Answer.{Answer}
-use Rattle.bench_report.specs.Agree.{BoardAfter, BoardIs, IsBench, OnIs}
+use Rattle.bench_report.specs.Agree.{BoardIs, IsBench, OnIs}
 use Rattle.bench_report.specs.Bench.{BenchLife, Bench}
 use Rattle.bench_report.specs.Happens.{unpowered}
 use Rattle.bench_report.specs.Steps.{Moves}
 use Rattle.bench_report.specs.Turns.{GuestTurns}
 use Rattle.bench_report.specs.Views.{SimBoard, SimStore, store_in, machine_in}
-use Rattle.bench_report.proofs.Came.{Stands, turns}
-use Rattle.bench_report.proofs.Commanded.{Running, running_on}
+use Rattle.bench_report.proofs.Came.{turns}
+use Rattle.bench_report.proofs.Commanded.{Running}
+use Rattle.bench_report.proofs.Lines.{stands_by}
 use Rattle.bench_rows.specs.declared.rows.Row.TheVariants as rows
 use Rattle.bench_rows.specs.Rows.{RowMoves, row_answer}
 use Rattle.bench_rows.proofs.Turns.{Struck, Went, loss_of, moves_of, trimmed}
 use Rattle.bench_live.specs.Lives.{WentInPlace}
-
-stands_by : (size : Size) (word : Word) (b : Bench) (board : SimBoard) → Stands size word b (machine_in board) (store_in board) → BoardAfter size word b board
-stands_by size (words.Goes did) b board is = running_on size b board is
-stands_by size (words.Over end) b board is = is
 
 -- what the board did
 pub went_on : (size : Size) (b : Bench) (old new : SimBoard) (h n made : ℕ) (word : Word) → OnIs size b old → HasHart (machine_in old) h

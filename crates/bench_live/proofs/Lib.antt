@@ -1,4 +1,3 @@
-pub mod FourSlots
 pub mod IdleRows
 pub mod InPlace
 pub mod Lives

@@ -7,21 +7,9 @@ ghost use Rattle.bench_report.specs.Bench.{Bench};
 ghost use Rattle.bench_report.specs.Happens.{unpowered};
 ghost use Rattle.bench_live.specs.Lives.{IsAfter, IsOn};
 
-use bench_report::{OffDisk, Power, after, disk_left, struck};
+use bench_report::{Power, after, cut, struck};
 use machine::Word;
-use simdisk::{Fill, SimDisk};
-use store::kept_disks;
-
-/// Takes power; each range that was written since the last sync holds what the fill says.
-fn cut(power: Power, fill: Fill) -> Power
-    ensures reported { (size : Size) (b : Bench) → Agrees size b power → Agrees size (unpowered b) result }
-    ensures calm { IsUnstruck result }
-{
-    kept_disks::<SimDisk>();
-    Power::Off(OffDisk {
-        disk: disk_left(power).after_cut(fill),
-    })
-}
+use simdisk::Fill;
 
 /// What a board is after what is said of its last turn: off where that ended the life.
 fn ended(power: Power, word: Word) -> Power

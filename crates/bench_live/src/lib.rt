@@ -2,7 +2,6 @@
 //! line of turns costs little more than its turns. What a line does is what `bench_report` says of it.
 #![tactic(auto)]
 
-mod copies;
 mod cuts;
 mod live;
 mod rows;

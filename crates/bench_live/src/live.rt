@@ -1,6 +1,6 @@
 //! The bench between two lines.
 
-ghost use Rattle.std.specs.Prelude.{◌≡◌, ◌≤◌, Some, IfOk, IfErr, OnOk, length};
+ghost use Rattle.std.specs.Prelude.{◌≡◌, ◌≤◌, Some, IfOk, IfErr, OnOk};
 ghost use Rattle.board_model.specs.Shapes.{Size};
 ghost use Rattle.board_model.specs.declared.refusal.Refusal.TheVariants.{Memory};
 ghost use Rattle.bench_report.specs.Agree.{OffIs, fill_after};
@@ -16,7 +16,6 @@ ghost use Rattle.script_lang.specs.declared.line.Line.TheVariants as lines;
 ghost use Rattle.simdisk.specs.declared.fill.Fill.TheVariants as fills;
 ghost use Rattle.store.specs.Leaves.{IsIdle};
 
-use crate::copies::copied;
 use crate::cuts::settled;
 use crate::rows::{in_place, is_still_on};
 use bench_report::{Answer, BenchBoard, OffDisk, Power, Setting, disk_left, line_with_cuts};
@@ -45,7 +44,6 @@ pub struct LiveBench {
 impl LiveBench {
     /// The bench before its first line: a blank disk of the size that the board needs, and these payloads.
     pub fn blank(alloc: Global, shape: &Shape, begins: &Payloads) -> Result<LiveBench, Refusal>
-        requires four { length begins.now ≡ 4 }
         ensures shows { IfOk result (λ live. Shows shape.now (bench_with begins.now) live) }
         ensures sound { IfOk result (λ live. IsSound live) }
         ensures fill { IfOk result (λ live. live.fill ≡ fills.Old) }
@@ -53,7 +51,7 @@ impl LiveBench {
     {
         blank_disks::<SimDisk>();
         let disk = SimDisk::blank(alloc, shape.sectors())?;
-        let payloads = copied(alloc, begins)?;
+        let payloads = begins.copy()?;
         Ok(LiveBench {
             power: Some(Power::Off(OffDisk { disk })),
             payloads,

@@ -15,12 +15,12 @@ use Rattle.bench_program.specs.declared.usage.Options.{Options}
 use Rattle.bench_program.specs.declared.usage.Work.{Work}
 
 -- a refused work, whose reader may be gone
-pub told : (work : Work) (script : List ℕ) (e : Refusal) (fault : BenchFault) → (fault ≡ Closed) ⊎ (fault ≡ Refused e) → (e ≡ Memory) ⊎ (e ≡ Output) ⊎ (script_of script ≡ Err e) ⊎ IsNotTaken work e → IsFaultIn work script fault
+pub told : (work : Work) (script : List ℕ) (e : Refusal) (fault : BenchFault) → (fault ≡ Closed) ⊎ (fault ≡ Refused e) → (e ≡ Memory) ⊎ (e ≡ Output) ⊎ (script_of script ≡ Err e) ⊎ IsNotTaken work script e → IsFaultIn work script fault
 told work script e fault (inl is) why = let P : BenchFault → Type 0 = λ f. IsFaultIn work script f in subst P (sym is) tt
 told work script e fault (inr is) why = let P : BenchFault → Type 0 = λ f. IsFaultIn work script f in subst P (sym is) why
 
 -- a report has no fault of a bench
-pub no_bench : (script : List ℕ) (e : Refusal) (work : Work) → (e ≡ Memory) ⊎ (e ≡ Output) ⊎ (script_of script ≡ Err e) → (e ≡ Memory) ⊎ (e ≡ Output) ⊎ (script_of script ≡ Err e) ⊎ IsNotTaken work e
+pub no_bench : (script : List ℕ) (e : Refusal) (work : Work) → (e ≡ Memory) ⊎ (e ≡ Output) ⊎ (script_of script ≡ Err e) → (e ≡ Memory) ⊎ (e ≡ Output) ⊎ (script_of script ≡ Err e) ⊎ IsNotTaken work script e
 no_bench script e work (inl x) = inl x
 no_bench script e work (inr (inl x)) = inr (inl x)
 no_bench script e work (inr (inr x)) = inr (inr (inl x))

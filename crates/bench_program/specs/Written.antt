@@ -8,8 +8,7 @@ use Rattle.bench_report.specs.Bench.{Bench as ModelBench}
 use Rattle.bench_report.specs.Prefix.{KeepsPrefixLaw}
 use Rattle.bench_report.specs.Reports.{AreByFirmware, IsReportWith, report_text}
 use Rattle.bench_report.specs.declared.printed.Answer.{Answer}
-use Rattle.bench_sweep.specs.Made.{four_of}
-use Rattle.bench_sweep.specs.Swept.{IsBenchOf}
+use Rattle.bench_sweep.specs.Swept.{IsBenchOf, NoBenchRuns}
 use Rattle.bench_schedules.specs.Numbers.{number_of_other}
 use Rattle.bench_schedules.specs.Schedules.{Shown, WroteSchedules}
 use Rattle.bench_judge.specs.declared.judges.Sweep.{Sweep as Counts}
@@ -42,7 +41,7 @@ IsShown script old now = (said : Said) × (script_of script ≡ Ok said) × Show
 -- schedules, of which none differs, or one of them
 abbrev pub IsWritten : Work → List (List ℕ) → List ℕ → Option (List ℕ) → Option (List ℕ) → Type 0
 IsWritten (Report savers) payloads script old now = IsReported payloads script old now
-IsWritten (Judge bench) payloads script old now = (counts : Counts) × IsBenchOf (judged bench) (four_of payloads) script old now counts
+IsWritten (Judge bench) payloads script old now = (counts : Counts) × IsBenchOf (judged bench) payloads script old now counts
 IsWritten (Compare drawn) payloads script old now = IsCompared drawn.number payloads script old now 0
 IsWritten (Show drawn) payloads script old now = IsShown script old now
 
@@ -81,12 +80,12 @@ IsWrong words bytes_at input old now =
     (options : Options) × IsNamedBy words options × AreWrong options bytes_at input old now
 
 -- ---- faults
--- a bench does not take the script, nor does any other work say so
-abbrev pub IsNotTaken : Work → Refusal → Type 0
-IsNotTaken (Report savers) e = ⊥
-IsNotTaken (Judge bench) e = e ≡ NotPlain
-IsNotTaken (Compare drawn) e = ⊥
-IsNotTaken (Show drawn) e = ⊥
+-- The work is a bench, and no bench runs the script: a line of it is not plain, or none formats a disk.
+abbrev pub IsNotTaken : Work → List ℕ → Refusal → Type 0
+IsNotTaken (Report savers) script e = ⊥
+IsNotTaken (Judge bench) script e = (e ≡ NotPlain) × NoBenchRuns script
+IsNotTaken (Compare drawn) script e = ⊥
+IsNotTaken (Show drawn) script e = ⊥
 
 -- a work may tell that something is wrong: the benches of power cuts and failures never do
 abbrev pub MayTellWrong : Work → Type 0
@@ -94,9 +93,9 @@ MayTellWrong (Compare drawn) = ⊤
 MayTellWrong work = ⊥
 
 -- a fault of a work over that script: memory was refused, the output failed or nobody reads it, the script has it, or no
--- bench takes the script; or it told that something is wrong. The command line has none
+-- bench runs the script; or it told that something is wrong. The command line has none
 abbrev pub IsFaultIn : Work → List ℕ → BenchFault → Type 0
-IsFaultIn work script (Refused e) = (e ≡ Memory) ⊎ (e ≡ Output) ⊎ (script_of script ≡ Err e) ⊎ IsNotTaken work e
+IsFaultIn work script (Refused e) = (e ≡ Memory) ⊎ (e ≡ Output) ⊎ (script_of script ≡ Err e) ⊎ IsNotTaken work script e
 IsFaultIn work script Closed = ⊤
 IsFaultIn work script Input = ⊥
 IsFaultIn work script File = ⊥

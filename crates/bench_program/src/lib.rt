@@ -6,7 +6,7 @@ mod fault;
 mod streams;
 mod usage;
 
-ghost use Rattle.std.specs.Prelude.{◌≡◌, ◌⊎◌, ◌≤◌, [], length, Result, OnOk, IfOk, IfErr, IfSome, Err, take};
+ghost use Rattle.std.specs.Prelude.{◌≡◌, ◌⊎◌, ◌≤◌, [], Result, OnOk, IfOk, IfErr, IfSome, Ok, Err, take};
 ghost use Rattle.std.specs.Io.Buffered.{writer_buffer, writer_contents};
 ghost use Rattle.board_model.specs.declared.refusal.Refusal.{Refusal};
 ghost use Rattle.board_model.specs.declared.refusal.Refusal.TheVariants.{Memory};
@@ -14,9 +14,8 @@ ghost use Rattle.std.specs.Process.{exit_status};
 ghost use Rattle.bench_program.specs.Faults.{status_after};
 ghost use Rattle.bench_program.specs.declared.fault.BenchFault.{BenchFault};
 ghost use Rattle.bench_program.specs.declared.fault.BenchFault.TheVariants.{Input, Refused};
-ghost use Rattle.script_lang.specs.Scripts.{script_of};
-ghost use Rattle.bench_sweep.specs.Made.{four_of};
-ghost use Rattle.bench_sweep.specs.Swept.{IsBenchOf};
+ghost use Rattle.script_lang.specs.Scripts.{script_of, Script as Said};
+ghost use Rattle.bench_sweep.specs.Swept.{IsBenchOf, IsNotPlain, NoBenchRuns};
 ghost use Rattle.bench_program.specs.Benches.{judged};
 ghost use Rattle.bench_program.specs.Written.{IsCompared, IsReported, IsShown};
 
@@ -98,13 +97,16 @@ fn run_named_bench<R: Threads + Sync, W: Write + Drop>(
     payloads: Payloads,
     out: &mut BufWriter<W>,
 ) -> Result<Sweep, Refusal>
-    ensures wrote { IfOk result (λ sweep. IsBenchOf (judged bench) (four_of payloads) script.now
+    ensures wrote { IfOk result (λ sweep. IsBenchOf (judged bench) payloads script.now
         (writer_contents W.contents out.old) (writer_contents W.contents out.new) sweep) }
     ensures refused { IfErr result (λ e. (e ≡ Refusal.Memory) ⊎ (e ≡ Refusal.Output) ⊎ (script_of script.now ≡ Err e)
-        ⊎ (e ≡ Refusal.NotPlain)) }
+        ⊎ ((e ≡ Refusal.NotPlain) × NoBenchRuns script.now)) }
     ensures nothing { (e : Refusal) → script_of script.now ≡ Err e
         → (writer_contents W.contents out.new ≡ writer_contents W.contents out.old)
         × ((result ≡ Err e) ⊎ (result ≡ Err Refusal.Memory)) }
+    ensures plain { (said : Said) → script_of script.now ≡ Ok said → IsNotPlain said.lines
+        → (writer_contents W.contents out.new ≡ writer_contents W.contents out.old)
+        × ((result ≡ Err Refusal.NotPlain) ⊎ (result ≡ Err Refusal.Memory)) }
 {
     match bench {
         Bench::Sweep => run_bench::<R, BufWriter<W>>(alloc, Swept::Cuts, script, payloads, out),
@@ -123,17 +125,20 @@ pub fn write_bench<R: Threads + Sync, W: Write + Drop>(
     out: &mut BufWriter<W>,
 ) -> Result<Sweep, Refusal>
     // What was written is a line for each run of that bench, and the line of the counts; none was wrong.
-    ensures wrote { IfOk result (λ sweep. IsBenchOf (judged bench) (four_of payloads) script.now
+    ensures wrote { IfOk result (λ sweep. IsBenchOf (judged bench) payloads script.now
         (writer_contents W.contents out.old) (writer_contents W.contents out.new) sweep) }
     // Nothing of it is held back.
     ensures flushed { OnOk result (writer_buffer out.new ≡ []) }
-    // A refusal is the script's fault, or out of memory, or the writer's, or the script is not plain.
+    // A refusal is out of memory, or the writer's, or the script's fault, or no bench runs the script.
     ensures refused { IfErr result (λ e. (e ≡ Refusal.Memory) ⊎ (e ≡ Refusal.Output) ⊎ (script_of script.now ≡ Err e)
-        ⊎ (e ≡ Refusal.NotPlain)) }
-    // A script with a fault writes nothing.
+        ⊎ ((e ≡ Refusal.NotPlain) × NoBenchRuns script.now)) }
+    // A script with a fault writes nothing, and neither does one that no bench runs.
     ensures nothing { (e : Refusal) → script_of script.now ≡ Err e
         → (writer_contents W.contents out.new ≡ writer_contents W.contents out.old)
         × ((result ≡ Err e) ⊎ (result ≡ Err Refusal.Memory)) }
+    ensures plain { (said : Said) → script_of script.now ≡ Ok said → IsNotPlain said.lines
+        → (writer_contents W.contents out.new ≡ writer_contents W.contents out.old)
+        × ((result ≡ Err Refusal.NotPlain) ⊎ (result ≡ Err Refusal.Memory)) }
 {
     let done = run_named_bench::<R, W>(alloc, script, bench, payloads, out)?;
     out.flush().map_err(|_| Refusal::Output)?;
@@ -150,7 +155,6 @@ pub fn write_schedules<R: Threads + Sync, W: Write + Drop>(
     payloads: &Payloads,
     out: &mut BufWriter<W>,
 ) -> Result<Compared, Refusal>
-    requires four { length payloads.now ≡ 4 }
     requires most { drawn.number ≤ 1000000 }
     // All schedules were run and compared with the script's own run, and those that differ were written and counted.
     ensures wrote { IfOk result (λ count. IsCompared drawn.number payloads.now script.now
@@ -189,7 +193,6 @@ pub fn write_schedule<R: Threads + Sync, W: Write + Drop>(
     payloads: &Payloads,
     out: &mut BufWriter<W>,
 ) -> Result<(), Refusal>
-    requires four { length payloads.now ≡ 4 }
     // What was written is a schedule of the script, and is read back as it.
     ensures wrote { OnOk result (IsShown script.now (writer_contents W.contents out.old) (writer_contents W.contents out.new)) }
     // Nothing of it is held back.

@@ -1,6 +1,6 @@
 //! The program over any streams: it does what the command line asks for, from a reader to a writer.
 
-ghost use Rattle.std.specs.Prelude.{◌≡◌, ◌⊎◌, ◌≤◌, length, map, Err, Result, OnOk, IfOk, IfErr, IfSome};
+ghost use Rattle.std.specs.Prelude.{◌≡◌, ◌⊎◌, map, Err, Result, OnOk, IfOk, IfErr, IfSome};
 ghost use Rattle.board_model.specs.declared.refusal.Refusal.TheVariants.{Memory};
 ghost use Rattle.std.specs.Io.Buffered.{writer_contents};
 ghost use Rattle.bench_program.specs.Faults.{status_after, without_work};
@@ -121,7 +121,6 @@ fn compare<R: Threads + Sync, O: Write + Drop>(
     payloads: &Payloads,
     out: &mut BufWriter<Pipe<O>>,
 ) -> Result<(), BenchFault>
-    requires four { length payloads.now ≡ 4 }
     requires most { drawn.number ≤ 1000000 }
     ensures written { OnOk result (IsWritten (Compare drawn) payloads.now script.now
         (writer_contents (pipe_contents O.contents) out.old) (writer_contents (pipe_contents O.contents) out.new)) }
@@ -144,7 +143,6 @@ fn show_schedule<R: Threads + Sync, O: Write + Drop>(
     payloads: &Payloads,
     out: &mut BufWriter<Pipe<O>>,
 ) -> Result<(), BenchFault>
-    requires four { length payloads.now ≡ 4 }
     ensures written { OnOk result (IsWritten (Show drawn) payloads.now script.now
         (writer_contents (pipe_contents O.contents) out.old) (writer_contents (pipe_contents O.contents) out.new)) }
     ensures faults { IfErr result (λ fault. IsFaultIn (Show drawn) script.now fault) }
@@ -184,7 +182,6 @@ fn named_payloads<P: PayloadFiles>(
     options: &Options,
 ) -> Result<Payloads, BenchFault>
     ensures read { IfOk result (AreFilesOf (P.bytes_at files.now) (payload_files options.now)) }
-    ensures four { IfOk result (λ payloads. length payloads ≡ 4) }
     ensures failed { IfErr result (λ fault. IsUnread options.now fault ⊎ (fault ≡ Refused Memory)) }
 {
     match payloads_of(alloc, files, &options.payloads) {
@@ -202,7 +199,6 @@ fn run_work<R: Threads + Sync, I: Read + Drop, O: Write + Drop>(
     input: I,
     out: &mut BufWriter<Pipe<O>>,
 ) -> Result<(), BenchFault>
-    requires four { length payloads ≡ 4 }
     requires most { IsBounded work }
     ensures worked { OnOk result (IsWorked work payloads (I.remaining input)
         (writer_contents (pipe_contents O.contents) out.old) (writer_contents (pipe_contents O.contents) out.new)) }

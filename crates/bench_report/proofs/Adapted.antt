@@ -1,7 +1,7 @@
 -- The clauses of the layers below, in the words that the bench's lemmas use.
-use Rattle.std.proofs.Common.{◌≡◌, ◌≢◌, ◌⊎◌, ◌<◌, ℕ, ◌+◌, inl, inr, refl, sym, ◌∙◌, ap, subst, arith, List, [], ◌∷◌, ◌++◌, length, Some, None, Ok, true, false}
+use Rattle.std.proofs.Common.{◌≡◌, ◌≢◌, ◌⊎◌, ◌<◌, ℕ, ◌+◌, inl, inr, refl, sym, ◌∙◌, ap, subst, arith, [], ◌∷◌, ◌++◌, length, Some, None, Ok, true, false}
 use Rattle.std.proofs.lemmas.List.{length-append}
-use Rattle.board_model.specs.Durable.{DurableState, Change, refusal_of, after, fold, ends_life}
+use Rattle.board_model.specs.Durable.{DurableState, Change, refusal_of, after, ends_life}
 use Rattle.board_model.specs.Shapes.{Size}
 use Rattle.board_model.specs.Views.{number_of_refusal}
 use Rattle.board_model.specs.declared.refusal.Refusal.{Refusal}
@@ -10,6 +10,7 @@ use Rattle.disk.specs.Facts.{Facts, Failed}
 use Rattle.disk.specs.FaultState.{FaultState, Cause}
 use Rattle.store.specs.Lives.{Life, now_of, Refused, Applied}
 use Rattle.store.specs.Opens.{CausedRefusal, FormatRefused, OpenRefused}
+use Rattle.board.proofs.Issued.{fold_more}
 use Rattle.bench_report.specs.Views.{IsLife}
 
 -- a call that answered 5 failed for a cause, and one that answered neither 5 nor 6 did not
@@ -43,10 +44,6 @@ Refuses now count c e new =
     ⊎ ((e ≡ JournalFull) × (count ≡ 4096) × IsLife new now count None)
     ⊎ ((refusal_of now c ≡ Some (number_of_refusal e)) × (count < 4096) × IsLife new now count None)
 
-pub grows : (s : DurableState) (cs : List Change) (c : Change) → fold s (cs ++ c ∷ []) ≡ after (fold s cs) c
-grows s [] c = refl
-grows s (d ∷ cs) c = grows (after s d) cs c
-
 module _ (now : DurableState) (count : ℕ) (c : Change) (old new : Life) (is : IsLife old now count None) where
   reaches : (length old.journal < 4096) → (refusal_of (now_of old) c ≡ None) → Reaches now count c
   reaches few table = let P : DurableState → Type 0 = λ s. refusal_of s c ≡ None in (omega (arith, few, is.1), subst P is.0 table)
@@ -59,7 +56,7 @@ module _ (now : DurableState) (count : ℕ) (c : Change) (old new : Life) (is : 
       let next : Life = record old { journal = old.journal ++ c ∷ []; over = ends_life c } in
       let P : Life → Type 0 = λ l. IsLife l (after now c) (count + 1) None in
       let long : length (old.journal ++ c ∷ []) ≡ count + 1 = length-append old.journal (c ∷ []) ∙ ap (λ k. k + 1) is.1 in
-      let after_it : IsLife next (after now c) (count + 1) None = (grows old.found old.journal c ∙ ap (λ s. after s c) is.0, long, is.2, goes) in
+      let after_it : IsLife next (after now c) (count + 1) None = (fold_more old.found old.journal (c ∷ []) ∙ ap (λ s. after s c) is.0, long, is.2, goes) in
       (reaches h.0.1 h.0.2, h.1 ∙ ap (λ k. k + 1) is.1, subst P (sym h.2) after_it)
 
   -- the same of a command that may end the life
@@ -67,7 +64,7 @@ module _ (now : DurableState) (count : ℕ) (c : Change) (old new : Life) (is : 
   ended n h =
       let next : Life = record old { journal = old.journal ++ c ∷ []; over = ends_life c } in
       let P : Life → Type 0 = λ l. (now_of l ≡ after now c) × (l.doubt ≡ None) in
-      let is_next : (now_of next ≡ after now c) × (next.doubt ≡ None) = (grows old.found old.journal c ∙ ap (λ s. after s c) is.0, is.2) in
+      let is_next : (now_of next ≡ after now c) × (next.doubt ≡ None) = (fold_more old.found old.journal (c ∷ []) ∙ ap (λ s. after s c) is.0, is.2) in
       let did = subst P (sym h.2) is_next in
       (reaches h.0.1 h.0.2, h.1 ∙ ap (λ k. k + 1) is.1, did.0, did.1)
 

@@ -249,7 +249,7 @@ whole_image z s m is = let P : Option Image → Type 0 = λ o. IfSome o (λ (i :
 off_spoilt : (mid new : Bench) → new ≡ off mid → HasFailed mid → HasFailed new
 off_spoilt mid new e f = let P : Bench → Type 0 = HasFailed in subst P (sym e) f
 
-not_both : {A : Type 0} (n k : ℕ) (o : Result ℕ ℕ) → o ≡ Ok n → o ≡ Err k → A
+pub not_both : {A : Type 0} (n k : ℕ) (o : Result ℕ ℕ) → o ≡ Ok n → o ≡ Err k → A
 not_both n k o e f = ok_err n k o o refl e f
 
 writes_err : (c : Change) (life : BenchLife) (b : Bench) (o : Result ℕ ℕ) (new : Bench) (n : ℕ) → o ≡ Err n → Writes None c life b o new → HasFailed new
@@ -304,7 +304,7 @@ with_found f a z new last e g (inl s) = inl s
 with_found f a z new last e g (inr (inl s)) = inr (inl s)
 with_found f a z new last e g (inr (inr h)) = inr (inr (answers_as a f z.line e h.0 ∙ sym (answers_as z f z.line g refl), h.1))
 
-found_as : (o : Option Durable) (s : DurableState) → ShowsFound o s → o ≡ Some (durable_of s)
+pub found_as : (o : Option Durable) (s : DurableState) → ShowsFound o s → o ≡ Some (durable_of s)
 found_as None s h = absurd h
 found_as (Some d) s h = ap Some h
 

@@ -181,7 +181,7 @@ pub record Row : Type 0 where
 abbrev pub row : ℕ → Word → Row
 row made word = record { made = made; word = word }
 
-truth : {A : Type 0} (x y : Bool) → x ≡ y → x ≡ true → y ≡ false → A
+pub truth : {A : Type 0} (x y : Bool) → x ≡ y → x ≡ true → y ≡ false → A
 truth x y e f g = let h : y ≡ true = sym e ∙ f in absurd (let no : ⊥ = cc in no)
 
 -- a turn that was the last of its row, and one after which another followed

@@ -75,7 +75,7 @@ on_runs : (size : Size) (b : Bench) (life : BenchLife) (board : SimBoard) → b.
     → Running size b (machine_in board) (store_in board)
 on_runs size b life board on is device = (life, on, is.0, is.1, device)
 
-stands_by : (size : Size) (word : Word) (b : Bench) (board : SimBoard) → Stands size word b (machine_in board) (store_in board) → BoardAfter size word b board
+pub stands_by : (size : Size) (word : Word) (b : Bench) (board : SimBoard) → Stands size word b (machine_in board) (store_in board) → BoardAfter size word b board
 stands_by size (words.Goes did) b board is = running_on size b board is
 stands_by size (words.Over end) b board is = is
 

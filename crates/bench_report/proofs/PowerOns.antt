@@ -22,7 +22,7 @@ use Rattle.bench_report.specs.PowerOns.{life_begun, ShowsFound, IsBooted, BootsF
 use Rattle.bench_report.specs.Steps.{OnStep, Moves}
 use Rattle.bench_report.specs.Reports.{AreByFirmware, IsReportWith}
 use Rattle.bench_report.specs.Resumes.{IsMadeIn, IsResumedFrom}
-use Rattle.bench_report.proofs.Determined.{HasFailed, CalmDisk, starves, hinders, some_inj}
+use Rattle.bench_report.proofs.Determined.{HasFailed, CalmDisk, found_as, starves, hinders, some_inj}
 use Rattle.bench_report.proofs.Single.{run_fair, clean, moves_fair}
 
 -- ---- the suspension that made an image
@@ -65,10 +65,6 @@ other x y e differs is = absurd (differs (sym e ∙ is))
 
 said : {A : Type 0} (a : Answer) (y : Printed) → a ≡ says y → y ≢ printed.On modes.Resume → a.line ≡ printed.On modes.Resume → A
 said a y e differs is = other a.line y (ap (λ (x : Answer). x.line) e) differs is
-
-found_as : (o : Option Durable) (s : DurableState) → ShowsFound o s → o ≡ Some (durable_of s)
-found_as None s h = absurd h
-found_as (Some d) s h = ap Some h
 
 -- ---- the command of the resume
 one_writes : (c : Change) (life : BenchLife) (b : Bench) (o : Result ℕ ℕ) (new : Bench) (n : ℕ) → o ≡ Ok n → (r : Option ℕ) → Writes r c life b o new → new ≡ acknowledged c life b

@@ -37,6 +37,7 @@ use Rattle.bench_report.specs.PowerOns.{life_begun, commands_of, IsBooted, Boots
 use Rattle.bench_report.specs.Steps.{console_reported, FormatStep, OnStep, ConsoleStep, CallReported, GuestCall, TurnStep, CallStep, DeedStep, Moves, Run}
 use Rattle.bench_report.specs.Reports.{IsByFirmware, AreByFirmware, IsReportWith}
 use Rattle.bench_report.specs.Prefix.{AskedLine, Boot, Command, Guest, Nothing, Keeps, Hides, TellsTurns, TellsLine, asked_of, asked_by, RefusedChange, Lost, LineImplies, ShowsIts, IsPrefixedTo, resumes, RisesFrom, AreLoaded, is_format_ok, IsFoundByPrefix, KeepsPrefixLawTo, KeepsPrefixLaw, MayEndIn}
+use Rattle.bench_report.proofs.Determined.{found_as}
 use Rattle.bench_report.proofs.Refused.{WasRefused, one_life}
 use Rattle.bench_report.proofs.Unsaid.{Hidden, TellsDid, TellsOne, GoesBy, TurnsGoBy, comes_back, turns_back}
 use Rattle.bench_report.proofs.Lost.{lost}
@@ -79,10 +80,6 @@ by_parts mode a f x up now s t e g shows tells =
     let P : Option Durable → Type 0 = λ o. ShowsIts o s in
     let Q : Printed → Type 0 = λ y. LineImplies (Boot mode) y s up t now in
     (subst P (sym e) shows, subst Q (sym g) tells)
-
-found_as : (o : Option Durable) (s : DurableState) → ShowsFound o s → o ≡ Some (durable_of s)
-found_as None s h = absurd h
-found_as (Some d) s h = ap Some h
 
 -- an open: what is found stands
 module _ (b : Bench) (changes : List Change) (may : MayKeep b.kept changes) (disk_state : b.disk_state ≡ Formatted) (on : b.power ≡ None) where

@@ -11,11 +11,12 @@ use Rattle.board_model.specs.declared.boot_mode.BootMode.TheVariants as modes
 use Rattle.board_model.specs.declared.durable.Trial.{Trial}
 use Rattle.board.specs.Boots.{boot_refusal}
 use Rattle.board.specs.Moments.{attempts_of, commands_by}
+use Rattle.board.proofs.Issued.{fold_more}
 use Rattle.bench_report.specs.Bench.{DiskState, Blank, Unknown, Formatted, BenchLife, Bench}
 use Rattle.bench_report.specs.Happens.{acknowledged, in_doubt, life_with, all_acknowledged}
 use Rattle.bench_report.specs.Commands.{Writes, IssuedBy, Issued, IssuesAll}
 use Rattle.bench_report.specs.Agree.{LifeIs}
-use Rattle.bench_report.proofs.Determined.{DiskHasFailed, fails, some_inj}
+use Rattle.bench_report.proofs.Determined.{DiskHasFailed, fails, not_both, some_inj}
 
 -- the table refuses none of them, each in the state after those before it
 abbrev pub AreTaken : List Change → DurableState → Type 0
@@ -82,14 +83,10 @@ no_bench life b on =
     ∙ ap (λ (p : Option BenchLife). keeping b b.kept.changes p) (sym on)
 
 -- the life goes on from what the disk keeps
-pub folds : (s : DurableState) (cs ds : List Change) → fold s (cs ++ ds) ≡ fold (fold s cs) ds
-folds s [] ds = refl
-folds s (c ∷ cs) ds = folds (after s c) cs ds
-
 pub follows_all : (size : Size) (m : DiskState) (k : Kept) (cs : List Change) (life : BenchLife) (z : Size) → LifeIs size m k life z → LifeIs size m (record k { changes = k.changes ++ cs }) (life_with cs life) z
 follows_all size Blank k cs life z h = h
 follows_all size Unknown k cs life z h = h
-follows_all size Formatted k cs life z h = (h.0, ap (λ (s : DurableState). fold s cs) h.1 ∙ sym (folds formatted k.changes cs), h.2, h.3)
+follows_all size Formatted k cs life z h = (h.0, ap (λ (s : DurableState). fold s cs) h.1 ∙ sym (fold_more formatted k.changes cs), h.2, h.3)
 
 -- ---- what they answer
 first_issued : (c : Change) (life : BenchLife) (b : Bench) → life.doubt ≡ None → life.receipts < 4096 → refusal_of life.now c ≡ None → Issued c life b (Ok (life.receipts + 1)) (acknowledged c life b)
@@ -141,9 +138,6 @@ issued_or_failed : (c : Change) (life : BenchLife) (b : Bench) (o : Result ℕ �
 issued_or_failed c life b o new few table (inl full) = absurd (omega (arith, few, full.0))
 issued_or_failed c life b o new few table (inr w) = let Q : Option ℕ → Type 0 = λ r. Writes r c life b o new in writes_or_failed c life b o new (subst Q table w.1)
 
-ok_err : {A : Type 0} (n k : ℕ) (o : Result ℕ ℕ) → o ≡ Ok n → o ≡ Err k → A
-ok_err n k o e f = let g : ◌≡◌ {A = Result ℕ ℕ} (Ok n) (Err k) = sym e ∙ f in absurd (let no : ⊥ = cc in no)
-
 pub all_or_failed : (cs : List Change) (life : BenchLife) (b : Bench) (o : Result ℕ ℕ) (new : Bench) → b.power ≡ Some life → life.doubt ≡ None → life.receipts + length cs ≤ 4096 → AreTaken cs life.now → IssuesAll cs b o new → (o ≡ Ok 0) ⊎ DiskHasFailed new
 all_or_failed [] life b o new on calm few taken h = inl h.0
 all_or_failed (c ∷ cs) life b o new on calm few taken (other, also, first, mid, i, rest) =
@@ -155,6 +149,6 @@ all_or_failed (c ∷ cs) life b o new on calm few taken (other, also, first, mid
     by : Acknowledged c life b first mid ⊎ FailedIn first mid → ((n : ℕ) × (first ≡ Ok n) × IssuesAll cs mid o new) ⊎ ((n : ℕ) × (first ≡ Err n) × (o ≡ Err n) × (new ≡ mid))
         → (mid ≡ acknowledged c life b → IssuesAll cs mid o new → (o ≡ Ok 0) ⊎ DiskHasFailed new) → (o ≡ Ok 0) ⊎ DiskHasFailed new
     by (inl did) (inl more) goes = goes did.1 more.2
-    by (inl did) (inr stops) goes = ok_err (life.receipts + 1) stops.0 first did.0 stops.1
-    by (inr failed) (inl more) goes = ok_err more.0 failed.1.0 first more.1 failed.1.1
+    by (inl did) (inr stops) goes = not_both (life.receipts + 1) stops.0 first did.0 stops.1
+    by (inr failed) (inl more) goes = not_both more.0 failed.1.0 first more.1 failed.1.1
     by (inr failed) (inr stops) goes = inr (subst DiskHasFailed (sym stops.3) failed.0)

@@ -12,7 +12,7 @@ use Rattle.script_lang.specs.Scripts.{Script}
 use Rattle.simdisk.specs.declared.fill.Fill.{Fill}
 
 -- one line more at the end
-run_snoc : (size : Size) (ls : List Line) (b : Bench) (answers : List Answer) (mid : Bench) (line : Line) (a : Answer) (new : Bench) → Run size b ls answers mid → Moves size line mid a new → Run size b (ls ++ line ∷ []) (answers ++ a ∷ []) new
+pub run_snoc : (size : Size) (ls : List Line) (b : Bench) (answers : List Answer) (mid : Bench) (line : Line) (a : Answer) (new : Bench) → Run size b ls answers mid → Moves size line mid a new → Run size b (ls ++ line ∷ []) (answers ++ a ∷ []) new
 run_snoc size [] b [] mid line a new run moves = let P : Bench → Type 0 = λ x. Moves size line x a new in (new, subst P run moves, refl)
 run_snoc size [] b (c ∷ answers) mid line a new run moves = absurd run
 run_snoc size (l ∷ ls) b [] mid line a new run moves = absurd run
@@ -34,7 +34,7 @@ on_err (Ok x) Q h = tt
 on_err (Err e) Q h = h
 
 -- what the newest armed cut of some lines is to leave
-fills_snoc : (ls : List Line) (line : Line) (fill : Fill) → fills_after (ls ++ line ∷ []) fill ≡ fill_after line (fills_after ls fill)
+pub fills_snoc : (ls : List Line) (line : Line) (fill : Fill) → fills_after (ls ++ line ∷ []) fill ≡ fill_after line (fills_after ls fill)
 fills_snoc [] line fill = refl
 fills_snoc (l ∷ ls) line fill = fills_snoc ls line (fill_after l fill)
 

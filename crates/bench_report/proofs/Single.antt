@@ -1,6 +1,6 @@
 -- One report: the lines, and the one induction over them.
 use Rattle.board_model.specs.declared.call_words.CallWords.{CallWords}
-use Rattle.std.proofs.Common.{◌≡◌, ◌⊎◌, ℕ, inl, inr, List, [], ◌∷◌, Option, None, Some, refl, sym, ◌∙◌, ap, subst, arith, Bool, true, false}
+use Rattle.std.proofs.Common.{◌≡◌, ◌⊎◌, ℕ, inl, inr, List, [], ◌∷◌, Option, None, Some, refl, sym, ◌∙◌, ap, subst, arith, true, false}
 use Rattle.board_model.specs.Shapes.{Size}
 use Rattle.board_model.specs.declared.boot_mode.BootMode.{BootMode}
 use Rattle.machine.specs.Machine.{Machine, hart_at}
@@ -24,7 +24,7 @@ use Rattle.bench_report.specs.Happens.{shows, unpowered, on_with, has_machine}
 use Rattle.bench_report.specs.Steps.{console_reported, FormatStep, OnStep, ConsoleStep, CallReported, GuestCall, TurnStep, CallStep, ReadStep, QuestionStep, DeedStep, DeedMoves, Run}
 use Rattle.bench_report.specs.Reports.{AreByFirmware, IsReportWith}
 use Rattle.bench_report.proofs.Inspected.{ContentLaws, inspect_at}
-use Rattle.bench_report.proofs.Guests.{IsOneTurn, Row, row, comes_fair, comes_one, turns_fair, turns_one}
+use Rattle.bench_report.proofs.Guests.{IsOneTurn, Row, row, comes_fair, comes_one, truth, turns_fair, turns_one}
 use Rattle.bench_report.proofs.Determined.{some_inj, HasFailed, DiskHasFailed, IsCalm, Fair, fair_to, fair_then, unmoved, spoils, fails, starved, issued_fair, Agree, same, issued, formats_fair, formats, powers_fair, powers}
 use Rattle.script_lang.specs.declared.looks.Look.{Look}
 use Rattle.script_lang.specs.declared.looks.Look.TheVariants as looks
@@ -199,9 +199,6 @@ steps laws turns call csr size (deeds.Call h asked) b a z new last calm x y = ca
 steps laws turns call csr size (deeds.Ask question) b a z new last calm x y = question_at laws csr size question b.power b a z new last calm x y
 steps laws turns call csr size (deeds.Beside act) b a z new last calm x y = same a z _ new last _ x.0 y.0 x.1 y.1
 
-true_false : {A : Type 0} (x y : Bool) → x ≡ y → x ≡ true → y ≡ false → A
-true_false x y e f g = let h : y ≡ true = sym e ∙ f in absurd (let no : ⊥ = cc in no)
-
 -- an armed cut that struck in one of them alone would have been answered there
 pub moves : ContentLaws → IsOneTurn → IsOneCall → IsOneCsr → (size : Size) (deed : Deed) (b : Bench) (a z : Answer) (new last : Bench) → IsCalm b → DeedMoves size deed b a new → DeedMoves size deed b z last → Agree a z new last
 moves laws turns call csr size deed b a z new last calm (inl x) (inl y) = steps laws turns call csr size deed b a z new last calm x.0 y.0
@@ -210,13 +207,13 @@ moves laws turns call csr size deed b a z new last calm (inl x) (inr (would, mid
     apart : Agree a would new mid → Agree a z new last
     apart (inl s) = inl s
     apart (inr (inl s)) = inr (inl (spoilt_as last (unpowered mid) is s))
-    apart (inr (inr h)) = true_false mid.fault_state.struck new.fault_state.struck (ap (λ (b : Bench). b.fault_state.struck) (sym h.1)) struck x.1
+    apart (inr (inr h)) = truth mid.fault_state.struck new.fault_state.struck (ap (λ (b : Bench). b.fault_state.struck) (sym h.1)) struck x.1
 moves laws turns call csr size deed b a z new last calm (inr (would, mid, x, struck, e, is)) (inl y) = apart (steps laws turns call csr size deed b would z mid last calm x y.0)
   where
     apart : Agree would z mid last → Agree a z new last
     apart (inl s) = inl (spoilt_as new (unpowered mid) is s)
     apart (inr (inl s)) = inr (inl s)
-    apart (inr (inr h)) = true_false mid.fault_state.struck last.fault_state.struck (ap (λ (b : Bench). b.fault_state.struck) h.1) struck y.1
+    apart (inr (inr h)) = truth mid.fault_state.struck last.fault_state.struck (ap (λ (b : Bench). b.fault_state.struck) h.1) struck y.1
 moves laws turns call csr size deed b a z new last calm (inr (would, mid, x, struck, e, is)) (inr (would2, mid2, y, struck2, e2, is2)) = apart (steps laws turns call csr size deed b would would2 mid mid2 calm x y)
   where
     apart : Agree would would2 mid mid2 → Agree a z new last

@@ -19,5 +19,5 @@ pub use printed::{Answer, Printed};
 pub use runs::{Report, Stopped, run, run_left, run_left_with, run_with, unwritten};
 pub use setting::Setting;
 pub use steps::{
-    after, arm_disk, console, disk_left, line_alone, line_with_cuts, power_on, struck,
+    after, arm_disk, console, cut, disk_left, line_alone, line_with_cuts, power_on, struck,
 };

@@ -152,8 +152,8 @@ pub fn disk_left(power: Power) -> SimDisk
     }
 }
 
-/// Takes power; each range that was written since the last sync holds what the fill says.
-fn cut(power: Power, fill: Fill) -> Power
+/// Takes power from a board, which is off then. Each range that was written since the last sync holds what the fill says.
+pub fn cut(power: Power, fill: Fill) -> Power
     ensures reported { (size : Size) (b : Bench) → Agrees size b power → Agrees size (unpowered b) result }
     ensures exact { (disk : SimDisk) × HasDisk power disk × IsCutBy fill disk result }
     ensures calm { IsUnstruck result }

@@ -12,8 +12,9 @@ use Rattle.simdisk.specs.declared.fill.Fill.{Fill}
 use Rattle.bench_history.specs.Pasts.{IsAdded}
 use Rattle.bench_report.specs.declared.printed.Answer.{Answer}
 use Rattle.bench_report.specs.Bench.{Bench}
-use Rattle.bench_report.specs.Steps.{Moves, Run}
-use Rattle.bench_report.specs.Agree.{fill_after, fills_after}
+use Rattle.bench_report.specs.Steps.{Moves}
+use Rattle.bench_report.specs.Agree.{fills_after}
+use Rattle.bench_report.proofs.RunLines.{fills_snoc, run_snoc}
 use Rattle.bench_rows.specs.declared.rows.Row.{Row}
 use Rattle.bench_rows.specs.declared.rows.Row.TheVariants as rows
 use Rattle.bench_rows.specs.Rows.{RowMoves, made_in, goes_on, is_off, IsWithin}
@@ -39,26 +40,35 @@ snoc_same {A = A} (x ∷ xs) (y ∷ ys) a b e =
     let rest = snoc_same xs ys a b tail in
     (let same : x ∷ xs ≡ y ∷ ys = ap (λ (zs : List A). x ∷ zs) rest.0 ∙ ap (λ (z : A). z ∷ ys) head in same, rest.1)
 
-run_snoc : (size : Size) (ls : List Line) (b : Bench) (answers : List Answer) (mid : Bench) (line : Line) (a : Answer) (new : Bench) → Run size b ls answers mid → Moves size line mid a new → Run size b (ls ++ line ∷ []) (answers ++ a ∷ []) new
-run_snoc size [] b [] mid line a new run moves = let P : Bench → Type 0 = λ x. Moves size line x a new in (new, subst P run moves, refl)
-run_snoc size [] b (c ∷ answers) mid line a new run moves = absurd run
-run_snoc size (l ∷ ls) b [] mid line a new run moves = absurd run
-run_snoc size (l ∷ ls) b (c ∷ answers) mid line a new run moves = (run.0, run.1, run_snoc size ls run.0 answers mid line a new run.2 moves)
-
 pub leaves_more : (size : Size) (start : Bench) (past : List Line) (mid : Bench) (line : Line) (a : Answer) (new : Bench) → Leaves size start past mid → Moves size line mid a new → Leaves size start (past ++ line ∷ []) new
 leaves_more size start past mid line a new (answers, run) moves = (answers ++ a ∷ [], run_snoc size past start answers mid line a new run moves)
 
 pub ranges_more : (size : Size) (past : List Line) (line : Line) → AreInRange size past → IsLineInRange size line → AreInRange size (past ++ line ∷ [])
 ranges_more size past line are is = All-push (IsLineInRange size) past line are is
 
-pub fills_snoc : (past : List Line) (line : Line) (fill : Fill) → fills_after (past ++ line ∷ []) fill ≡ fill_after line (fills_after past fill)
-fills_snoc [] line fill = refl
-fills_snoc (l ∷ past) line fill = fills_snoc past line (fill_after l fill)
-
 -- ---- turns
 joins_if : (size : Size) (start : Bench) (past : List Line) (b : Bench) (e : Bool) → (e ≡ false → Joins size start true past b) → Joins size start (not e) past b
 joins_if size start past b true holds = tt
 joins_if size start past b false holds = holds refl
+
+-- two rows that are the same are of one hart, and of as many turns
+hart_in : (a c d f : ℕ) → lines.Turn a c ≡ lines.Turn d f → a ≡ d
+hart_in a c d f e = cc
+
+count_in : (a c d f : ℕ) → lines.Turn a c ≡ lines.Turn d f → c ≡ f
+count_in a c d f e = cc
+
+-- of two ends of the same lines by a row each is the other
+row_before : (size : Size) (start : Bench) (h n g m : ℕ) (w : Word) (old before first : List Line) (mid b : Bench) → old ≡ before ++ lines.Turn h n ∷ [] → old ≡ first ++ lines.Turn g m ∷ []
+    → Leaves size start first mid → RowMoves size g (rows.Made m w) mid b → Leaves size start before mid × RowMoves size h (rows.Made n w) mid b
+row_before size start h n g m w old before first mid b is was left went =
+    let same = snoc_same before first (lines.Turn h n) (lines.Turn g m) (sym is ∙ was) in
+    let hart : g ≡ h = hart_in g m h n (sym same.1) in
+    let count : m ≡ n = count_in g m h n (sym same.1) in
+    (
+      subst (λ (xs : List Line). Leaves size start xs mid) (sym same.0) left,
+      subst (λ (x : ℕ). RowMoves size x (rows.Made n w) mid b) hart (subst (λ (x : ℕ). RowMoves size g (rows.Made x w) mid b) count went),
+    )
 
 made_noted : (size : Size) (start : Bench) (h k : ℕ) (word : Word) (joins : Bool) (old new : List Line) (b after : Bench) → IsAdded h k joins old new → Leaves size start old b → Joins size start joins old b → RowMoves size h (rows.Made k word) b after
     → Leaves size start new after × (ends word ≡ false → Joins size start true new after)
@@ -67,21 +77,10 @@ made_noted size start h k word joins old new b after (inl e) leaves was moves =
     (subst P (sym e) (leaves_more size start old b (lines.Turn h k) _ after leaves moves), λ runs. (old, h, k, b, word, e, leaves, moves, runs))
 made_noted size start h k word false old new b after (inr (may, joined)) leaves was moves = absurd (let never : ⊥ = cc in never)
 made_noted size start h k word true old new b after (inr (may, (before, n, is, e, few))) leaves (first, g, m, mid, w, was, left, went, runs) moves =
-    let same = snoc_same before first (lines.Turn h n) (lines.Turn g m) (sym is ∙ was) in
-    let hart : g ≡ h = hart_in g m h n (sym same.1) in
-    let count : m ≡ n = count_in g m h n (sym same.1) in
-    let row : RowMoves size h (rows.Made n w) mid b =
-    subst (λ (x : ℕ). RowMoves size x (rows.Made n w) mid b) hart (subst (λ (x : ℕ). RowMoves size g (rows.Made x w) mid b) count went) in
-    let one = went_then size h n k w word mid b after runs row moves in
-    let here : Leaves size start before mid = subst (λ (xs : List Line). Leaves size start xs mid) (sym same.0) left in
+    let row = row_before size start h n g m w old before first mid b is was left went in
+    let one = went_then size h n k w word mid b after runs row.1 moves in
     let P : List Line → Type 0 = λ past. Leaves size start past after in
-    (subst P (sym e) (leaves_more size start before mid (lines.Turn h (n + k)) _ after here one), λ goes. (before, h, n + k, mid, word, e, here, one, goes))
-  where
-    hart_in : (a c d f : ℕ) → lines.Turn a c ≡ lines.Turn d f → a ≡ d
-    hart_in a c d f e = cc
-
-    count_in : (a c d f : ℕ) → lines.Turn a c ≡ lines.Turn d f → c ≡ f
-    count_in a c d f e = cc
+    (subst P (sym e) (leaves_more size start before mid (lines.Turn h (n + k)) _ after row.0 one), λ goes. (before, h, n + k, mid, word, e, row.0, one, goes))
 
 lost_noted : (size : Size) (start : Bench) (h k : ℕ) (joins : Bool) (old new : List Line) (b after : Bench) → IsAdded h k joins old new → Leaves size start old b → Joins size start joins old b → RowMoves size h (rows.Lost k) b after
     → Leaves size start new after
@@ -90,21 +89,10 @@ lost_noted size start h k joins old new b after (inl e) leaves was moves =
     subst P (sym e) (leaves_more size start old b (lines.Turn h k) _ after leaves moves)
 lost_noted size start h k false old new b after (inr (may, joined)) leaves was moves = absurd (let never : ⊥ = cc in never)
 lost_noted size start h k true old new b after (inr (may, (before, n, is, e, few))) leaves (first, g, m, mid, w, was, left, went, runs) moves =
-    let same = snoc_same before first (lines.Turn h n) (lines.Turn g m) (sym is ∙ was) in
-    let hart : g ≡ h = hart_in g m h n (sym same.1) in
-    let count : m ≡ n = count_in g m h n (sym same.1) in
-    let row : RowMoves size h (rows.Made n w) mid b =
-    subst (λ (x : ℕ). RowMoves size x (rows.Made n w) mid b) hart (subst (λ (x : ℕ). RowMoves size g (rows.Made x w) mid b) count went) in
-    let one = lost_then size h n k w mid b after runs row moves in
-    let here : Leaves size start before mid = subst (λ (xs : List Line). Leaves size start xs mid) (sym same.0) left in
+    let row = row_before size start h n g m w old before first mid b is was left went in
+    let one = lost_then size h n k w mid b after runs row.1 moves in
     let P : List Line → Type 0 = λ past. Leaves size start past after in
-    subst P (sym e) (leaves_more size start before mid (lines.Turn h (n + k)) _ after here one)
-  where
-    hart_in : (a c d f : ℕ) → lines.Turn a c ≡ lines.Turn d f → a ≡ d
-    hart_in a c d f e = cc
-
-    count_in : (a c d f : ℕ) → lines.Turn a c ≡ lines.Turn d f → c ≡ f
-    count_in a c d f e = cc
+    subst P (sym e) (leaves_more size start before mid (lines.Turn h (n + k)) _ after row.0 one)
 
 -- turns that were made are noted
 pub row_noted : (size : Size) (start : Bench) (h : ℕ) (row : Row) (joins : Bool) (old new : List Line) (b after : Bench) → (row ≡ rows.Off → ⊥) → IsAdded h (made_in row) joins old new → Leaves size start old b → Joins size start joins old b → RowMoves size h row b after

@@ -1,6 +1,6 @@
 -- The lines of a run, one after another.
-use Rattle.std.proofs.Common.{◌≡◌, ◌≢◌, inl, inr, ◌∙◌, ℕ, zero, suc, ◌+◌, ◌<◌, ◌≤◌, Bool, true, false, List, [], ◌∷◌, ◌++◌, length, take, drop, get_or, All, Option, Some, None, if◌then◌else◌, refl, sym, ap, subst, arith}
-use Rattle.std.proofs.lemmas.List.{take_more, length-take-le, append-nil, take-append-drop}
+use Rattle.std.proofs.Common.{◌≡◌, ◌≢◌, inl, inr, ◌∙◌, ℕ, suc, ◌+◌, ◌<◌, ◌≤◌, Bool, true, false, List, [], ◌∷◌, ◌++◌, length, take, drop, get_or, All, Option, Some, None, if◌then◌else◌, refl, sym, ap, subst, arith}
+use Rattle.std.proofs.lemmas.List.{take_all, take_more, length-take-le, append-nil, take-append-drop}
 use Rattle.std.proofs.lemmas.List.Elements.{All-append, All-cons, All-nil}
 use Rattle.board_model.specs.Shapes.{Size, IsSize}
 use Rattle.script_lang.specs.Lines.{FitsLine, IsLineInRange}
@@ -9,6 +9,7 @@ use Rattle.script_lang.specs.declared.line.Line.TheVariants as lines
 use Rattle.bench_report.specs.Bench.{Bench, bench_with}
 use Rattle.bench_report.specs.Steps.{Moves, Run}
 use Rattle.bench_report.specs.declared.printed.Answer.{Answer}
+use Rattle.bench_report.proofs.RunLines.{run_snoc}
 use Rattle.bench_orders.specs.Orders.{IsOrderFor, is_other, other_count}
 use Rattle.bench_live.specs.Lives.{Shows}
 use Rattle.bench_live.specs.declared.live.LiveBench.{LiveBench}
@@ -16,13 +17,6 @@ use Rattle.bench_schedules.specs.declared.runs.Difference.{Difference}
 use Rattle.bench_schedules.specs.Schedules.{IsMemoryRefused, other_answer, other_answers, Ran, RanLike, RanOwn}
 use Rattle.bench_schedules.specs.Compared.{IsDifference, IsNextPlace}
 use Rattle.bench_schedules.specs.RunSoFar.{RunSoFar}
-
-run_snoc : (size : Size) (ls : List Line) (b : Bench) (answers : List Answer) (mid : Bench) (line : Line) (a : Answer) (new : Bench)
-    → Run size b ls answers mid → Moves size line mid a new → Run size b (ls ++ line ∷ []) (answers ++ a ∷ []) new
-run_snoc size [] b [] mid line a new run moves = let P : Bench → Type 0 = λ x. Moves size line x a new in (new, subst P run moves, refl)
-run_snoc size [] b (c ∷ answers) mid line a new run moves = absurd run
-run_snoc size (l ∷ ls) b [] mid line a new run moves = absurd run
-run_snoc size (l ∷ ls) b (c ∷ answers) mid line a new run moves = (run.0, run.1, run_snoc size ls run.0 answers mid line a new run.2 moves)
 
 told_snoc : (size : Size) (ls : List Line) (b : Bench) (answers : List Answer) (mid : Bench) (line : Line) (a : Answer)
     → Run size b ls answers mid → other_answers (ls ++ line ∷ []) (answers ++ a ∷ []) ≡ other_answers ls answers ++ other_answer (is_other line) a
@@ -190,26 +184,20 @@ ran_to size start ls i own place old new line a d less is all few so_far moves w
 pub ran_alike : (size : Size) (start : List (List ℕ)) (ls : List Line) (i : ℕ) (own : List Answer) (place : ℕ) (going : LiveBench) → length ls ≤ i → length own ≡ other_count ls → place ≤ length own
     → RunSoFar size start (take i ls) (take place own) going → ((b : Bench) → Shows size b going → b.fault_state.own ≡ 0) → RanLike size start ls own None
 ran_alike size start ls i own place going past all few so_far disk =
-    let whole : take i ls ≡ ls = take_past i ls past in
+    let whole : take i ls ≡ ls = take_all i ls past in
     let here : place ≡ length own = counted_so_far size start ls i own place going few so_far ∙ ap other_count whole ∙ sym all in
     record {
       n = i;
       answers = so_far.answers;
       end = so_far.bench;
       ran = record { run = so_far.run; answered = so_far.answered; disk = disk so_far.bench so_far.shows };
-      like = so_far.told ∙ take_past place own (omega (arith, here));
+      like = so_far.told ∙ take_all place own (omega (arith, here));
     }
-  where
-    take_past : {A : Type 0} (n : ℕ) (xs : List A) → length xs ≤ n → take n xs ≡ xs
-    take_past zero [] few = refl
-    take_past zero (x ∷ xs) few = absurd (omega (arith, few))
-    take_past (suc n) [] few = refl
-    take_past (suc n) (x ∷ xs) few = ap (λ y. x ∷ y) (take_past n xs (omega (arith, few)))
 
 pub ran_own : (size : Size) (start : List (List ℕ)) (ls : List Line) (i : ℕ) (own : List Answer) (going : LiveBench) → length ls ≤ i → RunSoFar size start (take i ls) own going
     → ((b : Bench) → Shows size b going → b.fault_state.own ≡ 0) → RanOwn size start ls own × (length own ≡ other_count ls)
 ran_own size start ls i own going past so_far disk =
-    let whole : take i ls ≡ ls = take_past i ls past in
+    let whole : take i ls ≡ ls = take_all i ls past in
     let P : List Line → Type 0 = λ xs. RunSoFar size start xs own going in
     let goes = subst P whole so_far in (
       record {
@@ -220,12 +208,6 @@ ran_own size start ls i own going past so_far disk =
       },
       ap length (sym goes.told) ∙ told_length size ls (bench_with start) goes.answers goes.bench goes.run,
     )
-  where
-    take_past : (n : ℕ) (xs : List Line) → length xs ≤ n → take n xs ≡ xs
-    take_past zero [] few = refl
-    take_past zero (x ∷ xs) few = absurd (omega (arith, few))
-    take_past (suc n) [] few = refl
-    take_past (suc n) (x ∷ xs) few = ap (λ y. x ∷ y) (take_past n xs (omega (arith, few)))
 
 -- what ran was a schedule
 pub ran_of : (size : Size) (start : List (List ℕ)) (those new : List Line) (own : List Answer) (differs : Option Difference) → IsSize size → IsOrderFor those new → length new ≤ 65535

@@ -58,7 +58,6 @@ fn run_drawn<C: Crew>(
     own: &[Answer],
 ) -> Result<Option<Difference>, Refusal>
     requires size { IsSize runner.now.setting.shape.now }
-    requires four { length runner.now.payloads.now ≡ 4 }
     requires ranges { All (IsLineInRange runner.now.setting.shape.now) runner.now.lines.now }
     requires fits { All FitsLine runner.now.lines.now }
     requires order { IsOrderFor runner.now.lines.now lines.now }
@@ -78,7 +77,6 @@ fn run_schedule<C: Crew>(
     k: u64,
 ) -> Result<Option<Difference>, Refusal>
     requires size { IsSize runner.now.setting.shape.now }
-    requires four { length runner.now.payloads.now ≡ 4 }
     requires few { length runner.now.lines.now ≤ 65535 }
     requires ranges { All (IsLineInRange runner.now.setting.shape.now) runner.now.lines.now }
     requires fits { All FitsLine runner.now.lines.now }
@@ -130,7 +128,6 @@ fn run_schedules<C: Crew, W: Write>(
     out: &mut W,
 ) -> Result<u64, Refusal>
     requires size { IsSize runner.now.setting.shape.now }
-    requires four { length runner.now.payloads.now ≡ 4 }
     requires few { length runner.now.lines.now ≤ 65535 }
     requires ranges { All (IsLineInRange runner.now.setting.shape.now) runner.now.lines.now }
     requires fits { All FitsLine runner.now.lines.now }
@@ -188,7 +185,6 @@ fn confirmed_own_run<C: Crew>(
     payloads: &Payloads,
     lines: &[Line],
 ) -> Result<OwnRun, Refusal>
-    requires four { length payloads.now ≡ 4 }
     requires ranges { All (IsLineInRange setting.now.shape.now) lines.now }
     ensures ran { IfOk result (λ own. RanOwn setting.now.shape.now payloads.now lines.now own.answers.items) }
     ensures count { IfOk result (λ own. length own.answers.items ≡ other_count lines.now) }
@@ -209,7 +205,6 @@ fn compare_all<C: Crew, W: Write>(
     out: &mut W,
 ) -> Result<u64, Refusal>
     requires size { IsSize runner.now.setting.shape.now }
-    requires four { length runner.now.payloads.now ≡ 4 }
     requires few { length runner.now.lines.now ≤ 65535 }
     requires ranges { All (IsLineInRange runner.now.setting.shape.now) runner.now.lines.now }
     requires fits { All FitsLine runner.now.lines.now }
@@ -236,7 +231,6 @@ fn compare_script<'a, R: Threads + Sync, W: Write>(
     seed: u64,
     out: &mut W,
 ) -> Result<u64, Refusal>
-    requires four { length payloads.now ≡ 4 }
     requires few { length script.now.lines.items ≤ 65535 }
     requires ranges { All (IsLineInRange script.now.shape) script.now.lines.items }
     requires most { n ≤ 1000000 }
@@ -273,7 +267,6 @@ fn show_script<R: Threads + Sync, W: Write>(
     k: u64,
     out: &mut W,
 ) -> Result<(), Refusal>
-    requires four { length payloads.now ≡ 4 }
     requires few { length script.now.lines.items ≤ 65535 }
     requires ranges { All (IsLineInRange script.now.shape) script.now.lines.items }
     ensures shown { OnOk result (Shown (view script.now) (W.contents out.old) (W.contents out.new)) }
@@ -312,7 +305,6 @@ pub fn schedules<R: Threads + Sync, W: Write>(
     seed: u64,
     out: &mut W,
 ) -> Result<Compared, Refusal>
-    requires four { length payloads.now ≡ 4 }
     requires most { n ≤ 1000000 }
     // All schedules were run and compared with the script's own run, and those that differ were written and counted.
     ensures wrote { IfOk result (λ count. (count.runs ≡ n) × (said : Said) × (script_of script.now ≡ Ok said)
@@ -341,7 +333,6 @@ pub fn show<R: Threads + Sync, W: Write>(
     k: u64,
     out: &mut W,
 ) -> Result<(), Refusal>
-    requires four { length payloads.now ≡ 4 }
     // What was written is a schedule of the script, and is read back as it.
     ensures shown { OnOk result ((said : Said) × (script_of script.now ≡ Ok said)
         × Shown said (W.contents out.old) (W.contents out.new)) }

@@ -38,7 +38,6 @@ pub fn run_own<C: Crew>(
     payloads: &Payloads,
     lines: &[Line],
 ) -> Result<OwnRun, Refusal>
-    requires four { length payloads.now ≡ 4 }
     requires ranges { All (IsLineInRange setting.now.shape.now) lines.now }
     ensures ran { IfOk result (λ own. RanOwn setting.now.shape.now payloads.now lines.now own.answers.items) }
     ensures count { IfOk result (λ own. length own.answers.items ≡ other_count lines.now) }

@@ -60,7 +60,6 @@ pub fn run_until<C: Crew>(
     lines: &[Line],
     own: &[Answer],
 ) -> Result<Option<Difference>, Refusal>
-    requires four { length payloads.now ≡ 4 }
     requires ranges { All (IsLineInRange setting.now.shape.now) lines.now }
     requires count { length own.now ≡ other_count lines.now }
     ensures ran { IfOk result (λ differs. RanLike setting.now.shape.now payloads.now lines.now own.now differs) }
@@ -91,7 +90,6 @@ pub fn run_confirmed<C: Crew>(
     lines: &[Line],
     own: &[Answer],
 ) -> Result<Option<Difference>, Refusal>
-    requires four { length payloads.now ≡ 4 }
     requires ranges { All (IsLineInRange setting.now.shape.now) lines.now }
     requires count { length own.now ≡ other_count lines.now }
     ensures ran { IfOk result (λ differs. RanLike setting.now.shape.now payloads.now lines.now own.now differs) }

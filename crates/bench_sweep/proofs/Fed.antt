@@ -113,7 +113,7 @@ aside_line CutsPower b new x = as_in b new _ x refl
 aside_line (WakesBoard life) b new x = as_in b new _ x refl
 aside_line WritesPast b new x = as_in b new _ x refl
 
-never : {A : Type 0} → true ≡ false → A
+pub never : {A : Type 0} → true ≡ false → A
 never e = absurd (let no : ⊥ = cc in no)
 
 -- the line's harts do nothing: the board is off, or it is none of theirs

@@ -2,11 +2,9 @@
 use Rattle.std.proofs.Common.{◌≡◌, ◌≢◌, ◌⊎◌, ℕ, inl, inr, Bool, true, false, List, [], ◌∷◌, ◌++◌, Option, None, Some, Result, Ok, Err, OnOk, length, refl, sym, ◌∙◌, ap, subst, if◌then◌else◌, ◌==◌}
 use Rattle.std.proofs.Common.{is_some}
 use Rattle.std.proofs.lemmas.Bool.Decides.{Decides-eqb}
-use Rattle.std.specs.Prelude.{IfSome}
-use Rattle.board_model.proofs.Attempts.{attempt_image}
-use Rattle.board_model.specs.Durable.{Image, DurableState, Change, Slot, Reset, Suspend, Consume, Discard, Tries, Good, Attempt, refusal_of, after, IsWhole, CarriesWhole}
+use Rattle.board_model.specs.Durable.{DurableState, Change, Slot, Reset, Suspend, Consume, Discard, Tries, Good, Attempt, refusal_of, after, IsWhole, CarriesWhole}
 use Rattle.board_model.specs.Kept.{Kept, MayKeep, TakesIn, found_of}
-use Rattle.board_model.specs.Shapes.{Size, ram_bytes_of}
+use Rattle.board_model.specs.Shapes.{Size}
 use Rattle.board_model.specs.Plains.{image_in, state_in}
 use Rattle.board_model.specs.Views.{change_in, durable_of}
 use Rattle.board_model.specs.declared.durable.Entry.{Entry}
@@ -36,17 +34,7 @@ use Rattle.bench_sweep.specs.Told.{IssuedTold, CommandTold, IsOfHart, HartTold}
 use Rattle.board_model.specs.declared.console_command.ConsoleCommand.{ConsoleCommand}
 use Rattle.board_model.specs.ConsoleCommands.{console_change}
 use Rattle.board_model.proofs.Console.{CarriesWhole-console}
-
-whole_after : (size : Size) (s : DurableState) (c : Change) → IsWhole size s → CarriesWhole size c → IsWhole size (after s c)
-whole_after size s (Slot n) whole carries = whole
-whole_after size s (Reset r) whole carries = whole
-whole_after size s (Suspend hart address opaque memory) whole carries = carries
-whole_after size s Consume whole carries = tt
-whole_after size s Discard whole carries = tt
-whole_after size s (Tries n boots) whole carries = whole
-whole_after size s Good whole carries = whole
-whole_after size s Attempt whole carries =
-    let P : Option Image → Type 0 = λ o. IfSome o (λ i. length i.memory ≡ ram_bytes_of size) in subst P (sym (attempt_image s s.trial)) whole
+use Rattle.board_model.proofs.Steps.{whole_after}
 
 pub whole_more : (size : Size) (cs : List Change) (c : Change) → IsWhole size (found_of cs) → CarriesWhole size c → IsWhole size (found_of (cs ++ c ∷ []))
 whole_more size cs c whole carries =

@@ -36,6 +36,7 @@ use Rattle.bench_report.specs.Commands.{Writes, Issued, IssuesAll}
 use Rattle.bench_report.specs.Steps.{ConsoleStep, OnStep, Step}
 use Rattle.bench_report.specs.PowerOns.{life_begun, IsBooted, Boots, Opens, ShowsFound, IsOpenRefusal, PowersOn, TellsNow}
 use Rattle.bench_report.specs.Agree.{BoardIs, OffIs, OnIs, Agrees, Matches, StepsTo}
+use Rattle.bench_report.proofs.Determined.{found_as}
 use Rattle.bench_report.proofs.Ended.{left_on, cut_leaves}
 use Rattle.bench_report.proofs.KeptDisks.{GoesOn as KeepsOn, less}
 use Rattle.bench_report.proofs.Sides.{sides_stay}
@@ -253,10 +254,6 @@ record Booted (b : Bench) (found : Option Durable) (new : Bench) : Type 0 where
   pub image : life.now.image ≡ (found_of changes).image
   pub fault : new.fault_state ≡ b.fault_state
   pub disk : new.disk_state ≡ Formatted
-
-found_as : (o : Option Durable) (s : DurableState) → ShowsFound o s → o ≡ Some (durable_of s)
-found_as None s h = absurd h
-found_as (Some d) s h = ap Some h
 
 -- slots that are empty fit into any RAM
 pub empty_fit : (z : Size) → PayloadsFit z no_payloads

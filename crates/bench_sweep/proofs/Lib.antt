@@ -13,4 +13,3 @@ pub mod Calls
 pub mod Fed
 pub mod Ran
 pub mod Made
-pub mod Copied

@@ -1,5 +1,5 @@
 -- What a line's answer tells of the commands kept, by what the line may make of the bench.
-use Rattle.std.proofs.Common.{◌≡◌, ◌≢◌, ◌⊎◌, ℕ, inl, inr, true, false, List, [], ◌∷◌, ◌++◌, Option, None, Some, Result, Ok, Err, refl, sym, ◌∙◌, ap, subst, arith}
+use Rattle.std.proofs.Common.{◌≡◌, ◌≢◌, ◌⊎◌, ℕ, inl, inr, false, List, [], ◌∷◌, ◌++◌, Option, None, Some, Result, Ok, Err, refl, sym, ◌∙◌, ap, subst, arith}
 use Rattle.std.specs.Bool.{⊤}
 use Rattle.board_model.specs.Durable.{DurableState, Change, Discard, refusal_of}
 use Rattle.board_model.specs.Kept.{MayKeep, found_of}
@@ -31,6 +31,7 @@ use Rattle.bench_sweep.specs.Told.{is_guest, moves_harts, is_boot, powers_on, Is
 use Rattle.bench_report.specs.Asides.{Effect, Stays, SetsPayloads, Arms, CutsPower, WakesBoard, WritesPast, aside, affected}
 use Rattle.bench_report.proofs.Beside.{OfFirmware, is_aside}
 use Rattle.bench_report.proofs.Questions.{IsAsked, is_asked}
+use Rattle.bench_sweep.proofs.Fed.{never}
 
 -- the number with which a command was refused
 abbrev pub number_in : Result ℕ ℕ → Option ℕ
@@ -223,9 +224,6 @@ aside_line WritesPast b new by x = absurd by
 by_firmware : (deed : Deed) → IsSweptDeed deed → IsByFirmwareAlone deed
 by_firmware (Beside WritePast) plain = absurd plain
 by_firmware deed plain = tt
-
-never : {A : Type 0} → true ≡ false → A
-never e = absurd (let no : ⊥ = cc in no)
 
 deed_tells : (size : Size) (deed : Deed) (b : Bench) (a : Answer) (new : Bench) → IsSweptDeed deed → is_guest (asked_of deed) ≡ false → is_boot (asked_of deed) ≡ false → IsSound b → DeedStep size deed b a new
     → AskedTold (asked_of deed) a b.kept new.kept × (new.disk_state ≡ b.disk_state)

@@ -40,10 +40,10 @@ use Rattle.bench_report.specs.Commands.{Issued}
 use Rattle.bench_report.specs.Turns.{refused, AnswersError, HartCommand, Resets, SuspendIssued, dozes, BenchFallsAsleep, BenchSleeps, BenchSleepsBy, BenchMakesCall, ComesTo, IsLastTurn, GuestTurns}
 use Rattle.bench_report.specs.Steps.{CallReported, GuestCall, TurnStep, CallStep}
 use Rattle.bench_report.specs.Agree.{LifeIs, StoreIs, BoardIs, DeviceIs, OffIs, OnIs, BoardAfter, Agrees}
-use Rattle.bench_report.proofs.Came.{Stands, has_other, comes}
-use Rattle.bench_report.proofs.Commanded.{running_on}
+use Rattle.bench_report.proofs.Came.{has_other, comes}
 use Rattle.bench_report.proofs.Dozed.{turn_size, call_size}
 use Rattle.bench_report.proofs.Issues.{GoesOn}
+use Rattle.bench_report.proofs.Lines.{stands_by}
 use Rattle.bench_judge.specs.Ledgers.{in_doubt}
 use Rattle.bench_report.specs.declared.power.Power.{Power}
 use Rattle.bench_report.specs.declared.power.OffDisk.{OffDisk}
@@ -138,10 +138,6 @@ memory_stays Durable h m n old new word (doze, after, does, e) = ap (λ (k : Mac
 memory_stays (Made did) h m n old new word x = ap (λ (k : Machine). k.memory) x.0
 
 -- ---- on a board
-stands_by : (size : Size) (word : Word) (b : Bench) (board : SimBoard) → Stands size word b (machine_in board) (store_in board) → BoardAfter size word b board
-stands_by size (words.Goes did) b board is = running_on size b board is
-stands_by size (words.Over end) b board is = is
-
 -- a life of a formatted disk goes on from what it keeps, on a board of its size
 linked : (size : Size) (b : Bench) (life : BenchLife) (z : Size) → b.disk_state ≡ Formatted → LifeIs size b.disk_state b.kept life z → GoesOn b.kept (Some life) × (life.machine.size ≡ size)
 linked size b life z formatted is =

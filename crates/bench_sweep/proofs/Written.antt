@@ -16,16 +16,11 @@ use Rattle.board_model.specs.Shapes.{Size}
 use Rattle.script_lang.specs.declared.line.Line.{Line}
 use Rattle.bench_report.specs.Bench.{Bench as ModelBench}
 use Rattle.bench_report.specs.Happens.{unpowered}
+use Rattle.bench_report.proofs.Written.{appended, unwritten}
 use Rattle.bench_sweep.specs.Made.{IsFormatted, IsPlainRun, IsRunOf}
 use Rattle.bench_sweep.specs.declared.rows.Row.{Row}
 use Rattle.bench_sweep.specs.Rows.{row_text, sweep_text}
 use Rattle.bench_sweep.specs.Swept.{Cell, cell, cell_of, runs_of, runs_from, callers, all_runs, rows_text, GoesOn, Writes, total, WroteAll}
-
-pub appended : (a b c : Option (List ℕ)) (x y : List ℕ) → Appends a b x → Appends b c y → Appends a c (x ++ y)
-appended None b c x y h g = tt
-appended (Some a) (Some b) (Some c) x y h g = g ∙ ap (λ z. z ++ y) h ∙ append_assoc a x y
-appended (Some a) None c x y h g = absurd h
-appended (Some a) (Some b) None x y h g = absurd g
 
 -- what is handed on stays written
 pub handed_on : (a b c : Option (List ℕ)) (x : List ℕ) → Appends a b x → Keeps b c → Appends a c x
@@ -33,10 +28,6 @@ handed_on None b c x h k = tt
 handed_on (Some a) (Some b) (Some c) x h k = k ∙ h
 handed_on (Some a) None c x h k = absurd h
 handed_on (Some a) (Some b) None x h k = absurd k
-
-nothing : (a : Option (List ℕ)) → Appends a a []
-nothing None = tt
-nothing (Some a) = sym (append-nil a)
 
 abbrev line_of : Row → List ℕ
 line_of r = row_text r ++ 10 ∷ []
@@ -70,7 +61,7 @@ writes_one Is old now s t row is text points runs wrong =
 
 -- no row
 pub writes_none : (Is : Row → Type 0) (now : Option (List ℕ)) (s : Sweep) → Writes Is now now s s [] 0
-writes_none Is now s = record { rows = []; each = All-nil Is; text = nothing now; cells = refl; points = stays s.points; runs = stays s.runs; right = refl }
+writes_none Is now s = record { rows = []; each = All-nil Is; text = unwritten now; cells = refl; points = stays s.points; runs = stays s.runs; right = refl }
 
 goes_more : (a b c m n : ℕ) → GoesOn a b m → GoesOn b c n → GoesOn a c (m + n)
 goes_more a b c m n first second k e = second (k + m) (first k e) ∙ ap (λ x. counted 0 x) (sum k m n)

@@ -2,7 +2,6 @@
 use Rattle.std.specs.Prelude.{◌≡◌, ◌≤◌, ◌+◌, ℕ, List, [], ◌∷◌, ◌++◌, None, length, take, drop}
 use Rattle.std.specs.List.{flat_map}
 use Rattle.board_model.specs.Shapes.{Size}
-use Rattle.board.specs.Boots.{payload_at}
 use Rattle.board_model.specs.declared.boot_mode.BootMode.TheVariants as modes
 use Rattle.script_lang.specs.declared.line.Line.{Line}
 use Rattle.bench_report.specs.declared.printed.Answer.{Answer}
@@ -50,10 +49,6 @@ pub record IsPlainRun (size : Size) (first : Bench) (lines : List Line) : Type 0
   pub end : Bench
   pub run : Run size (unpowered bench) (drop before lines) answers end
   pub refused_none : WasRefusedNoMemory end
-
--- what four slots boot
-abbrev pub four_of : List (List ℕ) → List (List ℕ)
-four_of payloads = payload_at payloads 0 ∷ payload_at payloads 1 ∷ payload_at payloads 2 ∷ payload_at payloads 3 ∷ []
 
 -- ---- a row
 -- a power-on that looks what a run left: its slots are empty, and it keeps the image

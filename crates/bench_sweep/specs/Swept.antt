@@ -1,5 +1,5 @@
 -- What a bench wrote and counted. Source: docs/SCRIPT.md, "The benches".
-use Rattle.std.specs.Prelude.{◌≡◌, ◌+◌, ℕ, zero, suc, List, [], ◌∷◌, ◌++◌, ⊤, Option, None, Some, Ok, All, length, map, take, drop}
+use Rattle.std.specs.Prelude.{◌≡◌, ◌⊎◌, ◌+◌, ℕ, zero, suc, List, [], ◌∷◌, ◌++◌, ⊤, Option, None, Some, Ok, All, length, map, take, drop}
 use Rattle.std.specs.List.{flat_map}
 use Rattle.std.specs.Io.KnownBytes.{Appends}
 use Rattle.disk.specs.Facts.{counted}
@@ -11,7 +11,7 @@ use Rattle.script_lang.specs.Scripts.{script_of, Script}
 use Rattle.script_lang.specs.declared.line.Line.{Line}
 use Rattle.bench_report.specs.Bench.{Bench as ModelBench}
 use Rattle.bench_report.specs.Happens.{unpowered}
-use Rattle.bench_report.specs.Deeds.{ArmFault, CutPower, WritePast, Deed, Beside, deed_of}
+use Rattle.bench_report.specs.Deeds.{ArmFault, CutPower, WritePast, Deed, Format, Beside, deed_of}
 use Rattle.bench_judge.specs.declared.judges.Sweep.{Sweep}
 use Rattle.bench_sweep.specs.declared.points.Bench.{Bench}
 use Rattle.bench_sweep.specs.declared.points.Bench.TheVariants.{Cuts, Fails}
@@ -31,6 +31,19 @@ IsSweptDeed deed = ⊤
 -- a line of a script that a bench runs
 abbrev pub IsPlainLine : Line → Type 0
 IsPlainLine line = IsSweptDeed (deed_of line)
+
+-- a deed that formats no disk
+abbrev pub FormatsNothing : Deed → Type 0
+FormatsNothing Format = ⊥
+FormatsNothing deed = ⊤
+
+-- a line that formats no disk
+abbrev pub IsNoFormat : Line → Type 0
+IsNoFormat line = FormatsNothing (deed_of line)
+
+-- lines of a script that no bench runs: one of them is not plain, or none formats a disk
+abbrev pub IsNotPlain : List Line → Type 0
+IsNotPlain lines = (All IsPlainLine lines → ⊥) ⊎ All IsNoFormat lines
 
 -- lines that a bench runs, for a board of that size
 pub record AreSwept (size : Size) (lines : List Line) : Type 0 where
@@ -116,3 +129,7 @@ pub record WroteAll (bench : Bench) (size : Size) (start : List (List ℕ)) (lin
 abbrev pub IsBenchOf : Bench → List (List ℕ) → List ℕ → Option (List ℕ) → Option (List ℕ) → Sweep → Type 0
 IsBenchOf bench start script old now sweep =
     (said : Script) × (script_of script ≡ Ok said) × WroteAll bench said.size start said.lines old now sweep
+
+-- no bench runs the script, which has no fault
+abbrev pub NoBenchRuns : List ℕ → Type 0
+NoBenchRuns script = (said : Script) × (script_of script ≡ Ok said) × IsNotPlain said.lines

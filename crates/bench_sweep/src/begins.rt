@@ -1,18 +1,17 @@
 //! Where a bench begins: behind the first format of its script that answers Ok.
 
-ghost use Rattle.std.specs.Prelude.{◌≡◌, ◌≤◌, ◌⊎◌, ℕ, List, false, true, length, take, All, IfOk, IfErr, OnOk, ◌↔◌, IsTrue};
+ghost use Rattle.std.specs.Prelude.{◌≡◌, ◌≤◌, ℕ, List, false, true, length, take, All, IfOk, IfErr, OnOk, ◌↔◌, IsTrue};
 ghost use Rattle.board_model.specs.Shapes.{Size};
-ghost use Rattle.board_model.specs.declared.refusal.Refusal.TheVariants.{Memory, NotPlain};
+ghost use Rattle.board_model.specs.declared.refusal.Refusal.TheVariants.{Memory};
 ghost use Rattle.script_lang.specs.Lines.{IsLineInRange};
 ghost use Rattle.bench_report.specs.Agree.{Agrees, IsBench};
 ghost use Rattle.bench_report.specs.Bench.{Bench, bench_with};
 ghost use Rattle.bench_report.specs.Steps.{Moves};
-ghost use Rattle.bench_sweep.specs.Made.{four_of};
 ghost use Rattle.bench_sweep.specs.Runs.{Begun, IsFormattedAt, Formats, StopsOff};
 
 use crate::follows::enough_memory;
 use crate::site::Site;
-use crate::sites::{copy_payloads, is_off};
+use crate::sites::is_off;
 use bench_judge::Ledger;
 use bench_report::{
     Answer, BenchBoard, OffDisk, Power, Printed, Setting, disk_left, line_with_cuts,
@@ -20,7 +19,7 @@ use bench_report::{
 use board::Payloads;
 use board_model::{Refusal, Shape};
 use crew::Crew;
-use script_lang::{Line, Script};
+use script_lang::Line;
 use simdisk::{Fill, SimDisk};
 use std::alloc::Global;
 use store::blank_disks;
@@ -54,7 +53,6 @@ fn run_before_format<C: Crew>(
     bench: BenchBoard,
 ) -> Result<(BenchBoard, bool), Refusal>
     requires range { IsLineInRange setting.now.shape.now line.now }
-    ensures slots { IfOk result (λ did. length did.0.payloads ≡ length bench.payloads) }
     ensures moved { IfOk result (λ did. (b : Bench) → IsBench setting.now.shape.now b bench.power bench.payloads
         → (answer : Answer) × (new : Bench) × Moves setting.now.shape.now line.now b answer new
         × IsBench setting.now.shape.now new did.0.power did.0.payloads × (new.growths ≡ b.growths) × (did.1 ≡ true → Formats line.now answer)) }
@@ -74,13 +72,13 @@ fn run_before_format<C: Crew>(
 
 /// A board over a blank disk of the size that it needs, whose slots boot copies of these.
 fn blank(alloc: Global, shape: &Shape, payloads: &Payloads) -> Result<BenchBoard, Refusal>
-    ensures slots { IfOk result (λ bench. bench.payloads ≡ four_of payloads.now) }
+    ensures slots { IfOk result (λ bench. bench.payloads ≡ payloads.now) }
     ensures blank { IfOk result (λ bench. (start : List (List ℕ)) → Agrees shape.now (bench_with start) bench.power) }
     ensures refused { IfErr result (λ e. e ≡ Memory) }
 {
     blank_disks::<SimDisk>();
     let disk = SimDisk::blank(alloc, shape.sectors())?;
-    let payloads = copy_payloads(alloc, payloads)?;
+    let payloads = payloads.copy()?;
     Ok(BenchBoard {
         power: Power::Off(OffDisk { disk }),
         payloads,
@@ -90,7 +88,6 @@ fn blank(alloc: Global, shape: &Shape, payloads: &Payloads) -> Result<BenchBoard
 
 /// Turns the board off behind the format. Refused `Memory` where the disk's record found none.
 fn formatted_site(alloc: Global, shape: &Shape, bench: BenchBoard) -> Result<Site, Refusal>
-    requires four { length bench.payloads ≡ 4 }
     ensures runs { IfOk result (λ site. (start : List (List ℕ)) (lines : List Line)
         → Begun shape.now start lines bench.power bench.payloads → IsFormattedAt shape.now start lines site) }
     ensures refused { IfErr result (λ e. e ≡ Memory) }
@@ -111,19 +108,8 @@ fn formatted_site(alloc: Global, shape: &Shape, bench: BenchBoard) -> Result<Sit
     })
 }
 
-/// Why no line formatted the disk: the disk's record found no memory, or the script formats none.
-fn unformatted(power: Power) -> Refusal
-    ensures { (result ≡ Memory) ⊎ (result ≡ NotPlain) }
-{
-    if disk_left(power).refused() == 0 {
-        Refusal::NotPlain
-    } else {
-        Refusal::Memory
-    }
-}
-
 /// Runs a script that begins with these payloads up to the first format that answers Ok: how many lines that were,
-/// and the board then. Refused `NotPlain` where no format does, and `Memory`.
+/// and the board then. Refused `Memory` alone, also where no format does.
 pub fn run_to_format<C: Crew>(
     setting: &Setting<'_, C>,
     lines: &[Line],
@@ -131,8 +117,8 @@ pub fn run_to_format<C: Crew>(
 ) -> Result<(usize, Site), Refusal>
     requires { All (IsLineInRange setting.now.shape.now) lines.now }
     ensures few { IfOk result (λ did. did.0 ≤ length lines.now) }
-    ensures runs { IfOk result (λ did. IsFormattedAt setting.now.shape.now (four_of payloads) (take did.0 lines.now) did.1) }
-    ensures refused { IfErr result (λ e. (e ≡ Memory) ⊎ (e ≡ NotPlain)) }
+    ensures runs { IfOk result (λ did. IsFormattedAt setting.now.shape.now payloads (take did.0 lines.now) did.1) }
+    ensures refused { IfErr result (λ e. e ≡ Memory) }
 {
     let alloc = setting.alloc;
     let shape = setting.shape;
@@ -147,5 +133,6 @@ pub fn run_to_format<C: Crew>(
         }
         bench = after;
     }
-    Err(unformatted(bench.power))
+    // A line formats the disk, which is blank, and nothing is armed. Only want of memory lets each format fail.
+    Err(Refusal::Memory)
 }

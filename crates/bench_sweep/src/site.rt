@@ -1,7 +1,5 @@
 //! A bench between two lines of its script.
 
-ghost use Rattle.std.specs.Prelude.{◌≡◌, length};
-
 use bench_judge::Ledger;
 use bench_report::{OffDisk, Power};
 use board::Payloads;
@@ -12,7 +10,6 @@ pub struct Site {
     pub off: OffDisk,
     pub payloads: Payloads,
     pub ledger: Ledger,
-    ghost four: { length payloads ≡ 4 },
 }
 
 /// A run that is under way.
@@ -21,5 +18,4 @@ pub struct Going {
     pub power: Power,
     pub payloads: Payloads,
     pub ledger: Ledger,
-    ghost four: { length payloads ≡ 4 },
 }

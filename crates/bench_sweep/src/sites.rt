@@ -1,7 +1,6 @@
 //! How a run goes on from a site.
 
-ghost use Rattle.std.specs.Prelude.{◌≡◌, ◌≤◌, ◌<◌, Some, None, true, false, length, take, slice_set, All, IfOk, IfErr, OnOk, MatchOption};
-ghost use Rattle.board.specs.Boots.{payload_at};
+ghost use Rattle.std.specs.Prelude.{◌≡◌, ◌≤◌, ◌<◌, Some, None, true, false, length, take, All, IfOk, IfErr, OnOk, MatchOption};
 ghost use Rattle.board_model.specs.Shapes.{Size};
 ghost use Rattle.board_model.specs.declared.refusal.Refusal.TheVariants.{Memory};
 ghost use Rattle.script_lang.specs.Lines.{IsLineInRange};
@@ -14,7 +13,6 @@ ghost use Rattle.bench_report.specs.Bench.{Bench};
 ghost use Rattle.bench_report.specs.Happens.{armed_with, off, unpowered};
 ghost use Rattle.bench_report.specs.Views.{arms, facts, sim_log_of};
 ghost use Rattle.bench_sweep.specs.Lines.{LineMoves};
-ghost use Rattle.bench_sweep.specs.Made.{four_of};
 ghost use Rattle.bench_sweep.specs.Points.{calls_of, fault_at};
 ghost use Rattle.bench_sweep.specs.Runs.{Runs, RunsAt, RunsCalm, LeftAt, RanTo, StopsOff};
 ghost use Rattle.bench_sweep.specs.Swept.{IsPlainLine};
@@ -30,7 +28,7 @@ use bench_report::{
     OffDisk, Power, Setting, arm_disk, console, disk_left, line_alone, power_on, struck,
 };
 use board::Payloads;
-use board_model::{BootMode, ConsoleCommand, Refusal, Shape, Slot};
+use board_model::{BootMode, ConsoleCommand, Refusal, Shape};
 use crew::Crew;
 use script_lang::Line;
 use simdisk::{Fill, SimDisk};
@@ -62,30 +60,6 @@ pub fn is_off(power: &Power) -> bool
     }
 }
 
-/// Copies what one slot boots.
-fn copy_slot(alloc: Global, from: &Payloads, to: &mut Payloads, number: u32) -> Result<(), Refusal>
-    requires number { number < 4 }
-    ensures copied { OnOk result (to.new ≡ slice_set to.old number (payload_at from.now number)) }
-    ensures refused { IfErr result (λ e. e ≡ Memory) }
-{
-    let slot = Slot::new(number).unwrap();
-    to.set(slot, Vec::from_slice(alloc, from.get(slot))?);
-    Ok(())
-}
-
-/// What four slots boot, copied.
-pub fn copy_payloads(alloc: Global, from: &Payloads) -> Result<Payloads, Refusal>
-    ensures copied { IfOk result (λ to. to ≡ four_of from.now) }
-    ensures refused { IfErr result (λ e. e ≡ Memory) }
-{
-    let mut to = Payloads::new(alloc);
-    copy_slot(alloc, from, &mut to, 0)?;
-    copy_slot(alloc, from, &mut to, 1)?;
-    copy_slot(alloc, from, &mut to, 2)?;
-    copy_slot(alloc, from, &mut to, 3)?;
-    Ok(to)
-}
-
 impl Site {
     /// A site to run from: its disk is the one that a power cut leaves of this one's, of which all is durable.
     pub fn copy(&self, alloc: Global) -> Result<Site, Refusal>
@@ -96,7 +70,7 @@ impl Site {
         ensures refused { IfErr result (λ e. e ≡ Memory) }
     {
         let off = cut_by(&self.off, Fill::Old)?;
-        let payloads = copy_payloads(alloc, &self.payloads)?;
+        let payloads = self.payloads.copy()?;
         let ledger = self.ledger.copy(alloc)?;
         Ok(Site {
             off,
@@ -204,7 +178,6 @@ fn run_still_line<C: Crew>(
     requires of_none { moves_harts line.now ≡ false }
     requires no_boot { powers_on line.now ≡ false }
     requires calm { IsUnstruck power }
-    ensures slots { length payloads.new ≡ length payloads.old }
     ensures runs { IfOk result (λ now. (b : Bench) → RunsCalm setting.now.shape.now b power payloads.old ledger.old
         → LineMoves setting.now.shape.now line.now b now payloads.new ledger.new) }
     ensures refused { IfErr result (λ e. e ≡ Memory) }
@@ -241,7 +214,6 @@ fn run_on_power<C: Crew>(
     requires range { IsLineInRange setting.now.shape.now line.now }
     requires plain { IsPlainLine line.now }
     requires calm { IsUnstruck power }
-    ensures slots { length payloads.new ≡ length payloads.old }
     ensures runs { IfOk result (λ now. (b : Bench) → RunsCalm setting.now.shape.now b power payloads.old ledger.old
         → LineMoves setting.now.shape.now line.now b now payloads.new ledger.new) }
     ensures refused { IfErr result (λ e. e ≡ Memory) }

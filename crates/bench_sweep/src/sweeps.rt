@@ -9,10 +9,10 @@ ghost use Rattle.script_lang.specs.Lines.{IsLineInRange};
 ghost use Rattle.script_lang.specs.Scripts.{script_of, Script as Said};
 ghost use Rattle.bench_report.specs.Bench.{Bench as ModelBench};
 ghost use Rattle.bench_report.specs.Happens.{off, unpowered};
-ghost use Rattle.bench_sweep.specs.Made.{IsPlainRun, four_of};
+ghost use Rattle.bench_sweep.specs.Made.{IsPlainRun};
 ghost use Rattle.bench_sweep.specs.Points.{calls_of, MadeCalls};
 ghost use Rattle.bench_sweep.specs.Runs.{Runs, RunsAt, LeftAt, Sits, SitsLeft, IsLife};
-ghost use Rattle.bench_sweep.specs.Swept.{IsPlainLine, AreSwept, cell, runs_of, runs_from, all_runs, callers, total, WroteAll, IsBenchOf};
+ghost use Rattle.bench_sweep.specs.Swept.{IsPlainLine, IsNoFormat, IsNotPlain, NoBenchRuns, AreSwept, cell, runs_of, runs_from, all_runs, callers, total, WroteAll, IsBenchOf};
 ghost use Rattle.bench_sweep.specs.Reports.{Reports, IsLeft, RunsRow, IsRow};
 
 use crate::begins::run_to_format;
@@ -440,7 +440,39 @@ fn are_plain(lines: &[Line]) -> bool
     lines.iter().all(|line| is_plain(line))
 }
 
-/// Runs that bench over those lines, on boards of that shape, of a script that begins with these payloads. Refused `NotPlain` before anything is written.
+/// Whether the line formats no disk.
+fn is_no_format(line: &Line) -> bool
+    ensures { IsTrue result ↔ IsNoFormat line.now }
+{
+    match line {
+        Line::Format => false,
+        _ => true,
+    }
+}
+
+/// Whether none of these lines formats a disk.
+fn format_none(lines: &[Line]) -> bool
+    ensures { IsTrue result ↔ All IsNoFormat lines.now }
+{
+    lines.iter().all(|line| is_no_format(line))
+}
+
+/// Refused `NotPlain` exactly where no bench runs a script of these lines.
+fn check_plain(lines: &[Line]) -> Result<(), Refusal>
+    ensures plain { OnOk result (All IsPlainLine lines.now) }
+    ensures runs { OnOk result (IsNotPlain lines.now → ⊥) }
+    ensures refused { IfErr result (λ e. (e ≡ NotPlain) × IsNotPlain lines.now) }
+{
+    if !are_plain(lines) {
+        return Err(Refusal::NotPlain);
+    }
+    if format_none(lines) {
+        return Err(Refusal::NotPlain);
+    }
+    Ok(())
+}
+
+/// Runs that bench over those lines, on boards of that shape, of a script that begins with these payloads.
 fn sweep_lines<'a, C: Crew, W: Write>(
     alloc: Global,
     crew: &'a C,
@@ -451,10 +483,9 @@ fn sweep_lines<'a, C: Crew, W: Write>(
     out: &mut W,
 ) -> Result<Sweep, Refusal>
     requires lines { AreSwept shape.now lines.now }
-    ensures wrote { IfOk result (λ sweep. WroteAll bench shape.now (four_of payloads) lines.now (W.contents out.old)
+    ensures wrote { IfOk result (λ sweep. WroteAll bench shape.now payloads lines.now (W.contents out.old)
         (W.contents out.new) sweep) }
-    ensures refused { IfErr result (λ e. (e ≡ Memory) ⊎ (e ≡ Output)
-        ⊎ ((e ≡ NotPlain) × (W.contents out.new ≡ W.contents out.old))) }
+    ensures refused { IfErr result (λ e. (e ≡ Memory) ⊎ (e ≡ Output)) }
 {
     let setting = Setting { alloc, crew, shape };
     let (count, site) = run_to_format(&setting, lines, payloads)?;
@@ -476,7 +507,7 @@ fn sweep_lines<'a, C: Crew, W: Write>(
     Ok(sweep)
 }
 
-/// Runs that bench over a script whose lines are all plain. Refused `NotPlain` before anything is written.
+/// Runs that bench over a script whose lines are all plain.
 fn sweep_plain_script<R: Threads + Sync, W: Write>(
     alloc: Global,
     bench: Bench,
@@ -486,10 +517,9 @@ fn sweep_plain_script<R: Threads + Sync, W: Write>(
 ) -> Result<Sweep, Refusal>
     requires ranges { All (IsLineInRange script.now.shape) script.now.lines.items }
     requires plain { All IsPlainLine script.now.lines.items }
-    ensures wrote { IfOk result (λ sweep. WroteAll bench script.now.shape (four_of payloads) script.now.lines.items (W.contents out.old)
+    ensures wrote { IfOk result (λ sweep. WroteAll bench script.now.shape payloads script.now.lines.items (W.contents out.old)
         (W.contents out.new) sweep) }
-    ensures refused { IfErr result (λ e. (e ≡ Memory) ⊎ (e ≡ Output)
-        ⊎ ((e ≡ NotPlain) × (W.contents out.new ≡ W.contents out.old))) }
+    ensures refused { IfErr result (λ e. (e ≡ Memory) ⊎ (e ≡ Output)) }
 {
     let crew = Sequential::<R>::new([0, 1, 2, 3])?;
     sweep_lines(
@@ -511,9 +541,9 @@ fn sweep_plain_script<R: Threads + Sync, W: Write>(
 /// fault bench lets the call fail, runs the script to its end, and then cuts power. Behind each run a board is powered on
 /// that keeps its image, and what it found is judged. A line is written for each run, and one with the counts.
 ///
-/// Refused `BadShape` or `BadScript` where the script has a fault, and `NotPlain` where it arms a cut or a failure,
-/// cuts power, pokes, or formats no disk: then nothing is written. Refused `Memory` where memory was, and `Output`
-/// where the writer failed: then any first lines may stand in it.
+/// Refused `BadShape` or `BadScript` where the script has a fault, and `NotPlain` where a line of it arms a cut or a
+/// failure, cuts power or pokes, or none is `format`: then nothing is written. Refused `Memory` where memory was, and
+/// `Output` where the writer failed: then any first lines may stand in it.
 pub fn run_bench<R: Threads + Sync, W: Write>(
     alloc: Global,
     bench: Bench,
@@ -524,19 +554,17 @@ pub fn run_bench<R: Threads + Sync, W: Write>(
     // What was written is a line for each run, in order, and the line of the counts. The runs are those of the points
     // of each caller, from number 1 on: as many as the script makes calls of it. Each is a run of the script's own lines
     // with that call armed, and tells what a power-on then said. None was wrong.
-    ensures wrote { IfOk result (λ sweep. IsBenchOf bench (four_of payloads) script.now (W.contents out.old) (W.contents out.new) sweep) }
-    // A refusal is the script's fault, or want of memory, or the writer's, or the script is not plain.
+    ensures wrote { IfOk result (λ sweep. IsBenchOf bench payloads script.now (W.contents out.old) (W.contents out.new) sweep) }
+    // A refusal is want of memory, or the writer's, or the script's fault, or no bench runs the script.
     ensures refused { IfErr result (λ e. (e ≡ Memory) ⊎ (e ≡ Output) ⊎ (script_of script.now ≡ Err e)
-        ⊎ ((e ≡ NotPlain) × (W.contents out.new ≡ W.contents out.old))) }
-    // A script with a fault runs nothing, and neither does one with a line that is not plain.
+        ⊎ ((e ≡ NotPlain) × NoBenchRuns script.now)) }
+    // A script with a fault runs nothing, and neither does one that no bench runs.
     ensures nothing { (e : Refusal) → script_of script.now ≡ Err e
         → (W.contents out.new ≡ W.contents out.old) × ((result ≡ Err e) ⊎ (result ≡ Err Memory)) }
-    ensures plain { (said : Said) → script_of script.now ≡ Ok said → (All IsPlainLine said.lines → ⊥)
+    ensures plain { (said : Said) → script_of script.now ≡ Ok said → IsNotPlain said.lines
         → (W.contents out.new ≡ W.contents out.old) × ((result ≡ Err NotPlain) ⊎ (result ≡ Err Memory)) }
 {
     let script = parse_script(alloc, script)?;
-    if !are_plain(&script.lines) {
-        return Err(Refusal::NotPlain);
-    }
+    check_plain(&script.lines)?;
     sweep_plain_script::<R, W>(alloc, bench, &script, payloads, out)
 }

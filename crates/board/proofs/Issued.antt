@@ -24,14 +24,14 @@ use Rattle.board.proofs.Moments.{IsNow, untouched_moments}
 use Rattle.board.proofs.Unmoved.{none_issued}
 
 -- what a crash may leave where it leaves that state alone stands for it
-stands_alone : (disk : Facts) (size : Size) (s : DurableState) → LeavesOnly disk size s → (x : Content) → disk.may_leave x → StandsFor x size s
+pub stands_alone : (disk : Facts) (size : Size) (s : DurableState) → LeavesOnly disk size s → (x : Content) → disk.may_leave x → StandsFor x size s
 unfolding IsKept Leaves
 stands_alone disk size s left x may =
     let found = left.kept x may in
     subst (λ (t : DurableState). StandsFor x size t) ((left.only size found.0 (x, may, found.1)).1) found.1
 
 -- ---- commands, one after another
-fold_more : (s : DurableState) (cs ds : List Change) → fold s (cs ++ ds) ≡ fold (fold s cs) ds
+pub fold_more : (s : DurableState) (cs ds : List Change) → fold s (cs ++ ds) ≡ fold (fold s cs) ds
 fold_more s [] ds = refl
 fold_more s (c ∷ cs) ds = fold_more (after s c) cs ds
 

@@ -1,11 +1,11 @@
 //! What the boot slots hold.
 
-ghost use Rattle.std.specs.Prelude.{◌≡◌, ◌≤◌, ◌↔◌, ℕ, List, [], ◌∷◌, length, IsTrue, slice_set, All};
+ghost use Rattle.std.specs.Prelude.{◌≡◌, ◌≤◌, ◌↔◌, ℕ, List, [], ◌∷◌, length, IsTrue, IfOk, slice_set, All};
 ghost use Rattle.board_model.specs.Shapes.{ram_bytes_of};
 ghost use Rattle.board.specs.Boots.{PayloadsFit, payload_at};
 
 use board_model::{Shape, Slot};
-use std::alloc::Global;
+use std::alloc::{AllocError, Global};
 use std::marker::Model;
 
 /// The bytes that each of the four boot slots boots, which contracts see as a list of four lists.
@@ -58,6 +58,14 @@ impl Payloads {
         ensures { result.now ≡ payload_at self.now slot }
     {
         self.slots[slot.index()].as_slice()
+    }
+
+    /// The same payloads, in memory of their own.
+    pub fn copy(&self) -> Result<Payloads, AllocError>
+        ensures { IfOk result (λ copy. copy ≡ self.now) }
+    {
+        let slots = self.slots.clone()?;
+        Ok(Payloads { slots })
     }
 
     /// Whether each of them fits into the RAM of a board.

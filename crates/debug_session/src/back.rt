@@ -1,6 +1,6 @@
 //! Running back: where the way back ends.
 
-ghost use Rattle.std.specs.Prelude.{◌≡◌, ◌⊎◌, ◌<◌, All, length, replicate, take, IfOk, IfErr, IfSome, IfNone, OnOk};
+ghost use Rattle.std.specs.Prelude.{◌≡◌, ◌⊎◌, ◌<◌, All, replicate, take, IfOk, IfErr, IfSome, IfNone, OnOk};
 ghost use Rattle.board_model.specs.Shapes.{Size};
 ghost use Rattle.board_model.specs.declared.refusal.Refusal.TheVariants.{Memory};
 ghost use Rattle.bench_rows.specs.Notes.{AreInRange};
@@ -164,7 +164,6 @@ fn last_halt<C: Crew>(
     timeline: &Timeline,
 ) -> Result<Option<Place>, Refusal>
     requires ranges { AreInRange setting.now.shape.now timeline.now.history }
-    requires four { length timeline.now.begins ≡ 4 }
     ensures place { IfOk result (λ found. IfSome found (λ place. IsPlace place.stop.hart place.line place.turns
         timeline.now.history)) }
     ensures found { IfOk result (λ found. (last : Bench) × FoundOf setting.now.shape.now stops.now found timeline.now.history
@@ -189,7 +188,6 @@ fn place_back<C: Crew>(
     timeline: &Timeline,
 ) -> Result<Option<Place>, Refusal>
     requires ranges { AreInRange setting.now.shape.now timeline.now.history }
-    requires four { length timeline.now.begins ≡ 4 }
     ensures place { IfOk result (λ found. IfSome found (λ place. IsPlace place.stop.hart place.line place.turns
         timeline.now.history)) }
     ensures end { IfOk result (λ found. IfSome found (λ place. IsEnd setting.now.shape.now stops.now place

@@ -1,6 +1,6 @@
 //! A board under a debugger.
 
-ghost use Rattle.std.specs.Prelude.{◌≡◌, ◌⊎◌, ◌≤◌, ◌<◌, ℕ, [], All, length, slice_index_or, true, false, string_bytes, Ok, Some, IfOk, IfErr, OnErr, OnOk};
+ghost use Rattle.std.specs.Prelude.{◌≡◌, ◌⊎◌, ◌≤◌, ◌<◌, ℕ, [], All, slice_index_or, true, false, string_bytes, Ok, Some, IfOk, IfErr, OnErr, OnOk};
 ghost use Rattle.board_model.specs.declared.refusal.Refusal.TheVariants.{Memory};
 ghost use Rattle.bench_history.specs.Pasts.{IsBack, NoRow};
 ghost use Rattle.bench_report.specs.Bench.{no_payloads};
@@ -56,7 +56,6 @@ fn begun<C: Crew>(
     begins: Payloads,
     lines: Vec<Line>,
 ) -> Result<Timeline, Refusal>
-    requires four { length begins ≡ 4 }
     requires ranges { AreInRange setting.now.shape.now lines.items }
     ensures at { IfOk result (IsAt setting.now.shape.now) }
     ensures noted { IfOk result (λ t. AreNoted lines.items [] t.history) }
@@ -78,7 +77,6 @@ impl<'a, C: Crew> Session<'a, C> {
         begins: Payloads,
         lines: Vec<Line>,
     ) -> Result<Session<'a, C>, Refusal>
-        requires four { length begins ≡ 4 }
         requires ranges { AreInRange setting.shape.now lines.items }
         ensures at { IfOk result (λ s. IsAt (size_of s) (timeline_of s)) }
         ensures size { IfOk result (λ s. size_of s ≡ setting.entry.shape.now) }

@@ -31,7 +31,7 @@ within_then most row rows.Off one few within = within
 within_then most row (rows.Made n word) one few within = (omega (arith, one), omega (arith, one, few))
 within_then most row (rows.Lost n) one few within = (omega (arith, one), omega (arith, one, few))
 
-not_true : (e : Bool) → not e ≡ true → e ≡ false
+pub not_true : (e : Bool) → not e ≡ true → e ≡ false
 not_true true h = absurd (let never : ⊥ = cc in never)
 not_true false h = refl
 

@@ -19,6 +19,7 @@ use Rattle.debug_timeline.specs.declared.debugged.DebuggedBench.{DebuggedBench}
 use Rattle.debug_timeline.specs.declared.timeline.Timeline.{Timeline}
 use Rattle.debug_timeline.specs.Ats.{GoesOnBy, IsLeft, IsNoted, Ran}
 use Rattle.debug_timeline.specs.Lives.{Shows}
+use Rattle.debug_timeline.proofs.Rests.{not_true}
 
 -- what holds whatever is answered
 pub always_ok : {A E : Type 0} (r : Result A E) (P : Type 0) → P → OnOk r P
@@ -70,10 +71,6 @@ ran_whole size line (Ok answer) old new not moves noted = record { moves = moves
 -- ---- a history that is run again
 no_true : false ≡ true → ⊥
 no_true e = let never : ⊥ = cc in never
-
-not_true : (e : Bool) → not e ≡ true → e ≡ false
-not_true true h = absurd (no_true h)
-not_true false h = refl
 
 -- a row of which all turns were made, and that goes on
 pub goes_by : (size : Size) (h n : ℕ) (row : Row) (b new : Bench) (joins : Bool) → (joins ≡ true → goes_on row ≡ true) → (joins ≡ true → made_in row ≡ n) → RowMoves size h row b new → GoesOnBy size joins (lines.Turn h n) b new

@@ -1,5 +1,5 @@
 -- The state of a debugged board is one that its history may leave.
-use Rattle.std.specs.Prelude.{◌≡◌, ◌<◌, ℕ, Bool, true, false, List, [], ◌∷◌, ◌++◌, length, take, replicate, ⊤}
+use Rattle.std.specs.Prelude.{◌≡◌, ◌<◌, ℕ, Bool, true, false, List, [], ◌∷◌, ◌++◌, take, replicate, ⊤}
 use Rattle.board_model.specs.Shapes.{Size}
 use Rattle.sbi.specs.Words.{ends}
 use Rattle.sbi.specs.declared.words.Word.{Word}
@@ -38,7 +38,6 @@ pub record IsAt (size : Size) (t : Timeline) : Type 0 where
   pub sound : IsSound t.bench
   pub fill : t.bench.live.fill ≡ fills_after t.history fills.Old
   pub ranges : AreInRange size t.history
-  pub four : length t.begins ≡ 4
 
 -- A line became part of the history; a row of turns with as many as its answer says.
 abbrev pub IsNoted : Line → Answer → List Line → List Line → Type 0

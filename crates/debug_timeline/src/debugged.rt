@@ -1,6 +1,6 @@
 //! The bench of a debugger between two lines.
 
-ghost use Rattle.std.specs.Prelude.{◌≡◌, ◌⊎◌, ◌≤◌, ◌<◌, ◌+◌, ℕ, true, false, None, IfOk, IfErr, OnOk, length};
+ghost use Rattle.std.specs.Prelude.{◌≡◌, ◌⊎◌, ◌≤◌, ◌<◌, ◌+◌, ℕ, true, false, None, IfOk, IfErr, OnOk};
 ghost use Rattle.board_model.specs.Shapes.{Size};
 ghost use Rattle.board_model.specs.declared.refusal.Refusal.TheVariants.{Memory};
 ghost use Rattle.bench_report.specs.Agree.{fill_after};
@@ -43,7 +43,6 @@ enum Next {
 impl DebuggedBench {
     /// The bench before its first line: a blank disk of the size that the board needs, and these payloads.
     pub fn blank(alloc: Global, shape: &Shape, begins: &Payloads) -> Result<DebuggedBench, Refusal>
-        requires four { length begins.now ≡ 4 }
         ensures shows { IfOk result (Shows shape.now (bench_with begins.now)) }
         ensures sound { IfOk result IsSound }
         ensures fill { IfOk result (λ bench. bench.live.fill ≡ fills.Old) }

@@ -1,6 +1,6 @@
 //! A history, run again.
 
-ghost use Rattle.std.specs.Prelude.{◌≡◌, length, IfOk, IfErr, OnOk};
+ghost use Rattle.std.specs.Prelude.{◌≡◌, IfOk, IfErr, OnOk};
 ghost use Rattle.board_model.specs.declared.refusal.Refusal.TheVariants.{Memory};
 ghost use Rattle.bench_report.specs.Agree.{fill_after, fills_after};
 ghost use Rattle.bench_report.specs.Bench.{Bench, bench_with};
@@ -54,7 +54,6 @@ pub(crate) fn replayed<C: Crew>(
     lines: &[Line],
 ) -> Result<(DebuggedBench, bool), Refusal>
     requires ranges { AreInRange setting.now.shape.now lines.now }
-    requires four { length begins.now ≡ 4 }
     ensures left { IfOk result (λ did. (b : Bench) × Leaves setting.now.shape.now (bench_with begins.now) lines.now b
         × Joins setting.now.shape.now (bench_with begins.now) did.1 lines.now b × Shows setting.now.shape.now b did.0) }
     ensures sound { IfOk result (λ did. IsSound did.0) }

@@ -1,6 +1,6 @@
 //! The bench with its history.
 
-ghost use Rattle.std.specs.Prelude.{◌≡◌, ◌⊎◌, ◌≤◌, ◌<◌, ◌++◌, ◌∷◌, [], ℕ, true, false, take, length, replicate, IfOk, OnOk, IfErr, MatchResult, ⊤};
+ghost use Rattle.std.specs.Prelude.{◌≡◌, ◌⊎◌, ◌≤◌, ◌<◌, ◌++◌, ◌∷◌, [], ℕ, true, false, take, replicate, IfOk, OnOk, IfErr, MatchResult, ⊤};
 ghost use Rattle.std.specs.Bool.{MatchBool};
 ghost use Rattle.board_model.specs.declared.refusal.Refusal.TheVariants.{Memory};
 ghost use Rattle.bench_history.specs.Pasts.{IsBack, NoRow, moments, some_turns};
@@ -37,7 +37,6 @@ pub struct Timeline {
 impl Timeline {
     /// Before the first line of a script that begins with these payloads.
     pub fn blank(alloc: Global, shape: &Shape, begins: Payloads) -> Result<Timeline, Refusal>
-        requires four { length begins ≡ 4 }
         ensures at { IfOk result (IsAt shape.now) }
         ensures history { IfOk result (λ t. t.history ≡ []) }
         ensures begins { IfOk result (λ t. t.begins ≡ begins) }
@@ -180,7 +179,6 @@ impl Timeline {
     /// Runs the history again from its begin.
     fn again<C: Crew>(&mut self, setting: &Setting<'_, C>) -> Result<(), Refusal>
         requires ranges { AreInRange setting.now.shape.now self.old.history }
-        requires four { length self.old.begins ≡ 4 }
         ensures at { OnOk result (IsAt setting.now.shape.now self.new) }
         ensures history { self.new.history ≡ self.old.history }
         ensures begins { self.new.begins ≡ self.old.begins }

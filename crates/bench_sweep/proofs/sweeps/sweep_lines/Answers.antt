@@ -1,6 +1,5 @@
 use Rattle.std.proofs.Common.{◌≡◌, ◌∙◌, ℕ, List, Option, refl, sym, ap, subst}
 use Rattle.bench_report.specs.Happens.{off, unpowered}
-use Rattle.bench_sweep.specs.Made.{four_of}
 use Rattle.bench_sweep.specs.Points.{MadeCalls}
 use Rattle.bench_sweep.specs.Swept.{WroteAll, callers}
 use Rattle.bench_sweep.proofs.Left.{off_sits}
@@ -29,7 +28,7 @@ pub returns-clause-wrote : goal.returns-clause-wrote
 returns-clause-wrote g c =
     let size = c.args.shape.now in
     let lines = c.args.lines.now in
-    let start = four_of c.args.payloads in
+    let start = c.args.payloads in
     let begun = c.in_ok-count.ensures.runs in
     let count = c.in_ok-count.count in
     let rest = rest_is count lines in

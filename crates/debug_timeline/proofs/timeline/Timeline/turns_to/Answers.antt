@@ -20,7 +20,6 @@ returns-clause-at g c =
       sound = row.ensures.sound;
       fill = row.ensures.fill ∙ at.fill ∙ sym (note.fill fills.Old);
       ranges = note.ranges size c.requires.hart at.ranges;
-      four = at.four;
     }
 
 pub returns-clause-made : goal.returns-clause-made

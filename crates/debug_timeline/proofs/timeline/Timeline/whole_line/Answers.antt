@@ -1,7 +1,8 @@
 use Rattle.std.proofs.Common.{false, List, sym, ap, ◌∙◌, subst}
 use Rattle.bench_report.specs.Agree.{fill_after, fills_after}
 use Rattle.bench_rows.specs.Notes.{AreInRange}
-use Rattle.bench_rows.proofs.Noted.{fills_snoc, ranges_more}
+use Rattle.bench_report.proofs.RunLines.{fills_snoc}
+use Rattle.bench_rows.proofs.Noted.{ranges_more}
 use Rattle.script_lang.specs.declared.line.Line.{Line}
 use Rattle.simdisk.specs.declared.fill.Fill.TheVariants as fills
 use Rattle.debug_timeline.proofs.Timelines.{Left, line_left}
@@ -21,7 +22,6 @@ returns-clause-at g c =
       sound = ran.sound;
       fill = ran.fill ∙ ap (fill_after c.args.line) at.fill ∙ sym (ap (λ (xs : List Line). fills_after xs fills.Old) same ∙ fills_snoc old.history c.args.line fills.Old);
       ranges = subst (AreInRange size) (sym same) (ranges_more size old.history c.args.line at.ranges c.requires.range);
-      four = at.four;
     }
 
 pub returns-clause-moves : goal.returns-clause-moves
