@@ -5,10 +5,11 @@ use Rattle.hex.specs.Hex.{decode_of}
 use Rattle.hex.specs.declared.FromHexError.{FromHexError}
 use Rattle.bench_history.specs.Pasts.{IsBack, NoRow}
 use Rattle.bench_report.specs.declared.printed.Answer.{Answer}
+use Rattle.bench_report.specs.Reports.{answer_text}
 use Rattle.board_model.specs.Shapes.{Size}
 use Rattle.board_model.specs.declared.refusal.Refusal.{Refusal}
 use Rattle.debug_packets.specs.Resumes.{IsAskedBy}
-use Rattle.debug_packets.specs.Texts.{board_line}
+use Rattle.debug_packets.specs.Texts.{HandOver, board_line}
 use Rattle.debug_packets.specs.Stops.{stop_text}
 use Rattle.debug_packets.specs.Talks.{hart_in, last_in, session_in, takes_in}
 use Rattle.debug_packets.specs.declared.talk.Talk.{Talk}
@@ -16,6 +17,7 @@ use Rattle.debug_session.specs.Backs.{BackTo}
 use Rattle.debug_session.specs.Firsts.{ToHalt}
 use Rattle.debug_session.specs.Sessions.{history_of, plan_of, size_of, stops_of, timeline_of}
 use Rattle.debug_session.specs.Steps.{IsStep, MakesNone, Went}
+use Rattle.debug_session.specs.Texts.{history_text}
 use Rattle.debug_session.specs.Withins.{StepsWithin, within_plan}
 use Rattle.debug_session.specs.declared.halts.Halt.TheVariants as halts
 use Rattle.debug_session.specs.declared.halts.Stop.{Stop}
@@ -112,48 +114,49 @@ line_of_script (Ok script) = just_one script.lines
 abbrev pub line_in : Size → List ℕ → Option Line
 line_in size text = line_of_script (script_of (board_line size ++ text))
 
--- the debugger's own words
+-- words of the debugger's own, beside `script`
 abbrev pub is_own : List ℕ → Bool
-is_own text =
-    if bytes_eq text [] then true else
-    (if bytes_eq text (codes "help") then true else
-    (if bytes_eq text (codes "script") then true else bytes_eq text (codes "harts")))
+is_own text = if bytes_eq text [] then true else (if bytes_eq text (codes "help") then true else bytes_eq text (codes "harts"))
 
--- the line was run and noted; what is none changes nothing
-abbrev pub LineRan : Option Line → Size → Timeline → Timeline → Type 0
-LineRan None size old new = new ≡ old
-LineRan (Some line) size old new = (answer : Answer) × Ran size line answer old new
+-- the line was run and noted, and its report is said; what is none changes nothing
+abbrev pub LineRan : Option Line → Size → Timeline → Timeline → List ℕ → Type 0
+LineRan None size old new said = new ≡ old
+LineRan (Some line) size old new said = (answer : Answer) × Ran size line answer old new × (said ≡ answer_text answer)
 
-abbrev pub TextSaid : List ℕ → Size → Timeline → Timeline → Type 0
-TextSaid text size old new = MatchBool (is_own text) (new ≡ old) (LineRan (line_in size text) size old new)
+-- `script` says the history; the debugger's own words change nothing
+abbrev pub TextSaid : List ℕ → Size → Timeline → Timeline → List ℕ → Type 0
+TextSaid text size old new said =
+    MatchBool (bytes_eq text (codes "script")) ((new ≡ old) × (said ≡ history_text size old.begins old.history ++ codes "\n"))
+    (MatchBool (is_own text) (new ≡ old) (LineRan (line_in size text) size old new said))
 
-abbrev pub HexSaid : Option (List ℕ) → Size → Timeline → Timeline → Type 0
-HexSaid None size old new = new ≡ old
-HexSaid (Some text) size old new = TextSaid text size old new
+-- what is said goes to the console, and then comes `OK`
+abbrev pub HexSaid : Option (List ℕ) → Size → Timeline → Timeline → List (List ℕ) → List ℕ → Type 0
+HexSaid None size old new told text = (new ≡ old) × (told ≡ []) × (text ≡ codes "E01")
+HexSaid (Some line) size old new told text = (said : List ℕ) × HandOver said told × TextSaid line size old new said × (text ≡ codes "OK")
 
-abbrev pub MonitoredBy : Option (List ℕ) → Size → Timeline → Timeline → Type 0
-MonitoredBy None size old new = new ≡ old
-MonitoredBy (Some word) size old new = HexSaid (hexed word) size old new
+abbrev pub MonitoredBy : Option (List ℕ) → Size → Timeline → Timeline → List (List ℕ) → List ℕ → Type 0
+MonitoredBy None size old new told text = (new ≡ old) × (told ≡ []) × (text ≡ [])
+MonitoredBy (Some word) size old new told text = HexSaid (hexed word) size old new told text
 
 -- ---- any request
 
--- how what may move the board changes the history, by its packet, and what is told last
-abbrev pub MovedBy : {C : Type 0} → Move → List ℕ → Talk C → Talk C → List ℕ → Type 0
-MovedBy moves.Step packet old new text =
+-- how what may move the board changes the history, by its packet, what goes to the console, and what is told last
+abbrev pub MovedBy : {C : Type 0} → Move → List ℕ → Talk C → Talk C → List (List ℕ) → List ℕ → Type 0
+MovedBy moves.Step packet old new told text =
     IsTold old new text × SteppedOnce (hart_in old) (last_in new) (session_in old) (session_in new)
-MovedBy moves.Go packet old new text =
+MovedBy moves.Go packet old new told text =
     IsTold old new text × WentOn (replicate 8 true) (last_in new) (session_in old) (session_in new)
-MovedBy moves.StepBack packet old new text =
+MovedBy moves.StepBack packet old new told text =
     IsTold old new text × WentBack (hart_in old) (last_in new) (session_in old) (session_in new)
-MovedBy moves.GoBack packet old new text =
+MovedBy moves.GoBack packet old new told text =
     IsTold old new text × WentFarBack (hart_in old) (last_in new) (session_in old) (session_in new)
-MovedBy moves.Resume packet old new text = ResumedBy (behind_prefix (codes "vCont;") packet) old new text
-MovedBy moves.Monitor packet old new text =
+MovedBy moves.Resume packet old new told text = ResumedBy (behind_prefix (codes "vCont;") packet) old new text
+MovedBy moves.Monitor packet old new told text =
     IsUntold old new × MonitoredBy (behind_prefix (codes "qRcmd,") packet) (size_of (session_in old)) (timeline_of (session_in old))
-    (timeline_of (session_in new))
+    (timeline_of (session_in new)) told text
 
 -- What looks changes neither the bench nor its history. What moves the board tells the console first, and its stop last.
 abbrev pub Moved : {C : Type 0} → Request → List ℕ → Talk C → Talk C → List (List ℕ) → Type 0
 Moved (asks.Look look) packet old new payloads = timeline_of (session_in new) ≡ timeline_of (session_in old)
 Moved (asks.Move move) packet old new payloads =
-    (told : List (List ℕ)) × (text : List ℕ) × (payloads ≡ told ++ text ∷ []) × MovedBy move packet old new text
+    (told : List (List ℕ)) × (text : List ℕ) × (payloads ≡ told ++ text ∷ []) × MovedBy move packet old new told text

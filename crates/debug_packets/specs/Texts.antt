@@ -1,11 +1,12 @@
 -- Texts of a session. Source: docs/SCRIPT.md for the board line; "Debugging with GDB", appendix "GDB Remote Serial Protocol",
 -- "Thread List Format".
-use Rattle.std.specs.Prelude.{ℕ, ◌+◌, false, List, ◌++◌}
+use Rattle.std.specs.Prelude.{◌≡◌, ℕ, ◌+◌, false, List, ◌++◌, map}
 use Rattle.std.specs.Fmt.{decimal, digits}
 use Rattle.std.specs.List.{flat_map, range_with_len}
 use Rattle.board_model.specs.Shapes.{Size}
 use Rattle.debug_session.specs.Texts.{state_text}
 use Rattle.debug_timeline.specs.declared.debugged.DebuggedBench.{DebuggedBench}
+use Rattle.gdb_replies.specs.Replies.{pairs_of}
 use lib.Chars.{codes}
 
 abbrev pub board_line : Size → List ℕ
@@ -25,3 +26,12 @@ thread_lines harts b = flat_map (thread_line b) (range_with_len 0 harts)
 abbrev pub threads_object : Size → DebuggedBench → List ℕ
 threads_object size b =
     codes "<?xml version=\"1.0\"?>\n<threads>\n" ++ (thread_lines size.harts b ++ codes "</threads>\n")
+
+-- the packet of a piece of text for the console
+abbrev pub console_packet : List ℕ → List ℕ
+console_packet piece = codes "O" ++ pairs_of piece
+
+-- these packets hand a text to the console, piece by piece
+abbrev pub HandOver : List ℕ → List (List ℕ) → Type 0
+HandOver text packets =
+    (pieces : List (List ℕ)) × (flat_map (λ piece. piece) pieces ≡ text) × (packets ≡ map console_packet pieces)

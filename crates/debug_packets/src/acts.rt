@@ -1,6 +1,6 @@
 //! Requests that may move the board.
 
-ghost use Rattle.std.specs.Prelude.{◌≡◌, ◌<◌, codes, IfOk, OnOk};
+ghost use Rattle.std.specs.Prelude.{◌≡◌, ◌<◌, [], codes, map, IfOk, OnOk};
 ghost use Rattle.debug_timeline.specs.Ats.{IsAt};
 ghost use Rattle.debug_session.specs.Sessions.{plan_of, size_of, stops_of, timeline_of};
 ghost use Rattle.debug_packets.specs.Kept.{IsTalk};
@@ -30,9 +30,10 @@ impl<'a, C: Crew> Talk<'a, C> {
         out: &mut Payloads,
     ) -> Result<Vec<u8>, Refusal>
         requires at { IsAt (size_of self.old.session) (timeline_of self.old.session) }
+        requires none { out.old.items ≡ [] }
         ensures at { OnOk result (IsAt (size_of self.new.session) (timeline_of self.new.session)) }
         ensures size { size_of self.new.session ≡ size_of self.old.session }
-        ensures moved { IfOk result (λ v. MovedBy asked packet.now self.old self.new v.items) }
+        ensures moved { IfOk result (λ v. MovedBy asked packet.now self.old self.new (map (λ v. v.items) out.new.items) v.items) }
         ensures plan { plan_of self.new.session ≡ plan_of self.old.session }
         ensures stops { stops_of self.new.session ≡ stops_of self.old.session }
         ensures talk { IsTalk self.new.last self.old.takes_swbreak self.old.acknowledges self.old.is_over self.new }

@@ -7,6 +7,7 @@ mod answers;
 mod asked;
 mod looks;
 mod monitor;
+mod replies;
 mod resumes;
 mod stops;
 mod talk;

@@ -1,6 +1,6 @@
 //! The lines that `monitor` hands on.
 
-ghost use Rattle.std.specs.Prelude.{◌≡◌, codes, IfOk, IfSome, OnOk};
+ghost use Rattle.std.specs.Prelude.{◌≡◌, [], codes, map, string_bytes, IfOk, IfSome, OnOk};
 ghost use Rattle.std.specs.Option.{option_map};
 ghost use Rattle.debug_timeline.specs.Ats.{IsAt};
 ghost use Rattle.debug_session.specs.Sessions.{plan_of, size_of, stops_of, timeline_of};
@@ -75,8 +75,8 @@ fn run_text<C: Crew>(session: &mut Session<'_, C>, text: &[u8]) -> Result<String
     ensures size { size_of session.new ≡ size_of session.old }
     ensures plan { plan_of session.new ≡ plan_of session.old }
     ensures stops { stops_of session.new ≡ stops_of session.old }
-    ensures moved { OnOk result (LineRan (line_in (size_of session.old) text.now) (size_of session.old)
-        (timeline_of session.old) (timeline_of session.new)) }
+    ensures moved { IfOk result (λ said. LineRan (line_in (size_of session.old) text.now) (size_of session.old)
+        (timeline_of session.old) (timeline_of session.new) (string_bytes said)) }
 {
     let alloc = session.setting().alloc;
     match line_of(alloc, session.setting().shape, text)? {
@@ -88,23 +88,23 @@ fn run_text<C: Crew>(session: &mut Session<'_, C>, text: &[u8]) -> Result<String
     }
 }
 
-/// What `monitor` says: a word of the debugger's own, which changes nothing, or a line's report.
+/// What `monitor` says: of a word of the debugger's own, which changes nothing, or a line's report.
 fn monitored<C: Crew>(session: &mut Session<'_, C>, text: &[u8]) -> Result<String, Refusal>
     requires at { IsAt (size_of session.old) (timeline_of session.old) }
     ensures at { OnOk result (IsAt (size_of session.new) (timeline_of session.new)) }
     ensures size { size_of session.new ≡ size_of session.old }
     ensures plan { plan_of session.new ≡ plan_of session.old }
     ensures stops { stops_of session.new ≡ stops_of session.old }
-    ensures moved { OnOk result (TextSaid text.now (size_of session.old)
-        (timeline_of session.old) (timeline_of session.new)) }
+    ensures moved { IfOk result (λ said. TextSaid text.now (size_of session.old)
+        (timeline_of session.old) (timeline_of session.new) (string_bytes said)) }
 {
-    if text.is_empty() || text == b"help".as_slice() {
-        return Ok(String::from_str(session.setting().alloc, HELP)?);
-    }
     if text == b"script".as_slice() {
         let mut script = session.script()?;
-        script.push('\n')?;
+        script.push_str("\n")?;
         return Ok(script);
+    }
+    if text.is_empty() || text == b"help".as_slice() {
+        return Ok(String::from_str(session.setting().alloc, HELP)?);
     }
     if text == b"harts".as_slice() {
         return harts_text(session);
@@ -127,10 +127,11 @@ impl<'a, C: Crew> Talk<'a, C> {
     /// `qRcmd`: the text goes to the console, and then comes `OK`.
     pub(crate) fn monitor(&mut self, packet: &[u8], out: &mut Payloads) -> Result<Vec<u8>, Refusal>
         requires at { IsAt (size_of self.old.session) (timeline_of self.old.session) }
+        requires none { out.old.items ≡ [] }
         ensures at { OnOk result (IsAt (size_of self.new.session) (timeline_of self.new.session)) }
         ensures size { size_of self.new.session ≡ size_of self.old.session }
-        ensures moved { OnOk result (MonitoredBy (behind_prefix (codes "qRcmd,") packet.now) (size_of self.old.session)
-            (timeline_of self.old.session) (timeline_of self.new.session)) }
+        ensures moved { IfOk result (λ v. MonitoredBy (behind_prefix (codes "qRcmd,") packet.now) (size_of self.old.session)
+            (timeline_of self.old.session) (timeline_of self.new.session) (map (λ v. v.items) out.new.items) v.items) }
         ensures plan { plan_of self.new.session ≡ plan_of self.old.session }
         ensures stops { stops_of self.new.session ≡ stops_of self.old.session }
         ensures hart { self.new.hart ≡ self.old.hart }

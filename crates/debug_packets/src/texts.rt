@@ -1,10 +1,10 @@
 //! Texts of a session: an answer, its harts.
 
-ghost use Rattle.std.specs.Prelude.{◌≡◌, ◌<◌, string_bytes, IfOk};
+ghost use Rattle.std.specs.Prelude.{◌≡◌, ◌++◌, ◌<◌, ℕ, List, map, string_bytes, IfOk, OnOk};
 ghost use Rattle.debug_session.specs.Sessions.{bench_of, size_of};
 ghost use Rattle.bench_report.specs.Reports.{answer_text};
 ghost use Rattle.bench_report.specs.Texts.{found_line};
-ghost use Rattle.debug_packets.specs.Texts.{board_line, thread_line, thread_lines, threads_object};
+ghost use Rattle.debug_packets.specs.Texts.{HandOver, board_line, thread_line, thread_lines, threads_object};
 
 use crate::answers::Payloads;
 use bench_report::Answer;
@@ -19,7 +19,10 @@ use std::alloc::{AllocError, Global};
 const CONSOLE_BYTES: usize = 4096;
 
 /// Text for the console, in packets that are short enough.
-pub fn tell(alloc: Global, text: &[u8], out: &mut Payloads) -> Result<(), Refusal> {
+pub fn tell(alloc: Global, text: &[u8], out: &mut Payloads) -> Result<(), Refusal>
+    ensures told { OnOk result ((told : List (List ℕ)) × HandOver text.now told
+        × (map (λ v. v.items) out.new.items ≡ map (λ v. v.items) out.old.items ++ told)) }
+{
     for piece in text.chunks(CONSOLE_BYTES) {
         let mut packet = Vec::from_slice(alloc, b"O")?;
         put_hex(&mut packet, piece)?;

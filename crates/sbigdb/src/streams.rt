@@ -1,12 +1,14 @@
 //! The talk on the process's own streams. One thread reads, so that an interrupt is heard while turns run.
 
-ghost use Rattle.std.specs.Prelude.{◌≡◌, ℕ, List, [], All, length, codes, if◌then◌else◌, OnOk};
+ghost use Rattle.std.specs.Prelude.{◌≡◌, ℕ, false, List, [], All, length, codes, if◌then◌else◌, OnOk};
 ghost use Rattle.std.specs.Io.KnownBytes.{Appends};
+ghost use Rattle.std.specs.Iterator.{IsFinite};
 ghost use Rattle.debug_timeline.specs.Ats.{IsAt};
 ghost use Rattle.script_lang.specs.Lines.{IsLineInRange};
 ghost use Rattle.debug_session.specs.Sessions.{size_of, timeline_of};
-ghost use Rattle.debug_packets.specs.Talks.{acknowledges_in, session_in};
-ghost use Rattle.sbigdb.specs.Responses.{Responds};
+ghost use Rattle.debug_packets.specs.Talks.{acknowledges_in, is_over_in, session_in};
+ghost use Rattle.debug_packets.specs.declared.talk.Talk.{Talk};
+ghost use Rattle.sbigdb.specs.Responses.{AnswersAll, Begins, Responds};
 
 use crate::start::Start;
 use crate::told::{Told, told_payloads};
@@ -113,27 +115,53 @@ fn respond<C: Crew, W: Write>(
     }
 }
 
-/// Answers whatever is heard until the talk is over, or the input ends.
-fn answers<R: Wait, C: Crew, W: Write>(
-    rt: &R,
+/// Answers whatever is heard, in its order, until the talk is over or no more is heard.
+fn answers<I: Iterator<Item = Heard>, C: Crew, W: Write>(
     alloc: Global,
     talk: &mut Talk<'_, C>,
-    heard: &Receiver<Heard>,
+    heard: I,
     interrupt: &AtomicBool,
     out: &mut W,
 ) -> Result<(), Refusal>
     requires at { IsAt (size_of (session_in talk.old)) (timeline_of (session_in talk.old)) }
+    requires ongoing { is_over_in talk.old ≡ false }
+    requires can { I.can_next heard }
+    requires ends { IsFinite (I.remaining heard) }
+    // Each thing heard is answered in its turn, and nothing else is sent.
+    ensures sent { OnOk result ((sent : List ℕ) × AnswersAll I.next_gives heard talk.old talk.new sent
+        × Appends (W.contents out.old) (W.contents out.new) sent) }
 {
-    for _ in 0..u64::MAX {
-        let Ok(what) = heard.recv(rt) else {
-            return Ok(());
-        };
+    for what in heard {
         respond(talk, alloc, what, interrupt, out)?;
         if talk.is_over() {
             return Ok(());
         }
     }
     Ok(())
+}
+
+/// The talk about the board that a script's lines leave.
+fn discuss<I: Iterator<Item = Heard>, C: Crew, W: Write>(
+    setting: Setting<'_, C>,
+    plan: Plan,
+    told: Told,
+    heard: I,
+    interrupt: &AtomicBool,
+    out: &mut W,
+) -> Result<(), Refusal>
+    requires ranges { All (IsLineInRange setting.shape.now) told.lines.items }
+    requires four { length told.begins ≡ 4 }
+    requires can { I.can_next heard }
+    requires ends { IsFinite (I.remaining heard) }
+    // The talk begins there, and what is sent is the answers to whatever is heard.
+    ensures sent { OnOk result ((first : Talk C) × (last : Talk C) × (sent : List ℕ)
+        × Begins setting.entry.shape.now plan told.begins told.lines.items first
+        × AnswersAll I.next_gives heard first last sent × Appends (W.contents out.old) (W.contents out.new) sent) }
+{
+    let Told { lines, begins } = told;
+    let session = Session::new(setting, plan, begins, lines)?;
+    let mut talk = Talk::new(session)?;
+    answers(setting.alloc, &mut talk, heard, interrupt, out)
 }
 
 /// The session and its talk.
@@ -152,16 +180,14 @@ fn serve<R: Threads + Wait + Sync>(
     let crew = Sequential::<R>::new([0, 1, 2, 3])?;
     let Start { script, payloads } = start;
     let Script { shape, lines } = script;
-    let Told { lines, begins } = told_payloads(alloc, lines, &payloads)?;
+    let told = told_payloads(alloc, lines, &payloads)?;
     let setting = Setting {
         alloc,
         crew: &crew,
         shape: &shape,
     };
-    let session = Session::new(setting, plan, begins, lines)?;
-    let mut talk = Talk::new(session)?;
     let mut out = io::writer(host);
-    answers(rt, alloc, &mut talk, heard, interrupt, &mut out)
+    discuss(setting, plan, told, heard.iter(rt), interrupt, &mut out)
 }
 
 /// The whole talk. Refused `Memory`, and `Output` where the debugger does not read.

@@ -3,7 +3,7 @@ use Rattle.debug_timeline.specs.Lives.{register_in}
 use Rattle.debug_session.specs.Sessions.{machine_of_session}
 use Rattle.gdb_replies.proofs.Counted.{counted_more}
 use Rattle.gdb_replies.specs.Replies.{register_text}
-use Rattle.debug_packets.proofs.looks.registers.Goals as goal
+use Rattle.debug_packets.proofs.replies.registers.Goals as goal
 
 pub loop-number-preserved : goal.loop-number-preserved
 loop-number-preserved g c =

@@ -2,7 +2,7 @@ use Rattle.std.proofs.Common.{◌≡◌}
 use Rattle.debug_timeline.specs.Lives.{register_in}
 use Rattle.debug_session.specs.Sessions.{machine_of_session}
 use Rattle.gdb_replies.specs.Replies.{registers_text}
-use Rattle.debug_packets.proofs.looks.registers.Given as goal
+use Rattle.debug_packets.proofs.replies.registers.Given as goal
 
 abbrev pub invariant-loop-number : goal.invariant-loop-number
 invariant-loop-number g l = record {

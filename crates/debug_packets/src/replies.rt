@@ -1,0 +1,176 @@
+//! What is replied to a request that moves nothing.
+
+ghost use Rattle.std.specs.Prelude.{◌≡◌, ◌+◌, ◌++◌, ◌∷◌, [], codes, IfOk};
+ghost use Rattle.std.specs.Option.{option_map};
+ghost use Rattle.gdb_packets.specs.Packets.{digit_of};
+ghost use Rattle.gdb_replies.specs.Replies.{registers_text};
+ghost use Rattle.debug_timeline.specs.Lives.{memory_in, register_in};
+ghost use Rattle.debug_session.specs.Sessions.{bench_of, machine_of_session, size_of};
+ghost use Rattle.debug_packets.specs.Replies.{hart_named, memory_reply, register_reply, thread_reply, IsLookReply, IsPart};
+ghost use Rattle.debug_packets.specs.Stops.{stop_text};
+
+use crate::stops::stop_text;
+use crate::texts::threads_object;
+use board_model::{HartId, Refusal, Shape};
+use crew::Crew;
+use debug_session::{REGISTERS, Session, Stop};
+use gdb_packets::digit;
+use gdb_replies::{DESCRIPTION, memory_map, part, put_hex, put_register, threads};
+use gdb_requests::{Look, Object};
+use std::alloc::Global;
+
+/// The most bytes of a packet, as GDB is told.
+const PACKET_BYTES: usize = 0x4000;
+
+/// All registers of a hart, in the order of their numbers.
+fn registers<C: Crew>(session: &mut Session<'_, C>, hart: HartId) -> Result<Vec<u8>, Refusal>
+    ensures same { session.new ≡ session.old }
+    ensures text { IfOk result (λ v. v.items
+        ≡ registers_text 42 (λ n. register_in hart n (machine_of_session session.old))) }
+{
+    let mut out = Vec::new(session.setting().alloc);
+    for number in 0..REGISTERS {
+        let value = session.register(hart, number);
+        put_register(&mut out, number, value)?;
+    }
+    Ok(out)
+}
+
+/// One register of a hart.
+fn register<C: Crew>(
+    session: &mut Session<'_, C>,
+    hart: HartId,
+    number: u64,
+) -> Result<Vec<u8>, Refusal>
+    ensures same { session.new ≡ session.old }
+    ensures text { IfOk result (λ v. v.items
+        ≡ register_reply number (register_in hart number (machine_of_session session.old))) }
+{
+    let alloc = session.setting().alloc;
+    if REGISTERS <= number {
+        return Ok(Vec::from_slice(alloc, b"E01")?);
+    }
+    let value = session.register(hart, number);
+    let mut out = Vec::new(alloc);
+    put_register(&mut out, number, value)?;
+    Ok(out)
+}
+
+/// Bytes of memory, where all of them lie in RAM of a board that is on; else the error 0e.
+fn memory<C: Crew>(
+    session: &Session<'_, C>,
+    address: u64,
+    count: u64,
+) -> Result<Vec<u8>, Refusal>
+    ensures { IfOk result (λ v. v.items ≡ memory_reply (memory_in address count (machine_of_session session.now))) }
+{
+    let alloc = session.setting().alloc;
+    match session.bench().memory(address, count) {
+        Some(bytes) => {
+            let mut out = Vec::new(alloc);
+            put_hex(&mut out, bytes)?;
+            Ok(out)
+        }
+        None => Ok(Vec::from_slice(alloc, b"E0e")?),
+    }
+}
+
+/// The hart of a thread's number, which is one more than its own.
+pub(crate) fn hart_of(shape: &Shape, thread: u64) -> Option<HartId>
+    ensures { result ≡ hart_named shape.now thread }
+{
+    shape.hart(thread.checked_sub(1)?)
+}
+
+/// Whether there is that thread.
+fn alive(alloc: Global, shape: &Shape, thread: u64) -> Result<Vec<u8>, Refusal>
+    ensures { IfOk result (λ v. v.items ≡ thread_reply shape.now thread) }
+{
+    match hart_of(shape, thread) {
+        Some(_) => Ok(Vec::from_slice(alloc, b"OK")?),
+        None => Ok(Vec::from_slice(alloc, b"E01")?),
+    }
+}
+
+/// The thread that is shown.
+fn current(alloc: Global, hart: HartId) -> Result<Vec<u8>, Refusal>
+    ensures { IfOk result (λ v. v.items ≡ codes "QC" ++ digit_of (hart + 1) ∷ []) }
+{
+    let mut out = Vec::from_slice(alloc, b"QC")?;
+    out.push(digit(hart.number() as u8 + 1))?;
+    Ok(out)
+}
+
+/// A part of an object.
+fn part_of<C: Crew>(
+    session: &mut Session<'_, C>,
+    object: Object,
+    offset: u64,
+    count: u64,
+) -> Result<Vec<u8>, Refusal>
+    ensures same { session.new ≡ session.old }
+    ensures text { IfOk result (λ v. IsPart object (size_of session.old) (bench_of session.old) offset count v.items) }
+{
+    let alloc = session.setting().alloc;
+    match object {
+        Object::Description => Ok(part(alloc, DESCRIPTION.as_bytes(), offset, count)?),
+        Object::MemoryMap => {
+            let text = memory_map(alloc, session.setting().shape)?;
+            Ok(part(alloc, text.as_bytes(), offset, count)?)
+        }
+        Object::Threads => {
+            let text = threads_object(session)?;
+            Ok(part(alloc, text.as_bytes(), offset, count)?)
+        }
+    }
+}
+
+/// What this stub can.
+fn features(alloc: Global) -> Result<Vec<u8>, Refusal> {
+    let text = format!(in alloc;
+        "PacketSize={PACKET_BYTES:x};QStartNoAckMode+;qXfer:features:read+;qXfer:memory-map:read+;qXfer:threads:read+;\
+        ReverseStep+;ReverseContinue+;vContSupported+;swbreak+"
+    )?;
+    Ok(Vec::from_slice(alloc, text.as_bytes())?)
+}
+
+/// What a request that moves nothing is replied, of a session whose hart is shown and that stands so: none where nothing
+/// is to be sent.
+pub(crate) fn reply_of<C: Crew>(
+    session: &mut Session<'_, C>,
+    hart: HartId,
+    last: Stop,
+    takes_swbreak: bool,
+    asked: Look,
+) -> Result<Option<Vec<u8>>, Refusal>
+    ensures same { session.new ≡ session.old }
+    ensures replied { IfOk result (λ out. IsLookReply asked (size_of session.old) hart (bench_of session.old)
+        (stop_text last takes_swbreak) (option_map (λ v. v.items) out)) }
+{
+    let alloc = session.setting().alloc;
+    let shape = session.setting().shape;
+    match asked {
+        Look::Reason => Ok(Some(stop_text(alloc, last, takes_swbreak)?)),
+        Look::Registers => Ok(Some(registers(session, hart)?)),
+        Look::Register(number) => Ok(Some(register(session, hart, number)?)),
+        Look::Memory(address, count) => Ok(Some(memory(session, address, count)?)),
+        Look::Show(thread) | Look::IsAlive(thread) => Ok(Some(alive(alloc, shape, thread)?)),
+        Look::Supports => Ok(Some(features(alloc)?)),
+        Look::Part(object, offset, count) => Ok(Some(part_of(session, object, offset, count)?)),
+        Look::CurrentThread => Ok(Some(current(alloc, hart)?)),
+        Look::IsAttached => Ok(Some(Vec::from_slice(alloc, b"1")?)),
+        Look::FirstThreads => Ok(Some(threads(alloc, shape.harts())?)),
+        Look::MoreThreads => Ok(Some(Vec::from_slice(alloc, b"l")?)),
+        Look::Actions => Ok(Some(Vec::from_slice(alloc, b"vCont;c;C;s;S;r")?)),
+        Look::AnyThread
+        | Look::SetPoint(_)
+        | Look::ClearPoint(_)
+        | Look::SetWatch(_, _)
+        | Look::ClearWatch(_, _)
+        | Look::NoAcks
+        | Look::Detach => Ok(Some(Vec::from_slice(alloc, b"OK")?)),
+        Look::Write | Look::Malformed => Ok(Some(Vec::from_slice(alloc, b"E01")?)),
+        Look::Unknown => Ok(Some(Vec::new(alloc))),
+        Look::Kill => Ok(None),
+    }
+}
