@@ -64,8 +64,7 @@ row_before : (size : Size) (start : Bench) (h n g m : ℕ) (w : Word) (old befor
 row_before size start h n g m w old before first mid b is was left went =
     let same = snoc_same before first (lines.Turn h n) (lines.Turn g m) (sym is ∙ was) in
     let hart : g ≡ h = hart_in g m h n (sym same.1) in
-    let count : m ≡ n = count_in g m h n (sym same.1) in
-    (
+    let count : m ≡ n = count_in g m h n (sym same.1) in (
       subst (λ (xs : List Line). Leaves size start xs mid) (sym same.0) left,
       subst (λ (x : ℕ). RowMoves size x (rows.Made n w) mid b) hart (subst (λ (x : ℕ). RowMoves size g (rows.Made x w) mid b) count went),
     )

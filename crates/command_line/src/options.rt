@@ -33,13 +33,7 @@ pub fn path<'a>(alloc: Global, id: &'a str, help: &'a str) -> Arg<'a>
 }
 
 /// An option with a number from 1 to `most`, which is `default` where the option is not given.
-pub fn number<'a>(
-    alloc: Global,
-    id: &'a str,
-    most: u64,
-    default: &'a str,
-    help: &'a str,
-) -> Arg<'a>
+pub fn number<'a>(alloc: Global, id: &'a str, most: u64, default: &'a str, help: &'a str) -> Arg<'a>
     ensures rule { rule_of result ≡ number_rule id.entry.now most default.entry.now }
     ensures local { result.global ≡ false }
 {
