@@ -1,5 +1,5 @@
 -- The rule of a ticket: one word, which counts the draws. Source: docs/IMAGE.md, "The ticket".
-use Rattle.std.specs.Prelude.{◌≡◌, ℕ, ◌+◌, ◌-◌, List, [], ◌++◌, length, slice_index, nat_lt, if◌then◌else◌}
+use Rattle.std.specs.Prelude.{◌≡◌, ℕ, ◌+◌, ◌-◌, List, [], ◌∷◌, ◌++◌, length, slice_index, nat_lt, if◌then◌else◌}
 use Rattle.atomic_table.specs.Table.{State, Me, Step}
 pub use Rattle.crew.specs.Orders.{times}
 use Rattle.tallies.specs.Sums.{total}
