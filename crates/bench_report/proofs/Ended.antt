@@ -10,12 +10,12 @@ use Rattle.simdisk.specs.declared.SimDisk.{SimDisk}
 use Rattle.bench_report.specs.Views.{facts, SimStore, SimBoard, store_in, IsAs, store_size}
 use Rattle.bench_report.specs.Bench.{DiskState, Blank, Unknown, Formatted, BenchLife}
 use Rattle.bench_report.specs.Agree.{StoreIs, BoardIs, DiskIs, IsOver}
-use Rattle.bench_report.proofs.Adapted.{grows}
+use Rattle.board.proofs.Issued.{fold_more}
 use Rattle.bench_report.proofs.KeptDisks.{GoesOn, LeavesLess}
 use Rattle.bench_report.proofs.Sides.{LeavesFewer}
 
 pub found_more : (cs : List Change) (c : Change) (now : DurableState) → now ≡ found_of cs → after now c ≡ found_of (cs ++ c ∷ [])
-found_more cs c now e = ap (λ s. after s c) e ∙ sym (grows formatted cs c)
+found_more cs c now e = ap (λ s. after s c) e ∙ sym (fold_more formatted cs (c ∷ []))
 
 -- the table does not refuse the command that a store has in doubt
 abbrev pub IsAllowed : SimStore → Type 0

@@ -8,7 +8,7 @@ use Rattle.bench_report.specs.Taken.{TakesAll, TakesSome, TakesFewer}
 use Rattle.bench_report.specs.Bench.{Formatted, BenchLife, Bench}
 use Rattle.bench_report.specs.Happens.{failed, acknowledged, in_doubt}
 use Rattle.bench_report.specs.Commands.{Writes, IssuedBy, Issued, IssuesAll}
-use Rattle.bench_report.proofs.Adapted.{grows}
+use Rattle.board.proofs.Issued.{fold_more}
 use Rattle.bench_report.proofs.Table.{table_not_six}
 
 -- whether a board takes commands: it is on, with none in doubt
@@ -74,14 +74,14 @@ module _ (c : Change) (life : BenchLife) (b : Bench) (o : Result ℕ ℕ) (new :
   up_back calm (Some n) table w = by_eqs (Err n) b w.0 w.1 (sound, λ t found. (t, found, inl (table_not_six life.now c n table, refl, refl)))
   up_back calm None table (inl w) =
       by_eqs (Ok (life.receipts + 1)) (acknowledged c life b) w.0 w.1 (
-        (sound.0, (follow.0, ap (λ s. after s c) follow.1 ∙ sym (grows formatted b.kept.changes c))),
+        (sound.0, (follow.0, ap (λ s. after s c) follow.1 ∙ sym (fold_more formatted b.kept.changes (c ∷ [])))),
         λ t found. (
           life.now,
           (b.kept.changes, inl refl, follow.1),
           (
             up_as None calm,
             table,
-            sure (acknowledged c life b).kept t (follow.0 ∙ calm) found ∙ grows formatted b.kept.changes c ∙ ap (λ s. after s c) (sym follow.1),
+            sure (acknowledged c life b).kept t (follow.0 ∙ calm) found ∙ fold_more formatted b.kept.changes (c ∷ []) ∙ ap (λ s. after s c) (sym follow.1),
             ap takes_more calm,
           ),
         ),
@@ -100,7 +100,7 @@ module _ (c : Change) (life : BenchLife) (b : Bench) (o : Result ℕ ℕ) (new :
     where
       either : (t : DurableState) → MayFind (record b.kept { doubt = Some c }) t → TakesSome (c ∷ []) life.now t
       either t (changes, inl e, is) = inl (is ∙ ap found_of e ∙ sym follow.1)
-      either t (changes, inr e, is) = inr (table, is ∙ ap found_of e.1 ∙ grows formatted b.kept.changes c ∙ ap (λ s. after s c) (sym follow.1))
+      either t (changes, inr e, is) = inr (table, is ∙ ap found_of e.1 ∙ fold_more formatted b.kept.changes (c ∷ []) ∙ ap (λ s. after s c) (sym follow.1))
 
   issued_by : (d : Option Change) → life.doubt ≡ d → IssuedBy d c life b o new → Does c (is_up b.power) b o new
   issued_by (Some d) is i = by_eqs (Err 6) b i.0 i.1 (sound, λ t found. (t, found, inr (inl (refl, refl, up_as (Some d) is, up_as (Some d) is))))

@@ -47,11 +47,11 @@ use Rattle.bench_report.proofs.Dozed.{turn_size, call_size}
 use Rattle.bench_report.specs.Turns.{refused, AnswersError, HartCommand, Resets, SuspendIssued, dozes, BenchFallsAsleep, BenchSleeps, BenchSleepsBy, BenchMakesCall, ComesTo, GuestTurn, GuestTurns}
 use Rattle.bench_report.specs.PowerOns.{life_begun, FormatsOn, IsBooted, BootsFrom, Begins, Boots, Opens, IsOpenRefusal, PowersOn}
 use Rattle.bench_report.specs.Steps.{FormatStep, OnStep, ConsoleStep, GuestCall, TurnStep, CallStep, DeedStep, DeedMoves, Moves, Run}
-use Rattle.bench_report.proofs.Adapted.{grows}
 use Rattle.bench_report.proofs.Determined.{begun_size}
 use Rattle.bench_report.proofs.Table.{table_not_thirteen, mode_not_thirteen}
 use Rattle.board_model.proofs.Console.{CarriesWhole-console}
 use Rattle.bench_report.specs.Asides.{Effect, Stays, SetsPayloads, Arms, CutsPower, WakesBoard, WritesPast, aside, affected}
+use Rattle.board.proofs.Issued.{fold_more}
 use Rattle.bench_report.proofs.Beside.{OfFirmware, FitsPower, is_aside}
 use Rattle.bench_report.proofs.Questions.{IsAsked, is_asked}
 
@@ -70,7 +70,7 @@ abbrev pub IsKeptWhole : Size → Bench → Type 0
 IsKeptWhole size b = (b.disk_state ≡ Formatted) × IsWhole size (found_of b.kept.changes) × DoubtWhole size b.kept.doubt × IsSized size b.power
 
 more_whole : (size : Size) (changes : List Change) (c : Change) → IsWhole size (found_of changes) → CarriesWhole size c → IsWhole size (found_of (changes ++ c ∷ []))
-more_whole size changes c w carries = let P : DurableState → Type 0 = IsWhole size in subst P (sym (grows formatted changes c)) (whole_after size (found_of changes) c w carries)
+more_whole size changes c w carries = let P : DurableState → Type 0 = IsWhole size in subst P (sym (fold_more formatted changes (c ∷ []))) (whole_after size (found_of changes) c w carries)
 
 may_whole : (size : Size) (k : Kept) (d : Option Change) (changes : List Change) → k.doubt ≡ d → IsWhole size (found_of k.changes) → DoubtWhole size d → MayKeep k changes → IsWhole size (found_of changes)
 may_whole size k d changes at w carries (inl e) = let P : List Change → Type 0 = λ cs. IsWhole size (found_of cs) in subst P (sym e) w
