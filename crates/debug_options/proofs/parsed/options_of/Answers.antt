@@ -9,4 +9,4 @@ returns-in-Some-clause-named g c =
 
 pub returns-clause-refused : goal.returns-clause-refused
 returns-clause-refused g c =
-    inr (inr (c.in_ok-fault.ensures, found_of c.in_ok-matches.matches, c.in_ok-matches.ensures.parsed, c.in_ok-options.ensures.none c.in-None.is))
+    inr (inr (c.in_ok-fault-in-None.ensures, found_of c.in_ok-matches.matches, c.in_ok-matches.ensures.parsed, c.in_ok-options.ensures.none c.in-None.is))
