@@ -57,11 +57,7 @@ fn register<C: Crew>(
 }
 
 /// Bytes of memory, where all of them lie in RAM of a board that is on; else the error 0e.
-fn memory<C: Crew>(
-    session: &Session<'_, C>,
-    address: u64,
-    count: u64,
-) -> Result<Vec<u8>, Refusal>
+fn memory<C: Crew>(session: &Session<'_, C>, address: u64, count: u64) -> Result<Vec<u8>, Refusal>
     ensures { IfOk result (λ v. v.items ≡ memory_reply (memory_in address count (machine_of_session session.now))) }
 {
     let alloc = session.setting().alloc;

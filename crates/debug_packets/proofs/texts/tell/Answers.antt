@@ -7,7 +7,7 @@ use Rattle.debug_packets.proofs.Console.{joined, joined_more, told_more}
 use Rattle.debug_packets.proofs.texts.tell.Goals as goal
 
 pub loop-piece-init : goal.loop-piece-init
-loop-piece-init c = ([], c.chunks.ensures.rest, sym (append-nil _))
+loop-piece-init c = ([], ap chunks_rest c.into_iter-piece-iterator.ensures.into_iter_gives ∙ c.chunks-piece-items.ensures.rest, sym (append-nil _))
 
 pub loop-piece-preserved : goal.loop-piece-preserved
 loop-piece-preserved c =
@@ -16,8 +16,7 @@ loop-piece-preserved c =
     let cut = c.in-Some.ensures.steps in
     let items : Vec ℕ Global → List ℕ = λ v. v.items in
     let first = map items c.args.out.now.items in
-    let written = c.in_ok-put_hex.ensures ∙ ap (λ (x : List ℕ). x ++ pairs_of piece) c.in_ok-packet.ensures.items in
-    (
+    let written = c.in_ok-put_hex.ensures ∙ ap (λ (x : List ℕ). x ++ pairs_of piece) c.in_ok-packet.ensures.items in (
       was.0 ++ piece ∷ [],
       joined_more was.0 piece _ _ c.args.text.now was.1 cut.1.0,
       ap (map items) c.in_ok-push.ensures.items ∙ map-append items c.loop-piece.out.items _ ∙ told_more first _ was.0 _ piece was.2 written,
