@@ -7,7 +7,7 @@ use Rattle.debug_packets.proofs.Console.{joined, joined_more, told_more}
 use Rattle.debug_packets.proofs.texts.tell.Goals as goal
 
 pub loop-piece-init : goal.loop-piece-init
-loop-piece-init c = ([], c.chunks.ensures.rest, sym (append-nil _))
+loop-piece-init c = ([], ap chunks_rest c.into_iter-piece-iterator.ensures.into_iter_gives ∙ c.chunks-piece-items.ensures.rest, sym (append-nil _))
 
 pub loop-piece-preserved : goal.loop-piece-preserved
 loop-piece-preserved c =
