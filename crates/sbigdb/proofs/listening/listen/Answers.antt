@@ -1,0 +1,26 @@
+use Rattle.std.proofs.Common.{◌≡◌, List, [], ◌∷◌, ◌++◌, of_calls, refl, sym, subst}
+use Rattle.std.proofs.KnownBytes.{Consumes-nil, Consumes-trans}
+use Rattle.std.proofs.lemmas.Fn.{FoldsTo-push}
+use Rattle.gdb_packets.specs.Streams.{Standing}
+use Rattle.sbigdb.proofs.Hearings.{Hears, handed_on, hears_more}
+use Rattle.sbigdb.proofs.listening.listen.Goals as goal
+
+pub loop-init : goal.loop-init
+loop-init g c =
+    let P : Standing → Type 0 = λ s. Hears [] [] s in
+    record { callable = c.requires; handed = ([], refl, [], Consumes-nil _, subst P (sym c.new-decoder.ensures) (λ more. refl)) }
+
+pub loop-preserved : goal.loop-preserved
+loop-preserved g c =
+    let was = c.loop.invariant.handed in
+    let told = c.in-Ok.ensures in
+    record {
+      callable = search of_calls;
+      handed = (
+        was.0 ++ c.in-Ok.what ∷ [],
+        FoldsTo-push _ _ was.0 _ c.in-Ok.what _ was.1 (c.hand_on.result, c.hand_on.ensures),
+        was.2 ++ c.in-Some.byte ∷ [],
+        Consumes-trans _ _ _ was.2 (c.in-Some.byte ∷ []) was.3 c.in-Some.ensures,
+        hears_more was.2 was.0 c.loop.decoder c.take.new.self c.in-Some.byte c.in-Ok.what was.4 told.standing told.told,
+      );
+    }
