@@ -57,11 +57,11 @@ fn next_byte<I: Read>(input: &mut I) -> Option<u8>
 pub(crate) fn listen<I: Read + Drop, F: FnMut(Heard) -> bool>(
     alloc: Global,
     mut input: I,
-    mut hand_on: F,
+    mut give: F,
 )
-    requires { F.IsAlwaysCallable hand_on }
+    requires { F.IsAlwaysCallable give }
     // The packets that are handed on are those in the bytes that were read.
-    ensures { HandedOn (λ before what after. (more : Bool) × F.step before what more after) hand_on (I.remaining input) }
+    ensures { HandedOn (λ before what after. (more : Bool) × F.step before what more after) give (I.remaining input) }
 {
     let mut decoder = Decoder::new(alloc);
     for _ in 0..u64::MAX {
@@ -71,7 +71,7 @@ pub(crate) fn listen<I: Read + Drop, F: FnMut(Heard) -> bool>(
         let Ok(what) = decoder.take(byte) else {
             return;
         };
-        if !hand_on(what) {
+        if !give(what) {
             return;
         }
     }

@@ -18,7 +18,7 @@ loop-preserved g c =
       callable = search of_calls;
       handed = (
         was.0 ++ c.in-Ok.what ∷ [],
-        FoldsTo-push _ _ was.0 _ c.in-Ok.what _ was.1 (c.hand_on.result, c.hand_on.ensures),
+        FoldsTo-push _ _ was.0 _ c.in-Ok.what _ was.1 (c.give.result, c.give.ensures),
         was.2 ++ c.in-Some.byte ∷ [],
         Consumes-trans _ _ _ was.2 (c.in-Some.byte ∷ []) was.3 c.in-Some.ensures,
         hears_more was.2 was.0 c.loop.decoder c.take.new.self c.in-Some.byte c.in-Ok.what was.4 told.standing told.told,

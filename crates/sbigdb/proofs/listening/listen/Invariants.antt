@@ -9,8 +9,8 @@ use Rattle.sbigdb.proofs.listening.listen.Given as goal
 
 abbrev pub invariant-loop : goal.invariant-loop
 invariant-loop g l = record {
-  callable : goal.F-IsAlwaysCallable g l.hand_on;
-  handed : (heard : List Heard) × FoldsTo (λ before what after. (more : Bool) × goal.F-step g before what more after) l.fn.hand_on heard l.hand_on
+  callable : goal.F-IsAlwaysCallable g l.give;
+  handed : (heard : List Heard) × FoldsTo (λ before what after. (more : Bool) × goal.F-step g before what more after) l.fn.give heard l.give
       × (bytes : List ℕ) × Consumes (g.I.Read.remaining l.fn.input) (g.I.Read.remaining l.input) bytes
       × Hears bytes (packets_in heard) l.decoder;
 }
