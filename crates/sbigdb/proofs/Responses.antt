@@ -1,5 +1,6 @@
 -- Where a talk begins; what is sent for all that was heard, and then for one thing more.
-use Rattle.std.proofs.Common.{◌≡◌, ℕ, true, false, List, [], ◌∷◌, ◌++◌, refl, sym, ap, ◌∙◌, subst, append_assoc}
+use Rattle.std.proofs.Common.{◌≡◌, ℕ, true, false, List, [], ◌∷◌, ◌++◌, Option, refl, sym, ap, ◌∙◌, subst, append_assoc}
+use Rattle.std.specs.Iterator.{Yields}
 use Rattle.std.proofs.lemmas.List.{append-nil}
 use Rattle.board_model.specs.Shapes.{Size}
 use Rattle.script_lang.specs.declared.line.Line.{Line}
@@ -28,3 +29,7 @@ one_more {C} [] what old mid new sent more (same, none) ongoing does =
     (new, more, [], begun.0, begun.1, (refl, refl), ap (λ (xs : List ℕ). xs ++ more) none ∙ sym (append-nil more))
 one_more {C} (x ∷ heard) what old mid new sent more (next, first, rest, before, one, all, is) ongoing does =
     (next, first, rest ++ more, before, one, one_more heard what next mid new rest more all ongoing does, ap (λ (xs : List ℕ). xs ++ more) is ∙ append_assoc first rest more)
+
+-- what an iterator gave, from a state that is the same
+pub given_from : {I : Type 0} (gives : I → Option Heard → I → Type 0) (first from last : I) (heard : List Heard) → first ≡ from → Yields gives first heard last → Yields gives from heard last
+given_from {I} gives first from last heard same given = let P : I → Type 0 = λ x. Yields gives x heard last in subst P same given

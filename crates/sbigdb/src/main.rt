@@ -4,6 +4,7 @@
 #![tactic(auto)]
 
 mod files;
+mod listening;
 mod program;
 mod start;
 mod streams;

@@ -10,76 +10,22 @@ ghost use Rattle.debug_packets.specs.Talks.{acknowledges_in, is_over_in, session
 ghost use Rattle.debug_packets.specs.declared.talk.Talk.{Talk};
 ghost use Rattle.sbigdb.specs.Responses.{AnswersAll, Begins, Responds};
 
+use crate::listening::{hand_on, listen};
 use crate::start::Start;
 use crate::told::{Told, told_payloads};
 use bench_report::Setting;
 use board_model::Refusal;
 use crew::{Crew, Sequential};
-use crossbeam_channel::{Receiver, Sender, unbounded};
+use crossbeam_channel::{Receiver, unbounded};
 use debug_packets::{Talk, reply};
 use debug_session::{Plan, Session};
-use gdb_packets::{Decoder, Heard};
-use gdb_requests::{Look, Request, request_of};
+use gdb_packets::Heard;
 use script_lang::Script;
 use std::alloc::Global;
-use std::io::{self, Read, Write};
+use std::io::{self, BufReader, Write};
 use std::sync::Wait;
-use std::sync::atomic::{AtomicBool, Ordering};
+use std::sync::atomic::AtomicBool;
 use std::thread::{self, Threads};
-
-/// How many bytes are read at once.
-const READ_AT_ONCE: usize = 4096;
-
-/// Whether nothing is to be read behind it: a packet that ends the talk, behind which a debugger may keep its pipe open.
-fn ends_talk(heard: &Heard) -> bool {
-    match heard {
-        Heard::Packet(packet) => {
-            matches!(request_of(packet), Request::Look(Look::Detach | Look::Kill))
-        }
-        _ => false,
-    }
-}
-
-/// Hands on what was heard, but for an interrupt, which is told at once: whether more is to be read.
-fn hand_on<R: Wait>(rt: &R, what: Heard, heard: &Sender<Heard>, interrupt: &AtomicBool) -> bool {
-    match what {
-        Heard::Interrupt => {
-            interrupt.store(true, Ordering::SeqCst);
-            true
-        }
-        Heard::Nothing => true,
-        other => {
-            let last = ends_talk(&other);
-            heard.send(rt, other).is_ok() && !last
-        }
-    }
-}
-
-/// Reads standard input to its end, or to a packet that ends the talk.
-fn listen<R: Wait, I: Read + Drop>(
-    rt: &R,
-    alloc: Global,
-    mut input: I,
-    heard: Sender<Heard>,
-    interrupt: &AtomicBool,
-) {
-    let mut decoder = Decoder::new(alloc);
-    let mut buffer = [0u8; READ_AT_ONCE];
-    for _ in 0..u64::MAX {
-        let count = match input.read(&mut buffer) {
-            Ok(0) | Err(_) => return,
-            Ok(count) => count,
-        };
-        for byte in &buffer[..count] {
-            let Ok(what) = decoder.take(*byte) else {
-                return;
-            };
-            if !hand_on(rt, what, &heard, interrupt) {
-                return;
-            }
-        }
-    }
-}
 
 /// What is sent for a packet that came damaged.
 fn again<C: Crew>(talk: &Talk<'_, C>) -> &'static [u8]
@@ -212,7 +158,11 @@ pub fn converse<R: Threads + Wait + Sync>(
         move |scope| -> Result<(), Refusal>
             requires { All (IsLineInRange start.script.shape) start.script.lines.items × (length start.payloads ≡ 4) }
         {
-            let reader = scope.spawn(move || listen(rt, alloc, host.stdin(), sender, interrupt));
+            let reader = scope.spawn(move || {
+                if let Ok(input) = BufReader::new(alloc, host.stdin()) {
+                    listen(alloc, input, |what| hand_on(rt, what, &sender, interrupt));
+                }
+            });
             if reader.is_err() {
                 return Err(Refusal::Memory);
             }

@@ -1,7 +1,7 @@
 use Rattle.std.proofs.Common.{[], ◌∷◌, ◌++◌, ◌∙◌, inl, inr, refl, sym}
 use Rattle.std.proofs.iter.Next.{Yields-more}
 use Rattle.bench_report.proofs.Written.{appended, unwritten}
-use Rattle.sbigdb.proofs.Responses.{one_more}
+use Rattle.sbigdb.proofs.Responses.{given_from, one_more}
 use Rattle.sbigdb.proofs.streams.answers.Goals as goal
 
 pub loop-what-init : goal.loop-what-init
@@ -27,7 +27,7 @@ returns-then-is_over g c =
         record {
           heard = c.loop-what.yielded ++ c.in-Some.what ∷ [];
           last = c.next.new.self;
-          given = Yields-more g.I.Iterator.next_gives _ c.loop-what.yielded _ c.in-Some.what _ c.loop-what.yielded_by c.in-Some.ensures.steps;
+          given = given_from g.I.Iterator.next_gives _ _ _ (c.loop-what.yielded ++ c.in-Some.what ∷ []) c.into_iter-what-iterator.ensures.into_iter_gives (Yields-more g.I.Iterator.next_gives _ c.loop-what.yielded _ c.in-Some.what _ c.loop-what.yielded_by c.in-Some.ensures.steps);
           responses = one_more c.loop-what.yielded c.in-Some.what _ _ _ was.sent.0 did.sent.0 was.sent.1 was.ongoing did.sent.1;
           ended = inl (sym c.is_over.ensures ∙ c.if-is_over.true);
         },
@@ -44,7 +44,7 @@ returns g c =
         record {
           heard = c.loop-what.yielded;
           last = _;
-          given = c.loop-what.yielded_by;
+          given = given_from g.I.Iterator.next_gives _ _ _ c.loop-what.yielded c.into_iter-what-iterator.ensures.into_iter_gives c.loop-what.yielded_by;
           responses = was.sent.1;
           ended = inr (_, c.in-None.ensures.steps);
         },
