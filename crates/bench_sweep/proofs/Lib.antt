@@ -13,3 +13,4 @@ pub mod Calls
 pub mod Fed
 pub mod Ran
 pub mod Made
+pub mod Scripts

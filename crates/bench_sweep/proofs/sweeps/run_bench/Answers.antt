@@ -1,0 +1,14 @@
+use Rattle.std.proofs.Common.{inr}
+use Rattle.std.proofs.lemmas.Result.{err_from_is_err_and}
+use Rattle.script_lang.specs.Views.{view}
+use Rattle.bench_sweep.proofs.Scripts.{swept, unswept}
+use Rattle.bench_sweep.proofs.sweeps.run_bench.Goals as goal
+
+pub returns-in_err-check_plain-clause-refused : goal.returns-in_err-check_plain-clause-refused
+returns-in_err-check_plain-clause-refused g c =
+    let p = err_from_is_err_and c.from_residual-in_err-check_plain.result c.from_residual-in_err-check_plain.ensures.1 in
+    let why = c.in_err-check_plain.ensures.refused in
+    rw (p.1, p.2) (inr (inr (inr (why.0, unswept c.args.script.now (view c.in_ok-script.script) c.deref.result.now c.in_ok-script.ensures.value c.deref.ensures.value why.1))))
+
+pub returns-clause-plain : goal.returns-clause-plain
+returns-clause-plain g c = λ said is none. swept c.args.script.now (view c.in_ok-script.script) said c.deref.result.now c.in_ok-script.ensures.value is c.deref.ensures.value c.in_ok-check_plain.ensures.runs none
