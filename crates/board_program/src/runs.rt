@@ -212,9 +212,10 @@ fn run_in_file<
     let streams = Streams { input, out };
     let end = session(threads, alloc, options, disk, payloads, streams);
     tell_harts(faults, options, &end.harts);
+    let Streams { input: _, out } = end.streams;
     RunEnd {
         file_left: FileLeft::AllAlong(end.disk.into_file()),
-        out: end.streams.out,
+        out,
         ended: as_file_fault(end.ran),
     }
 }
