@@ -16,7 +16,7 @@ use board::Payloads;
 use board_files::{BoardFiles, DiskFile, HeldFile};
 use board_model::Refusal;
 use board_options::Options;
-use board_session::{Streams, session};
+use board_session::{SessionEnd, Streams, session};
 use command_line::{FileFault, first_of};
 use disk::Disk;
 use file_disk::{FileDisk, SectorFile};
@@ -210,12 +210,20 @@ fn run_in_file<
     let Streams { input, mut out } = streams;
     out.begin(options.sync);
     let streams = Streams { input, out };
-    let end = session(threads, alloc, options, disk, payloads, streams);
-    tell_harts(faults, options, &end.harts);
+    let SessionEnd {
+        disk,
+        ran,
+        streams,
+        console_left: _,
+        heard: _,
+        harts,
+    } = session(threads, alloc, options, disk, payloads, streams);
+    tell_harts(faults, options, &harts);
+    let Streams { input: _, out } = streams;
     RunEnd {
-        file_left: FileLeft::AllAlong(end.disk.into_file()),
-        out: end.streams.out,
-        ended: as_file_fault(end.ran),
+        file_left: FileLeft::AllAlong(disk.into_file()),
+        out,
+        ended: as_file_fault(ran),
     }
 }
 
