@@ -7,7 +7,7 @@ use Rattle.board_model.specs.declared.refusal.Refusal.{Refusal}
 use Rattle.board_model.specs.declared.refusal.Refusal.TheVariants.{NotFormatted, BadShape, BadRecord, Device, Memory, NoImage, BadImage, Output}
 use Rattle.command_line.specs.declared.fault.ProgramFault.{ProgramFault}
 use Rattle.command_line.specs.declared.fault.ProgramFault.TheVariants.{Refused}
-use Rattle.clap.specs.Words.{IsAmong, fault_of}
+use Rattle.clap.specs.Words.{IsAmong, fault_of as kinds_of}
 use Rattle.clap.specs.declared.error.kind.ErrorKind.{ErrorKind}
 use Rattle.clap.specs.declared.error.kind.ErrorKind.TheVariants.{OutOfMemory}
 use Rattle.command_line.specs.Faults.{status_after}
@@ -119,6 +119,6 @@ ends_open disk_at work old now closed status r shut is did failed = (fault_of r,
 
 -- the words of a command line whose own text has an error of that kind ask for none
 pub asks_for_none : (words : List (List ℕ)) (kind : ErrorKind) (why : NoWork) → why ≡ no_work kind
-    → (kind ≡ OutOfMemory) ⊎ IsAmong kind (fault_of sbidisk words) → AskForNone words why
+    → (kind ≡ OutOfMemory) ⊎ IsAmong kind (kinds_of sbidisk words) → AskForNone words why
 asks_for_none words kind why is (inl memory) = inl (rw (is, memory) refl)
 asks_for_none words kind why is (inr among) = inr (inl (kind, among, is))
