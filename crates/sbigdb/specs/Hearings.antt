@@ -1,5 +1,5 @@
 -- What is heard in an input.
-use Rattle.std.specs.Prelude.{◌≡◌, ℕ, List, [], ◌++◌, Option}
+use Rattle.std.specs.Prelude.{◌≡◌, ℕ, List, [], Option}
 use Rattle.std.specs.Io.KnownBytes.{Consumes}
 use Rattle.std.specs.List.{FoldsTo, flat_map}
 use Rattle.std.specs.Option.{option_to_list}
