@@ -6,8 +6,8 @@ use Rattle.std.specs.Io.Buffered.{reader_remaining}
 use Rattle.board_program.proofs.FilesLeft.{ended_left, read_through, stayed_left}
 use Rattle.board_program.proofs.runs.run_from_files.Goals as goal
 
-pub returns : goal.returns
-returns g c =
+pub returns-then-not-options : goal.returns-then-not-options
+returns-then-not-options g c =
     let kept = file_disk.facts-value g.row.B-Kept g.B.Kept.SectorFile g.B.Kept.SectorFile-dict g.B.Kept.Destruct-dict in
     let read = c.in-Ok-new in
     let taken = c.in-Ok-take_disk.taken in
