@@ -1,6 +1,6 @@
 //! From words to options.
 
-ghost use Rattle.std.specs.Prelude.{◌≡◌, ◌<◌, ◌⊎◌, ◌^◌, ℕ, map, codes, None, Some, IfErr, IfOk, IfSome, option_and_then};
+ghost use Rattle.std.specs.Prelude.{◌≡◌, ◌<◌, ◌⊎◌, ◌^◌, ℕ, map, None, Some, IfErr, IfOk, IfSome, option_and_then};
 ghost use Rattle.clap.specs.Words.{HasKind, fault_of, first_value, found_of, kind_of};
 ghost use Rattle.command_line.specs.Parses.{AreParsed};
 ghost use Rattle.script_lang.specs.Words.{number_of};

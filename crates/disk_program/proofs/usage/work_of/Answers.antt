@@ -1,7 +1,6 @@
-use Rattle.std.proofs.Common.{map, subst, sym}
+use Rattle.std.proofs.Common.{map}
 use Rattle.clap.specs.Words.{found_of}
 use Rattle.disk_program.proofs.Words.{names_by, names_none}
-use Rattle.disk_program.specs.Usage.{IsNamedBy}
 use Rattle.disk_program.proofs.usage.work_of.Goals as goal
 
 pub returns-in_default-clause-none : goal.returns-in_default-clause-none
