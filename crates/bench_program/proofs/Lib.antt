@@ -2,3 +2,4 @@ pub mod Bounded
 pub mod Ends
 pub mod Simple
 pub mod Told
+pub mod Judged

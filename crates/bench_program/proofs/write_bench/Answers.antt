@@ -1,0 +1,12 @@
+use Rattle.board_model.specs.declared.refusal.Refusal.TheVariants.{Memory, NotPlain}
+use Rattle.bench_program.proofs.Judged.{not_refused, wrote_on}
+use Rattle.bench_program.proofs.write_bench.Goals as goal
+
+pub returns-clause-wrote : goal.returns-clause-wrote
+returns-clause-wrote g c = wrote_on _ _ _ _ _ _ _ c.in_ok-done.ensures.wrote c.flush.ensures.bytes
+
+pub returns-clause-plain : goal.returns-clause-plain
+returns-clause-plain g c = λ said is none. not_refused c.in_ok-done.done NotPlain Memory (c.in_ok-done.ensures.plain said is none).1
+
+pub returns-in_err-map_err-clause-plain : goal.returns-in_err-map_err-clause-plain
+returns-in_err-map_err-clause-plain g c = λ said is none. not_refused c.in_ok-done.done NotPlain Memory (c.in_ok-done.ensures.plain said is none).1
