@@ -1,6 +1,7 @@
 -- What a history says: its lines, each row of turns as the turns that it is. Source: docs/SCRIPT.md.
-use Rattle.std.specs.Prelude.{◌≡◌, ◌⊎◌, ◌≤◌, ℕ, zero, suc, ◌+◌, ◌-◌, ◌<◌, Bool, true, List, [], ◌∷◌, ◌++◌, Option, Some, None, ◌==◌, if◌then◌else◌, replicate, take, ⊤}
+use Rattle.std.specs.Prelude.{◌≡◌, ◌⊎◌, ◌≤◌, ℕ, zero, suc, ◌+◌, ◌-◌, ◌<◌, Bool, true, List, [], ◌∷◌, ◌++◌, Option, Some, None, replicate, take, ⊤}
 use Rattle.std.specs.List.{flat_map}
+use Rattle.script_lang.specs.Lines.{turns_in}
 use Rattle.script_lang.specs.declared.line.Line.{Line}
 use Rattle.script_lang.specs.declared.line.Line.TheVariants as lines
 
@@ -21,11 +22,6 @@ singles lines.Wake = lines.Wake ∷ []
 
 abbrev pub moments : List Line → List Line
 moments past = flat_map singles past
-
--- how many turns of hart h a line makes
-abbrev pub turns_in : ℕ → Line → ℕ
-turns_in h (lines.Turn by n) = if by == h then n else 0
-turns_in h line = 0
 
 -- no line makes a turn of hart h
 abbrev pub NoRow : ℕ → List Line → Type 0

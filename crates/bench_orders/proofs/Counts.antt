@@ -4,7 +4,8 @@ use Rattle.std.proofs.lemmas.List.{take_more, get_or-set_same, get_or-set_other}
 use Rattle.std.proofs.lemmas.Bool.Decides.{nat_tests}
 use Rattle.script_lang.specs.declared.line.Line.{Line}
 use Rattle.script_lang.specs.declared.line.Line.TheVariants as lines
-use Rattle.bench_orders.specs.Orders.{IsTurn, turns_in, named, left_of}
+use Rattle.script_lang.specs.Lines.{turns_in}
+use Rattle.bench_orders.specs.Orders.{IsTurn, named, left_of}
 use Rattle.bench_orders.proofs.Deals.{named_push, turns_push}
 
 pub turns_more : (row : List Line) (i : ℕ) (line : Line) → i < length row → line ≡ get_or row i line → All IsTurn (take i row) → IsTurn line → All IsTurn (take (i + 1) row)

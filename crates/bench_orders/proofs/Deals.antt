@@ -8,9 +8,10 @@ use Rattle.std.proofs.lemmas.List.Sums.{sum_by_push}
 use Rattle.std.proofs.lemmas.List.{length-append}
 use Rattle.script_lang.specs.declared.line.Line.{Line}
 use Rattle.script_lang.specs.declared.line.Line.TheVariants as lines
+use Rattle.script_lang.specs.Lines.{turns_in}
 use Rattle.bench_orders.specs.declared.deal.Deal.{Deal}
 use Rattle.bench_orders.specs.Deals.{GoesOn}
-use Rattle.bench_orders.specs.Orders.{IsTurn, named, turns_in, left_of, IsRowOf}
+use Rattle.bench_orders.specs.Orders.{IsTurn, named, left_of, IsRowOf}
 
 pub goes_on_same : (a : Deal) → GoesOn a a
 goes_on_same a = record { same = λ h. refl; turns = λ are. are }

@@ -6,10 +6,10 @@ use Rattle.std.proofs.lemmas.Bool.Decides.{nat_tests}
 use Rattle.std.proofs.lemmas.List.Elements.{All-append, All-cons, All-nil, All-head, All-tail}
 use Rattle.std.proofs.lemmas.List.Sums.{sum_by-cons}
 use Rattle.board_model.specs.Shapes.{Size}
-use Rattle.script_lang.specs.Lines.{FitsLine, IsLineInRange}
+use Rattle.script_lang.specs.Lines.{FitsLine, IsLineInRange, turns_in}
 use Rattle.script_lang.specs.declared.line.Line.{Line}
 use Rattle.script_lang.specs.declared.line.Line.TheVariants as lines
-use Rattle.bench_orders.specs.Orders.{IsTurn, turns_in, named, IsRowOf, IsOrderFor, TakesPlaceOf}
+use Rattle.bench_orders.specs.Orders.{IsTurn, named, IsRowOf, IsOrderFor, TakesPlaceOf}
 use Rattle.bench_orders.proofs.SeenRows.{order_of_rows}
 
 module _ (P : Line → Type 0) where

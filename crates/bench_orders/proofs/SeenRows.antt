@@ -4,7 +4,8 @@ use Rattle.std.proofs.lemmas.List.Elements.{All-head, All-tail}
 use Rattle.std.proofs.lemmas.List.Sums.{sum_by-cons}
 use Rattle.script_lang.specs.declared.line.Line.{Line}
 use Rattle.script_lang.specs.declared.line.Line.TheVariants as lines
-use Rattle.bench_orders.specs.Orders.{other_count, IsTurn, named, turns_in, more_turns, seen_by, AreOrderOf}
+use Rattle.script_lang.specs.Lines.{turns_in}
+use Rattle.bench_orders.specs.Orders.{other_count, IsTurn, named, more_turns, seen_by, AreOrderOf}
 
 no_more : (those : List Line) → more_turns 0 those ≡ those
 no_more [] = refl

@@ -2,15 +2,10 @@
 use Rattle.std.specs.Prelude.{◌≡◌, ℕ, suc, ◌+◌, ◌≤◌, List, [], ◌∷◌, ◌++◌, ◌==◌, Bool, true, false, All, if◌then◌else◌, slice_index_or}
 use Rattle.std.specs.List.{sum_by}
 use Rattle.board_model.specs.Shapes.{Size}
-use Rattle.script_lang.specs.Lines.{FitsLine, IsLineInRange}
+use Rattle.script_lang.specs.Lines.{FitsLine, IsLineInRange, turns_in}
 use Rattle.script_lang.specs.Scripts.{Script}
 use Rattle.script_lang.specs.declared.line.Line.{Line}
 use Rattle.script_lang.specs.declared.line.Line.TheVariants as lines
-
--- how many turns of hart h a line names
-abbrev pub turns_in : ℕ → Line → ℕ
-turns_in h (lines.Turn by n) = if by == h then n else 0
-turns_in h line = 0
 
 -- how many turns of hart h these lines name
 abbrev pub named : ℕ → List Line → ℕ

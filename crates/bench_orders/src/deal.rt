@@ -2,7 +2,8 @@
 
 ghost use Rattle.std.specs.Prelude.{◌≡◌, ◌+◌, ◌≤◌, ◌<◌, ℕ, [], length, All, OnOk, IfOk};
 ghost use Rattle.script_lang.specs.declared.line.Line.TheVariants as variants;
-ghost use Rattle.bench_orders.specs.Orders.{IsTurn, named, turns_in, left_of};
+ghost use Rattle.script_lang.specs.Lines.{turns_in};
+ghost use Rattle.bench_orders.specs.Orders.{IsTurn, named, left_of};
 ghost use Rattle.bench_orders.specs.Deals.{GoesOn, IsOpen};
 
 use board_model::HartId;

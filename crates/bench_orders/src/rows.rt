@@ -1,7 +1,8 @@
 //! Rows of turns.
 
 ghost use Rattle.std.specs.Prelude.{◌≡◌, ◌+◌, ◌*◌, ◌≤◌, ℕ, length, take, All, IfOk, true};
-ghost use Rattle.bench_orders.specs.Orders.{IsTurn, named, turns_in, left_of, IsRowOf};
+ghost use Rattle.script_lang.specs.Lines.{turns_in};
+ghost use Rattle.bench_orders.specs.Orders.{IsTurn, named, left_of, IsRowOf};
 
 use crate::copies::copied_row;
 use crate::deal::Deal;

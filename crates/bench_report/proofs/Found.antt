@@ -51,7 +51,8 @@ use Rattle.bench_report.specs.Reports.{AreByFirmware, IsReportWith}
 use Rattle.bench_report.specs.Prefix.{AskedLine, Boot, Command, Guest, Nothing, Keeps, Hides, TellsLine, may_hide, asked_of, asked_by, LineImplies, ShowsIts, is_format_ok}
 use Rattle.bench_report.specs.AllFound.{LineMakes, ShownMakes, AreAllFound, FindAll, FindsAll}
 use Rattle.bench_report.proofs.Issues.{is_up, takes_more, GoesOn, IsSound}
-use Rattle.bench_report.proofs.Rows.{commands_taken, few_commands, all_or_failed}
+use Rattle.board.proofs.Few.{few_commands}
+use Rattle.bench_report.proofs.Rows.{commands_taken, all_or_failed}
 use Rattle.bench_report.proofs.Determined.{CalmDisk, IsCalm, DiskHasFailed, fails, kept_as}
 use Rattle.bench_report.proofs.Single.{moves_fair, run_fair, struck_fails}
 use Rattle.bench_report.proofs.Prefixed.{Tell, steps, IsFresh, moves_format, either}

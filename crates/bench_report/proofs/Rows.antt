@@ -38,16 +38,6 @@ commands_taken modes.Keep s allowed = attempts_taken s s.trial refl
 commands_taken modes.Discard s allowed = (allowed, attempts_taken (after s Discard) s.trial refl)
 commands_taken modes.Resume s allowed = (allowed, tt)
 
-one_attempt : (trial : Option Trial) → length (attempts_of trial) ≤ 1
-one_attempt None = omega arith
-one_attempt (Some t) = omega arith
-
-pub few_commands : (mode : BootMode) (s : DurableState) → length (commands_by mode s) ≤ 2
-few_commands modes.Fresh s = omega (arith, one_attempt s.trial)
-few_commands modes.Keep s = omega (arith, one_attempt s.trial)
-few_commands modes.Discard s = omega (arith, one_attempt s.trial)
-few_commands modes.Resume s = omega arith
-
 pub few_of : (cs done : List Change) (c : Change) (later : List Change) → length cs ≤ 2 → cs ≡ done ++ c ∷ later → length done ≤ 1
 few_of cs done c later few parts =
     let long : length cs ≡ length (done ++ c ∷ later) = ap length parts in omega (arith, few, long, length-append done (c ∷ later))

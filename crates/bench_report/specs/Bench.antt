@@ -58,7 +58,3 @@ bench_with payloads = record {
   fault_state = no_fault;
   poked = false;
 }
-
--- of one that begins with none
-abbrev pub blank_bench : Bench
-blank_bench = bench_with no_payloads

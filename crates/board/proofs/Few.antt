@@ -1,14 +1,25 @@
--- A boot of one command at most that its disk refused: none was acknowledged, and after 6 the first is in
--- doubt.
-use Rattle.std.proofs.Common.{◌≡◌, ◌≤◌, List, [], ◌∷◌, ◌++◌, length, refl, sym, ap, ◌∙◌, subst, arith, length-append}
+-- How many commands a boot issues. Of one at most that its disk refused none was acknowledged, and after 6 the first is in doubt.
+use Rattle.std.proofs.Common.{◌≡◌, ◌≤◌, List, [], ◌∷◌, ◌++◌, Option, None, Some, length, refl, sym, ap, ◌∙◌, subst, arith, length-append}
 use Rattle.disk.specs.Facts.{Facts}
 use Rattle.board_model.specs.Durable.{DurableState, Change}
 use Rattle.board_model.specs.Shapes.{Size}
 use Rattle.board_model.specs.declared.boot_mode.BootMode.{BootMode}
+use Rattle.board_model.specs.declared.boot_mode.BootMode.TheVariants as modes
+use Rattle.board_model.specs.declared.durable.Trial.{Trial}
 use Rattle.board_model.specs.declared.refusal.Refusal.{Refusal}
 use Rattle.store.specs.Lives.{Life, begun, now_of}
-use Rattle.board.specs.Moments.{commands_by}
+use Rattle.board.specs.Moments.{attempts_of, commands_by}
 use Rattle.board.specs.Unbooted.{doubt_by, IsLifeLeft, LeavesLife}
+
+one_attempt : (trial : Option Trial) → length (attempts_of trial) ≤ 1
+one_attempt None = omega arith
+one_attempt (Some t) = omega arith
+
+pub few_commands : (mode : BootMode) (s : DurableState) → length (commands_by mode s) ≤ 2
+few_commands modes.Fresh s = omega (arith, one_attempt s.trial)
+few_commands modes.Keep s = omega (arith, one_attempt s.trial)
+few_commands modes.Discard s = omega (arith, one_attempt s.trial)
+few_commands modes.Resume s = omega arith
 
 -- of one command at most, where not all are done none is
 none_done : (cs done later : List Change) → length cs ≤ 1 → cs ≡ done ++ later → (later ≡ [] → cs ≡ []) → (done ≡ []) × (later ≡ cs)

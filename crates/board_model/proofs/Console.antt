@@ -1,6 +1,6 @@
 -- What all commands of the operator's console have in common.
-use Rattle.std.proofs.Common.{◌≡◌, None, false, refl}
-use Rattle.board_model.specs.Durable.{DurableState, after, ends_life, CarriesWhole}
+use Rattle.std.proofs.Common.{◌≡◌, false, refl}
+use Rattle.board_model.specs.Durable.{ends_life, CarriesWhole}
 use Rattle.board_model.specs.Shapes.{Size}
 use Rattle.board_model.specs.ConsoleCommands.{console_change}
 use Rattle.board_model.specs.declared.console_command.ConsoleCommand.{ConsoleCommand}
@@ -12,13 +12,6 @@ ends_life-console (Slot n) = refl
 ends_life-console Discard = refl
 ends_life-console (Tries n boots) = refl
 ends_life-console Good = refl
-
--- it makes no image
-pub image_after-console : (command : ConsoleCommand) (s : DurableState) → s.image ≡ None → (after s (console_change command)).image ≡ None
-image_after-console (Slot n) s none = none
-image_after-console Discard s none = refl
-image_after-console (Tries n boots) s none = none
-image_after-console Good s none = none
 
 -- it carries no memory, so it carries a whole one
 pub CarriesWhole-console : (command : ConsoleCommand) (size : Size) → CarriesWhole size (console_change command)

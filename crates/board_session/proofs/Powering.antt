@@ -31,7 +31,7 @@ use Rattle.shared_store.specs.Runs.{AllCarrySteps, IsCarried}
 use Rattle.shared_store.proofs.Carrying.{none_carry, more_carry, change_carries}
 use Rattle.board.specs.Boots.{boot_refusal, life_after}
 use Rattle.board.specs.Moments.{attempts_of, commands_by}
-use Rattle.board.proofs.Few.{left_at}
+use Rattle.board.proofs.Few.{few_commands, left_at}
 use Rattle.board_session.specs.Sessions.{Begins, Allows, TakesFormat, RunsOver, RefusesNew, RefusesDisk, IsOfLife}
 
 -- ---- of a format
@@ -167,19 +167,8 @@ life_taken mode life is free = subst (λ (cs : List Change). are_taken life.foun
 pub life_issued : (mode : BootMode) (life : Life) → life ≡ life_after mode life.found → life.journal ≡ commands_by mode life.found
 life_issued mode life is = ap (λ (x : Life). x.journal) is
 
--- a boot issues two commands at most
-attempts_few : (trial : Option Trial) → length (attempts_of trial) ≤ 1
-attempts_few None = omega arith
-attempts_few (Some trial) = omega arith
-
-commands_few : (mode : BootMode) (s : DurableState) → length (commands_by mode s) ≤ 2
-commands_few modes.Fresh s = let one = attempts_few s.trial in omega (arith, one)
-commands_few modes.Keep s = let one = attempts_few s.trial in omega (arith, one)
-commands_few modes.Discard s = let one = attempts_few s.trial in omega (arith, one)
-commands_few modes.Resume s = omega arith
-
 pub life_few : (mode : BootMode) (life : Life) → life ≡ life_after mode life.found → length life.journal ≤ 2
-life_few mode life is = subst (λ (cs : List Change). length cs ≤ 2) (sym (life_issued mode life is)) (commands_few mode life.found)
+life_few mode life is = subst (λ (cs : List Change). length cs ≤ 2) (sym (life_issued mode life is)) (few_commands mode life.found)
 
 -- no command of a boot is a suspension
 attempts_carried : (begins : List ℕ) (trial : Option Trial) → AllCarrySteps begins (attempts_of trial)

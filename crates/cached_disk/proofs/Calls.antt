@@ -66,9 +66,6 @@ module _ {T E U F : Type 0} (ws ws' : List Waiting) (log log' : WriteLog) (i j :
       gone = subst (λ (x : FaultState). OnOk r (x.struck ≡ false)) handed.cause.ok m.gone;
     }
 
-    pub write_written : OnOk r (Written first s b.content c.content) → OnOk r (Written first s (shown ws a.content) (shown ws' c.content))
-    write_written written = subst (λ (x : Content). OnOk r (Written first s x (shown ws' c.content))) handed.all (subst (λ (x : Content). OnOk r (Written first s b.content x)) (sym after) written)
-
     pub write_cached : IsCached ws' log' c
     write_cached =
         let at_b = handed_cached ws log' a b f g (Ok v) (cached_more ws log log' (first, s) a cached more within) handed in
@@ -134,9 +131,6 @@ module _ {T E : Type 0} (ws ws' : List Waiting) (log : WriteLog) (i j : ℕ) (a 
 
     pub synced_none : IsCached [] log c
     synced_none = cached_none log c (device_cached ws log b c g h r (handed_cached ws log a b f g (Ok v) cached handed) m).kept
-
-    pub synced_cached : IsCached ws' log c
-    synced_cached = subst (λ (us : List Waiting). IsCached us log c) (sym none) synced_none
 
 -- all of it
 pub sync_ok : {T E U F : Type 0} (ws ws' : List Waiting) (log log' : WriteLog) (i j : ℕ) (a b c : Facts) (f g h : FaultState) (v : T) (u : U) → IsCached ws log a → j ≡ counted i 1 → ws' ≡ [] → HandsOn {T = T} {E = E} ws a b f g (Ok v)

@@ -1,24 +1,22 @@
 -- Turns that became part of a history, one command after another.
-use Rattle.std.proofs.Common.{◌≡◌, ◌≤◌, ◌+◌, ◌-◌, ◌⊎◌, inl, inr, ℕ, Bool, true, false, List, [], ◌∷◌, ◌++◌, Option, None, length, refl, sym, ap, ◌∙◌, subst, append_assoc, arith}
-use Rattle.std.specs.Prelude.{All, replicate}
-use Rattle.std.proofs.lemmas.List.{append-nil, length-append, length-replicate}
-use Rattle.std.proofs.lemmas.List.Elements.{All-append, All-cons, All-head, All-nil, All-replicate, All-tail}
+use Rattle.std.proofs.Common.{◌≡◌, ◌≤◌, ◌+◌, ◌-◌, ◌⊎◌, inl, inr, ℕ, Bool, true, false, List, [], ◌∷◌, ◌++◌, Option, length, refl, sym, ap, ◌∙◌, subst, append_assoc, arith}
+use Rattle.std.specs.Prelude.{All}
+use Rattle.std.proofs.lemmas.List.{append-nil, length-append}
+use Rattle.std.proofs.lemmas.List.Elements.{All-append, All-cons, All-head, All-nil, All-tail}
 use Rattle.board_model.specs.Shapes.{Size}
 use Rattle.script_lang.specs.declared.line.Line.{Line}
 use Rattle.script_lang.specs.declared.line.Line.TheVariants as lines
 use Rattle.bench_history.specs.Pasts.{moments}
 use Rattle.bench_rows.specs.declared.rows.Row.{Row}
-use Rattle.machine.specs.Machine.{Machine}
 use Rattle.bench_rows.specs.declared.rows.Row.TheVariants as rows
-use Rattle.bench_rows.specs.Rows.{IsWithin, is_off, made_in}
+use Rattle.bench_rows.specs.Rows.{IsWithin, made_in}
 use Rattle.debug_timeline.specs.declared.timeline.Timeline.{Timeline}
 use Rattle.bench_report.specs.Bench.{Bench}
 use Rattle.debug_timeline.specs.Passes.{GoesTo, Passes}
-use Rattle.debug_timeline.specs.Ats.{IsAt, MadeTurns}
+use Rattle.debug_timeline.specs.Ats.{IsAt}
 use Rattle.debug_session.specs.declared.halts.Halt.{Halt}
 use Rattle.debug_session.specs.Firsts.{Stretched}
 use Rattle.debug_session.specs.Steps.{IsStep, IsTurnOf, Went}
-use Rattle.debug_timeline.specs.Lives.{HasHalted, pc_in}
 
 -- none
 pub went_none : (May : ℕ → Type 0) (size : Size) (t : Timeline) → IsAt size t → Went May 0 size t t
@@ -29,17 +27,6 @@ went_none May size t at = record {
   grew = sym (append-nil (moments t.history));
   only = All-nil (IsTurnOf May);
   as_many = refl;
-}
-
--- those of one row
-pub went_row : (size : Size) (h n : ℕ) (points : List ℕ) (row : Row) (rests : Bool) (old new : Timeline) → IsAt size new → new.begins ≡ old.begins → MadeTurns size h points row rests old new → n ≡ made_in row → Went (λ x. x ≡ h) n size old new
-went_row size h n points row rests old new at begins made e = record {
-  at = at;
-  begins = begins;
-  turns = replicate (made_in row) (lines.Turn h 1);
-  grew = made.grew;
-  only = All-replicate (IsTurnOf (λ x. x ≡ h)) (made_in row) (lines.Turn h 1) (refl, refl);
-  as_many = length-replicate (made_in row) (lines.Turn h 1) ∙ sym e;
 }
 
 -- by harts that may run
@@ -73,13 +60,6 @@ went_more May Next n k size first mid last may one two = record {
 }
 
 -- ---- turns of one hart
--- why none was made
-pub off_why : (h most : ℕ) (points : List ℕ) (row : Row) (machine : Option Machine) → is_off row ≡ true → (made_in row ≡ most) ⊎ HasHalted h points row machine → (most ≡ 0) ⊎ (pc_in h machine ≡ None)
-off_why h most points rows.Off machine off (inl e) = inl (sym e)
-off_why h most points rows.Off machine off (inr (inl (made, why))) = absurd (let never : ⊥ = cc in never)
-off_why h most points rows.Off machine off (inr (inr none)) = inr none
-off_why h most points (rows.Made n word) machine off why = absurd (let never : ⊥ = cc in never)
-off_why h most points (rows.Lost n) machine off why = absurd (let never : ⊥ = cc in never)
 
 rests_or : (rests : Bool) (P : Type 0) → (rests ≡ false → (◌≡◌ {A = ℕ} 1 0) ⊎ P) → (rests ≡ true) ⊎ P
 rests_or true P why = inl refl
@@ -103,11 +83,6 @@ one_turn size h points (rows.Lost n) b new within (mid, passed, last) =
 pub step_of : (size : Size) (h made : ℕ) (points : List ℕ) (rests : Bool) (halt : Option Halt) (old new : Timeline) → Stretched size h 1 points made rests halt old new
     → IsStep size h old new
 step_of size h made points rests halt old new (row, turns, e, within, why, is) = (row, rests, within, record { moves = λ b left. (let did = turns.moves b left in (did.0, did.1, did.2, did.3, one_turn size h points row b did.0 within did.4)); grew = turns.grew; busy = turns.busy }, λ off. rests_or rests _ (why off))
-
--- so many turns
-pub went_of : (size : Size) (h most made : ℕ) (points : List ℕ) (rests : Bool) (halt : Option Halt) (old new : Timeline) → IsAt size new → new.begins ≡ old.begins → Stretched size h most points made rests halt old new
-    → Went (λ x. x ≡ h) made size old new
-went_of size h most made points rests halt old new at begins (row, turns, e, within, why, is) = went_row size h made points row rests old new at begins turns e
 
 pub few_of : (size : Size) (h most made : ℕ) (points : List ℕ) (rests : Bool) (halt : Option Halt) (old new : Timeline) → Stretched size h most points made rests halt old new
     → made ≤ most

@@ -1,9 +1,8 @@
 -- A bench with its history, one line or row further.
-use Rattle.std.proofs.Common.{◌≡◌, ◌<◌, ◌+◌, ℕ, Bool, true, false, not, List, [], ◌∷◌, ◌++◌, Result, Ok, Err, take, get_or, length, refl, sym, ap, subst}
-use Rattle.std.specs.Prelude.{IfOk, OnOk}
+use Rattle.std.proofs.Common.{◌≡◌, ◌<◌, ◌+◌, ℕ, Bool, true, false, List, [], ◌∷◌, ◌++◌, Result, Ok, Err, take, get_or, length, refl, sym, ap, subst}
+use Rattle.std.specs.Prelude.{OnOk}
 use Rattle.std.proofs.lemmas.List.{take_more}
 use Rattle.board_model.specs.Shapes.{Size}
-use Rattle.board_model.specs.declared.refusal.Refusal.{Refusal}
 use Rattle.sbi.specs.Words.{ends}
 use Rattle.script_lang.specs.declared.line.Line.{Line}
 use Rattle.script_lang.specs.declared.line.Line.TheVariants as lines
@@ -16,8 +15,7 @@ use Rattle.bench_rows.specs.Rows.{RowMoves, goes_on, made_in}
 use Rattle.bench_rows.specs.Notes.{Joins, Leaves, NotesRow}
 use Rattle.bench_rows.proofs.Noted.{leaves_more}
 use Rattle.debug_timeline.specs.declared.debugged.DebuggedBench.{DebuggedBench}
-use Rattle.debug_timeline.specs.declared.timeline.Timeline.{Timeline}
-use Rattle.debug_timeline.specs.Ats.{GoesOnBy, IsLeft, IsNoted, Ran}
+use Rattle.debug_timeline.specs.Ats.{GoesOnBy}
 use Rattle.debug_timeline.specs.Lives.{Shows}
 use Rattle.debug_timeline.proofs.Rests.{not_true}
 
@@ -47,26 +45,6 @@ pub line_left : (size : Size) (line : Line) (answer : Answer) (begins : List (Li
 line_left size line answer begins was joined before after moves b left =
     let did = moves b left.2 in
     (did.0, did.1, (leaves_more size (bench_with begins) was b line answer did.0 left.0 did.1, tt, did.2))
-
--- a line that is no row of turns is noted as it is
-pub noted_whole : (line : Line) (answer : Answer) (old new : List Line) → ((h n : ℕ) → line ≡ lines.Turn h n → ⊥) → new ≡ old ++ line ∷ [] → IsNoted line answer old new
-noted_whole (lines.Turn h n) answer old new not e = absurd (not h n refl)
-noted_whole (lines.Payload slot bytes) answer old new not e = e
-noted_whole lines.Format answer old new not e = e
-noted_whole (lines.On mode) answer old new not e = e
-noted_whole (lines.Command c) answer old new not e = e
-noted_whole (lines.Call h words) answer old new not e = e
-noted_whole (lines.Show look) answer old new not e = e
-noted_whole (lines.Arm arming) answer old new not e = e
-noted_whole (lines.Cut fill) answer old new not e = e
-noted_whole (lines.Poke k offset bytes) answer old new not e = e
-noted_whole lines.Inspect answer old new not e = e
-noted_whole lines.Wake answer old new not e = e
-
-pub ran_whole : (size : Size) (line : Line) (r : Result Answer Refusal) (old new : Timeline) → ((h n : ℕ) → line ≡ lines.Turn h n → ⊥)
-    → IfOk r (λ answer. (b : Bench) → IsLeft size old b → (x : Bench) × Moves size line b answer x × IsLeft size new x) → OnOk r (new.history ≡ old.history ++ line ∷ []) → IfOk r (λ answer. Ran size line answer old new)
-ran_whole size line (Err e) old new not moves noted = tt
-ran_whole size line (Ok answer) old new not moves noted = record { moves = moves; noted = noted_whole line answer old.history new.history not noted }
 
 -- ---- a history that is run again
 no_true : false ≡ true → ⊥

@@ -15,7 +15,6 @@ use Rattle.sbi.specs.declared.words.Word.TheVariants.{Goes, Over}
 use Rattle.sbi_calls.specs.declared.tables.Seats.{Seats}
 use Rattle.sbi_calls.specs.declared.tables.Tables.{Tables}
 use Rattle.hsm.specs.Calls.{Sits}
-use Rattle.hsm_steps.specs.States.{IsBetweenCalls}
 use Rattle.hsm_steps.specs.declared.view.Stage.TheVariants.{Out, Running, Suspended, Quiet}
 use Rattle.sbi_calls.specs.Both.{GivesBack, Acts, AreSeatsOfBoth, views}
 use Rattle.susp.specs.declared.buses.Doze.{Doze}
@@ -82,20 +81,6 @@ sits_after by s whys.Life doze (inr a) = (Quiet, a.0)
 sits_after by s whys.Closed doze a = rests_sits by s doze a
 sits_after by s whys.Gate doze a = rests_sits by s doze a
 sits_after by s whys.Turns doze a = rests_sits by s doze a
-
--- it has no start in flight, and is not in the midst of an entry
-rests_between : (by : ℕ) (s : Seats) (doze : Option Doze) → RestsBy doze by s → IsBetweenCalls by (views s)
-rests_between by s None (inl a, b) = inl a
-rests_between by s None (inr (inl a), b) = inr (inl a)
-rests_between by s None (inr (inr a), b) = inr (inr (inl a))
-rests_between by s (Some d) (a, b) = inr (inr (inr a))
-
-pub between_after : (by : ℕ) (s : Seats) (why : Why) (doze : Option Doze) → StandsAfter why doze by s → IsBetweenCalls by (views s)
-between_after by s whys.Life doze (inl a) = inr (inl a.0)
-between_after by s whys.Life doze (inr a) = inr (inr (inr a.0))
-between_after by s whys.Closed doze a = rests_between by s doze a
-between_after by s whys.Gate doze a = rests_between by s doze a
-between_after by s whys.Turns doze a = rests_between by s doze a
 
 -- ---- one turn
 -- of a hart that does not doze

@@ -1,6 +1,6 @@
 -- The lines of the script language: what each says, its range, and its one spelling, with decimal numbers and
 -- hexadecimal digits in lower case.
-use Rattle.std.specs.Prelude.{ℕ, ◌+◌, ◌^◌, ◌<◌, ◌≤◌, List, [], ◌∷◌, length, Option, Some, None, nat_le, if◌then◌else◌}
+use Rattle.std.specs.Prelude.{ℕ, ◌+◌, ◌^◌, ◌<◌, ◌≤◌, ◌==◌, List, [], ◌∷◌, length, Option, Some, None, nat_le, if◌then◌else◌}
 use Rattle.std.specs.Fmt.{decimal}
 use Rattle.std.specs.List.{join_with_byte}
 use Rattle.std.specs.Str.{bytes_eq}
@@ -191,3 +191,8 @@ FitsLine (Cut fill) = FitsFill fill
 FitsLine (Poke sector offset bytes) = (sector < 2 ^ 32) × IsBytes bytes
 FitsLine Inspect = Unit {0}
 FitsLine Wake = Unit {0}
+
+-- how many turns of hart h a line names
+abbrev pub turns_in : ℕ → Line → ℕ
+turns_in h (Turn by n) = if by == h then n else 0
+turns_in h line = 0

@@ -112,9 +112,6 @@ whole : (xs : List Change) → take (length xs) xs ≡ xs
 whole [] = refl
 whole (x ∷ xs) = ap (λ (ys : List Change). x ∷ ys) (whole xs)
 
-pub begins_alone : (issued journal : List Change) → journal ≡ issued → BeginsWith issued journal
-begins_alone issued journal is = ap (λ (cs : List Change). take (length issued) cs) is ∙ whole issued
-
 front : (n : ℕ) (xs ys : List Change) → n ≤ length xs → take n (xs ++ ys) ≡ take n xs
 front zero xs ys le = refl
 front (suc n) [] ys le = absurd (omega arith)

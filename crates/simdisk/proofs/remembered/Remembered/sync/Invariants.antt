@@ -1,5 +1,4 @@
 use Rattle.std.proofs.Common.{◌++◌}
-use Rattle.write_log.specs.WriteLog.{WriteLog}
 use Rattle.simdisk.proofs.remembered.Remembered.sync.Given as goal
 
 abbrev pub ghost-picked : goal.ghost-picked
