@@ -17,7 +17,7 @@ use Rattle.bench_report.specs.declared.power.Power.TheVariants.{Off, On}
 use Rattle.bench_rows.specs.Rows.{RowMoves, row_answer}
 use Rattle.bench_rows.specs.declared.rows.Row.TheVariants as rows
 use Rattle.bench_live.proofs.InPlace.{lost_of, row_of}
-use Rattle.bench_report.specs.declared.printed.Answer.{Answer}
+use Rattle.report_lines.specs.declared.printed.Answer.{Answer}
 use Rattle.bench_live.specs.Lives.{IsAfter, PowerShows, WentInPlace, stays_on}
 
 pub runs_on : (size : Size) (line : Line) (fill : Fill) (start : Option Power) (power after : Power) (old new : List (List ℕ)) (r : Result Answer Refusal) → start ≡ Some power

@@ -11,7 +11,6 @@ pub mod Opening
 pub mod Commanded
 pub mod Dozed
 pub mod Ended
-pub mod Written
 pub mod Told
 pub mod Determined
 pub mod Rows

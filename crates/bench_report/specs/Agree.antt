@@ -25,7 +25,7 @@ use Rattle.bench_report.specs.Sides.{SidesAre}
 use Rattle.bench_report.specs.Armings.{fault_of, newest_fill}
 use Rattle.bench_report.specs.Steps.{Step}
 use Rattle.bench_report.specs.Examined.{AnswersOf}
-use Rattle.bench_report.specs.declared.printed.Answer.{Answer}
+use Rattle.report_lines.specs.declared.printed.Answer.{Answer}
 
 -- what a crash may leave of the disk is what an open may find of the commands that it keeps
 abbrev pub DiskIs : Size → DiskState → Kept → Facts → Type 0

@@ -22,8 +22,6 @@ pub mod Sides
 pub mod Examined
 -- What each line of a script may answer, and the bench after it; whole runs.
 pub mod Steps
--- The exact text of each line of a report.
-pub mod Texts
 -- The reports of a script.
 pub mod Reports
 -- A report that shows by its lines that memory was never refused and the disk never failed.
@@ -42,5 +40,3 @@ pub mod Resumes
 pub mod Views
 -- How the code's disk and board stand for the bench of the model.
 pub mod Agree
--- What was written and counted so far.
-pub mod Counts

@@ -1,31 +1,14 @@
 -- The reports of a script.
-use Rattle.std.specs.Prelude.{◌≡◌, ℕ, ◌+◌, List, [], ◌∷◌, ◌++◌, take, ⊤}
-use Rattle.std.specs.List.{flat_map, sum_by, filter_map}
+use Rattle.std.specs.Prelude.{◌≡◌, ℕ, List, [], ◌∷◌, take, ⊤}
 use Rattle.board_model.specs.Shapes.{Size, sectors_of}
-use Rattle.board_model.specs.declared.durable.Durable.{Durable}
 use Rattle.script_lang.specs.Scripts.{Script}
 use Rattle.script_lang.specs.declared.line.Line.{Line}
-use Rattle.bench_report.specs.declared.printed.Printed.TheVariants as printed
-use Rattle.bench_report.specs.declared.printed.Answer.{Answer}
-use Rattle.bench_report.specs.Texts.{found_line, line_text, found_count}
+use Rattle.report_lines.specs.declared.printed.Printed.TheVariants as printed
+use Rattle.report_lines.specs.declared.printed.Answer.{Answer}
 use Rattle.bench_report.specs.Bench.{Bench, bench_with, no_payloads}
 use Rattle.bench_report.specs.Deeds.{deed_of, IsByFirmwareAlone}
 use Rattle.bench_report.specs.Happens.{says}
 use Rattle.bench_report.specs.Steps.{Run}
-
--- the lines that one line of a script makes
-abbrev pub answer_text : Answer → List ℕ
-answer_text a = found_line a.found ++ (line_text a.line ++ 10 ∷ [])
-
-abbrev pub report_text : List Answer → List ℕ
-report_text answers = flat_map answer_text answers
-
--- how many lines, and the states of the found lines
-abbrev pub line_count : List Answer → ℕ
-line_count answers = sum_by (λ (a : Answer). found_count a.found + 1) answers
-
-abbrev pub found_states : List Answer → List Durable
-found_states answers = filter_map (λ (a : Answer). a.found) answers
 
 -- what the board line answers
 abbrev pub board_answer : Size → Answer

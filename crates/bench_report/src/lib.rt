@@ -7,7 +7,6 @@ mod bench_board;
 mod laws;
 mod looks;
 mod power;
-mod printed;
 mod runs;
 mod setting;
 mod steps;
@@ -15,8 +14,8 @@ mod steps;
 pub use bench_board::BenchBoard;
 pub use laws::{all_are_found, inspections, one_report, power_ons, prefix_law, reports_split};
 pub use power::{OffDisk, Power};
-pub use printed::{Answer, Printed};
-pub use runs::{Report, Stopped, run, run_left, run_left_with, run_with, unwritten};
+pub use report_lines::{Answer, Printed, Report};
+pub use runs::{Stopped, run, run_left, run_left_with, run_with};
 pub use setting::Setting;
 pub use steps::{
     after, arm_disk, console, cut, disk_left, line_alone, line_with_cuts, power_on, struck,

@@ -1,104 +1,35 @@
 //! Whole scripts.
 
-ghost use Rattle.std.specs.Prelude.{◌≡◌, ◌≢◌, ◌⊎◌, ◌+◌, ◌++◌, ◌∷◌, [], ◌<◌, ◌≤◌, ◌^◌, length, take, Option, Result, ℕ, List, All, IfOk, IfErr, IfSome, OnErr, OnOk, Ok, Err, None, MatchResult};
-ghost use Rattle.std.specs.Io.KnownBytes.{Appends};
-ghost use Rattle.std.specs.IoError.{error_kind};
+ghost use Rattle.std.specs.Prelude.{◌≡◌, ◌⊎◌, ◌+◌, ◌++◌, ◌<◌, ◌≤◌, ◌^◌, length, take, Option, Result, ℕ, List, All, IfOk, IfErr, IfSome, OnErr, OnOk, Ok, Err, None, MatchResult};
 ghost use Rattle.script_lang.specs.Lines.{IsLineInRange};
 ghost use Rattle.script_lang.specs.Scripts.{script_of, Script as Said};
 ghost use Rattle.script_lang.specs.Views.{view};
 ghost use Rattle.store.specs.Leaves.{IsIdle};
-ghost use Rattle.bench_report.specs.Texts.{found_line, line_text};
-ghost use Rattle.bench_report.specs.Reports.{answer_text, AreByFirmware, IsReport, IsReportWith, IsCutShort, IsCutShortWith};
-ghost use Rattle.bench_report.specs.Counts.{Adds, Reported};
+ghost use Rattle.bench_report.specs.Reports.{AreByFirmware, IsReport, IsReportWith, IsCutShort, IsCutShortWith};
+ghost use Rattle.report_lines.specs.Counts.{Adds, Reported};
 ghost use Rattle.bench_report.specs.Prefix.{KeepsPrefixLaw};
 ghost use Rattle.bench_report.specs.Bench.{Bench, bench_with};
 ghost use Rattle.bench_report.specs.Views.{facts};
 ghost use Rattle.bench_report.specs.Agree.{ArmsIts, fill_after, fills_after, EndsBy, Agrees, OffIs, IsBench};
 ghost use Rattle.bench_report.specs.Laws.{KeepsLaws};
-ghost use Rattle.bench_report.specs.declared.printed.Answer.{Answer};
+ghost use Rattle.report_lines.specs.declared.printed.Answer.{Answer};
 ghost use Rattle.board_model.specs.declared.refusal.Refusal.{Refusal};
 ghost use Rattle.bench_report.specs.Happens.{off};
 ghost use Rattle.bench_report.specs.Steps.{Moves, Run};
 
 use crate::bench_board::BenchBoard;
 use crate::power::{OffDisk, Power};
-use crate::printed::{Answer, Printed};
 use crate::setting::Setting;
 use crate::steps::{disk_left, line_with_cuts};
 use board::Payloads;
-use board_console::StateText;
-use board_model::{Durable, Refusal};
+use board_model::Refusal;
 use crew::Crew;
+use report_lines::{Answer, Printed, Report, add};
 use script_lang::{Line, Script, parse_script};
 use simdisk::{Fill, SimDisk};
 use std::alloc::{AllocError, Global};
-use std::io::{self, ErrorKind, Write};
+use std::io::Write;
 use store::blank_disks;
-
-/// How many lines a run wrote, and what each power-on found.
-#[derive(Drop)]
-pub struct Report {
-    pub lines: u64,
-    pub found: Vec<Durable>,
-}
-
-/// Why a line was not written: `Memory` where the writer was refused memory, and else `Output`.
-pub fn unwritten(error: io::Error) -> Refusal
-    ensures { ((error_kind error ≡ ErrorKind.OutOfMemory) × (result ≡ Refusal.Memory))
-        ⊎ ((error_kind error ≢ ErrorKind.OutOfMemory) × (result ≡ Refusal.Output)) }
-{
-    if error.kind() == ErrorKind::OutOfMemory {
-        Refusal::Memory
-    } else {
-        Refusal::Output
-    }
-}
-
-/// Writes what an open found.
-fn write_found<W: Write>(out: &mut W, found: &Option<Durable>) -> Result<(), Refusal>
-    ensures ok { OnOk result (Appends (W.contents out.old) (W.contents out.new) (found_line found.now)) }
-    ensures err { IfErr result (λ e. (e ≡ Refusal.Output) ⊎ (e ≡ Refusal.Memory)) }
-{
-    match *found {
-        None => Ok(()),
-        Some(durable) => {
-            let state = StateText(durable);
-            writeln!(out, "found {state}").map_err(unwritten)
-        }
-    }
-}
-
-fn write_line<W: Write>(out: &mut W, line: Printed) -> Result<(), Refusal>
-    ensures ok { OnOk result (Appends (W.contents out.old) (W.contents out.new) (line_text line ++ 10 ∷ [])) }
-    ensures err { IfErr result (λ e. (e ≡ Refusal.Output) ⊎ (e ≡ Refusal.Memory)) }
-{
-    writeln!(out, "{line}").map_err(unwritten)
-}
-
-/// Writes the lines of an answer.
-#[tactic(auto, using(crate::proofs::Written::appended))]
-fn write_answer<W: Write>(out: &mut W, answer: &Answer) -> Result<(), Refusal>
-    ensures ok { OnOk result (Appends (W.contents out.old) (W.contents out.new) (answer_text answer.now)) }
-    ensures err { IfErr result (λ e. (e ≡ Refusal.Output) ⊎ (e ≡ Refusal.Memory)) }
-{
-    write_found(out, &answer.found)?;
-    write_line(out, answer.line)
-}
-
-/// Writes an answer and counts its lines.
-fn add<W: Write>(out: &mut W, report: &mut Report, answer: &Answer) -> Result<(), Refusal>
-    requires { report.old.lines < 2 ^ 40 }
-    ensures ok { OnOk result (Adds (W.contents out.old) (W.contents out.new) report.old report.new answer.now) }
-    ensures err { IfErr result (λ e. (e ≡ Refusal.Output) ⊎ (e ≡ Refusal.Memory)) }
-{
-    write_answer(out, answer)?;
-    report.lines += 1;
-    if let Some(durable) = answer.found {
-        report.lines += 1;
-        report.found.push(durable)?;
-    }
-    Ok(())
-}
 
 /// A run that stopped before the end of its script.
 #[derive(Drop)]

@@ -11,11 +11,11 @@ use Rattle.sbi.specs.contracts.words.WordPartialEq.TheImpl as word
 use Rattle.machine_lines.specs.declared.line.MachineLine.{MachineLine}
 use Rattle.machine_lines.specs.declared.line.MachineLine.TheVariants as lines
 use Rattle.machine_lines.specs.contracts.line.MachineLinePartialEq.TheImpl as machine_line
-use Rattle.bench_report.specs.declared.printed.Answer.{Answer}
-use Rattle.bench_report.specs.declared.printed.Printed.{Printed}
-use Rattle.bench_report.specs.declared.printed.Printed.TheVariants as printed
-use Rattle.bench_report.specs.contracts.printed.PrintedPartialEq.TheImpl as one_line
-use Rattle.bench_report.specs.contracts.printed.AnswerPartialEq.TheImpl as answer
+use Rattle.report_lines.specs.declared.printed.Answer.{Answer}
+use Rattle.report_lines.specs.declared.printed.Printed.{Printed}
+use Rattle.report_lines.specs.declared.printed.Printed.TheVariants as printed
+use Rattle.report_lines.specs.contracts.printed.PrintedPartialEq.TheImpl as one_line
+use Rattle.report_lines.specs.contracts.printed.AnswerPartialEq.TheImpl as answer
 
 never : {X : Type 0} → false ≡ true → X
 never e = absurd (let no : ⊥ = cc in no)

@@ -5,8 +5,8 @@ use Rattle.std.proofs.lemmas.List.Elements.{All-append, All-cons, All-nil}
 use Rattle.std.specs.Fmt.{decimal}
 use Rattle.std.specs.Io.KnownBytes.{Appends}
 use Rattle.script_lang.specs.Scripts.{Script}
-use Rattle.bench_report.proofs.Written.{appended, unwritten}
-use Rattle.bench_report.specs.declared.printed.Answer.{Answer}
+use Rattle.report_lines.proofs.Written.{appended, unwritten}
+use Rattle.report_lines.specs.declared.printed.Answer.{Answer}
 use Rattle.bench_schedules.specs.declared.runs.Difference.{Difference}
 use Rattle.bench_schedules.specs.Schedules.{Ran, RunText, RunsText, Wrote, differing, tight_text}
 use lib.Chars.{codes}

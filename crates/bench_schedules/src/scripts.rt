@@ -7,8 +7,8 @@ ghost use Rattle.script_lang.specs.Lines.{text_of};
 ghost use Rattle.script_lang.specs.Spellings.{board_text};
 ghost use Rattle.bench_schedules.specs.Schedules.{lines_text};
 
-use bench_report::unwritten;
 use board_model::{Refusal, Shape};
+use report_lines::unwritten;
 use script_lang::Line;
 use script_text::LineText;
 use std::io::Write;

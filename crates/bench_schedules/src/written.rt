@@ -6,14 +6,14 @@ ghost use Rattle.std.specs.Io.KnownBytes.{Appends};
 ghost use Rattle.board_model.specs.declared.refusal.Refusal.TheVariants.{Memory, Output};
 ghost use Rattle.board_model.specs.declared.durable.Durable.{Durable as Found};
 ghost use Rattle.board_console.specs.Texts.{state_text};
-ghost use Rattle.bench_report.specs.Texts.{line_text};
+ghost use Rattle.report_lines.specs.Texts.{line_text};
 ghost use Rattle.bench_schedules.specs.Reported.{reported_text};
 ghost use Rattle.bench_schedules.specs.Schedules.{IsReportedText, count_text, tight_text};
 
 use crate::runs::Difference;
-use bench_report::{Printed, unwritten};
 use board_console::StateText;
 use board_model::{Durable, Refusal};
+use report_lines::{Printed, unwritten};
 use std::fmt;
 use std::io::Write;
 

@@ -2,10 +2,9 @@
 use Rattle.std.specs.Prelude.{◌≡◌, ◌⊎◌, ◌≤◌, ℕ, Bool, true, false, List, [], ◌∷◌, ◌++◌, All, Option, Some, None, Result, Ok, Err, if◌then◌else◌, bytes_eq, slice_index_or, replicate}
 use Rattle.std.specs.Bool.{MatchBool}
 use Rattle.hex.specs.Hex.{decode_of}
-use Rattle.hex.specs.declared.FromHexError.{FromHexError}
 use Rattle.bench_history.specs.Pasts.{IsBack, NoRow}
-use Rattle.bench_report.specs.declared.printed.Answer.{Answer}
-use Rattle.bench_report.specs.Reports.{answer_text}
+use Rattle.report_lines.specs.declared.printed.Answer.{Answer}
+use Rattle.report_lines.specs.Texts.{answer_text}
 use Rattle.board_model.specs.Shapes.{Size}
 use Rattle.board_model.specs.declared.refusal.Refusal.{Refusal}
 use Rattle.debug_packets.specs.Resumes.{IsAskedBy}
@@ -32,6 +31,7 @@ use Rattle.gdb_requests.specs.declared.requests.Move.TheVariants as moves
 use Rattle.gdb_requests.specs.declared.requests.Request.{Request}
 use Rattle.gdb_requests.specs.declared.requests.Request.TheVariants as asks
 use Rattle.script_lang.specs.Scripts.{Script, script_of}
+use Rattle.script_lang.specs.Words.{decoded}
 use Rattle.script_lang.specs.declared.line.Line.{Line}
 use lib.Chars.{codes}
 
@@ -92,10 +92,6 @@ abbrev pub ResumedBy : {C : Type 0} → Option (List ℕ) → Talk C → Talk C 
 ResumedBy actions old new text = (what : Asked) × IsAskedBy (size_of (session_in old)) actions what × WentAs what old new text
 
 -- ---- monitor
-
-abbrev pub decoded : Result (List ℕ) FromHexError → Option (List ℕ)
-decoded (Ok bytes) = Some bytes
-decoded (Err e) = None
 
 -- the bytes that pairs of digits write
 abbrev pub hexed : List ℕ → Option (List ℕ)

@@ -2,8 +2,7 @@
 
 ghost use Rattle.std.specs.Prelude.{◌≡◌, ◌++◌, ◌<◌, ℕ, List, map, string_bytes, IfOk, OnOk};
 ghost use Rattle.debug_session.specs.Sessions.{bench_of, size_of};
-ghost use Rattle.bench_report.specs.Reports.{answer_text};
-ghost use Rattle.bench_report.specs.Texts.{found_line};
+ghost use Rattle.report_lines.specs.Texts.{found_line, answer_text};
 ghost use Rattle.debug_packets.specs.Texts.{HandOver, board_line, thread_line, thread_lines, threads_object};
 
 use crate::answers::Payloads;

@@ -24,11 +24,12 @@ ghost use Rattle.board.specs.Views.{store_of, machine_of};
 ghost use Rattle.machine.specs.Machine.{woken};
 ghost use Rattle.lives.specs.Events.{Event, World, new_world, Runs, Rises};
 ghost use Rattle.script_lang.specs.Scripts.{script_of, Script as Said};
-ghost use Rattle.bench_report.specs.Reports.{report_text, AreByFirmware, IsReportWith};
+ghost use Rattle.report_lines.specs.Texts.{report_text};
+ghost use Rattle.bench_report.specs.Reports.{AreByFirmware, IsReportWith};
 ghost use Rattle.bench_report.specs.Prefix.{KeepsPrefixLaw, MayEndIn};
 ghost use Rattle.bench_report.specs.Laws.{KeepsLaws};
 ghost use Rattle.bench_report.specs.Bench.{Bench, Formatted};
-ghost use Rattle.bench_report.specs.declared.printed.Answer.{Answer};
+ghost use Rattle.report_lines.specs.declared.printed.Answer.{Answer};
 ghost use Rattle.theorem.specs.Prefixes.{IsAfterFirst};
 
 use bench_report::{Report, Stopped, prefix_law, run_left};

@@ -1,9 +1,9 @@
 use Rattle.std.proofs.Common.{◌≡◌, ℕ, ◌+◌, ◌*◌, ◌≤◌, List, ◌++◌, Option, take}
-use Rattle.bench_report.specs.declared.printed.Answer.{Answer}
+use Rattle.report_lines.specs.declared.printed.Answer.{Answer}
 use Rattle.bench_report.specs.Bench.{Bench}
 use Rattle.bench_report.specs.Steps.{Run}
 use Rattle.bench_report.specs.Agree.{fills_after, IsBench}
-use Rattle.bench_report.specs.Counts.{Reported}
+use Rattle.report_lines.specs.Counts.{Reported}
 use Rattle.bench_report.proofs.runs.run_lines.Given as goal
 
 -- the lines so far ran, and were written

@@ -1,15 +1,15 @@
 use Rattle.std.proofs.Common.{◌≡◌, List, [], ◌∷◌, None, refl, subst, take, arith}
 use Rattle.script_lang.specs.declared.line.Line.{Line}
 use Rattle.bench_report.specs.Steps.{Run}
-use Rattle.bench_report.specs.declared.printed.Answer.{Answer}
-use Rattle.bench_report.specs.declared.printed.Printed.TheVariants as printed
+use Rattle.report_lines.specs.declared.printed.Answer.{Answer}
+use Rattle.report_lines.specs.declared.printed.Printed.TheVariants as printed
 use Rattle.bench_report.specs.Bench.{bench_with}
 use Rattle.bench_report.specs.Reports.{board_answer, IsReportWith}
 use Rattle.script_lang.specs.Views.{view}
 use Rattle.bench_report.proofs.Prefixed.{prefix_law, end_law}
 use Rattle.bench_report.proofs.Devices.{may_find}
 use Rattle.bench_report.proofs.Found.{all_found}
-use Rattle.bench_report.proofs.Written.{unwritten}
+use Rattle.report_lines.proofs.Written.{unwritten}
 use Rattle.bench_report.proofs.Told.{reported_more}
 use Rattle.bench_report.proofs.runs.run_script.Goals as goal
 

@@ -8,7 +8,7 @@ use Rattle.bench_report.specs.Bench.{BenchLife}
 use Rattle.bench_report.specs.Views.{store_in, IsAs}
 use Rattle.bench_report.specs.Happens.{says}
 use Rattle.bench_report.specs.Agree.{BoardIs}
-use Rattle.bench_report.specs.declared.printed.Printed.TheVariants as printed
+use Rattle.report_lines.specs.declared.printed.Printed.TheVariants as printed
 use Rattle.bench_report.proofs.Commanded.{reported_ok, reported_err, goes_on}
 use Rattle.bench_report.proofs.steps.issue.Goals as goal
 

@@ -1,7 +1,7 @@
 use Rattle.std.proofs.Common.{◌≡◌, false, true, refl, sym, ◌∙◌, ap, subst}
 use Rattle.board_model.specs.Views.{number_of_refusal}
-use Rattle.bench_report.specs.declared.printed.Answer.{Answer}
-use Rattle.bench_report.specs.declared.printed.Printed.TheVariants as printed
+use Rattle.report_lines.specs.declared.printed.Answer.{Answer}
+use Rattle.report_lines.specs.declared.printed.Printed.TheVariants as printed
 use Rattle.bench_report.specs.Happens.{says}
 use Rattle.bench_report.proofs.Lines.{Woke, on_wakes, on_sleeps_on}
 use Rattle.bench_report.proofs.steps.wake.Goals as goal

@@ -1,6 +1,6 @@
 use Rattle.std.proofs.Common.{◌≡◌, ◌∙◌, ◌+◌, ◌++◌, List, Vec, Global, take, ap, refl, sym, subst, arith}
 use Rattle.std.proofs.lemmas.List.{append-nil}
-use Rattle.bench_report.specs.declared.printed.Answer.{Answer}
+use Rattle.report_lines.specs.declared.printed.Answer.{Answer}
 use Rattle.bench_orders.specs.Orders.{is_other}
 use Rattle.bench_schedules.specs.RunSoFar.{RunSoFar}
 use Rattle.bench_schedules.specs.Schedules.{other_answer}

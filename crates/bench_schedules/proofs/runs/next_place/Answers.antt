@@ -1,5 +1,5 @@
 use Rattle.std.proofs.Common.{◌≡◌, inr, refl, sym, subst, rules, get_or}
-use Rattle.bench_report.specs.declared.printed.Answer.{Answer}
+use Rattle.report_lines.specs.declared.printed.Answer.{Answer}
 use Rattle.bench_schedules.proofs.Alike.{answer_same}
 use Rattle.bench_schedules.proofs.runs.next_place.Goals as goal
 

@@ -1,6 +1,6 @@
 use Rattle.std.proofs.Common.{[], ◌∷◌, ◌++◌, ◌∙◌, inl, inr, refl, sym}
 use Rattle.std.proofs.iter.Next.{Yields-more}
-use Rattle.bench_report.proofs.Written.{appended, unwritten}
+use Rattle.report_lines.proofs.Written.{appended, unwritten}
 use Rattle.sbigdb.proofs.Responses.{given_from, one_more}
 use Rattle.sbigdb.proofs.streams.answers.Goals as goal
 

@@ -2,7 +2,7 @@
 
 ghost use Rattle.std.specs.Prelude.{◌≡◌, ◌++◌, Some, IfOk};
 ghost use Rattle.script_lang.specs.Lines.{mode_text};
-ghost use Rattle.bench_report.specs.Texts.{line_text};
+ghost use Rattle.report_lines.specs.Texts.{line_text};
 
 use board_model::{BootMode, ConsoleCommand, Durable};
 use examined::InspectionText;

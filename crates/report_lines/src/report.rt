@@ -1,0 +1,84 @@
+//! A report: what writes its lines, and counts them.
+
+ghost use Rattle.std.specs.Prelude.{◌≡◌, ◌≢◌, ◌⊎◌, ◌++◌, ◌∷◌, [], ◌<◌, ◌^◌, IfErr, OnOk};
+ghost use Rattle.std.specs.Io.KnownBytes.{Appends};
+ghost use Rattle.std.specs.IoError.{error_kind};
+ghost use Rattle.report_lines.specs.Texts.{answer_text, found_line, line_text};
+ghost use Rattle.report_lines.specs.Counts.{Adds};
+
+use crate::printed::{Answer, Printed};
+use board_console::StateText;
+use board_model::{Durable, Refusal};
+use std::io::{self, ErrorKind, Write};
+
+/// How many lines a run wrote, and what each power-on found (docs/SCRIPT.md, "The report").
+#[derive(Drop)]
+pub struct Report {
+    /// The lines, those that begin with `found` among them.
+    pub lines: u64,
+    /// The states of the lines that begin with `found`, in their order.
+    pub found: Vec<Durable>,
+}
+
+/// Why a line was not written: `Memory` (11) where the writer was refused memory, and else `Output` (16), as docs/REFUSALS.md has them.
+pub fn unwritten(error: io::Error) -> Refusal
+    ensures { ((error_kind error ≡ ErrorKind.OutOfMemory) × (result ≡ Refusal.Memory))
+        ⊎ ((error_kind error ≢ ErrorKind.OutOfMemory) × (result ≡ Refusal.Output)) }
+{
+    if error.kind() == ErrorKind::OutOfMemory {
+        Refusal::Memory
+    } else {
+        Refusal::Output
+    }
+}
+
+/// Writes what an open found.
+fn write_found<W: Write>(out: &mut W, found: &Option<Durable>) -> Result<(), Refusal>
+    ensures ok { OnOk result (Appends (W.contents out.old) (W.contents out.new) (found_line found.now)) }
+    ensures err { IfErr result (λ e. (e ≡ Refusal.Output) ⊎ (e ≡ Refusal.Memory)) }
+{
+    match *found {
+        None => Ok(()),
+        Some(durable) => {
+            let state = StateText(durable);
+            writeln!(out, "found {state}").map_err(unwritten)
+        }
+    }
+}
+
+/// Writes a line and its end.
+fn write_line<W: Write>(out: &mut W, line: Printed) -> Result<(), Refusal>
+    ensures ok { OnOk result (Appends (W.contents out.old) (W.contents out.new) (line_text line ++ 10 ∷ [])) }
+    ensures err { IfErr result (λ e. (e ≡ Refusal.Output) ⊎ (e ≡ Refusal.Memory)) }
+{
+    writeln!(out, "{line}").map_err(unwritten)
+}
+
+/// Writes the lines of an answer.
+#[tactic(auto, using(crate::proofs::Written::appended))]
+fn write_answer<W: Write>(out: &mut W, answer: &Answer) -> Result<(), Refusal>
+    ensures ok { OnOk result (Appends (W.contents out.old) (W.contents out.new) (answer_text answer.now)) }
+    ensures err { IfErr result (λ e. (e ≡ Refusal.Output) ⊎ (e ≡ Refusal.Memory)) }
+{
+    write_found(out, &answer.found)?;
+    write_line(out, answer.line)
+}
+
+/// Writes the lines of an answer (docs/SCRIPT.md, "The report"), counts them, and keeps the state that was found, where one was. The report
+/// has fewer than 2^40 lines before.
+///
+/// Refused `Memory` where memory was refused, to the writer too; `Output` where the writer failed else. Any part of the lines may be
+/// written then, and counted.
+pub fn add<W: Write>(out: &mut W, report: &mut Report, answer: &Answer) -> Result<(), Refusal>
+    requires { report.old.lines < 2 ^ 40 }
+    ensures ok { OnOk result (Adds (W.contents out.old) (W.contents out.new) report.old report.new answer.now) }
+    ensures err { IfErr result (λ e. (e ≡ Refusal.Output) ⊎ (e ≡ Refusal.Memory)) }
+{
+    write_answer(out, answer)?;
+    report.lines += 1;
+    if let Some(durable) = answer.found {
+        report.lines += 1;
+        report.found.push(durable)?;
+    }
+    Ok(())
+}
