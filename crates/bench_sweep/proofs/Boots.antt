@@ -10,7 +10,7 @@ use Rattle.board_model.specs.declared.durable.Durable.{Durable}
 use Rattle.board_model.specs.declared.durable.ImageHead.{ImageHead}
 use Rattle.board_model.specs.declared.durable.Trial.{Trial}
 use Rattle.board.specs.Moments.{attempts_of}
-use Rattle.bench_report.specs.declared.printed.Printed.{Printed}
+use Rattle.report_lines.specs.declared.printed.Printed.{Printed}
 use Rattle.bench_judge.specs.declared.ledgers.Ledger.{Ledger}
 use Rattle.bench_judge.specs.Ledgers.{Tells, more_kept, settled}
 use Rattle.bench_judge.proofs.Known.{found_more}

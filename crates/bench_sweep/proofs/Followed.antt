@@ -16,7 +16,7 @@ use Rattle.board_model.specs.Views.{number_of_refusal}
 use Rattle.board_model.specs.declared.durable.Durable.{Durable}
 use Rattle.board_model.specs.declared.refusal.Refusal.{Refusal}
 use Rattle.board_model.specs.declared.refusal.Refusal.TheVariants.{Memory, NoImage}
-use Rattle.bench_report.specs.declared.printed.Printed.{Printed}
+use Rattle.report_lines.specs.declared.printed.Printed.{Printed}
 use Rattle.board_model.specs.declared.plain.PlainImage.{PlainImage}
 use Rattle.sbi_calls.specs.declared.words.Did.{Did}
 use Rattle.sbi.specs.declared.resets.ResetType.{ResetType}

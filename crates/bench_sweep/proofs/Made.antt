@@ -8,7 +8,7 @@ use Rattle.board_model.specs.Shapes.{Size}
 use Rattle.disk.specs.FaultState.{FaultState}
 use Rattle.script_lang.specs.declared.line.Line.{Line}
 use Rattle.bench_report.specs.declared.power.Power.{Power}
-use Rattle.bench_report.specs.declared.printed.Answer.{Answer}
+use Rattle.report_lines.specs.declared.printed.Answer.{Answer}
 use Rattle.bench_report.specs.Bench.{Bench}
 use Rattle.bench_report.specs.Happens.{off, unpowered, armed_with}
 use Rattle.bench_report.specs.Steps.{Run}
@@ -198,9 +198,3 @@ zip_more R [] [] x y z r = (r, tt)
 zip_more R [] (b ∷ ys) x y z r = absurd z
 zip_more R (a ∷ xs) [] x y z r = absurd z
 zip_more R (a ∷ xs) (b ∷ ys) x y z r = (z.0, zip_more R xs ys x y z.1 r)
-
-pub row_lines : (size : Size) (kind : Kind) (first : Bench) (lines same : List Line) → lines ≡ same → (row : Row) → IsRow size kind first lines row → IsRow size kind first same row
-row_lines size kind first lines same is row r = let P : List Line → Type 0 = λ ls. IsRow size kind first ls row in subst P is r
-
-pub plain_lines : (size : Size) (first : Bench) (lines same : List Line) → lines ≡ same → IsPlainRun size first lines → IsPlainRun size first same
-plain_lines size first lines same is r = let P : List Line → Type 0 = λ ls. IsPlainRun size first ls in subst P is r

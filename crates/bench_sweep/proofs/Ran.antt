@@ -7,8 +7,8 @@ use Rattle.bench_report.specs.Bench.{Bench}
 use Rattle.bench_report.specs.Happens.{says, off, unpowered}
 use Rattle.bench_report.specs.Steps.{Moves, Run}
 use Rattle.bench_report.specs.declared.power.Power.{Power}
-use Rattle.bench_report.specs.declared.printed.Answer.{Answer}
-use Rattle.bench_report.specs.declared.printed.Printed.TheVariants as printed
+use Rattle.report_lines.specs.declared.printed.Answer.{Answer}
+use Rattle.report_lines.specs.declared.printed.Printed.TheVariants as printed
 use Rattle.script_lang.specs.declared.line.Line.{Line}
 use Rattle.bench_judge.specs.declared.ledgers.Ledger.{Ledger}
 use Rattle.bench_sweep.specs.declared.site.Site.{Site}
@@ -24,6 +24,18 @@ pub record Runs_to (size : Size) (b : Bench) (lines : List Line) (power : Power)
 
 pub ran_none : (size : Size) (b : Bench) (power : Power) (slots : List (List ℕ)) (ledger : Ledger) → RunsCalm size b power slots ledger → Runs_to size b [] power slots ledger
 ran_none size b power slots ledger r = record { bench = b; answers = []; run = refl; runs = r }
+
+-- that is where they may end
+pub ran_calm : (size : Size) (b : Bench) (lines : List Line) (power : Power) (slots : List (List ℕ)) (ledger : Ledger) → Runs_to size b lines power slots ledger → RanTo size b lines power slots ledger
+ran_calm size b lines power slots ledger r = record {
+  answers = r.answers;
+  end = r.bench;
+  run = r.run;
+  bench = r.bench;
+  runs = record { agrees = r.runs.agrees; same = r.runs.same; follows = r.runs.follows };
+  calm = λ calm. refl;
+  struck = λ hit. absurd (let no : true ≡ false = sym hit ∙ r.runs.calm in let never : ⊥ = cc in never);
+}
 
 module _ (size : Size) (b : Bench) (lines : List Line) (i : ℕ) (line d : Line) (old power : Power) (before slots : List (List ℕ)) (was ledger : Ledger) (less : i < length lines) (is : line ≡ get_or lines i d) (so_far : Runs_to size b (take i lines) old before was)
     (moves : LineMoves size line so_far.bench power slots ledger) where
@@ -42,7 +54,7 @@ module _ (size : Size) (b : Bench) (lines : List Line) (i : ℕ) (line d : Line)
   }
 
   -- a cut struck in the last of them
-  pub ran_struck : moves.bench.fault_state.struck ≡ true → RanTo size b (take (i + 1) lines) power slots ledger
+  ran_struck : moves.bench.fault_state.struck ≡ true → RanTo size b (take (i + 1) lines) power slots ledger
   ran_struck hit = record {
     answers = so_far.answers ++ says printed.PowerLost ∷ [];
     end = unpowered moves.bench;
@@ -53,17 +65,13 @@ module _ (size : Size) (b : Bench) (lines : List Line) (i : ℕ) (line d : Line)
     struck = λ again. (refl, (so_far.answers, refl));
   }
 
--- none did
-pub ran_calm : (size : Size) (b : Bench) (lines : List Line) (power : Power) (slots : List (List ℕ)) (ledger : Ledger) → Runs_to size b lines power slots ledger → RanTo size b lines power slots ledger
-ran_calm size b lines power slots ledger r = record {
-  answers = r.answers;
-  end = r.bench;
-  run = r.run;
-  bench = r.bench;
-  runs = record { agrees = r.runs.agrees; same = r.runs.same; follows = r.runs.follows };
-  calm = λ calm. refl;
-  struck = λ hit. absurd (let no : true ≡ false = sym hit ∙ r.runs.calm in let never : ⊥ = cc in never);
-}
+  -- one or the other
+  pub ran_line : RanTo size b (take (i + 1) lines) power slots ledger
+  ran_line = by moves.bench.fault_state.struck refl
+    where
+      by : (struck : Bool) → moves.bench.fault_state.struck ≡ struck → RanTo size b (take (i + 1) lines) power slots ledger
+      by true hit = ran_struck hit
+      by false calm = ran_calm size b (take (i + 1) lines) power slots ledger (ran_more calm)
 
 -- the board was turned off behind lines in which nothing was armed
 pub life_of : (size : Size) (b : Bench) (lines : List Line) (count : ℕ) (power : Power) (slots : List (List ℕ)) (ledger : Ledger) (site : Site) → (r : RanTo size (unpowered b) (take count lines) power slots ledger)

@@ -13,8 +13,8 @@ use Rattle.board_model.specs.declared.durable.ImageHead.{ImageHead}
 use Rattle.board_model.specs.declared.plain.PlainImage.{PlainImage}
 use Rattle.board_model.specs.declared.refusal.Refusal.{Refusal}
 use Rattle.board_model.specs.declared.refusal.Refusal.TheVariants.{Memory, NoImage}
-use Rattle.bench_report.specs.declared.printed.Printed.{Printed}
-use Rattle.bench_report.specs.declared.printed.Printed.TheVariants as printed
+use Rattle.report_lines.specs.declared.printed.Printed.{Printed}
+use Rattle.report_lines.specs.declared.printed.Printed.TheVariants as printed
 use Rattle.bench_judge.specs.declared.ledgers.Ledger.{Ledger}
 use Rattle.bench_judge.specs.Ledgers.{Tells, settled}
 use Rattle.bench_sweep.specs.Runs.{TellsWhole}

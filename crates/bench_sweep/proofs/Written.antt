@@ -16,7 +16,7 @@ use Rattle.board_model.specs.Shapes.{Size}
 use Rattle.script_lang.specs.declared.line.Line.{Line}
 use Rattle.bench_report.specs.Bench.{Bench as ModelBench}
 use Rattle.bench_report.specs.Happens.{unpowered}
-use Rattle.bench_report.proofs.Written.{appended, unwritten}
+use Rattle.report_lines.proofs.Written.{appended, unwritten}
 use Rattle.bench_sweep.specs.Made.{IsFormatted, IsPlainRun, IsRunOf}
 use Rattle.bench_sweep.specs.declared.rows.Row.{Row}
 use Rattle.bench_sweep.specs.Rows.{row_text, sweep_text}

@@ -113,16 +113,16 @@ fn formatted_site(alloc: Global, shape: &Shape, bench: BenchBoard) -> Result<Sit
 pub fn run_to_format<C: Crew>(
     setting: &Setting<'_, C>,
     lines: &[Line],
-    payloads: Payloads,
+    payloads: &Payloads,
 ) -> Result<(usize, Site), Refusal>
     requires { All (IsLineInRange setting.now.shape.now) lines.now }
     ensures few { IfOk result (λ did. did.0 ≤ length lines.now) }
-    ensures runs { IfOk result (λ did. IsFormattedAt setting.now.shape.now payloads (take did.0 lines.now) did.1) }
+    ensures runs { IfOk result (λ did. IsFormattedAt setting.now.shape.now payloads.now (take did.0 lines.now) did.1) }
     ensures refused { IfErr result (λ e. e ≡ Memory) }
 {
     let alloc = setting.alloc;
     let shape = setting.shape;
-    let mut bench = blank(alloc, shape, &payloads)?;
+    let mut bench = blank(alloc, shape, payloads)?;
     let mut count = 0;
     for line in lines {
         let (after, formatted) = run_before_format(setting, line, bench)?;

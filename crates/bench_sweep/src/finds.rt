@@ -3,7 +3,7 @@
 ghost use Rattle.std.specs.Prelude.{◌≡◌, ◌⊎◌, ◌≢◌, ℕ, List, Option, None, Some, IfErr, IfOk, OnOk, IsTrue, ◌↔◌};
 ghost use Rattle.board_model.specs.Durable.{DurableState, IsWhole};
 ghost use Rattle.board_model.specs.Kept.{MayFind};
-ghost use Rattle.board_model.specs.Plains.{state_in};
+ghost use Rattle.board_model.specs.Plains.{state_in, IsPlainOf};
 ghost use Rattle.board_model.specs.Shapes.{Size, IsSize};
 ghost use Rattle.board_model.specs.Views.{durable_of};
 ghost use Rattle.board_model.specs.declared.plain.Plain.{Plain as State};
@@ -11,8 +11,8 @@ ghost use Rattle.board_model.specs.declared.refusal.Refusal.TheVariants.{Memory,
 ghost use Rattle.disk.specs.Facts.{counted};
 ghost use Rattle.disk.specs.FaultState.{fault_state_left};
 ghost use Rattle.bench_report.specs.declared.power.Power.TheVariants.{On};
-ghost use Rattle.bench_report.specs.declared.printed.Printed.{Printed as Said};
-ghost use Rattle.bench_report.specs.declared.printed.Printed.TheVariants.{OnRefused};
+ghost use Rattle.report_lines.specs.declared.printed.Printed.{Printed as Said};
+ghost use Rattle.report_lines.specs.declared.printed.Printed.TheVariants.{OnRefused};
 ghost use Rattle.bench_report.specs.Agree.{OffIs};
 ghost use Rattle.bench_report.specs.Bench.{Bench, Formatted};
 ghost use Rattle.bench_report.specs.Views.{fault_state, store_in, store_size, store_now, store_fault_state};
@@ -27,7 +27,7 @@ use board_model::{BootMode, Durable, Plain, Refusal, Shape};
 use ram::Ram;
 use simdisk::SimDisk;
 use std::alloc::Global;
-use store::whole_images_load;
+use store::{Store, whole_images_load};
 
 /// The state found with its memory, where it was found and its image loaded; and what the power-on said.
 #[derive(Drop)]
@@ -47,6 +47,23 @@ fn unloaded(disk: SimDisk) -> Result<Option<Plain>, Refusal>
     Ok(None)
 }
 
+/// The state found, with that memory where it has an image.
+fn plain_of(alloc: Global, found: &Durable, memory: &[u8]) -> Result<Option<Plain>, Refusal>
+    ensures told { IfOk result (λ plain. (p : State) × (plain ≡ Some p) × IsPlainOf found.now memory.now p) }
+    ensures refused { IfErr result (λ e. e ≡ Memory) }
+{
+    let plain = Plain::of(alloc, found, memory)?;
+    Ok(Some(plain))
+}
+
+/// The store of that board.
+fn store_of(board: Board<SimDisk>) -> Store<SimDisk>
+    ensures { result ≡ store_in board }
+{
+    let Parts { store, .. } = board.into_parts();
+    store
+}
+
 /// The state that the open of that board found, with the memory of its image, which is loaded into a memory of its
 /// own: none where the load was refused, and `Memory` where memory was.
 fn loaded(alloc: Global, found: &Durable, board: Board<SimDisk>) -> Result<Option<Plain>, Refusal>
@@ -57,12 +74,12 @@ fn loaded(alloc: Global, found: &Durable, board: Board<SimDisk>) -> Result<Optio
 {
     whole_images_load::<SimDisk>();
     if found.image.is_none() {
-        return Ok(Some(Plain::of(alloc, found, &[])?));
+        return plain_of(alloc, found, &[]);
     }
     let mut ram = Ram::new(alloc, board.shape())?;
-    let Parts { mut store, .. } = board.into_parts();
+    let mut store = store_of(board);
     match store.load_image(&mut ram) {
-        Ok(()) => Ok(Some(Plain::of(alloc, found, ram.bytes())?)),
+        Ok(()) => plain_of(alloc, found, ram.bytes()),
         Err(_) => unloaded(store.into_disk()),
     }
 }

@@ -7,9 +7,9 @@ ghost use Rattle.bench_sweep.specs.Rows.{caller_text, fill_part, left_text, row_
 
 use crate::points::Caller;
 use bench_judge::Sweep;
-use bench_report::{Answer, unwritten};
 use board_console::StateText;
 use board_model::Refusal;
+use report_lines::{Answer, unwritten};
 use simdisk::Fill;
 use std::fmt;
 use std::io::Write;

@@ -126,18 +126,25 @@ impl Going {
         }
     }
 
-    pub fn is_off(&self) -> bool
-        ensures { result ≡ true → StopsOff self.now.power }
-    {
-        is_off(&self.power)
-    }
-
     /// Whether an armed cut has struck.
     pub fn is_struck(&self) -> bool
         ensures calm { result ≡ false → IsUnstruck self.now.power }
         ensures exact { (size : Size) (b : Bench) → Agrees size b self.now.power → result ≡ b.fault_state.struck }
     {
         struck(&self.power)
+    }
+
+    /// Whether a run of lines ends here: an armed cut has struck, or the board is off where that was asked for.
+    fn stops(&self, until_off: bool) -> bool
+        ensures calm { result ≡ false → IsUnstruck self.now.power }
+        ensures exact { result ≡ false → (size : Size) (b : Bench) → Agrees size b self.now.power
+            → b.fault_state.struck ≡ false }
+        ensures off { result ≡ true → StopsOff self.now.power }
+    {
+        if self.is_struck() {
+            return true;
+        }
+        until_off && is_off(&self.power)
     }
 }
 
@@ -302,10 +309,7 @@ pub fn run_lines<C: Crew>(
             _ => going = run_line(setting, line, going)?,
         }
         count += 1;
-        if going.is_struck() {
-            return Ok(Went { count, going });
-        }
-        if until_off && going.is_off() {
+        if going.stops(until_off) {
             return Ok(Went { count, going });
         }
     }

@@ -13,7 +13,7 @@ ghost use Rattle.bench_sweep.specs.Made.{IsPlainRun};
 ghost use Rattle.bench_sweep.specs.Points.{calls_of, MadeCalls};
 ghost use Rattle.bench_sweep.specs.Runs.{Runs, RunsAt, LeftAt, Sits, SitsLeft, IsLife};
 ghost use Rattle.bench_sweep.specs.Swept.{IsPlainLine, IsNoFormat, IsNotPlain, NoBenchRuns, AreSwept, cell, runs_of, runs_from, all_runs, callers, total, WroteAll, IsBenchOf};
-ghost use Rattle.bench_sweep.specs.Reports.{Reports, IsLeft, RunsRow, IsRow};
+ghost use Rattle.bench_sweep.specs.Reports.{Reports, ReportsAll, ReportsScript, IsLeft, RunsRow, IsRow};
 
 use crate::begins::run_to_format;
 use crate::finds::count_run;
@@ -21,11 +21,11 @@ use crate::points::{Bench, CALLERS, Caller, FILLS, Point};
 use crate::rows::{Row, write_row, write_sweep};
 use crate::runner::Runner;
 use crate::site::{Going, Site};
-use crate::sites::{cut_by, run_lines};
+use crate::sites::{Went, cut_by, run_lines};
 use bench_judge::Sweep;
 use bench_report::Setting;
 use board::Payloads;
-use board_model::{Refusal, Shape};
+use board_model::Refusal;
 use crew::{Crew, Sequential};
 use disk::Disk;
 use script_lang::{Line, Script, parse_script};
@@ -112,13 +112,9 @@ fn run_to_cut<C: Crew, W: Write>(
 {
     let armed = site.armed(Bench::Cuts, point);
     let went = run_lines(&runner.setting, runner.lines, false, armed)?;
-    if went.going.is_struck() {
-        let left = off_whole(went.going)?;
-        judge_each_fill(&runner.setting, &left, point, report)
-    } else {
-        // The plain run made the call. Only one that was refused memory can have missed it.
-        Err(Refusal::Memory)
-    }
+    // The plain run made the call. Only one that was refused memory can have missed it.
+    let left = turn_off(went.going, true)?;
+    judge_each_fill(&runner.setting, &left, point, report)
 }
 
 /// Runs the lines to their end with a failure armed at that call, cuts power, and judges what is left.
@@ -139,27 +135,21 @@ fn run_past_failure<C: Crew, W: Write>(
     let failed = site.off.disk.failures();
     let armed = site.armed(Bench::Fails, point);
     let went = run_lines(&runner.setting, runner.lines, false, armed)?;
-    let count = went.count;
-    let all = runner.lines.len();
-    // No cut is armed that could end the run before its last line.
-    if count < all {
-        return Err(Refusal::Memory);
-    }
-    let left = turn_off(went.going)?;
-    // As with a cut, only a run that was refused memory can have missed the call.
-    if left.off.disk.failures() == failed {
-        return Err(Refusal::Memory);
-    }
+    let left = turn_off_failed(went, runner.lines.len(), failed)?;
     judge_run(&runner.setting, &left, point, None, report)
 }
 
-/// Turns the board off. Refused `Memory` where the disk's record found none.
-fn off_whole(going: Going) -> Result<Site, Refusal>
+/// Turns the board off behind lines in which an armed cut struck, or none did, as is said. Refused `Memory` where that is
+/// not so, or where the disk's record found none.
+fn turn_off(going: Going, struck: bool) -> Result<Site, Refusal>
     ensures runs { IfOk result (λ site. (size : Size) (b : ModelBench)
         → Runs size b going.power going.payloads going.ledger
-        → (b.fault_state.own ≡ 0) × RunsAt size (off b) site) }
+        → (b.fault_state.struck ≡ struck) × (b.fault_state.own ≡ 0) × RunsAt size (off b) site) }
     ensures refused { IfErr result (λ e. e ≡ Memory) }
 {
+    if going.is_struck() != struck {
+        return Err(Refusal::Memory);
+    }
     let site = going.into_site();
     if site.off.disk.refused() != 0 {
         return Err(Refusal::Memory);
@@ -167,18 +157,25 @@ fn off_whole(going: Going) -> Result<Site, Refusal>
     Ok(site)
 }
 
-/// Turns the board off after lines in which no cut is armed. Refused `Memory` where the disk's record found none.
-fn turn_off(going: Going) -> Result<Site, Refusal>
+/// Turns the board off behind all of so many lines, in which its disk failed: before them it had so often. Refused
+/// `Memory` where it did not. As with a cut, only a run that was refused memory can have missed the call.
+fn turn_off_failed(went: Went, all: usize, failed: u64) -> Result<Site, Refusal>
+    ensures whole { OnOk result (all ≤ went.count) }
     ensures runs { IfOk result (λ site. (size : Size) (b : ModelBench)
-        → Runs size b going.power going.payloads going.ledger
+        → Runs size b went.going.power went.going.payloads went.going.ledger
         → (b.fault_state.struck ≡ false) × (b.fault_state.own ≡ 0) × RunsAt size (off b) site) }
     ensures refused { IfErr result (λ e. e ≡ Memory) }
 {
-    if going.is_struck() {
+    let Went { count, going } = went;
+    // No cut is armed that could end the run before its last line.
+    if count < all {
         return Err(Refusal::Memory);
     }
-    let site = off_whole(going)?;
-    Ok(site)
+    let left = turn_off(going, false)?;
+    if left.off.disk.failures() == failed {
+        return Err(Refusal::Memory);
+    }
+    Ok(left)
 }
 
 /// Makes the one run of the bench at that point, or the five. So many lines stand up to the next site.
@@ -276,7 +273,7 @@ fn stretch_of<C: Crew>(runner: &Runner<'_, C>, site: &Site) -> Result<Stretch, R
     let plain = site.copy(runner.setting.alloc)?;
     let went = run_lines(&runner.setting, runner.lines, true, plain)?;
     let count = went.count;
-    let next = turn_off(went.going)?;
+    let next = turn_off(went.going, false)?;
     Ok(Stretch { count, next })
 }
 
@@ -294,60 +291,62 @@ fn calls_between(caller: Caller, from: &Site, to: &Site) -> Result<u64, Refusal>
     Ok(after - before)
 }
 
-/// Goes over the points of that caller in the lines up to the next moment at which the board is off. So many points
-/// were before them. Answers these lines, and how many calls they made.
+/// Goes over the points of that caller in the lines up to the next moment at which the board is off, and puts the board
+/// of that moment in the place of this one. So many points were before them. Answers how many lines they are, and how
+/// many calls they made.
 fn sweep_stretch<C: Crew, W: Write>(
     runner: &Runner<'_, C>,
-    site: &Site,
+    site: &mut Site,
     caller: Caller,
     made: u64,
     report: &mut Report<'_, W>,
-) -> Result<(Stretch, u64), Refusal>
+) -> Result<(usize, u64), Refusal>
     requires lines { AreSwept runner.now.setting.shape.now runner.now.lines.now }
-    requires sits { Sits runner.now.setting.shape.now site.now }
-    requires made { made ≤ calls_of caller site.now.off.disk }
-    ensures few { IfOk result (λ did. did.0.count ≤ length runner.now.lines.now) }
-    ensures some { IfOk result (λ did. 0 < length runner.now.lines.now → 0 < did.0.count) }
-    ensures calls { IfOk result (λ did. calls_of caller did.0.next.off.disk ≡ calls_of caller site.now.off.disk + did.1) }
-    ensures below { IfOk result (λ did. calls_of caller did.0.next.off.disk < 2 ^ 64) }
-    ensures sits { IfOk result (λ did. Sits runner.now.setting.shape.now did.0.next) }
+    requires sits { Sits runner.now.setting.shape.now site.old }
+    requires made { made ≤ calls_of caller site.old.off.disk }
+    ensures few { IfOk result (λ did. did.0 ≤ length runner.now.lines.now) }
+    ensures some { IfOk result (λ did. 0 < length runner.now.lines.now → 0 < did.0) }
+    ensures calls { IfOk result (λ did. calls_of caller site.new.off.disk ≡ calls_of caller site.old.off.disk + did.1) }
+    ensures below { OnOk result (calls_of caller site.new.off.disk < 2 ^ 64) }
+    ensures sits { OnOk result (Sits runner.now.setting.shape.now site.new) }
     ensures lives { IfOk result (λ did. (b : ModelBench)
-        → RunsAt runner.now.setting.shape.now b site.now
-        → IsLife runner.now.setting.shape.now b runner.now.lines.now did.0.count did.0.next) }
+        → RunsAt runner.now.setting.shape.now b site.old
+        → IsLife runner.now.setting.shape.now b runner.now.lines.now did.0 site.new) }
     ensures wrote { IfOk result (λ did. (b : ModelBench)
-        → RunsAt runner.now.setting.shape.now b site.now
+        → RunsAt runner.now.setting.shape.now b site.old
         → Reports W.contents (RunsRow runner.now.setting.shape.now runner.now.bench (unpowered b) runner.now.lines.now)
         report.old report.new (runs_from runner.now.bench caller (made + 1) did.1) 0) }
     ensures refused { IfErr result (λ e. (e ≡ Memory) ⊎ (e ≡ Output)) }
 {
-    let did = stretch_of(runner, site)?;
-    let count = calls_between(caller, site, &did.next)?;
+    let Stretch { count, next } = stretch_of(runner, site)?;
+    let made_here = calls_between(caller, site, &next)?;
     let calls = Calls {
         caller,
         made,
-        count,
+        count: made_here,
     };
-    run_at_calls(runner, did.count, site, calls, report)?;
-    Ok((did, count))
+    run_at_calls(runner, count, site, calls, report)?;
+    *site = next;
+    Ok((count, made_here))
 }
 
 /// Goes over the points of that caller, and answers how many they were. Each run begins at the last moment before its
 /// call at which the board was off.
 fn sweep_caller<C: Crew, W: Write>(
     runner: &Runner<'_, C>,
-    begin: Site,
+    begin: &Site,
     caller: Caller,
     report: &mut Report<'_, W>,
 ) -> Result<u64, Refusal>
     requires lines { AreSwept runner.now.setting.shape.now runner.now.lines.now }
-    requires sits { Sits runner.now.setting.shape.now begin }
+    requires sits { Sits runner.now.setting.shape.now begin.now }
     ensures wrote { IfOk result (λ n. (b : ModelBench)
-        → RunsAt runner.now.setting.shape.now b begin
-        → Reports W.contents (IsRow runner.now.setting.shape.now runner.now.bench b runner.now.lines.now)
+        → RunsAt runner.now.setting.shape.now b begin.now
+        → Reports W.contents (IsRow runner.now.setting.shape.now runner.now.bench (unpowered b) runner.now.lines.now)
         report.old report.new (runs_from runner.now.bench caller 1 n) n) }
     ensures refused { IfErr result (λ e. (e ≡ Memory) ⊎ (e ≡ Output)) }
 {
-    let mut site = begin;
+    let mut site = begin.copy(runner.setting.alloc)?;
     let mut from = 0;
     let mut made = 0u64;
     while from < runner.lines.len() {
@@ -356,27 +355,25 @@ fn sweep_caller<C: Crew, W: Write>(
             bench: runner.bench,
             lines: &runner.lines[from..],
         };
-        let (did, calls) = sweep_stretch(&rest, &site, caller, made, report)?;
-        let Stretch { count, next } = did;
+        let (count, calls) = sweep_stretch(&rest, &mut site, caller, made, report)?;
         from += count;
         made += calls;
-        site = next;
     }
     report.sweep.points = report.sweep.points.saturating_add(made);
     Ok(made)
 }
 
-/// Runs the lines as they are, and answers the board then, turned off. Refused `Memory` where the disk's record found
-/// none.
-fn run_plain<C: Crew>(runner: &Runner<'_, C>, begin: Site) -> Result<Site, Refusal>
+/// Runs the lines from that site on as they are, and answers the board then, turned off. Refused `Memory` where the
+/// disk's record found none.
+fn run_plain<C: Crew>(runner: &Runner<'_, C>, begin: &Site) -> Result<Site, Refusal>
     requires lines { AreSwept runner.now.setting.shape.now runner.now.lines.now }
-    requires sits { Sits runner.now.setting.shape.now begin }
+    requires sits { Sits runner.now.setting.shape.now begin.now }
     ensures plain { IfOk result (λ end. (b : ModelBench)
-        → RunsAt runner.now.setting.shape.now b begin
-        → IsPlainRun runner.now.setting.shape.now b runner.now.lines.now) }
+        → RunsAt runner.now.setting.shape.now b begin.now
+        → IsPlainRun runner.now.setting.shape.now (unpowered b) runner.now.lines.now) }
     ensures refused { IfErr result (λ e. e ≡ Memory) }
 {
-    let mut site = begin;
+    let mut site = begin.copy(runner.setting.alloc)?;
     let mut from = 0;
     while from < runner.lines.len() {
         let rest = Runner {
@@ -414,13 +411,30 @@ fn sweep_all_callers<C: Crew, W: Write>(
 {
     for caller in CALLERS {
         let calls = calls_between(caller, site, end)?;
-        let begin = site.copy(runner.setting.alloc)?;
-        let made = sweep_caller(runner, begin, caller, report)?;
+        let made = sweep_caller(runner, site, caller, report)?;
         if made != calls {
             return Err(Refusal::Memory);
         }
     }
     Ok(())
+}
+
+/// Runs the lines from that site on as they are, and then goes over the points of each caller.
+fn sweep_site<C: Crew, W: Write>(
+    runner: &Runner<'_, C>,
+    site: &Site,
+    report: &mut Report<'_, W>,
+) -> Result<(), Refusal>
+    requires lines { AreSwept runner.now.setting.shape.now runner.now.lines.now }
+    requires sits { Sits runner.now.setting.shape.now site.now }
+    ensures wrote { OnOk result ((b : ModelBench)
+        → RunsAt runner.now.setting.shape.now b site.now
+        → ReportsAll W.contents runner.now.setting.shape.now runner.now.bench (unpowered b) runner.now.lines.now
+        report.old report.new) }
+    ensures refused { IfErr result (λ e. (e ≡ Memory) ⊎ (e ≡ Output)) }
+{
+    let end = run_plain(runner, site)?;
+    sweep_all_callers(runner, site, &end, report)
 }
 
 /// Whether a bench runs the line: it cuts nothing, lets nothing fail, and leaves the disk to the firmware.
@@ -472,36 +486,48 @@ fn check_plain(lines: &[Line]) -> Result<(), Refusal>
     Ok(())
 }
 
-/// Runs that bench over those lines, on boards of that shape, of a script that begins with these payloads.
+/// Goes over the points of those lines, which stand in a script that begins with these payloads.
 fn sweep_lines<'a, C: Crew, W: Write>(
-    alloc: Global,
-    crew: &'a C,
+    setting: &Setting<'a, C>,
     bench: Bench,
-    shape: &'a Shape,
     lines: &'a [Line],
-    payloads: Payloads,
-    out: &mut W,
-) -> Result<Sweep, Refusal>
-    requires lines { AreSwept shape.now lines.now }
-    ensures wrote { IfOk result (λ sweep. WroteAll bench shape.now payloads lines.now (W.contents out.old)
-        (W.contents out.new) sweep) }
+    payloads: &Payloads,
+    report: &mut Report<'_, W>,
+) -> Result<(), Refusal>
+    requires lines { AreSwept setting.now.shape.now lines.now }
+    ensures wrote { OnOk result (ReportsScript W.contents setting.now.shape.now bench payloads.now lines.now report.old
+        report.new) }
     ensures refused { IfErr result (λ e. (e ≡ Memory) ⊎ (e ≡ Output)) }
 {
-    let setting = Setting { alloc, crew, shape };
-    let (count, site) = run_to_format(&setting, lines, payloads)?;
+    let (count, site) = run_to_format(setting, lines, payloads)?;
     let runner = Runner {
-        setting,
+        setting: *setting,
         bench,
         lines: &lines[count..],
     };
+    sweep_site(&runner, &site, report)
+}
+
+/// Writes what that bench makes of those lines, and the line of its counts.
+fn write_swept<'a, C: Crew, W: Write>(
+    setting: &Setting<'a, C>,
+    bench: Bench,
+    lines: &'a [Line],
+    payloads: &Payloads,
+    out: &mut W,
+) -> Result<Sweep, Refusal>
+    requires lines { AreSwept setting.now.shape.now lines.now }
+    ensures wrote { IfOk result (λ sweep. WroteAll bench setting.now.shape.now payloads.now lines.now
+        (W.contents out.old) (W.contents out.new) sweep) }
+    ensures refused { IfErr result (λ e. (e ≡ Memory) ⊎ (e ≡ Output)) }
+{
     let sweep = Sweep {
         points: 0,
         runs: 0,
         wrong: 0,
     };
-    let end = run_plain(&runner, site.copy(alloc)?)?;
     let mut report = Report { out, sweep };
-    sweep_all_callers(&runner, &site, &end, &mut report)?;
+    sweep_lines(setting, bench, lines, payloads, &mut report)?;
     let Report { out, sweep } = report;
     write_sweep(out, sweep)?;
     Ok(sweep)
@@ -512,25 +538,22 @@ fn sweep_plain_script<R: Threads + Sync, W: Write>(
     alloc: Global,
     bench: Bench,
     script: &Script,
-    payloads: Payloads,
+    payloads: &Payloads,
     out: &mut W,
 ) -> Result<Sweep, Refusal>
     requires ranges { All (IsLineInRange script.now.shape) script.now.lines.items }
     requires plain { All IsPlainLine script.now.lines.items }
-    ensures wrote { IfOk result (λ sweep. WroteAll bench script.now.shape payloads script.now.lines.items (W.contents out.old)
-        (W.contents out.new) sweep) }
+    ensures wrote { IfOk result (λ sweep. WroteAll bench script.now.shape payloads.now script.now.lines.items
+        (W.contents out.old) (W.contents out.new) sweep) }
     ensures refused { IfErr result (λ e. (e ≡ Memory) ⊎ (e ≡ Output)) }
 {
     let crew = Sequential::<R>::new([0, 1, 2, 3])?;
-    sweep_lines(
+    let setting = Setting {
         alloc,
-        &crew,
-        bench,
-        &script.shape,
-        &script.lines,
-        payloads,
-        out,
-    )
+        crew: &crew,
+        shape: &script.shape,
+    };
+    write_swept(&setting, bench, &script.lines, payloads, out)
 }
 
 /// A bench (docs/SCRIPT.md, "The benches") over the script that begins with these payloads: a slot boots its own until a
@@ -566,5 +589,5 @@ pub fn run_bench<R: Threads + Sync, W: Write>(
 {
     let script = parse_script(alloc, script)?;
     check_plain(&script.lines)?;
-    sweep_plain_script::<R, W>(alloc, bench, &script, payloads, out)
+    sweep_plain_script::<R, W>(alloc, bench, &script, &payloads, out)
 }

@@ -6,7 +6,7 @@ use Rattle.bench_sweep.proofs.begins.run_to_format.Goals as goal
 
 pub loop-line-init : goal.loop-line-init
 loop-line-init g c = record {
-  begins = record { bench = bench_with c.args.payloads; answers = []; run = refl; is = (c.in_ok-bench.ensures.blank c.args.payloads, c.in_ok-bench.ensures.slots, refl); enough = refl };
+  begins = record { bench = bench_with c.args.payloads.now; answers = []; run = refl; is = (c.in_ok-bench.ensures.blank c.args.payloads.now, c.in_ok-bench.ensures.slots, refl); enough = refl };
   count = refl;
 }
 
@@ -15,7 +15,7 @@ loop-line-preserved g c =
     let size = c.args.setting.now.shape.now in
     let i = c.loop-line.invariant in
     let t = c.in_ok-after.ensures.moved i.begins.bench i.begins.is in record {
-      begins = begins_more size c.args.payloads c.args.lines.now c.loop-line.line-index c.line-item.result c.line-item.result _ _ i.begins.bench t.1 i.begins.answers t.0 c.loop-line-test.true c.line-item.is i.begins.run t.2 t.3 (t.4 ∙ i.begins.enough);
+      begins = begins_more size c.args.payloads.now c.args.lines.now c.loop-line.line-index c.line-item.result c.line-item.result _ _ i.begins.bench t.1 i.begins.answers t.0 c.loop-line-test.true c.line-item.is i.begins.run t.2 t.3 (t.4 ∙ i.begins.enough);
       count = search rules;
     }
 
@@ -25,10 +25,10 @@ returns-then-formatted-clause-runs g c =
     let i = c.loop-line.invariant in
     let t = c.in_ok-after.ensures.moved i.begins.bench i.begins.is in
     let count : c.loop-line.line-index + 1 ≡ c.loop-line.count + 1 = omega (arith, i.count) in
-    let P : ℕ → Type 0 = λ n. IsFormattedAt size c.args.payloads (take n c.args.lines.now) c.in_ok-site.site in
+    let P : ℕ → Type 0 = λ n. IsFormattedAt size c.args.payloads.now (take n c.args.lines.now) c.in_ok-site.site in
     subst P count (
     c.in_ok-site.ensures.runs _ _
-    (begun_by size c.args.payloads c.args.lines.now c.loop-line.line-index c.line-item.result c.line-item.result _ _ i.begins.bench t.1 i.begins.answers t.0 c.loop-line-test.true c.line-item.is i.begins.run (t.5 c.if-formatted.true) t.2 t.3 (t.4 ∙ i.begins.enough))
+    (begun_by size c.args.payloads.now c.args.lines.now c.loop-line.line-index c.line-item.result c.line-item.result _ _ i.begins.bench t.1 i.begins.answers t.0 c.loop-line-test.true c.line-item.is i.begins.run (t.5 c.if-formatted.true) t.2 t.3 (t.4 ∙ i.begins.enough))
     )
 
 pub returns-then-formatted-clause-few : goal.returns-then-formatted-clause-few

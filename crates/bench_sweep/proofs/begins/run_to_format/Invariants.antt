@@ -4,6 +4,6 @@ use Rattle.bench_sweep.proofs.begins.run_to_format.Given as goal
 
 abbrev pub invariant-loop-line : goal.invariant-loop-line
 invariant-loop-line g l = record {
-  begins : Begins l.setting.shape.now l.fn.payloads (take l.line-index l.lines) l.bench.power l.bench.payloads;
+  begins : Begins l.setting.shape.now l.payloads (take l.line-index l.lines) l.bench.power l.bench.payloads;
   count : l.count ≡ l.line-index;
 }

@@ -1,27 +1,19 @@
-use Rattle.std.proofs.Common.{◌≡◌, ◌∙◌, false, Option, Some, None, is_some, [], refl, sym, ap, subst}
-use Rattle.board_model.specs.Durable.{DurableState}
-use Rattle.board_model.specs.Views.{durable_of}
-use Rattle.board_model.specs.declared.durable.Durable.{Durable}
-use Rattle.store.specs.Lives.{IsLoaded}
-use Rattle.bench_report.specs.Views.{SimStore, store_in, store_now}
-use Rattle.bench_sweep.proofs.Left.{plain_is, has_none}
-use Rattle.bench_sweep.proofs.Loaded.{loaded_found}
+use Rattle.std.proofs.Common.{ℕ, List, ap, sym, ◌∙◌, length}
+use Rattle.std.proofs.lemmas.List.{length-replicate}
+use Rattle.board_model.specs.Shapes.{Size, ram_bytes_of}
+use Rattle.bench_report.specs.Views.{SimStore, store_in, store_size}
+use Rattle.bench_sweep.proofs.Loaded.{found_bare, found_loaded, not_loaded}
 use Rattle.bench_sweep.proofs.finds.loaded.Goals as goal
 
-no_image : {A : Type 0} (o : Option A) → is_some o ≡ false → o ≡ None
-no_image None e = refl
-no_image (Some x) e = cc
-
 pub returns-then-is_none-clause-told : goal.returns-then-is_none-clause-told
-returns-then-is_none-clause-told c = λ size s is image f.
-    let none : c.args.found.now.image ≡ None = no_image c.args.found.now.image c.if-is_none.ensures in (
-      c.in_ok-of.field-0,
-      refl,
-      plain_is s c.args.found.now [] c.in_ok-of.field-0 is c.in_ok-of.ensures (has_none s.image [] (ap (λ (d : Durable). d.image) (sym is) ∙ none)),
-    )
+returns-then-is_none-clause-told c = found_bare c.plain_of.result c.args.found.now (store_in c.args.board) c.if-is_none.ensures c.plain_of.ensures.told
 
 pub returns-in-Ok-clause-told : goal.returns-in-Ok-clause-told
 returns-in-Ok-clause-told c =
-    let L : SimStore → Type 0 = λ store. IsLoaded (store_now store) c.load_image.new.ram in
-    loaded_found c.args.found.now (store_in c.args.board) c.load_image.new.ram c.bytes.result.now c.in_ok-of-in-Ok.field-0 (subst L c.into_parts-store.ensures.store c.in-Ok.ensures.loads)
-    c.bytes.ensures.value c.in_ok-of-in-Ok.ensures
+    found_loaded c.plain_of-in-Ok.result c.args.found.now c.store_of-store.result (store_in c.args.board) c.load_image.new.ram c.bytes.result.now c.store_of-store.ensures c.in-Ok.ensures.loads c.bytes.ensures.value c.plain_of-in-Ok.ensures.told
+
+pub returns-clause-told : goal.returns-clause-told
+returns-clause-told c =
+    let long = ap (λ (m : List ℕ). length m) c.in_ok-ram.ensures.zeros ∙ length-replicate (ram_bytes_of c.shape.result) 0 ∙ ap (λ (z : Size). ram_bytes_of z) (c.shape.ensures ∙ ap (λ (x : SimStore). store_size x) (sym c.store_of-store.ensures)) in
+    not_loaded c.args.found.now c.store_of-store.result c.load_image.new.self c.in_ok-ram.ram c.in-Err.field-0 long c.if-is_none.ensures c.in-Err.ensures.refused c.whole_images_load.ensures c.unloaded.result (store_in c.args.board) c.into_disk.result c.store_of-store.ensures
+    c.into_disk.ensures.fault_state c.unloaded.ensures.spoilt

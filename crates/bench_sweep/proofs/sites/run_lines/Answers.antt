@@ -1,95 +1,59 @@
-use Rattle.std.proofs.Common.{rules, refl, sym, ◌∙◌, ◌+◌, ℕ, subst, take, arith, ◌≡◌}
+use Rattle.std.proofs.Common.{rules, refl, sym, ◌+◌, ℕ, subst, take, arith, ◌≡◌}
 use Rattle.bench_report.specs.Bench.{Bench}
 use Rattle.script_lang.specs.declared.line.Line.{Line}
 use Rattle.script_lang.specs.declared.line.Line.TheVariants as lines
 use Rattle.bench_sweep.specs.Lines.{LineMoves}
 use Rattle.bench_sweep.specs.declared.site.Going.{Going}
 use Rattle.bench_sweep.specs.Runs.{RunsCalm, RanTo}
-use Rattle.bench_sweep.proofs.Ran.{ran_none, ran_more, ran_struck, ran_calm, struck_stops}
-use Rattle.bench_sweep.proofs.sites.run_lines.Goals.{in-Command+in_ok-run_command-in-Command, in_default+in_ok-going-in_default}
+use Rattle.bench_sweep.proofs.Ran.{ran_none, ran_more, ran_line, ran_calm}
+use Rattle.bench_sweep.proofs.sites.run_lines.Given.{Over}
+use Rattle.bench_sweep.proofs.sites.run_lines.Goals.{After-stops, in-Command+in_ok-run_command-in-Command, in_default+in_ok-going-in_default}
 use Rattle.bench_sweep.proofs.sites.run_lines.Goals as goal
+
+-- the line's step was made, whichever function ran it
+moved : (g : Over) (c : After-stops g) → (mid : Bench) → RunsCalm c.args.setting.now.shape.now mid c.loop-line.going.power c.loop-line.going.payloads c.loop-line.going.ledger
+    → LineMoves c.args.setting.now.shape.now c.line-item.result mid c.match-line.going.power c.match-line.going.payloads c.match-line.going.ledger
+moved g c mid r =
+    let size = c.args.setting.now.shape.now in
+    let G : Going → Type 0 = λ now. LineMoves size c.line-item.result mid now.power now.payloads now.ledger in
+    elim c.match-line.branch [
+      | in-Command+in_ok-run_command-in-Command w ↦
+          let did = w.in_ok-run_command-in-Command.ensures.runs size mid r in
+          let L : Line → Type 0 = λ l. LineMoves size l mid w.run_command.new.going.power w.run_command.new.going.payloads w.run_command.new.going.ledger in
+          subst G (sym w.going-is) (subst L (sym w.in-Command.is) did)
+      | in_default+in_ok-going-in_default w ↦ subst G (sym w.going-is) (w.in_ok-going-in_default.ensures.runs mid r)
+    ]
 
 pub loop-line-init : goal.loop-line-init
 loop-line-init g c = record { calm = c.from-going.ensures.calm; ran = λ b r. ran_none _ b _ _ _ (c.from-going.ensures.runs _ b r); count = refl }
 
 pub loop-line-preserved : goal.loop-line-preserved
 loop-line-preserved g c =
-    let size = c.args.setting.now.shape.now in
     let i = c.loop-line.invariant in
-    let moves : (mid : Bench) → RunsCalm size mid c.loop-line.going.power c.loop-line.going.payloads c.loop-line.going.ledger → LineMoves size c.line-item.result mid c.match-line.going.power c.match-line.going.payloads c.match-line.going.ledger =
-    λ mid r. elim c.match-line.branch [
-      | in-Command+in_ok-run_command-in-Command w ↦
-          let did = w.in_ok-run_command-in-Command.ensures.runs size mid r in
-          let L : Line → Type 0 = λ l. LineMoves size l mid w.run_command.new.going.power w.run_command.new.going.payloads w.run_command.new.going.ledger in
-          let G : Going → Type 0 = λ now. LineMoves size c.line-item.result mid now.power now.payloads now.ledger in
-          subst G (sym w.going-is) (subst L (sym w.in-Command.is) did)
-      | in_default+in_ok-going-in_default w ↦
-          let did = w.in_ok-going-in_default.ensures.runs mid r in
-          let G : Going → Type 0 = λ now. LineMoves size c.line-item.result mid now.power now.payloads now.ledger in
-          subst G (sym w.going-is) did
-    ] in record {
-      calm = search rules;
+    let at = (goal.at.loop-line-preserved g c).After-stops in record {
+      calm = c.stops.ensures.calm c.if-stops.false;
       ran = λ b r.
           (let far = i.ran b r in
-          let m = moves far.bench far.runs in
-          ran_more size b c.args.lines.now c.loop-line.line-index c.line-item.result c.line-item.result _ _ _ _ _ _ c.loop-line-test.true c.line-item.is far m (sym (c.is_struck.ensures.exact size m.bench m.runs.agrees) ∙ c.if-is_struck.false));
+          let m = moved g at far.bench far.runs in
+          ran_more c.args.setting.now.shape.now b c.args.lines.now c.loop-line.line-index c.line-item.result c.line-item.result _ _ _ _ _ _ c.loop-line-test.true c.line-item.is far m (c.stops.ensures.exact c.if-stops.false c.args.setting.now.shape.now m.bench m.runs.agrees));
       count = search rules;
     }
 
-pub returns-then-is_struck-clause-ran : goal.returns-then-is_struck-clause-ran
-returns-then-is_struck-clause-ran g c = λ b r.
+pub returns-then-stops-clause-ran : goal.returns-then-stops-clause-ran
+returns-then-stops-clause-ran g c = λ b r.
     let size = c.args.setting.now.shape.now in
     let i = c.loop-line.invariant in
-    let moves : (mid : Bench) → RunsCalm size mid c.loop-line.going.power c.loop-line.going.payloads c.loop-line.going.ledger → LineMoves size c.line-item.result mid c.match-line.going.power c.match-line.going.payloads c.match-line.going.ledger =
-    λ mid r. elim c.match-line.branch [
-      | in-Command+in_ok-run_command-in-Command w ↦
-          let did = w.in_ok-run_command-in-Command.ensures.runs size mid r in
-          let L : Line → Type 0 = λ l. LineMoves size l mid w.run_command.new.going.power w.run_command.new.going.payloads w.run_command.new.going.ledger in
-          let G : Going → Type 0 = λ now. LineMoves size c.line-item.result mid now.power now.payloads now.ledger in
-          subst G (sym w.going-is) (subst L (sym w.in-Command.is) did)
-      | in_default+in_ok-going-in_default w ↦
-          let did = w.in_ok-going-in_default.ensures.runs mid r in
-          let G : Going → Type 0 = λ now. LineMoves size c.line-item.result mid now.power now.payloads now.ledger in
-          subst G (sym w.going-is) did
-    ] in
     let far = i.ran b r in
-    let m = moves far.bench far.runs in
+    let m = moved g (goal.at.returns-then-stops-clause-ran g c).After-stops far.bench far.runs in
     let count : c.loop-line.line-index + 1 ≡ c.loop-line.count + 1 = omega (arith, i.count) in
     let P : ℕ → Type 0 = λ n. RanTo size b (take n c.args.lines.now) c.match-line.going.power c.match-line.going.payloads c.match-line.going.ledger in
-    subst P count (ran_struck size b c.args.lines.now c.loop-line.line-index c.line-item.result c.line-item.result _ _ _ _ _ _ c.loop-line-test.true c.line-item.is far m (sym (c.is_struck.ensures.exact size m.bench m.runs.agrees) ∙ c.if-is_struck.true))
+    subst P count (ran_line size b c.args.lines.now c.loop-line.line-index c.line-item.result c.line-item.result _ _ _ _ _ _ c.loop-line-test.true c.line-item.is far m)
 
-pub returns-then-is_struck-clause-stops : goal.returns-then-is_struck-clause-stops
-returns-then-is_struck-clause-stops g c = λ until less. struck_stops c.match-line.going.power _ c.if-is_struck.true c.is_struck.ensures.exact
+pub returns-then-stops-clause-stops : goal.returns-then-stops-clause-stops
+returns-then-stops-clause-stops g c = λ until less. c.stops.ensures.off c.if-stops.true
 
-pub returns-then-is_struck-clause-few : goal.returns-then-is_struck-clause-few
-returns-then-is_struck-clause-few g c = let i = c.loop-line.invariant in omega (arith, i.count, c.loop-line-test.true)
-
-pub returns-then-is_off-clause-ran : goal.returns-then-is_off-clause-ran
-returns-then-is_off-clause-ran g c = λ b r.
-    let size = c.args.setting.now.shape.now in
-    let i = c.loop-line.invariant in
-    let moves : (mid : Bench) → RunsCalm size mid c.loop-line.going.power c.loop-line.going.payloads c.loop-line.going.ledger → LineMoves size c.line-item.result mid c.match-line.going.power c.match-line.going.payloads c.match-line.going.ledger =
-    λ mid r. elim c.match-line.branch [
-      | in-Command+in_ok-run_command-in-Command w ↦
-          let did = w.in_ok-run_command-in-Command.ensures.runs size mid r in
-          let L : Line → Type 0 = λ l. LineMoves size l mid w.run_command.new.going.power w.run_command.new.going.payloads w.run_command.new.going.ledger in
-          let G : Going → Type 0 = λ now. LineMoves size c.line-item.result mid now.power now.payloads now.ledger in
-          subst G (sym w.going-is) (subst L (sym w.in-Command.is) did)
-      | in_default+in_ok-going-in_default w ↦
-          let did = w.in_ok-going-in_default.ensures.runs mid r in
-          let G : Going → Type 0 = λ now. LineMoves size c.line-item.result mid now.power now.payloads now.ledger in
-          subst G (sym w.going-is) did
-    ] in
-    let far = i.ran b r in
-    let m = moves far.bench far.runs in
-    let count : c.loop-line.line-index + 1 ≡ c.loop-line.count + 1 = omega (arith, i.count) in
-    let P : ℕ → Type 0 = λ n. RanTo size b (take n c.args.lines.now) c.match-line.going.power c.match-line.going.payloads c.match-line.going.ledger in
-    subst P count (
-    ran_calm size b _ _ _ _ (ran_more size b c.args.lines.now c.loop-line.line-index c.line-item.result c.line-item.result _ _ _ _ _ _ c.loop-line-test.true c.line-item.is far m (sym (c.is_struck.ensures.exact size m.bench m.runs.agrees) ∙ c.if-is_struck.false))
-    )
-
-pub returns-then-is_off-clause-few : goal.returns-then-is_off-clause-few
-returns-then-is_off-clause-few g c = let i = c.loop-line.invariant in omega (arith, i.count, c.loop-line-test.true)
+pub returns-then-stops-clause-few : goal.returns-then-stops-clause-few
+returns-then-stops-clause-few g c = let i = c.loop-line.invariant in omega (arith, i.count, c.loop-line-test.true)
 
 pub returns-clause-ran : goal.returns-clause-ran
 returns-clause-ran g c = λ b r.

@@ -23,7 +23,7 @@ returns-clause-wrote g c = on_ok_weaker c.judge_run.result (λ did b l.
     let calm = c.armed-armed.ensures.runs size b l in
     let ran = c.in_ok-went.ensures.ran (armed_with (fault_at Fails c.args.point.caller c.args.point.call) b) calm in
     let left = c.in_ok-left.ensures.runs size ran.bench ran.runs in
-    let all : c.in_ok-went.went.count ≡ length lines = omega (arith, c.in_ok-went.ensures.few, c.if-count-all.false) in
+    let all : c.in_ok-went.went.count ≡ length lines = omega (arith, c.in_ok-went.ensures.few, c.in_ok-left.ensures.whole) in
     reports_at _ Fails c.args.point.caller c.args.point.number _ _ _ _ _
     (past_failure size c.args.point b lines c.in_ok-went.went.count _ _ _ all ran left.0 left.1)
     (did (off ran.bench) left.2)))

@@ -1,10 +1,19 @@
 use Rattle.std.proofs.Common.{◌≡◌, ◌∙◌, arith, sym}
+use Rattle.bench_report.specs.Happens.{unpowered}
+use Rattle.bench_sweep.proofs.Left.{off_sits}
 use Rattle.bench_sweep.proofs.Made.{none_yet, sits_at, went_more, rest_is, plain_run}
 use Rattle.bench_sweep.proofs.Reported.{swept_take, swept_drop, stays_within}
 use Rattle.bench_sweep.proofs.sweeps.run_plain.Goals as goal
 
 pub loop-from-init : goal.loop-from-init
-loop-from-init g c = record { within = omega arith; sits = c.requires.sits; lives = λ b r. none_yet _ b _ _ r }
+loop-from-init g c =
+    let size = c.args.runner.now.setting.shape.now in
+    let copy = c.in_ok-site.ensures in
+    let sits = c.requires.sits in record {
+      within = omega arith;
+      sits = (unpowered sits.0, off_sits size (unpowered sits.0) _ _ _ (copy.runs size sits.0 sits.1));
+      lives = λ b r. none_yet _ (unpowered b) _ _ (off_sits size (unpowered b) _ _ _ (copy.runs size b r));
+    }
 
 pub stretch_of-requires-clause-lines : goal.stretch_of-requires-clause-lines
 stretch_of-requires-clause-lines g c κs within =
@@ -21,10 +30,10 @@ loop-from-preserved g c =
       within = stays_within from did.field-0.count _ lines i.within did.ensures.few;
       sits = did.ensures.sits;
       lives = λ b r.
-          (let f = sits_at size b lines from _ c.loop-from-test.true (i.lives b r) in
-          went_more size b lines _ from did.field-0.count c.loop-from.site did.field-0.next (rest_is from lines) i.within f (did.ensures.lives f.bench f.site));
+          (let f = sits_at size (unpowered b) lines from _ c.loop-from-test.true (i.lives b r) in
+          went_more size (unpowered b) lines _ from did.field-0.count c.loop-from.site did.field-0.next (rest_is from lines) i.within f (did.ensures.lives f.bench f.site));
     }
 
 pub returns-clause-plain : goal.returns-clause-plain
 returns-clause-plain g c = λ b r.
-    plain_run c.args.runner.now.setting.shape.now b c.args.runner.now.lines.now c.loop-from.from c.loop-from.site (omega arith) (sym c.refused.ensures ∙ c.if-refused-ne0.false) (c.loop-from.invariant.lives b r)
+    plain_run c.args.runner.now.setting.shape.now (unpowered b) c.args.runner.now.lines.now c.loop-from.from c.loop-from.site (omega arith) (sym c.refused.ensures ∙ c.if-refused-ne0.false) (c.loop-from.invariant.lives b r)

@@ -1,5 +1,6 @@
 use Rattle.std.proofs.Common.{◌≤◌, ◌-◌, length}
 use Rattle.bench_report.specs.Bench.{Bench}
+use Rattle.bench_report.specs.Happens.{unpowered}
 use Rattle.bench_sweep.specs.Runs.{RunsAt, Sits}
 use Rattle.bench_sweep.proofs.Made.{Went}
 use Rattle.bench_sweep.proofs.sweeps.run_plain.Given as goal
@@ -9,7 +10,7 @@ abbrev pub invariant-loop-from : goal.invariant-loop-from
 invariant-loop-from g l = record {
   within : l.from ≤ length l.runner.lines.now;
   sits : Sits l.runner.setting.shape.now l.site;
-  lives : (b : Bench) → RunsAt l.runner.setting.shape.now b l.fn.begin → Went l.runner.setting.shape.now b l.runner.lines.now l.from l.site;
+  lives : (b : Bench) → RunsAt l.runner.setting.shape.now b l.begin → Went l.runner.setting.shape.now (unpowered b) l.runner.lines.now l.from l.site;
 }
 
 abbrev pub decreases-loop-from : goal.decreases-loop-from

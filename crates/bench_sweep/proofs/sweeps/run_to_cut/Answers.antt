@@ -1,4 +1,3 @@
-use Rattle.std.proofs.Common.{◌≡◌, true, sym, ◌∙◌}
 use Rattle.std.proofs.lemmas.Result.{on_ok_weaker}
 use Rattle.bench_sweep.specs.declared.points.Bench.TheVariants.{Cuts}
 use Rattle.bench_sweep.specs.Points.{fault_at}
@@ -13,17 +12,16 @@ judge_each_fill-requires-clause-sits g c κs within =
     let sits = c.requires.sits in
     let calm = c.armed-armed.ensures.runs size sits.0 sits.1 in
     let ran = c.in_ok-went.ensures.ran (armed_with (fault_at Cuts c.args.point.caller c.args.point.call) sits.0) calm in
-    (off ran.bench, (c.in_ok-left.ensures.runs size ran.bench ran.runs).1)
+    (off ran.bench, (c.in_ok-left.ensures.runs size ran.bench ran.runs).2)
 
-pub returns-in_ok-left-clause-wrote : goal.returns-in_ok-left-clause-wrote
-returns-in_ok-left-clause-wrote g c = on_ok_weaker c.judge_each_fill.result (λ did b l.
+pub returns-clause-wrote : goal.returns-clause-wrote
+returns-clause-wrote g c = on_ok_weaker c.judge_each_fill.result (λ did b l.
     (let size = c.args.runner.now.setting.shape.now in
     let lines = c.args.runner.now.lines.now in
     let calm = c.armed-armed.ensures.runs size b l in
     let ran = c.in_ok-went.ensures.ran (armed_with (fault_at Cuts c.args.point.caller c.args.point.call) b) calm in
-    let hit : ran.bench.fault_state.struck ≡ true = sym (c.is_struck.ensures.exact size ran.bench ran.runs.agrees) ∙ c.if-is_struck.true in
     let left = c.in_ok-left.ensures.runs size ran.bench ran.runs in
     reports_at _ Cuts c.args.point.caller c.args.point.number _ _ _ _ _
-    (to_cut size c.args.point b lines c.in_ok-went.went.count _ _ _ c.in_ok-went.ensures.few ran hit left.0)
-    (did (off ran.bench) left.1)))
+    (to_cut size c.args.point b lines c.in_ok-went.went.count _ _ _ c.in_ok-went.ensures.few ran left.0 left.1)
+    (did (off ran.bench) left.2)))
     c.judge_each_fill.ensures.wrote

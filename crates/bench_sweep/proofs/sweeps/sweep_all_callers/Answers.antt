@@ -1,35 +1,26 @@
 use Rattle.std.proofs.Common.{◌≡◌, ◌∙◌, ◌+◌, ℕ, List, [], ◌∷◌, ◌++◌, take, length, refl, sym, ap, subst, arith}
 use Rattle.std.proofs.lemmas.List.{take_more, length-take-le}
 use Rattle.std.specs.List.{AllZip}
-use Rattle.bench_report.specs.Happens.{unpowered}
 use Rattle.bench_sweep.specs.Points.{MadeCalls}
 use Rattle.bench_sweep.specs.declared.points.Caller.{Caller}
 use Rattle.bench_sweep.specs.declared.points.Caller.TheVariants.{Disk}
 use Rattle.bench_sweep.specs.Swept.{callers, all_runs}
-use Rattle.bench_sweep.proofs.Left.{off_sits}
 use Rattle.bench_sweep.proofs.Made.{zip_long, zip_more}
 use Rattle.bench_sweep.proofs.Reported.{reports_none, reports_more, reports_as}
 use Rattle.bench_sweep.proofs.Written.{next_caller, total_more}
 use Rattle.bench_sweep.proofs.sweeps.sweep_all_callers.Goals as goal
-
-pub sweep_caller-requires-clause-sits : goal.sweep_caller-requires-clause-sits
-sweep_caller-requires-clause-sits g c κs within =
-    let size = c.args.runner.now.setting.shape.now in
-    let sits = c.requires.sits in
-    (unpowered sits.0, off_sits size (unpowered sits.0) _ _ _ (c.in_ok-begin.ensures.runs size sits.0 sits.1))
 
 pub loop-caller-init : goal.loop-caller-init
 loop-caller-init g c = λ b r. ([], tt, reports_none _ _ _)
 
 pub loop-caller-preserved : goal.loop-caller-preserved
 loop-caller-preserved g c = λ b r.
-    let size = c.args.runner.now.setting.shape.now in
     let kind = c.args.runner.now.bench in
     let i = c.loop-caller.caller-index in
     let w = c.loop-caller.invariant b r in
     let less = c.loop-caller-test.true in
     let n = c.in_ok-made.made in
-    let did = c.in_ok-made.ensures.wrote (unpowered b) (off_sits size (unpowered b) _ _ _ (c.in_ok-begin.ensures.runs size b r)) in
+    let did = c.in_ok-made.ensures.wrote b r in
     let long : length w.0 ≡ i = zip_long _ (take i callers) w.0 w.1 ∙ length-take-le i callers (omega (arith, less)) in
     let Z : List Caller → Type 0 = λ cs. AllZip (MadeCalls c.args.site.now.off.disk c.args.end.now.off.disk) cs (w.0 ++ n ∷ []) in (
       w.0 ++ n ∷ [],

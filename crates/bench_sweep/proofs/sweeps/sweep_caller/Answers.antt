@@ -1,17 +1,22 @@
-use Rattle.std.proofs.Common.{◌≡◌, ◌+◌, ◌-◌, ◌≤◌, ◌∙◌, length, drop, ap, arith, refl, sym}
+use Rattle.std.proofs.Common.{◌≡◌, ◌+◌, arith, refl}
+use Rattle.bench_report.specs.Happens.{unpowered}
+use Rattle.bench_sweep.proofs.Left.{off_sits}
 use Rattle.bench_sweep.proofs.Made.{none_yet, sits_at, went_more, rest_is, row_of}
 use Rattle.bench_sweep.proofs.Reported.{reports_none, reports_more, reports_as, reports_points, reports_weaker, swept_take, swept_drop, stays_within}
 use Rattle.bench_sweep.proofs.Written.{next_exact}
 use Rattle.bench_sweep.proofs.sweeps.sweep_caller.Goals as goal
 
 pub loop-from-init : goal.loop-from-init
-loop-from-init g c = record {
-  within = omega arith;
-  sits = c.requires.sits;
-  counts = omega arith;
-  lives = λ b r. none_yet _ b _ _ r;
-  wrote = λ b r. reports_none _ _ _;
-}
+loop-from-init g c =
+    let size = c.args.runner.now.setting.shape.now in
+    let copy = c.in_ok-site.ensures in
+    let sits = c.requires.sits in record {
+      within = omega arith;
+      sits = (unpowered sits.0, off_sits size (unpowered sits.0) _ _ _ (copy.runs size sits.0 sits.1));
+      counts = omega (arith, copy.calls c.args.caller);
+      lives = λ b r. none_yet _ (unpowered b) _ _ (off_sits size (unpowered b) _ _ _ (copy.runs size b r));
+      wrote = λ b r. reports_none _ _ _;
+    }
 
 pub sweep_stretch-requires-clause-lines : goal.sweep_stretch-requires-clause-lines
 sweep_stretch-requires-clause-lines g c κs within =
@@ -26,9 +31,9 @@ loop-from-preserved g c =
     let size = c.args.runner.now.setting.shape.now in
     let kind = c.args.runner.now.bench in
     let lines = c.args.runner.now.lines.now in
-    let did = c.in_ok-did in
+    let did = c.in_ok-count in
     let calls = did.calls in
-    let count = did.did.count in
+    let count = did.count in
     let from = c.loop-from.from in
     let made = c.loop-from.made in
     let i = c.loop-from.invariant in
@@ -37,12 +42,12 @@ loop-from-preserved g c =
       sits = did.ensures.sits;
       counts = omega (arith, i.counts, did.ensures.calls);
       lives = λ b r.
-          (let f = sits_at size b lines from _ c.loop-from-test.true (i.lives b r) in
-          went_more size b lines _ from count c.loop-from.site did.did.next rest i.within f (did.ensures.lives f.bench f.site));
+          (let f = sits_at size (unpowered b) lines from _ c.loop-from-test.true (i.lives b r) in
+          went_more size (unpowered b) lines _ from count c.loop-from.site c.sweep_stretch.new.site rest i.within f (did.ensures.lives f.bench f.site));
       wrote = λ b r.
-          (let f = sits_at size b lines from _ c.loop-from-test.true (i.lives b r) in
+          (let f = sits_at size (unpowered b) lines from _ c.loop-from-test.true (i.lives b r) in
           reports_as _ _ _ _ _ _ _ _ (next_exact kind c.args.caller made calls (omega (arith, i.counts, did.ensures.calls, did.ensures.below))) refl
-          (reports_more _ _ _ _ _ _ _ _ _ (i.wrote b r) (reports_weaker _ _ _ _ _ _ _ (row_of size kind b lines _ from c.loop-from.site rest f) (did.ensures.wrote f.bench f.site))));
+          (reports_more _ _ _ _ _ _ _ _ _ (i.wrote b r) (reports_weaker _ _ _ _ _ _ _ (row_of size kind (unpowered b) lines _ from c.loop-from.site rest f) (did.ensures.wrote f.bench f.site))));
     }
 
 pub returns-clause-wrote : goal.returns-clause-wrote

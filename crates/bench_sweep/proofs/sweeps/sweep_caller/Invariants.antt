@@ -1,5 +1,6 @@
 use Rattle.std.proofs.Common.{◌≡◌, ◌≤◌, ◌+◌, ◌-◌, length}
 use Rattle.bench_report.specs.Bench.{Bench}
+use Rattle.bench_report.specs.Happens.{unpowered}
 use Rattle.bench_sweep.specs.Points.{calls_of}
 use Rattle.bench_sweep.specs.Reports.{Reports, IsRow}
 use Rattle.bench_sweep.specs.Runs.{RunsAt, Sits}
@@ -12,10 +13,10 @@ abbrev pub invariant-loop-from : goal.invariant-loop-from
 invariant-loop-from g l = record {
   within : l.from ≤ length l.runner.lines.now;
   sits : Sits l.runner.setting.shape.now l.site;
-  counts : calls_of l.caller l.site.off.disk ≡ calls_of l.caller l.fn.begin.off.disk + l.made;
-  lives : (b : Bench) → RunsAt l.runner.setting.shape.now b l.fn.begin → Went l.runner.setting.shape.now b l.runner.lines.now l.from l.site;
-  wrote : (b : Bench) → RunsAt l.runner.setting.shape.now b l.fn.begin
-      → Reports g.W.Write.contents (IsRow l.runner.setting.shape.now l.runner.bench b l.runner.lines.now) l.fn.report l.report (runs_from l.runner.bench l.caller 1 l.made) 0;
+  counts : calls_of l.caller l.site.off.disk ≡ calls_of l.caller l.begin.off.disk + l.made;
+  lives : (b : Bench) → RunsAt l.runner.setting.shape.now b l.begin → Went l.runner.setting.shape.now (unpowered b) l.runner.lines.now l.from l.site;
+  wrote : (b : Bench) → RunsAt l.runner.setting.shape.now b l.begin
+      → Reports g.W.Write.contents (IsRow l.runner.setting.shape.now l.runner.bench (unpowered b) l.runner.lines.now) l.fn.report l.report (runs_from l.runner.bench l.caller 1 l.made) 0;
 }
 
 abbrev pub decreases-loop-from : goal.decreases-loop-from

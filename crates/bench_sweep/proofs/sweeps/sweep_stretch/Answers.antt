@@ -2,4 +2,4 @@ use Rattle.std.proofs.Common.{arith}
 use Rattle.bench_sweep.proofs.sweeps.sweep_stretch.Goals as goal
 
 pub run_at_calls-requires-clause-numbers : goal.run_at_calls-requires-clause-numbers
-run_at_calls-requires-clause-numbers g c κs within = let did = c.in_ok-count.ensures in omega (arith, c.requires.made, did.calls, did.below)
+run_at_calls-requires-clause-numbers g c κs within = let made = c.in_ok-made_here.ensures in omega (arith, c.requires.made, made.calls, made.below)
