@@ -1,9 +1,9 @@
 -- What is read through an empty buffer, and which errors of a command line ask for nothing more.
-use Rattle.std.proofs.Common.{◌≡◌, ◌==◌, ℕ, Bool, true, false, List, [], Option, None, Some, Result, Ok, Err, ◌⊎◌, inl, inr, IfSome, IfErr, OnOk, if◌then◌else◌, ap, sym, refl}
+use Rattle.std.proofs.Common.{◌≡◌, ◌==◌, ℕ, List, [], Option, None, Some, Result, Ok, Err, ◌⊎◌, inl, inr, IfSome, IfErr, OnOk, if◌then◌else◌, refl, subst}
 use Rattle.std.specs.Io.Buffered.{reader_buffer, reader_capacity, reader_inner, reader_remaining}
 use Rattle.std.specs.Io.KnownBytes.{prepend_known}
 use Rattle.std.specs.declared.io.buffered.BufReader.{BufReader}
-use Rattle.clap.specs.Words.{App, kind_of, takes}
+use Rattle.clap.specs.Words.{App, HasKind, IsAmong, fault_of, kind_of}
 use Rattle.clap.specs.declared.builder.value_parser.ValueParser.{ValueParser}
 use Rattle.clap.specs.declared.error.Error.{Error}
 use Rattle.clap.specs.declared.error.kind.ErrorKind.{ErrorKind}
@@ -33,37 +33,36 @@ pub said_behind : {R A : Type 0} (remaining : R → Option (List ℕ)) (input : 
 said_behind remaining input r script i h s said =
     rw (← i) (said_through (remaining (reader_inner r)) (reader_buffer r) (reader_capacity r) script h s said)
 
--- words of which a test is not true name no work
-none_named : (crews : ValueParser) (words : List (List ℕ)) (kind : ErrorKind) (b : Bool) → takes (sbibench crews) words ≡ b
-    → (b ≡ true → kind ≡ OutOfMemory) → (kind ≡ OutOfMemory) ⊎ NamesNoWork words
-none_named crews words kind true is passes = inl (passes refl)
-none_named crews words kind false is passes = inr (crews, is)
-
--- an error but for memory says that the parser does not take the words
+-- words that the parser refuses name no work, as the kind of its error says
 pub not_taken : {T : Type 0} (r : Result T Error) (app : App) (crews : ValueParser) (words : List (List ℕ)) → app ≡ sbibench crews
-    → IfErr r (λ e. takes app words ≡ true → kind_of e ≡ OutOfMemory)
-    → IfErr r (λ e. (kind_of e ≡ OutOfMemory) ⊎ NamesNoWork words)
-not_taken (Ok m) app crews words is passes = tt
-not_taken (Err e) app crews words is passes =
-    none_named crews words (kind_of e) (takes app words) (ap (λ (a : App). takes a words) (sym is)) passes
+    → IfErr r (HasKind (fault_of app words))
+    → IfErr r (λ e. (kind_of e ≡ OutOfMemory) ⊎ NamesNoWork words (no_work (kind_of e)))
+not_taken (Ok m) app crews words is has = tt
+not_taken (Err e) app crews words is (inl memory) = inl memory
+not_taken (Err e) app crews words is (inr among) =
+    inr (crews, kind_of e, subst (λ (a : App). IsAmong (kind_of e) (fault_of a words)) is among, refl)
 
--- a command line asks for nothing more only where its words name no work
-pub nothing_more : (kind : ErrorKind) (done : Result (Unit {0}) BenchFault) (A B C : Type 0) → done ≡ without_work (no_work kind)
-    → (kind ≡ OutOfMemory) ⊎ ((kind ≡ ArgumentConflict) × C) ⊎ B → OnOk done (A ⊎ B)
-nothing_more kind done A B C e (inl memory) = rw (e, memory) tt
-nothing_more kind done A B C e (inr (inl both)) = rw (e, both.0) tt
-nothing_more kind (Ok u) A B C e (inr (inr none)) = inr none
-nothing_more kind (Err f) A B C e (inr (inr none)) = tt
+-- a command line that asks for no work has no fault only where it asks to be shown something
+pub nothing_more : (kind : ErrorKind) (done : Result (Unit {0}) BenchFault) (A C : Type 0) (B : NoWork → Type 0) → done ≡ without_work (no_work kind)
+    → (kind ≡ OutOfMemory) ⊎ ((kind ≡ ArgumentConflict) × C) ⊎ B (no_work kind) → OnOk done (A ⊎ B whys.Shown)
+nothing_more kind done A C B e (inl memory) = rw (e, memory) tt
+nothing_more kind done A C B e (inr (inl both)) = rw (e, both.0) tt
+nothing_more kind done A C B e (inr (inr none)) = rw e (by (no_work kind) none)
+  where
+    by : (why : NoWork) → B why → OnOk (without_work why) (A ⊎ B whys.Shown)
+    by whys.Shown is = inr is
+    by whys.Usage is = tt
+    by whys.Memory is = tt
 
 -- and else it has one of these faults
-pub line_fault : (kind : ErrorKind) (done : Result (Unit {0}) BenchFault) (A : BenchFault → Type 0) (B C : Type 0) → done ≡ without_work (no_work kind)
-    → (kind ≡ OutOfMemory) ⊎ ((kind ≡ ArgumentConflict) × C) ⊎ B
-    → IfErr done (λ fault. A fault ⊎ ((fault ≡ Usage) × (B ⊎ C)) ⊎ (fault ≡ Refused Memory))
-line_fault kind done A B C e (inl memory) = rw (e, memory) (inr (inr refl))
-line_fault kind done A B C e (inr (inl both)) = rw (e, both.0) (inr (inl (refl, inr both.1)))
-line_fault kind done A B C e (inr (inr none)) = rw e (by (no_work kind))
+pub line_fault : (kind : ErrorKind) (done : Result (Unit {0}) BenchFault) (A : BenchFault → Type 0) (C : Type 0) (B : NoWork → Type 0) → done ≡ without_work (no_work kind)
+    → (kind ≡ OutOfMemory) ⊎ ((kind ≡ ArgumentConflict) × C) ⊎ B (no_work kind)
+    → IfErr done (λ fault. A fault ⊎ ((fault ≡ Usage) × (B whys.Usage ⊎ C)) ⊎ (fault ≡ Refused Memory))
+line_fault kind done A C B e (inl memory) = rw (e, memory) (inr (inr refl))
+line_fault kind done A C B e (inr (inl both)) = rw (e, both.0) (inr (inl (refl, inr both.1)))
+line_fault kind done A C B e (inr (inr none)) = rw e (by (no_work kind) none)
   where
-    by : (why : NoWork) → IfErr (without_work why) (λ fault. A fault ⊎ ((fault ≡ Usage) × (B ⊎ C)) ⊎ (fault ≡ Refused Memory))
-    by whys.Shown = tt
-    by whys.Usage = inr (inl (refl, inl none))
-    by whys.Memory = inr (inr refl)
+    by : (why : NoWork) → B why → IfErr (without_work why) (λ fault. A fault ⊎ ((fault ≡ Usage) × (B whys.Usage ⊎ C)) ⊎ (fault ≡ Refused Memory))
+    by whys.Shown is = tt
+    by whys.Usage is = inr (inl (refl, inl is))
+    by whys.Memory is = inr (inr refl)

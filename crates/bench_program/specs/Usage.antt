@@ -1,15 +1,19 @@
 -- The command as its parser reads it, and what its words ask for. Source: docs/SCRIPT.md, "The program".
 use Rattle.std.specs.Prelude.{◌≡◌, ◌≤◌, ⊤, ℕ, Bool, true, false, List, [], ◌∷◌, Option, Some, None, if◌then◌else◌, nat_lt, bytes_eq, map, string_bytes}
 use Rattle.std.specs.Option.{option_map}
-use Rattle.clap.specs.Words.{App, Rule, Text, first_value, matches_of, new_rule, one_text, rows_of, takes, with_rule}
+use Rattle.clap.specs.Words.{App, IsAmong, Rule, Text, fault_of, first_value, new_rule, one_text, with_rule}
 use Rattle.clap.specs.declared.builder.action.ArgAction.TheVariants.{Set}
+use Rattle.clap.specs.declared.error.kind.ErrorKind.{ErrorKind}
 use Rattle.clap.specs.declared.parser.matches.Found.{Found}
 use Rattle.clap.specs.declared.builder.value_parser.ValueParser.{ValueParser}
 use Rattle.clap.specs.declared.builder.value_parser.ValueParser.TheVariants.{Unsigned}
 use Rattle.script_lang.specs.Words.{number_of}
 use Rattle.command_line.specs.Flags.{flag_rule}
+use Rattle.command_line.specs.Kinds.{no_work}
 use Rattle.command_line.specs.Options.{option_rule, payload_paths, value_rule, with_payloads}
+use Rattle.command_line.specs.Parses.{AreParsed}
 use Rattle.command_line.specs.Programs.{named_app}
+use Rattle.command_line.specs.declared.NoWork.{NoWork}
 use Rattle.bench_program.specs.declared.usage.Bench.TheVariants.{Sweep, Faults}
 use Rattle.bench_program.specs.declared.usage.Options.{Options}
 use Rattle.bench_program.specs.declared.usage.Work.{Work}
@@ -123,18 +127,20 @@ IsBounded work = ⊤
 -- what the words of a command line name, as the command's parser reads them: one work
 abbrev pub IsNamedBy : List (List ℕ) → Options → Type 0
 IsNamedBy words options = (crews : ValueParser) × (f : Found) × (sweep faults : Bool)
-    × (rows_of f ≡ matches_of (sbibench crews) words)
+    × AreParsed (sbibench crews) words f
     × IsFlag f (codes "sweep") sweep × IsFlag f (codes "faults") faults
     × (work_asked f sweep faults ≡ Some options.work)
     × (payload_files options ≡ payload_paths f)
 
--- the words name no work: the command's parser does not take them, as it does not where they ask for the help
-abbrev pub NamesNoWork : List (List ℕ) → Type 0
-NamesNoWork words = (crews : ValueParser) × (takes (sbibench crews) words ≡ false)
+-- The words name no work, for that reason: the command's parser refuses them, by an error that shows what they ask to be shown
+-- or says a fault.
+abbrev pub NamesNoWork : List (List ℕ) → NoWork → Type 0
+NamesNoWork words why =
+    (crews : ValueParser) × (kind : ErrorKind) × IsAmong kind (fault_of (sbibench crews) words) × (why ≡ no_work kind)
 
 -- or they name no one work: two, or an option of schedules without them, or out of its range
 abbrev pub NamesConflict : List (List ℕ) → Type 0
 NamesConflict words = (crews : ValueParser) × (f : Found) × (sweep faults : Bool)
-    × (rows_of f ≡ matches_of (sbibench crews) words)
+    × AreParsed (sbibench crews) words f
     × IsFlag f (codes "sweep") sweep × IsFlag f (codes "faults") faults
     × (work_asked f sweep faults ≡ None)

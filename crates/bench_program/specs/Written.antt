@@ -6,13 +6,15 @@ use Rattle.std.specs.Io.KnownBytes.{Appends}
 use Rattle.script_lang.specs.Scripts.{script_of, Script as Said}
 use Rattle.bench_report.specs.Bench.{Bench as ModelBench}
 use Rattle.bench_report.specs.Prefix.{KeepsPrefixLaw}
-use Rattle.bench_report.specs.Reports.{AreByFirmware, IsReportWith, report_text}
-use Rattle.bench_report.specs.declared.printed.Answer.{Answer}
+use Rattle.report_lines.specs.Texts.{report_text}
+use Rattle.bench_report.specs.Reports.{AreByFirmware, IsReportWith}
+use Rattle.report_lines.specs.declared.printed.Answer.{Answer}
 use Rattle.bench_sweep.specs.Swept.{IsBenchOf, NoBenchRuns}
 use Rattle.bench_schedules.specs.Numbers.{number_of_other}
 use Rattle.bench_schedules.specs.Schedules.{Shown, WroteSchedules}
 use Rattle.bench_judge.specs.declared.judges.Sweep.{Sweep as Counts}
 use Rattle.bench_program.specs.Benches.{judged}
+use Rattle.command_line.specs.declared.NoWork.TheVariants as whys
 use Rattle.payload_files.specs.Named.{AreFilesOf}
 use Rattle.bench_program.specs.Usage.{payload_files, IsNamedBy, NamesNoWork, NamesConflict}
 use Rattle.bench_program.specs.declared.fault.BenchFault.{BenchFault}
@@ -116,4 +118,4 @@ IsUnread options fault = (fault ≡ File) × ((slot : ℕ) × IsSome (get_or opt
 abbrev pub IsFault : List (List ℕ) → Option (List ℕ) → BenchFault → Type 0
 IsFault words input fault =
     ((options : Options) × IsNamedBy words options × (IsUnread options fault ⊎ IsFaultOf options.work input fault))
-    ⊎ ((fault ≡ Usage) × (NamesNoWork words ⊎ NamesConflict words)) ⊎ (fault ≡ Refused Memory)
+    ⊎ ((fault ≡ Usage) × (NamesNoWork words whys.Usage ⊎ NamesConflict words)) ⊎ (fault ≡ Refused Memory)

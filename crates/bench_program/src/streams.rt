@@ -258,7 +258,7 @@ fn run_words<
 ) -> Result<(), BenchFault>
     ensures done { OnOk result (IsDone (map S.text words.now) (P.bytes_at files.now) (I.remaining input)
         (writer_contents (pipe_contents O.contents) out.old) (writer_contents (pipe_contents O.contents) out.new)
-        ⊎ NamesNoWork (map S.text words.now)) }
+        ⊎ NamesNoWork (map S.text words.now) NoWork.Shown) }
     ensures wrong { result ≡ Err Wrong → IsWrong (map S.text words.now) (P.bytes_at files.now) (I.remaining input)
         (writer_contents (pipe_contents O.contents) out.old) (writer_contents (pipe_contents O.contents) out.new) }
     ensures faults { IfErr result (λ fault. IsFault (map S.text words.now) (I.remaining input) fault) }
@@ -305,7 +305,7 @@ pub fn run_on<
         × OnOk done (IsDone (map S.text words.now) (P.bytes_at files.now) (I.remaining input)
         (writer_contents (pipe_contents O.contents) out.old)
         (writer_contents (pipe_contents O.contents) out.new)
-        ⊎ NamesNoWork (map S.text words.now))
+        ⊎ NamesNoWork (map S.text words.now) NoWork.Shown)
         × IfErr done (λ fault. IsFault (map S.text words.now) (I.remaining input) fault)
         × (done ≡ Err Wrong → IsWrong (map S.text words.now) (P.bytes_at files.now) (I.remaining input)
         (writer_contents (pipe_contents O.contents) out.old)

@@ -3,15 +3,17 @@
 ghost use Rattle.std.specs.Prelude.{◌≡◌, ◌⊎◌, ◌≤◌, false, Bool, Some, None, map, codes, IfOk, IfErr, IfSome};
 ghost use Rattle.std.specs.Option.{option_map};
 ghost use Rattle.script_lang.specs.Words.{number_of};
-ghost use Rattle.clap.specs.Words.{app_of, first_value, found_of, kind_of, matches_of, rows_of, rule_of};
+ghost use Rattle.clap.specs.Words.{app_of, first_value, found_of, kind_of, rule_of};
 ghost use Rattle.clap.specs.declared.builder.value_parser.ValueParser.{ValueParser};
+ghost use Rattle.command_line.specs.Kinds.{no_work};
+ghost use Rattle.command_line.specs.Parses.{AreParsed};
 ghost use Rattle.bench_program.specs.Usage.{number_up_to, count_rule, crew_rule, work_of_flags, schedules_named, savers_of, sbibench, seed_of, IsBounded, compare_or_show, without_benches, with_schedules, work_asked, IsFlag, IsNamedBy, NamesConflict, NamesNoWork};
 
 use board_model::refusal_lines;
 use clap::builder::ValueParser;
 use clap::error::ErrorKind;
 use clap::{Arg, ArgAction, ArgMatches, Command, Error};
-use command_line::{flag, option, payload_paths, program, with_payloads};
+use command_line::{flag, option, parse, payload_paths, program, with_payloads};
 use script_lang::number;
 use std::alloc::{AllocError, Global};
 use std::convert::AsStr;
@@ -321,12 +323,12 @@ fn conflict(matches: &ArgMatches<'_>) -> &'static str {
 
 /// The words as the command's parser reads them, the program's name first.
 fn parsed<'a, S: AsStr>(alloc: Global, words: &'a [S]) -> Result<ArgMatches<'a>, Error>
-    ensures matches { IfOk result (λ m. (crews : ValueParser)
-        × (rows_of (found_of m) ≡ matches_of (sbibench crews) (map S.text words.entry.now))) }
-    // It fails for memory, or since the words name no work.
-    ensures refused { IfErr result (λ e. (kind_of e ≡ ErrorKind.OutOfMemory) ⊎ NamesNoWork (map S.text words.entry.now)) }
+    ensures parsed { IfOk result (λ m. (crews : ValueParser) × AreParsed (sbibench crews) (map S.text words.entry.now) (found_of m)) }
+    // It fails for memory, or since the words name no work. The kind of the error says why.
+    ensures refused { IfErr result (λ e. (kind_of e ≡ ErrorKind.OutOfMemory)
+        ⊎ NamesNoWork (map S.text words.entry.now) (no_work (kind_of e))) }
 {
-    command(alloc)?.try_get_matches_from(words)
+    parse(command(alloc)?, words)
 }
 
 /// The one work that is asked for. Words that name no one work are a fault.
@@ -355,9 +357,10 @@ pub fn options_of<'a, S: AsStr>(alloc: Global, words: &'a [S]) -> Result<Options
     // It is the one work that the words name, as the command line's parser reads them.
     ensures named { IfOk result (λ options. IsNamedBy (map S.text words.now) options) }
     ensures most { IfOk result (λ options. IsBounded options.work) }
-    // Else memory was refused, or the words name no one work, or none.
+    // Else memory was refused, or the words name no one work, or none. The kind of the error says why.
     ensures refused { IfErr result (λ e. (kind_of e ≡ ErrorKind.OutOfMemory)
-        ⊎ ((kind_of e ≡ ErrorKind.ArgumentConflict) × NamesConflict (map S.text words.now)) ⊎ NamesNoWork (map S.text words.now)) }
+        ⊎ ((kind_of e ≡ ErrorKind.ArgumentConflict) × NamesConflict (map S.text words.now))
+        ⊎ NamesNoWork (map S.text words.now) (no_work (kind_of e))) }
 {
     let matches = parsed(alloc, words)?;
     let work = match one_work(alloc, &matches) {

@@ -13,8 +13,8 @@ use Rattle.board_options.specs.declared.given.Options.{Options}
 use Rattle.board_program.proofs.DiskBegun.{begins_unchanged}
 use Rattle.board_options.specs.Parses.{AreRefused}
 use Rattle.board_options.specs.Refused.{AreNoOptions}
-use Rattle.board_program.specs.Operated.{AskForNone, Begins, EndsInFile, HasLeft, IsUnread, IsWritten, Known, StaysInFile, known}
-use Rattle.board_program.specs.Ran.{HasRun, told_of}
+use Rattle.board_program.specs.Operated.{AskForNone, Begins, EndsInFile, HasLeft, IsUnread, Known, StaysInFile, known}
+use Rattle.board_program.specs.Ran.{HasRun}
 use Rattle.board_program.specs.declared.runs.FileLeft.{FileLeft}
 use Rattle.board_program.specs.declared.runs.FileLeft.TheVariants as lefts
 use Rattle.board_files.specs.Faults.{IsFileFault}
@@ -25,7 +25,7 @@ use Rattle.command_line.specs.Kinds.{no_work}
 use Rattle.command_line.specs.declared.NoWork.{NoWork}
 use Rattle.command_line.specs.declared.fault.ProgramFault.{ProgramFault}
 use Rattle.command_line.specs.declared.fault.ProgramFault.TheVariants.{Refused}
-use Rattle.file_disk.specs.Files.{FileKnown, IfKnown, LeavesNoMore}
+use Rattle.file_disk.specs.Files.{FileKnown}
 use Rattle.disk.specs.Facts.{Facts, Unchanged}
 use Rattle.hart_threads.specs.Ends.{Ending}
 use Rattle.payload_files.specs.Named.{AreFilesOf}
@@ -42,7 +42,7 @@ HasEnded o payloads old now input begun rest written left heard ends ran =
     × (ran ≡ outcome_of left))
 
 -- the output is told that the console begins, which changes nothing that is known of it
-has_run : (o : Options) (payloads : List (List ℕ)) (old now : Facts) (input out begun rest written : Option (List ℕ))
+pub has_run : (o : Options) (payloads : List (List ℕ)) (old now : Facts) (input out begun rest written : Option (List ℕ))
     (left : Option Left) (heard : Hearing) (ends : List Ending) (ran : Result (Unit {0}) Refusal)
     → HasEnded o payloads old now input begun rest written left heard ends ran
     → (left ≡ None → written ≡ begun) → begun ≡ out → HasRun o payloads old now input out written ran
@@ -50,25 +50,6 @@ has_run o payloads old now input out begun rest written left heard ends ran (inl
     inl (refused.0, same refused.1 ∙ u)
 has_run o payloads old now input out begun rest written left heard ends ran (inr over) same u =
     inr (left, (rest, heard, ends, rw (← u) over.0), over.1)
-
-pub ends_in_file : (o : Options) (payloads : List (List ℕ)) (old now : Facts) (input out begun rest written : Option (List ℕ))
-    (left : Option Left) (heard : Hearing) (ends : List Ending) (ran : Result (Unit {0}) Refusal)
-    (held held_now : Option (List ℕ)) (done : Result (Unit {0}) ProgramFault)
-    → HasEnded o payloads old now input begun rest written left heard ends ran
-    → (left ≡ None → written ≡ begun) → begun ≡ out → IsWritten o.new now ran held held_now done
-    → (r : Result (Unit {0}) Refusal) × HasRun o payloads old now input out written r × IsWritten o.new now r held held_now done
-ends_in_file o payloads old now input out begun rest written left heard ends ran held held_now done ended same u is =
-    (ran, has_run o payloads old now input out begun rest written left heard ends ran ended same u, is)
-
-pub stays_in_file : {D K : Type 0} (facts : D → Facts) (in_file : K → FileKnown) (o : Options) (payloads : List (List ℕ)) (old : Facts)
-    (now : D) (kept : K) (input out begun rest written : Option (List ℕ))
-    (left : Option Left) (heard : Hearing) (ends : List Ending) (ran : Result (Unit {0}) Refusal) (done : Result (Unit {0}) ProgramFault)
-    → HasEnded o payloads old (facts now) input begun rest written left heard ends ran
-    → (left ≡ None → written ≡ begun) → begun ≡ out → IfKnown (in_file kept) (LeavesNoMore (facts now)) → done ≡ told_of ran
-    → (now : D) × (r : Result (Unit {0}) Refusal) × HasRun o payloads old (facts now) input out written r
-    × IfKnown (in_file kept) (LeavesNoMore (facts now)) × (done ≡ told_of r)
-stays_in_file facts in_file o payloads old now kept input out begun rest written left heard ends ran done ended same u leaves is =
-    (now, ran, has_run o payloads old (facts now) input out begun rest written left heard ends ran ended same u, leaves, is)
 
 through : (bytes : Option (List ℕ)) (held : List ℕ) (size : ℕ) → held ≡ [] → size ≡ 8192
     → (if size == 0 then None else prepend_known held bytes) ≡ bytes

@@ -7,7 +7,7 @@ ghost use Rattle.board_files.specs.Disks.{HoldsDisk};
 ghost use Rattle.board_files.specs.Faults.{IsFileFault};
 ghost use Rattle.disk.specs.Facts.{Unchanged};
 ghost use Rattle.board_program.specs.Operated.{EndsInFile, HasLeft, IsWritten, StaysInFile, known};
-ghost use Rattle.board_program.specs.Ran.{told_of};
+ghost use Rattle.board_program.specs.Ran.{HasRun, told_of};
 
 use crate::answers::Answers;
 use crate::disks::{TakenDisk, take_disk};
@@ -144,8 +144,36 @@ fn no_session<H: Drop, K: Drop, O: Write + Drop>(out: O, fault: FileFault) -> Ru
     }
 }
 
+/// Runs the session over the disk. The output is told that its console begins, and where notices are wanted, how each hart ended
+/// is told.
+fn run_session<
+    R: Threads + Wait + Sync,
+    D: Disk + Drop + Send,
+    I: Read + Drop,
+    O: Answers + Drop,
+    F: Write + IsTerminal,
+>(
+    alloc: Global,
+    threads: &R,
+    setup: &BoardSetup<'_>,
+    disk: D,
+    streams: Streams<I, O>,
+    faults: &mut F,
+) -> SessionEnd<D, I, O>
+    requires { IsIdle (D.facts disk) }
+    ensures { HasRun setup.now.options.now setup.now.payloads.now (D.facts disk) (D.facts result.disk)
+        (I.remaining streams.input) (O.contents streams.out) (O.contents result.streams.out) result.ran }
+{
+    let BoardSetup { options, payloads } = *setup;
+    let Streams { input, mut out } = streams;
+    out.begin(options.sync);
+    let streams = Streams { input, out };
+    let end = session(threads, alloc, options, disk, payloads, streams);
+    tell_harts(faults, options, &end.harts);
+    end
+}
+
 /// Runs the session over the disk in memory, and then writes the disk into its file.
-#[tactic(auto, using(crate::proofs::FilesLeft::ends_in_file))]
 fn run_then_write<
     R: Threads + Wait + Sync,
     H: HeldFile + Drop,
@@ -168,14 +196,9 @@ fn run_then_write<
         (known (H.bytes held) (I.remaining streams.input) (O.contents streams.out) (O.contents result.out))
         result.file_left (fault_of result.ended) }
 {
-    let BoardSetup { options, payloads } = *setup;
     let mut held = held;
-    let Streams { input, mut out } = streams;
-    out.begin(options.sync);
-    let streams = Streams { input, out };
-    let end = session(threads, alloc, options, disk, payloads, streams);
-    tell_harts(faults, options, &end.harts);
-    let ended = write_at_the_end(alloc, options, &mut held, &end.disk, end.ran);
+    let end = run_session(alloc, threads, setup, disk, streams, faults);
+    let ended = write_at_the_end(alloc, setup.options, &mut held, &end.disk, end.ran);
     RunEnd {
         file_left: FileLeft::AtEnd(held, end.disk),
         out: end.streams.out,
@@ -184,7 +207,6 @@ fn run_then_write<
 }
 
 /// Runs the session over a disk that is kept in its file all along. The file is given back.
-#[tactic(auto, using(crate::proofs::FilesLeft::stays_in_file))]
 fn run_in_file<
     R: Threads + Wait + Sync,
     H: Drop,
@@ -206,19 +228,14 @@ fn run_in_file<
         (known bytes (I.remaining streams.input) (O.contents streams.out) (O.contents result.out))
         result.file_left (fault_of result.ended) }
 {
-    let BoardSetup { options, payloads } = *setup;
-    let Streams { input, mut out } = streams;
-    out.begin(options.sync);
-    let streams = Streams { input, out };
     let SessionEnd {
         disk,
         ran,
         streams,
         console_left: _,
         heard: _,
-        harts,
-    } = session(threads, alloc, options, disk, payloads, streams);
-    tell_harts(faults, options, &harts);
+        harts: _,
+    } = run_session(alloc, threads, setup, disk, streams, faults);
     let Streams { input: _, out } = streams;
     RunEnd {
         file_left: FileLeft::AllAlong(disk.into_file()),

@@ -33,11 +33,9 @@ use board_console::{Left, console};
 use board_model::{Refusal, Shape};
 use board_options::Options;
 use disk::Disk;
-use hart_threads::{
-    AfterConsole, Closing, HartEnd, Parted, Rested, SharedBoard, Threaded, Undriven, drive,
-};
+use hart_threads::{AfterConsole, Closing, HartEnd, Parted, Rested, SharedBoard, Threaded, drive};
 use shared_store::{Heard, Journal, Locks, NewBook, Part, SharedBus, SharedStore, Unshared};
-use std::alloc::Global;
+use std::alloc::{AllocError, Global};
 use std::io::{Read, Write};
 use std::marker::Brand;
 use std::sync::{Mutex, OnceLock, Wait};
@@ -128,15 +126,13 @@ fn attend<'c, R: Wait, D: Disk + Drop, J: Threaded, I: Read + Drop, W: Write + D
     }
 }
 
-/// Whether the session was refused, by why its console left: `Memory` where it was not begun, and `Output` where
-/// an answer could not be written.
-fn outcome(left: Option<Left>) -> Result<(), Refusal>
-    ensures { result ≡ outcome_of left }
+/// Whether the session was refused, by why its console left: `Output` where an answer could not be written.
+fn outcome(left: Left) -> Result<(), Refusal>
+    ensures { result ≡ outcome_of (Some left) }
 {
     match left {
-        Some(Left::Quit | Left::EndOfInput | Left::InputFailed) => Ok(()),
-        Some(Left::Unwritten) => Err(Refusal::Output),
-        None => Err(Refusal::Memory),
+        Left::Quit | Left::EndOfInput | Left::InputFailed => Ok(()),
+        Left::Unwritten => Err(Refusal::Output),
     }
 }
 
@@ -195,39 +191,22 @@ fn run_board<
         part,
         heard: whole.listener(),
     };
-    let Ok(room) = Vec::with_capacity(alloc, harts.len()) else {
-        return over(
-            whole,
-            Vec::new(alloc),
-            Vec::new(alloc),
-            side,
-            boot,
-            unled(alloc),
-        );
-    };
-    let Ok(given) = whole.hand_out_all(alloc, harts.len()) else {
-        return over(
-            whole,
-            Vec::new(alloc),
-            Vec::new(alloc),
-            side,
-            boot,
-            unled(alloc),
-        );
+    let Ok((given, room)) = hand_out_to_harts(alloc, &mut whole, harts.len()) else {
+        return without_console(alloc, whole, Vec::new(alloc), Vec::new(alloc), side, boot);
     };
     let doze = bus.doze;
-    let bus: Mutex<SharedBus<J>> = Mutex::new(SharedBus::new(bus));
-    let store: Mutex<SharedStore<D, J>> = Mutex::new(whole.share());
-    let closing = Closing::new(lock);
+    let bus_lock: Mutex<SharedBus<J>> = Mutex::new(SharedBus::new(bus));
+    let store_lock: Mutex<SharedStore<D, J>> = Mutex::new(whole.share());
+    let closing_once = Closing::new(lock);
+    let (bus, store, closing) = (&bus_lock, &store_lock, &closing_once);
     let crew = crew::Threads::new(rt);
-    let (rung, shared, shut) = (&bus, &store, &closing);
     let board = SharedBoard {
         saving: Saving { alloc, crew: &crew },
         tables: &tables,
         shape: &shape,
-        bus: &bus,
-        store: &store,
-        closing: &closing,
+        bus,
+        store,
+        closing,
     };
     let driven = drive(
         rt,
@@ -245,74 +224,85 @@ fn run_board<
                 (party side.part.told side.heard))
                 (dialogue_ends (I.remaining result.side.streams.input) (W.contents result.side.streams.out)
                 (party result.side.part.told result.side.heard)) }
-        { attend(rt, rung, shared, shut, side) },
+        { attend(rt, bus, store, closing, side) },
     );
-    let whole = store.into_inner().unshare();
+    let whole = store_lock.into_inner().unshare();
     match driven {
-        Ok(done) => {
-            let (loops, talked) = done;
-            let Talked { side, left, parted } = talked;
-            let led = led_by(left, &loops, &parted, room);
-            over(whole, loops, Vec::new(alloc), side, boot, led)
-        }
-        Err(undriven) => {
-            let Undriven {
-                side,
-                refusal: _,
-                loops,
-                parts,
-            } = undriven;
-            over(whole, loops, parts, side, boot, unled(alloc))
-        }
+        Ok((loops, talked)) => after_console(alloc, whole, loops, talked, boot, room),
+        Err(back) => without_console(alloc, whole, back.loops, back.parts, back.side, boot),
     }
 }
 
-/// Why the console left, and how the harts' loops ended. Where none was begun it is `None`, and no hart is listed.
-#[derive(Drop)]
-struct Led {
-    console_left: Option<Left>,
-    harts: Vec<HartEnd>,
-}
-
-/// No console was begun.
-fn unled(alloc: Global) -> Led
-    ensures { (result.console_left ≡ None) × (result.harts.items ≡ []) }
+/// A part of the receipts for each of so many harts, and room for how they end.
+fn hand_out_to_harts<D: Disk + Drop, J: Threaded>(
+    alloc: Global,
+    whole: &mut Unshared<D, J>,
+    harts: usize,
+) -> Result<(Vec<Part<J>>, Vec<HartEnd>), AllocError>
+    requires some { harts ≤ length (parts_with whole.old) }
+    requires fresh { All (λ p. p.told ≡ []) (parts_with whole.old) }
+    ensures fresh { All (λ p. p.told ≡ []) (parts_with whole.new) }
+    ensures many { IfOk result (λ r. vec_len r.0 ≡ harts) }
+    ensures told { IfOk result (λ r. All (λ p. p.told ≡ []) r.0.items) }
+    ensures room { IfOk result (λ r. (vec_len r.1 ≡ 0) × (harts ≤ vec_capacity r.1)) }
+    ensures rest { IfOk result (λ r. length (parts_with whole.new) + harts ≡ length (parts_with whole.old)) }
+    ensures none { IfErr result (λ e. length (parts_with whole.new) ≡ length (parts_with whole.old)) }
 {
-    Led {
-        console_left: None,
-        harts: Vec::new(alloc),
-    }
+    let room = Vec::with_capacity(alloc, harts)?;
+    let given = whole.hand_out_all(alloc, harts)?;
+    Ok((given, room))
 }
 
-/// The console has left for that reason, and the loop of each hart has ended.
-fn led_by<'c, J: Threaded>(
-    left: Left,
-    loops: &[Rested<'c, J>],
-    parted: &Parted<'c, J>,
+/// What a session gives back whose console has left, once the loops of all harts have ended. `room` is for how they ended.
+fn after_console<'c, D: Disk + Drop, J: Threaded, I: Read + Drop, W: Write + Drop>(
+    alloc: Global,
+    whole: Unshared<D, J>,
+    loops: Vec<Rested<'c, J>>,
+    talked: Talked<'c, J, I, W>,
+    boot: Part<J>,
     room: Vec<HartEnd>,
-) -> Led
-    requires parts { parted.now.token.value ≡ harts_after left }
+) -> SessionEnd<D, I, W>
+    requires none { length (parts_with whole) ≡ 0 }
+    requires harts { vec_len loops ≡ J.size.harts }
+    requires boot { boot.told ≡ boot_told J.issued }
+    requires all { J.parts ≡ J.size.harts + 2 }
     requires ungated { J.gated ≡ false }
-    requires many { length loops.now ≡ J.size.harts }
     requires empty { vec_len room ≡ 0 }
-    requires room { length loops.now ≤ vec_capacity room }
-    ensures console_left { result.console_left ≡ Some left }
-    ensures driven { AreDriven J.size.harts J.turns J.found (Some left) result.harts.items }
+    requires room { vec_len loops ≤ vec_capacity room }
+    ensures none_out { IsIdle (D.facts result.disk) }
+    ensures life { IsOfLife J.size J.found J.issued J.memory talked.entry.side.part.told (D.facts result.disk) }
+    ensures streams { result.streams ≡ talked.entry.side.streams }
+    ensures heard { result.heard ≡ talked.entry.side.heard }
+    ensures console_left { result.console_left ≡ Some talked.entry.left }
+    ensures ran { result.ran ≡ outcome_of (Some talked.entry.left) }
+    ensures driven { AreDriven J.size.harts J.turns J.found (Some talked.entry.left) result.harts.items }
 {
-    Led {
+    let Talked { side, left, parted } = talked;
+    let harts = ends_of(&loops, &parted, room);
+    let ConsoleSide {
+        streams,
+        part,
+        heard,
+    } = side;
+    let disk = disk_of(whole, loops, Vec::new(alloc), part, boot);
+    SessionEnd {
+        disk,
+        ran: outcome(left),
+        streams,
         console_left: Some(left),
-        harts: ends_of(loops, parted, room),
+        heard: ConsoleHeard::of(heard),
+        harts,
     }
 }
 
-/// What a session gives back once all threads have ended, or where none has begun.
-fn over<D: Disk + Drop, J: Threaded, I: Read + Drop, W: Write + Drop>(
+/// What a session gives back whose console was not begun, once the loops that were begun have ended. It is refused `Memory`.
+fn without_console<D: Disk + Drop, J: Threaded, I: Read + Drop, W: Write + Drop>(
+    alloc: Global,
     whole: Unshared<D, J>,
     loops: Vec<Rested<'_, J>>,
     parts: Vec<Part<J>>,
     side: ConsoleSide<J, I, W>,
     boot: Part<J>,
-    led: Led,
 ) -> SessionEnd<D, I, W>
     requires back { AreBack (parts_with whole) }
     requires fresh { All (λ p. p.told ≡ []) parts.items }
@@ -322,29 +312,17 @@ fn over<D: Disk + Drop, J: Threaded, I: Read + Drop, W: Write + Drop>(
     ensures none_out { IsIdle (D.facts result.disk) }
     ensures life { IsOfLife J.size J.found J.issued J.memory side.part.told (D.facts result.disk) }
     ensures streams { result.streams ≡ side.streams }
-    ensures heard { result.heard ≡ side.heard }
-    ensures console_left { result.console_left ≡ led.console_left }
-    ensures harts { result.harts.items ≡ led.harts.items }
-    ensures ran { result.ran ≡ outcome_of led.console_left }
+    ensures heard { result.heard ≡ heard_nothing }
+    ensures console_left { result.console_left ≡ None }
+    ensures ran { result.ran ≡ Err Memory }
 {
     let ConsoleSide {
         streams,
         part,
-        heard,
+        heard: _,
     } = side;
-    let Led {
-        console_left,
-        harts,
-    } = led;
     let disk = disk_of(whole, loops, parts, part, boot);
-    SessionEnd {
-        disk,
-        ran: outcome(console_left),
-        streams,
-        console_left,
-        heard: ConsoleHeard::of(heard),
-        harts,
-    }
+    unbegun(alloc, disk, Refusal::Memory, streams)
 }
 
 /// What a session gives back whose console was not begun.

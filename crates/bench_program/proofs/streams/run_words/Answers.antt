@@ -16,7 +16,9 @@ pub returns-in-Ok-clause-done : goal.returns-in-Ok-clause-done
 returns-in-Ok-clause-done g c = on_ok_weaker c.run_options.result (λ done. inl (c.in-Ok.options, c.in-Ok.ensures.named, done)) c.run_options.ensures.done
 
 pub returns-in-Err-clause-done : goal.returns-in-Err-clause-done
-returns-in-Err-clause-done g c = nothing_more (kind_of c.in-Err.text) c.without_work.result _ _ _ (c.without_work.ensures ∙ ap without_work c.show_on.ensures) c.in-Err.ensures.refused
+returns-in-Err-clause-done g c =
+    let words : List (List ℕ) = map g.S.AsStr.text c.args.words.now in
+    nothing_more (kind_of c.in-Err.text) c.without_work.result _ (NamesConflict words) (NamesNoWork words) (c.without_work.ensures ∙ ap without_work c.show_on.ensures) c.in-Err.ensures.refused
 
 -- of the work that the words name
 pub returns-in-Ok-clause-faults : goal.returns-in-Ok-clause-faults
@@ -33,4 +35,4 @@ returns-in-Err-clause-faults g c =
     let words : List (List ℕ) = map g.S.AsStr.text c.args.words.now in
     let input : Option (List ℕ) = g.I.Read.remaining c.args.input in
     let Of : BenchFault → Type 0 = λ fault. (options : Options) × IsNamedBy words options × (IsUnread options fault ⊎ IsFaultOf options.work input fault) in
-    line_fault (kind_of c.in-Err.text) c.without_work.result Of (NamesNoWork words) (NamesConflict words) (c.without_work.ensures ∙ ap without_work c.show_on.ensures) c.in-Err.ensures.refused
+    line_fault (kind_of c.in-Err.text) c.without_work.result Of (NamesConflict words) (NamesNoWork words) (c.without_work.ensures ∙ ap without_work c.show_on.ensures) c.in-Err.ensures.refused

@@ -1,19 +1,21 @@
-use Rattle.std.proofs.Common.{◌≡◌, ◌∙◌, map, true, ap}
+use Rattle.std.proofs.Common.{◌∙◌, map, ap, subst}
 use Rattle.std.proofs.lemmas.Result.{IfOk-weaker}
-use Rattle.clap.specs.Words.{App, app_of, is_simple, matches_of}
-use Rattle.bench_program.specs.Usage.{sbibench}
+use Rattle.clap.specs.Words.{App, app_of, found_of, is_simple_and_free}
+use Rattle.command_line.specs.Parses.{AreParsed}
 use Rattle.bench_program.proofs.Ends.{not_taken}
-use Rattle.bench_program.proofs.Simple.{sbibench_simple}
+use Rattle.bench_program.proofs.Simple.{sbibench_free}
 use Rattle.bench_program.proofs.usage.parsed.Goals as goal
 
-pub returns-clause-matches : goal.returns-clause-matches
-returns-clause-matches g c =
-    let crews = c.in_ok-command.ensures.0 in
-    let is : app_of c.in_ok-command.field-0 ≡ sbibench crews = c.in_ok-command.ensures.1 in
-    let simple : is_simple (app_of c.in_ok-command.field-0) ≡ true = ap is_simple is ∙ sbibench_simple crews in
+pub parse-requires : goal.parse-requires
+parse-requires g c = ap is_simple_and_free c.in_ok-command.ensures.1 ∙ sbibench_free c.in_ok-command.ensures.0
+
+pub returns-clause-parsed : goal.returns-clause-parsed
+returns-clause-parsed g c =
+    let made = c.in_ok-command in
     let words = map g.S.AsStr.text c.args.words.now in
-    IfOk-weaker c.try_get_matches_from.result _ _ (λ m h. (crews, (h simple).0 ∙ ap (λ (a : App). matches_of a words) is)) c.try_get_matches_from.ensures.matches
+    IfOk-weaker c.parse.result _ _ (λ m h. (made.ensures.0, subst (λ (a : App). AreParsed a words (found_of m)) made.ensures.1 h)) c.parse.ensures.parsed
 
 pub returns-clause-refused : goal.returns-clause-refused
 returns-clause-refused g c =
-    not_taken c.try_get_matches_from.result (app_of c.in_ok-command.field-0) c.in_ok-command.ensures.0 (map g.S.AsStr.text c.args.words.now) c.in_ok-command.ensures.1 c.try_get_matches_from.ensures.passes
+    let made = c.in_ok-command in
+    not_taken c.parse.result (app_of made.field-0) made.ensures.0 (map g.S.AsStr.text c.args.words.now) made.ensures.1 c.parse.ensures.refused
