@@ -1,11 +1,10 @@
 //! A guest in C on two harts (crates/examples/data/guest/counters.c), from its boot to the image that it leaves, which
 //! stands until the console drops it.
 
-use crate::runs::PLAIN;
-use crate::said::{Said, all_say};
+use crate::runs::{PLAIN, Run, all_come};
 use std::test::*;
 
-const COUNTERS: &str = "\
+const COUNTERS: &[u8] = b"\
 17110000130101006f00c0171300000013000000130000001300000013000000130000001300000013000000130000001300\
 0000130000001300000013000000000000000000000000000000000000000000000000000000000000000000000000000000\
 0000000000000000000000000000000000000000000000000000000000000000000000000000000000000000000000000000\
@@ -26,12 +25,12 @@ b75855539b8808357300000067800000970200009382421f83b0020003b1820003b4020183b48201
 
 /// A shutdown for a failure of the system: a0 and a6 are set to 0, a1 to 1, a7 to 0x53525354 by LUI and ADDI,
 /// then ECALL, the sixth instruction.
-const FAILS: &str = "130500009305100013080000b75852539388483573000000";
+const FAILS: &[u8] = b"130500009305100013080000b75852539388483573000000";
 
 /// It boots and is suspended, and is resumed; another guest resets the board; and the image stands until it is dropped.
-const SESSIONS: [Said; 4] = [
-    Said {
-        guest: COUNTERS,
+static SESSIONS: [Run; 4] = [
+    Run {
+        payloads: [COUNTERS, b"", b"", b""],
         words: &[
             "sbiboard",
             "--disk",
@@ -41,32 +40,40 @@ const SESSIONS: [Said; 4] = [
             "--new",
             "--harts",
             "2",
+            "--p0",
+            "p0",
             "--turns",
             "1000000000",
         ],
         ..PLAIN
     },
-    Said {
-        guest: COUNTERS,
+    Run {
+        payloads: [COUNTERS, b"", b"", b""],
         words: &[
             "sbiboard",
             "--disk",
             "D",
             "--mode",
             "resume",
+            "--p0",
+            "p0",
             "--turns",
             "1000000000",
         ],
         ..PLAIN
     },
-    Said {
-        guest: FAILS,
-        words: &["sbiboard", "--disk", "D", "--mode", "keep", "--turns", "6"],
+    Run {
+        payloads: [FAILS, b"", b"", b""],
+        words: &[
+            "sbiboard", "--disk", "D", "--mode", "keep", "--p0", "p0", "--turns", "6",
+        ],
         ..PLAIN
     },
-    Said {
-        guest: COUNTERS,
-        words: &["sbiboard", "--disk", "D", "--mode", "keep", "--turns", "1"],
+    Run {
+        payloads: [COUNTERS, b"", b"", b""],
+        words: &[
+            "sbiboard", "--disk", "D", "--mode", "keep", "--p0", "p0", "--turns", "1",
+        ],
         lines: b"state\ndiscard\nstate\n",
         told: b"state slot 0 reason 1 image 1 next 2\ndiscard ok 1\nstate slot 0 reason 1 image none next 2\n",
         ..PLAIN
@@ -77,5 +84,5 @@ const SESSIONS: [Said; 4] = [
 fn a_guest_is_suspended_and_resumed_and_its_image_outlives_a_reset(
     rt: HostRuntime,
 ) -> Result<(), Fail> {
-    all_say(&rt, rt.alloc(), &SESSIONS)
+    all_come(&rt, rt.alloc(), b"", &SESSIONS)
 }

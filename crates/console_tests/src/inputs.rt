@@ -5,7 +5,7 @@ use board_console::{Said, line_said};
 use board_model::ConsoleCommand;
 
 /// What lines say, by docs/CONSOLE.md.
-const LINES: [(&[u8], Said); 36] = [
+static LINES: [(&[u8], Said); 36] = [
     (
         b"slot 4294967295",
         Said::Command(ConsoleCommand::Slot(4_294_967_295)),
@@ -52,7 +52,7 @@ const LINES: [(&[u8], Said); 36] = [
 
 #[test]
 fn lines_say_what_their_words_are(rt: HostRuntime) {
-    for (line, said) in LINES {
+    for &(line, said) in &LINES {
         same(&rt, line_said(line), said);
     }
 }

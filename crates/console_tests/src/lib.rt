@@ -20,8 +20,6 @@ mod programs;
 #[cfg(test)]
 mod runs;
 #[cfg(test)]
-mod said;
-#[cfg(test)]
 mod stopped;
 #[cfg(test)]
 mod streams;

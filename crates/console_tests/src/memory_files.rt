@@ -14,7 +14,7 @@ use std::alloc::Global;
 use std::io::{self, ErrorKind, IsTerminal, Write};
 
 /// What fails of the files.
-#[derive(Clone, Copy, Drop, PartialEq, Eq)]
+#[derive(Clone, Copy, Drop)]
 pub enum Broken {
     Nothing,
     /// The payload file of that slot is not there.
@@ -27,7 +27,7 @@ pub enum Broken {
     Keep,
 }
 
-/// Four payload files, `p0` to `p3`, and the file of a disk.
+/// Four payload files, `p0` to `p3`, in hexadecimal digits, and the file of a disk.
 #[derive(Drop)]
 pub struct MemoryFiles {
     pub alloc: Global,
@@ -41,15 +41,31 @@ impl PayloadFiles for MemoryFiles {
 
     fn read(&self, path: &str, _most: u64) -> io::Result<Vec<u8>> {
         for (slot, digit) in b"0123".iter().enumerate() {
-            if path.as_bytes().get(1) == Some(digit) && self.broken != Broken::Payload(*digit) {
-                return Ok(Vec::from_slice(self.alloc, self.payloads[slot])?);
+            if path.as_bytes().get(1) == Some(digit) && self.is_there(*digit) {
+                return decoded(self.alloc, self.payloads[slot]);
             }
         }
         Err(io::Error::other("it is not there"))
     }
 }
 
+/// The bytes of hexadecimal digits.
+fn decoded(alloc: Global, digits: &[u8]) -> io::Result<Vec<u8>> {
+    match hex::decode(alloc, digits) {
+        Ok(bytes) => Ok(bytes),
+        Err(_) => Err(io::Error::other("it is no digits")),
+    }
+}
+
 impl MemoryFiles {
+    /// Whether the payload file of that slot, a digit, is there.
+    fn is_there(&self, slot: u8) -> bool {
+        match self.broken {
+            Broken::Payload(missing) => missing != slot,
+            _ => true,
+        }
+    }
+
     /// The disk's file.
     fn disk_file(&self, path: &str) -> Result<MemoryDisk, FileFault>
         ensures opened { IfOk result (λ file. ⟦<MemoryDisk as DiskFile>⟧.bytes file ≡ Some self.now.disk.items) }
@@ -96,7 +112,7 @@ impl BoardFiles for MemoryFiles {
         sectors: &[Sector],
         _is_new: bool,
     ) -> Result<MemoryFile, FileFault> {
-        if self.broken == Broken::Keep {
+        if let Broken::Keep = self.broken {
             return Err(unreached(self.alloc, "D.new", io::Error::other("no room")));
         }
         match MemoryFile::of(self.alloc, sectors, u64::MAX, FileFate::Fails) {
@@ -111,6 +127,16 @@ impl BoardFiles for MemoryFiles {
 pub struct Page {
     pub text: Vec<u8>,
     pub room: usize,
+}
+
+impl Page {
+    /// A blank one.
+    pub fn new(alloc: Global, room: usize) -> Page {
+        Page {
+            text: Vec::new(alloc),
+            room,
+        }
+    }
 }
 
 impl Write for Page {

@@ -1,16 +1,22 @@
 //! What a session's input and output do to it: bytes that come one at a time, interrupted, or not at all, and
 //! answers that are seen at once.
 
+ghost use Rattle.std.specs.Prelude.{IfOk};
+ghost use Rattle.store.specs.Leaves.{IsIdle};
+
 use crate::fixtures::same;
-use crate::runs::NEW;
-use crate::said::disk_of;
+use crate::memory_files::Page;
+use crate::runs::{NEW, OLD};
 use board::Payloads;
 use board_console::Left;
-use board_model::Refusal;
-use board_options::options;
+use board_model::{Refusal, Shape};
+use board_options::{Options, options};
 use board_session::{Streams, session};
+use disk::Disk;
+use simdisk::SimDisk;
 use std::alloc::Global;
 use std::io::{self, ErrorKind, Read, Write};
+use std::process::Abort;
 use std::sync::Wait;
 use std::test::*;
 use std::thread::{self, Threads};
@@ -39,32 +45,58 @@ impl Read for Faltering {
         if self.interrupted {
             return Err(io::Error::from(ErrorKind::Interrupted));
         }
-        match (self.bytes.split_first(), buf.first_mut()) {
-            (Some((byte, rest)), Some(place)) => {
-                *place = *byte;
-                self.bytes = rest;
-                Ok(1)
-            }
-            _ => {
-                self.bytes = b"slot 2\n";
-                Err(io::Error::from(ErrorKind::ConnectionReset))
-            }
+        if self.bytes.is_empty() {
+            self.bytes = b"slot 2\n";
+            return Err(io::Error::from(ErrorKind::ConnectionReset));
         }
+        let room = buf.len().min(1);
+        self.bytes.read(&mut buf[..room])
     }
 }
 
-/// An output that counts the answers that were written since the last flush, and those that were flushed.
+/// An input that waits for a second, and then gives its bytes.
+#[derive(Drop)]
+struct Late<'a, R> {
+    clock: &'a R,
+    waited: bool,
+    bytes: &'static [u8],
+}
+
+impl<'a, R: Clock> Read for Late<'a, R> {
+    fn read(&mut self, buf: &mut [u8]) -> io::Result<usize> {
+        if !self.waited {
+            thread::sleep(self.clock, Duration::from_millis(1000));
+            self.waited = true;
+        }
+        self.bytes.read(buf)
+    }
+}
+
+/// An output that counts the ends of answers that were written since the last flush, and the answers that were flushed alone.
 #[derive(Drop)]
 struct Flushed {
+    page: Page,
     waiting: u64,
     seen: u64,
 }
 
+impl Flushed {
+    /// An output of so much room.
+    fn new(alloc: Global, room: usize) -> Flushed {
+        Flushed {
+            page: Page::new(alloc, room),
+            waiting: 0,
+            seen: 0,
+        }
+    }
+}
+
 impl Write for Flushed {
     fn write(&mut self, buf: &[u8]) -> io::Result<usize> {
-        let lines = buf.iter().filter(|byte| **byte == b'\n').count() as u64;
+        let count = self.page.write(buf)?;
+        let lines = u64::from(buf.ends_with(b"\n"));
         self.waiting = self.waiting.wrapping_add(lines);
-        Ok(buf.len())
+        Ok(count)
     }
 
     fn flush(&mut self) -> io::Result<()> {
@@ -76,97 +108,15 @@ impl Write for Flushed {
     }
 }
 
-/// A writer that fails.
-#[derive(Drop)]
-struct Full;
-
-impl Write for Full {
-    fn write(&mut self, _buf: &[u8]) -> io::Result<usize> {
-        Err(io::Error::from(ErrorKind::StorageFull))
-    }
-
-    fn flush(&mut self) -> io::Result<()> {
-        Ok(())
-    }
-}
-
-/// A session over a blank disk: how it ended, why its console left, and its streams.
-#[derive(Drop)]
-struct Ended<I: Read + Drop, W: Write + Drop> {
+/// A session over a blank disk: its words, the room of its output, how it ends, why its console leaves, what it answers, and how
+/// many of the answers are flushed alone.
+struct Ending {
+    words: &'static [&'static str],
+    room: usize,
     ran: Result<(), Refusal>,
     left: Option<Left>,
-    streams: Streams<I, W>,
-}
-
-fn over_a_blank_disk<R: Threads + Wait + Sync, I: Read + Drop, W: Write + Drop>(
-    rt: &R,
-    alloc: Global,
-    words: &'static [&'static str],
-    streams: Streams<I, W>,
-) -> Result<Ended<I, W>, Fail> {
-    let given = options(alloc, words).ok().ok_or("the words")?;
-    let none = Payloads::new(alloc);
-    let ended = session(rt, alloc, &given, disk_of(alloc)?, &none, streams);
-    Ok(Ended {
-        ran: ended.ran,
-        left: ended.console_left,
-        streams: ended.streams,
-    })
-}
-
-#[test]
-fn an_interrupted_read_goes_on_and_a_failed_one_ends_the_input(
-    rt: HostRuntime,
-) -> Result<(), Fail> {
-    let told = b"slot ok 1\nstate slot 1 reason 0 image none next 0\n";
-    let inputs: [&[u8]; 2] = [b"slot 1\nstate\n", b"slot 1\nstate"];
-    for bytes in inputs {
-        let streams = Streams {
-            input: Faltering::new(bytes),
-            out: Vec::new(rt.alloc()),
-        };
-        let ended = over_a_blank_disk(&rt, rt.alloc(), &NEW, streams)?;
-        same(
-            &rt,
-            (ended.ran, ended.left),
-            (Ok(()), Some(Left::InputFailed)),
-        );
-        same(&rt, ended.streams.out.as_slice(), told.as_slice());
-    }
-    Ok(())
-}
-
-#[test]
-fn each_answer_is_seen_at_once(rt: HostRuntime) -> Result<(), Fail> {
-    let streams = Streams {
-        input: b"slot 1\nhello\nquit\n".as_slice(),
-        out: Flushed {
-            waiting: 0,
-            seen: 0,
-        },
-    };
-    let ended = over_a_blank_disk(&rt, rt.alloc(), &NEW, streams)?;
-    same(&rt, (ended.ran, ended.streams.out.seen), (Ok(()), 3));
-    Ok(())
-}
-
-#[test]
-fn an_answer_that_is_not_written_ends_the_session_and_all_harts(
-    rt: HostRuntime,
-) -> Result<(), Fail> {
-    let streams = Streams {
-        input: b"slot 1\nslot 2\n".as_slice(),
-        out: Full,
-    };
-    let ended = over_a_blank_disk(&rt, rt.alloc(), &THREE, streams)?;
-    let refused = Err(Refusal::Output);
-    same(
-        &rt,
-        (ended.ran, ended.left),
-        (refused, Some(Left::Unwritten)),
-    );
-    same(&rt, ended.streams.input, b"slot 2\n".as_slice());
-    Ok(())
+    told: &'static [u8],
+    seen: u64,
 }
 
 /// Turns for longer than a test may take.
@@ -183,39 +133,121 @@ const THREE: [&str; 10] = [
     "1000000000",
 ];
 
-/// An input that waits for a second, and then says `quit`.
-#[derive(Drop)]
-struct Late<'a, R> {
-    clock: &'a R,
-    bytes: &'static [u8],
+/// A session that `quit` ends, and all its harts.
+const QUIT: Ending = Ending {
+    words: &THREE,
+    room: 1000,
+    ran: Ok(()),
+    left: Some(Left::Quit),
+    told: b"quit\n",
+    seen: 1,
+};
+
+/// What the words ask for, and a blank disk, large enough for three harts.
+fn begun(alloc: Global, words: &'static [&'static str]) -> Result<(Options, SimDisk), Fail>
+    ensures { IfOk result (λ b. IsIdle (⟦<SimDisk as Disk>⟧.facts b.1)) }
+{
+    let given = options(alloc, words).ok().ok_or("the words")?;
+    let disk = SimDisk::blank(alloc, Shape::new(3, 1, 1)?.sectors())?;
+    Ok((given, disk))
 }
 
-impl<'a, R: Clock> Read for Late<'a, R> {
-    fn read(&mut self, buf: &mut [u8]) -> io::Result<usize> {
-        if self.bytes.len() == 5 {
-            thread::sleep(self.clock, Duration::from_millis(1000));
-        }
-        match (self.bytes.split_first(), buf.first_mut()) {
-            (Some((byte, rest)), Some(place)) => {
-                *place = *byte;
-                self.bytes = rest;
-                Ok(1)
-            }
-            _ => Ok(0),
-        }
-    }
+/// What a session of this input leaves of it, which ends so.
+fn rest_of<R: Abort + Threads + Wait + Sync, I: Read + Drop>(
+    rt: &R,
+    alloc: Global,
+    input: I,
+    ending: &Ending,
+) -> Result<I, Fail> {
+    let (given, disk) = begun(alloc, ending.words)?;
+    let streams = Streams {
+        input,
+        out: Flushed::new(alloc, ending.room),
+    };
+    let ended = session(rt, alloc, &given, disk, &Payloads::new(alloc), streams);
+    let why = (ended.ran, ended.console_left);
+    same(rt, why, (ending.ran, ending.left));
+    let Streams { input, out } = ended.streams;
+    same(rt, out.page.text.as_slice(), ending.told);
+    same(rt, out.seen, ending.seen);
+    Ok(input)
 }
+
+static FALTERS: Ending = Ending {
+    words: &NEW,
+    left: Some(Left::InputFailed),
+    told: b"slot ok 1\nstate slot 1 reason 0 image none next 0\n",
+    seen: 2,
+    ..QUIT
+};
+
+#[test]
+fn an_interrupted_read_goes_on_and_a_failed_one_ends_the_input(
+    rt: HostRuntime,
+) -> Result<(), Fail> {
+    let ended = Faltering::new(b"slot 1\nstate\n");
+    let _rest = rest_of(&rt, rt.alloc(), ended, &FALTERS)?;
+    let cut = Faltering::new(b"slot 1\nstate");
+    let _rest = rest_of(&rt, rt.alloc(), cut, &FALTERS)?;
+    Ok(())
+}
+
+/// The lines of a session, how it ends, and what is left of the lines: each answer is seen at once; one that is not written ends
+/// the session and all harts; and over a disk that is not formatted none is read.
+static LINES: [(&[u8], Ending, &[u8]); 3] = [
+    (
+        b"slot 1\nhello\nquit\n",
+        Ending {
+            words: &NEW,
+            told: b"slot ok 1\n?\nquit\n",
+            seen: 3,
+            ..QUIT
+        },
+        b"",
+    ),
+    (
+        b"slot 1\nslot 2\n",
+        Ending {
+            room: 0,
+            ran: Err(Refusal::Output),
+            left: Some(Left::Unwritten),
+            told: b"",
+            seen: 0,
+            ..QUIT
+        },
+        b"slot 2\n",
+    ),
+    (
+        b"state\n",
+        Ending {
+            words: &OLD,
+            ran: Err(Refusal::NotFormatted),
+            left: None,
+            told: b"",
+            seen: 0,
+            ..QUIT
+        },
+        b"state\n",
+    ),
+];
+
+#[test]
+fn answers_are_seen_at_once_or_end_the_session(rt: HostRuntime) -> Result<(), Fail> {
+    for (lines, ending, rest) in &LINES {
+        same(&rt, rest_of(&rt, rt.alloc(), *lines, ending)?, *rest);
+    }
+    Ok(())
+}
+
+static QUITS: Ending = QUIT;
 
 #[test]
 fn quit_ends_all_harts(rt: HostRuntime) -> Result<(), Fail> {
-    let streams = Streams {
-        input: Late {
-            clock: &rt,
-            bytes: b"quit\n",
-        },
-        out: Vec::new(rt.alloc()),
+    let input = Late {
+        clock: &rt,
+        waited: false,
+        bytes: b"quit\n",
     };
-    let ended = over_a_blank_disk(&rt, rt.alloc(), &THREE, streams)?;
-    same(&rt, (ended.ran, ended.left), (Ok(()), Some(Left::Quit)));
+    let _rest = rest_of(&rt, rt.alloc(), input, &QUITS)?;
     Ok(())
 }

@@ -121,16 +121,28 @@ fn end_of(text: &str) -> Option<bool> {
     if text == " ends" { Some(true) } else { None }
 }
 
-/// The run that a file asks for: its words, its status and its streams, a line each; then what is said of it
-/// up to the input, and the input, the output and the faults, each behind a line of its name.
-fn run_of(text: &str) -> Option<Run<'_>> {
+/// The words, the status and the streams of a run, a line each, and what is behind them.
+fn lines_of(text: &str) -> Option<(&str, &str, &str, &str)> {
     let (words, text) = text.split_once('\n')?;
     let (status, text) = text.split_once('\n')?;
     let (streams, text) = text.split_once('\n')?;
+    Some((words, status, streams, text))
+}
+
+/// What is said of a run up to the input is passed over. The input, the output and the faults come each behind a line of
+/// its name; what stands in that line behind the output's name comes before the output.
+fn texts_of(text: &str) -> Option<(&str, &str, &str, &str)> {
     let (_said, text) = text.split_once("--- input\n")?;
     let (input, text) = text.split_once("--- output")?;
     let (end, text) = text.split_once('\n')?;
     let (output, faults) = text.split_once("--- error\n")?;
+    Some((input, end, output, faults))
+}
+
+/// The run that a file asks for: its lines, and then its texts.
+fn run_of(text: &str) -> Option<Run<'_>> {
+    let (words, status, streams, text) = lines_of(text)?;
+    let (input, end, output, faults) = texts_of(text)?;
     Some(Run {
         words,
         status: status.strip_prefix("status ")?.parse().ok()?,

@@ -1,21 +1,12 @@
 //! Boards that sleep in their RAM, on threads (docs/THREADS.md, "A doze").
 
-ghost use Rattle.std.specs.Prelude.{◌≡◌, Some, IfOk};
-ghost use Rattle.machine.specs.Held.{IsHeld};
-ghost use Rattle.hart_threads_tests.specs.Begun.{IsBegun};
-
-use crate::fixtures::{Open, Ran, Trial, driven, parts_of, same};
-use board::Parts;
-use board_model::{Command, HartId, RAM_BASE, Reason, Shape};
+use crate::fixtures::{NEVER, Trial, ended, same};
+use crate::many::Counting;
+use board_model::{Command, HartId, RAM_BASE, Reason};
 use disk::ArmedFault;
 use hart_threads::{Gate, Why};
-use simdisk::SimDisk;
-use std::alloc::Global;
-use std::process::Abort;
-use std::sync::Wait;
 use std::sync::atomic::{AtomicBool, AtomicU64, Ordering};
-use std::test::*;
-use std::thread::{self, Threads};
+use std::thread;
 use std::time::{Clock, Duration};
 
 /// More turns than a test has time for.
@@ -92,29 +83,22 @@ const SITE: u64 = RAM_BASE + 32;
 /// How often the sleeper looks at the bus at least before it is woken: its first eight turns are no looks.
 const LOOKS: u64 = IDLE - 8;
 
-/// The run of a board of one hart that sleeps so, and of a console that wakes it.
-fn woken<R: Threads + Wait + Clock + Sync>(rt: &R, alloc: Global) -> Result<Ran, Fail> {
-    let (parts, shape) = parts_of(alloc, &Shape::new(1, 1, 1)?, &SLEEPER)?;
+/// The hart goes on at its address, with its number in a0 and its opaque value in a1; its turns before were idle.
+#[test]
+fn a_board_that_sleeps_in_its_ram_is_woken_by_its_console(rt: HostRuntime) {
     let gate = UntilWoken::new();
     let trial = Trial {
+        payload: &SLEEPER,
         input: b"wake\nwake\nslot 2\nquit\n",
         until: Some(&gate),
         ..Trial::of(ENDLESS)
     };
-    driven(rt, alloc, &gate, trial, parts, &shape)
-}
-
-/// The hart goes on at its address, with its number in a0 and its opaque value in a1; its turns before were idle.
-#[test]
-fn a_board_that_sleeps_in_its_ram_is_woken_by_its_console(rt: HostRuntime) -> Result<(), Fail> {
-    let mut ran = woken(&rt, rt.alloc())?;
+    let (end, said) = ended(&rt, rt.alloc(), &gate, trial);
     let told = b"wake ok\nwake refused 18\nslot ok 1\nquit\n";
-    same(&rt, ran.said.as_slice(), told.as_slice());
-    let end = ran.ends.pop().ok_or("the sleeper")?;
+    same(&rt, said.as_slice(), told.as_slice());
     same(&rt, (end.regs, end.pc), ((0, 9), SITE));
     same(&rt, (end.why, end.woken), (Why::Gate, 1));
     assert!(&rt; LOOKS <= end.dozed);
-    Ok(())
 }
 
 /// A suspend to RAM by `system_suspend`, to go on where it begins: AUIPC x11, 0; ADDI x10, x0, 0; ADDI x12, x0, -1;
@@ -127,48 +111,25 @@ const DOZER: [u8; 28] = [
 /// Where its ECALL stands, and the hart while it dozes.
 const ASKS: u64 = RAM_BASE + 24;
 
-/// Those parts, with a fault of the disk armed.
-fn armed(parts: Parts<SimDisk>, shape: &Shape, fault: ArmedFault) -> Parts<SimDisk>
-    requires held { IsHeld shape.now parts.harts.items parts.tables (Some parts.seats) parts.bus.doze }
-    requires begun { IsBegun shape.now parts.store }
-    ensures held { IsHeld shape.now result.harts.items result.tables (Some result.seats) result.bus.doze }
-    ensures begun { IsBegun shape.now result.store }
-{
-    let _ = shape;
-    let mut parts = parts;
-    parts.store.arm(fault);
-    parts
-}
-
-/// After these commands, whatever they were answered under that fault, the board dozes, and no receipt is told.
-fn dozes_after<R: Threads + Wait + Clock + Abort + Sync>(
-    rt: &R,
-    alloc: Global,
-    commands: &[Command],
-    fault: ArmedFault,
-) -> Result<(), Fail> {
-    let (parts, shape) = parts_of(alloc, &Shape::new(1, 1, 1)?, &DOZER)?;
-    let parts = armed(parts, &shape, fault);
-    let trial = Trial {
-        commands,
-        ..Trial::of(10)
-    };
-    let mut ran = driven(rt, alloc, &Open, trial, parts, &shape)?;
-    let end = ran.ends.pop().ok_or("the dozer")?;
-    same(rt, (end.made, end.why, end.pc), (10, Why::Turns, ASKS));
-    same(rt, (end.receipt, end.dozed), (None, 3));
-    Ok(())
-}
-
-/// A call that no store here comes to.
-const NEVER: ArmedFault = ArmedFault::FailAt(1_000_000);
-
-/// A store that is over, full or down, and so refuses every command.
+/// A store that is over, full or down, and so refuses every command: the board dozes, and no receipt is told.
 #[test]
-fn a_board_dozes_whatever_its_store_would_refuse(rt: HostRuntime) -> Result<(), Fail> {
-    let alloc = rt.alloc();
-    dozes_after(&rt, alloc, &[], NEVER)?;
-    dozes_after(&rt, alloc, &[Command::Reset(Reason::NoReason)], NEVER)?;
-    dozes_after(&rt, alloc, &[Command::Slot(1); 4096], NEVER)?;
-    dozes_after(&rt, alloc, &[Command::Slot(1)], ArmedFault::FailAt(3))
+fn a_board_dozes_whatever_its_store_would_refuse(rt: HostRuntime) {
+    let full = [Command::Slot(1); 4096];
+    let stores: [(&[Command], ArmedFault); 4] = [
+        (&[], NEVER),
+        (&[Command::Reset(Reason::NoReason)], NEVER),
+        (&full, NEVER),
+        (&[Command::Slot(1)], ArmedFault::FailAt(3)),
+    ];
+    for (commands, fault) in stores {
+        let trial = Trial {
+            payload: &DOZER,
+            commands,
+            fault,
+            ..Trial::of(10)
+        };
+        let (end, _said) = ended(&rt, rt.alloc(), &Counting::new(None), trial);
+        same(&rt, (end.made, end.why, end.pc), (10, Why::Turns, ASKS));
+        same(&rt, (end.receipt, end.dozed), (None, 3));
+    }
 }

@@ -1,4 +1,4 @@
-//! Boards that are about to be run, and gates.
+//! Boards that are about to be run, and their runs.
 
 ghost use Rattle.std.specs.Prelude.{◌≡◌, ◌+◌, [], true, Some, IfOk};
 ghost use Rattle.board_model.specs.Durable.{formatted as new_state};
@@ -11,17 +11,16 @@ ghost use Rattle.hart_threads_tests.specs.Begun.{IsBegun};
 use crate::dozing::UntilWoken;
 use board::{Board, Parts, Payloads};
 use board_console::console;
-use board_model::{BootMode, Command, HartId, Shape, Slot};
-use disk::Disk;
-use hart_threads::{AfterConsole, Closing, Ended, Gate, Rested, SharedBoard, Threaded, Why, drive};
+use board_model::{BootMode, Command, Refusal, Shape, Slot};
+use disk::{ArmedFault, Disk};
+use hart_threads::{AfterConsole, Closing, Gate, Rested, SharedBoard, Threaded, Why, drive};
 use rv_decode::Reg;
 use shared_store::{Heard, Journal, Locks, NewBook, Part, SharedBus, SharedStore, Unshared};
 use simdisk::SimDisk;
-use std::alloc::{AllocError, Global};
+use std::alloc::Global;
 use std::marker::Brand;
 use std::process::Abort;
 use std::sync::{Mutex, OnceLock, Wait};
-use std::test::Fail;
 use std::thread::Threads;
 use std::time::Clock;
 use store::{Saving, format};
@@ -31,24 +30,8 @@ pub fn same<T: PartialEq + Drop>(rt: &impl Abort, found: T, wanted: T) {
     assert!(rt; found == wanted);
 }
 
-/// It lets every turn begin.
-#[derive(Drop)]
-pub struct Open;
-
-impl Gate for Open {
-    ghost answers = { λ gate hart turn answer. Unit {0} };
-
-    ghost hears = { λ gate hart turn. Unit {0} };
-
-    fn before(&self, _hart: HartId, _turn: u64) -> bool {
-        true
-    }
-
-    fn after(&self, _hart: HartId, _turn: u64) {}
-}
-
 /// A formatted disk for a board of that shape.
-pub fn formatted(alloc: Global, shape: &Shape) -> Result<SimDisk, Fail>
+pub fn formatted(alloc: Global, shape: &Shape) -> Result<SimDisk, Refusal>
     ensures idle { IfOk result (λ disk. IsIdle (⟦<SimDisk as Disk>⟧.facts disk)) }
     ensures alone { IfOk result (λ disk. LeavesOnly (⟦<SimDisk as Disk>⟧.facts disk) shape.now new_state) }
 {
@@ -58,11 +41,11 @@ pub fn formatted(alloc: Global, shape: &Shape) -> Result<SimDisk, Fail>
 }
 
 /// Slot 0 boots these bytes, and the other slots nothing.
-fn booting(alloc: Global, payload: &[u8]) -> Result<Payloads, Fail> {
+fn booting(alloc: Global, payload: &[u8]) -> Result<Payloads, Refusal> {
     let mut bytes = Vec::new(alloc);
     bytes.extend_from_slice(payload)?;
     let mut payloads = Payloads::new(alloc);
-    payloads.set(Slot::new(0).ok_or("slot 0")?, bytes);
+    payloads.set(Slot::new(0).ok_or(Refusal::BadShape)?, bytes);
     Ok(payloads)
 }
 
@@ -71,7 +54,7 @@ pub fn parts_of(
     alloc: Global,
     shape: &Shape,
     payload: &[u8],
-) -> Result<(Parts<SimDisk>, Shape), Fail>
+) -> Result<(Parts<SimDisk>, Shape), Refusal>
     ensures held { IfOk result (λ p. IsHeld p.1 p.0.harts.items p.0.tables (Some p.0.seats) p.0.bus.doze) }
     ensures begun { IfOk result (λ p. IsBegun p.1 p.0.store) }
 {
@@ -82,30 +65,51 @@ pub fn parts_of(
             let shape = board.shape();
             Ok((board.into_parts(), shape))
         }
-        Err(_) => Err("the board is off")?,
+        Err(unpowered) => Err(unpowered.refusal),
     }
 }
+
+/// Those parts, with a fault of the disk armed.
+fn armed(parts: Parts<SimDisk>, shape: &Shape, fault: ArmedFault) -> Parts<SimDisk>
+    requires held { IsHeld shape.now parts.harts.items parts.tables (Some parts.seats) parts.bus.doze }
+    requires begun { IsBegun shape.now parts.store }
+    ensures held { IsHeld shape.now result.harts.items result.tables (Some result.seats) result.bus.doze }
+    ensures begun { IsBegun shape.now result.store }
+{
+    let _ = shape;
+    let mut parts = parts;
+    parts.store.arm(fault);
+    parts
+}
+
+/// A call that no store here comes to.
+pub const NEVER: ArmedFault = ArmedFault::FailAt(1_000_000);
 
 /// A board's run on threads.
 #[derive(Clone, Copy, Drop)]
 pub struct Trial<'a> {
+    /// The harts, pages and lanes of the board, and what it boots.
+    pub size: (u64, u64, u64),
+    pub payload: &'a [u8],
     /// How many turns a hart makes at most.
     pub turns: u64,
-    /// What is issued before the harts run, whatever it is answered.
+    /// What is issued before the harts run, whatever it is answered under that fault of the disk.
     pub commands: &'a [Command],
+    pub fault: ArmedFault,
     /// What the console reads; it waits for this gate first, and tells it when it has left.
     pub input: &'a [u8],
     pub until: Option<&'a UntilWoken>,
 }
 
 impl<'a> Trial<'a> {
-    /// So many turns, with no command, and a console that returns at once.
-    pub fn of(turns: u64) -> Trial<'a>
-        ensures { result.turns ≡ turns }
-    {
+    /// So many turns of one hart that boots nothing, with no command, and a console that returns at once.
+    pub fn of(turns: u64) -> Trial<'a> {
         Trial {
+            size: (1, 1, 1),
+            payload: &[],
             turns,
             commands: &[],
+            fault: NEVER,
             input: b"",
             until: None,
         }
@@ -125,16 +129,18 @@ pub struct End {
     pub woken: u64,
 }
 
-/// How the loops of a board's harts ended, what its console wrote, and its disk.
+/// How the loop of a board's first hart ended, what its console wrote, and its disk.
 #[derive(Drop)]
 pub struct Ran {
-    pub ends: Vec<End>,
-    pub said: Vec<u8>,
+    end: Option<End>,
+    said: Vec<u8>,
     pub disk: SimDisk,
 }
 
-fn end_of<J: Threaded>(ended: &Ended<'_, J>) -> End {
-    End {
+/// How the first of these loops ended.
+fn end_of<J: Threaded>(loops: &[Rested<'_, J>]) -> Option<End> {
+    let ended = &loops.first()?.ended;
+    Some(End {
         made: ended.made,
         why: ended.why,
         regs: (ended.hart.reg(Reg::new(10)), ended.hart.reg(Reg::new(11))),
@@ -142,15 +148,7 @@ fn end_of<J: Threaded>(ended: &Ended<'_, J>) -> End {
         receipt: ended.told.as_ref().map(|told| told.number()),
         dozed: ended.looks.made(),
         woken: ended.looks.woken(),
-    }
-}
-
-fn ends_of<J: Threaded>(alloc: Global, loops: &[Rested<'_, J>]) -> Result<Vec<End>, AllocError> {
-    let mut ends = Vec::new(alloc);
-    for rested in loops {
-        ends.push(end_of(&rested.ended))?;
-    }
-    Ok(ends)
+    })
 }
 
 /// Issues these commands, whatever they are answered.
@@ -190,26 +188,43 @@ fn talk<J: Journal, R: Wait + Clock>(
     out
 }
 
-/// Runs the harts of a board under that gate, with its console.
-pub fn driven<R: Threads + Wait + Clock + Sync>(
+/// Runs the harts of a board that was powered on fresh under that gate, with its console.
+pub fn driven<R: Threads + Wait + Clock + Abort + Sync>(
     rt: &R,
     alloc: Global,
     gate: &(dyn Gate + Sync),
     trial: Trial<'_>,
-    parts: Parts<SimDisk>,
-    shape: &Shape,
-) -> Result<Ran, Fail>
-    requires held { IsHeld shape.now parts.harts.items parts.tables (Some parts.seats) parts.bus.doze }
-    requires begun { IsBegun shape.now parts.store }
-    ensures { IfOk result (λ ran. IsIdle (⟦<SimDisk as Disk>⟧.facts ran.disk)) }
+) -> Ran
+    ensures { IsIdle (⟦<SimDisk as Disk>⟧.facts result.disk) }
 {
-    let book = NewBook::new(alloc, shape.harts() + 2)?;
+    let (harts, pages, lanes) = trial.size;
+    let Ok(size) = Shape::new(harts, pages, lanes) else {
+        rt.panic("not a shape")
+    };
+    let Ok((parts, shape)) = parts_of(alloc, &size, trial.payload) else {
+        rt.panic("no board")
+    };
+    let parts = armed(parts, &shape, trial.fault);
+    let Ok(book) = NewBook::new(alloc, shape.harts() + 2) else {
+        rt.panic("no memory")
+    };
     let lock = OnceLock::new();
-    driven_as::<Brand, R>(rt, alloc, gate, trial, parts, book, lock, shape)
+    driven_as::<Brand, R>(rt, alloc, gate, trial, parts, book, lock, &shape)
 }
 
-/// The same, of a journal that has a name.
-fn driven_as<J: Threaded + Send + Sync, R: Threads + Wait + Clock + Sync>(
+/// How the loop of such a board's first hart ends, and what its console writes.
+pub fn ended<R: Threads + Wait + Clock + Abort + Sync>(
+    rt: &R,
+    alloc: Global,
+    gate: &(dyn Gate + Sync),
+    trial: Trial<'_>,
+) -> (End, Vec<u8>) {
+    let ran = driven(rt, alloc, gate, trial);
+    (ran.end.expect(rt, "a loop"), ran.said)
+}
+
+/// Runs those parts of a board, of a journal that has a name.
+fn driven_as<J: Threaded + Send + Sync, R: Threads + Wait + Clock + Abort + Sync>(
     rt: &R,
     alloc: Global,
     gate: &(dyn Gate + Sync),
@@ -218,14 +233,14 @@ fn driven_as<J: Threaded + Send + Sync, R: Threads + Wait + Clock + Sync>(
     book: NewBook,
     lock: OnceLock<AfterConsole>,
     shape: &Shape,
-) -> Result<Ran, Fail>
+) -> Ran
     requires held { IsHeld shape.now parts.harts.items parts.tables (Some parts.seats) parts.bus.doze }
     requires begun { IsBegun shape.now parts.store }
     requires named { (J.size ≡ shape.now) × (J.found ≡ found_state parts.store) × (J.issued ≡ [])
         × (J.memory ≡ parts.bus.ram) }
     requires book { (id_of book ≡ J.book) × (parts_of book ≡ J.parts) × (J.parts ≡ shape.now.harts + 2) }
     requires driven { (lock.id ≡ J.parting) × (trial.turns ≡ J.turns) × (J.gated ≡ true) }
-    ensures { IfOk result (λ ran. IsIdle (⟦<SimDisk as Disk>⟧.facts ran.disk)) }
+    ensures { IsIdle (⟦<SimDisk as Disk>⟧.facts result.disk) }
 {
     let Parts {
         harts,
@@ -236,7 +251,9 @@ fn driven_as<J: Threaded + Send + Sync, R: Threads + Wait + Clock + Sync>(
     } = parts;
     let (mut whole, boot) = Unshared::<SimDisk, J>::new(store, book);
     let part = whole.hand_out();
-    let given = whole.hand_out_all(alloc, harts.len())?;
+    let Ok(given) = whole.hand_out_all(alloc, harts.len()) else {
+        rt.panic("no memory")
+    };
     let doze = bus.doze;
     let (first, heard) = (whole.listener(), whole.listener());
     let bus: Mutex<SharedBus<J>> = Mutex::new(SharedBus::new(bus));
@@ -267,9 +284,9 @@ fn driven_as<J: Threaded + Send + Sync, R: Threads + Wait + Clock + Sync>(
         move |part| talk(rt, alloc, rung, told, part, heard, trial),
     );
     let Ok((loops, said)) = done else {
-        return Err("a thread was not had".into());
+        rt.panic("a thread was not had")
     };
-    let ends = ends_of(alloc, &loops)?;
+    let end = end_of(&loops);
     let disk = store.into_inner().unshare().close().into_disk();
-    Ok(Ran { ends, said, disk })
+    Ran { end, said, disk }
 }

@@ -1,25 +1,27 @@
 //! Boards of three harts and of eight: each hart makes its turns, and the life of all ends with one's.
 
-use crate::fixtures::{Trial, driven, parts_of, same};
+use crate::fixtures::{Trial, ended, same};
 use crate::looped::STOPPER;
-use board_model::{HartId, Shape};
+use board_model::HartId;
 use hart_threads::Gate;
 use std::process::Abort;
 use std::sync::atomic::{AtomicU64, Ordering};
-use std::test::*;
 
 /// More turns than a test has time for.
 const ENDLESS: u64 = 1_000_000_000_000;
 
+/// A hart of which a gate lets so many turns begin, if there is one.
+pub type Short = Option<(usize, u64)>;
+
 /// It lets every turn begin, but of one hart so many alone, and counts the turns of each hart.
 #[derive(Drop)]
-struct Counting {
-    short: Option<(usize, u64)>,
+pub struct Counting {
+    short: Short,
     made: [AtomicU64; 8],
 }
 
 impl Counting {
-    fn new(short: Option<(usize, u64)>) -> Counting {
+    pub fn new(short: Short) -> Counting {
         Counting {
             short,
             made: [
@@ -63,31 +65,29 @@ fn made_by_each(rt: &impl Abort, gate: &Counting, turns: &[u64]) {
     }
 }
 
-#[test]
-fn each_of_eight_harts_makes_its_turns_but_one_that_the_gate_ends(
-    rt: HostRuntime,
-) -> Result<(), Fail> {
-    let (parts, shape) = parts_of(rt.alloc(), &Shape::new(8, 1, 1)?, &[])?;
-    let gate = Counting::new(Some((3, 5)));
-    driven(&rt, rt.alloc(), &gate, Trial::of(20), parts, &shape)?;
-    made_by_each(&rt, &gate, &[20, 20, 20, 5, 20, 20, 20, 20]);
-    Ok(())
-}
+/// A board of so many harts that boots that, what its gate ends, how many turns a hart makes at most, and how many the first harts
+/// make.
+type Row = (u64, &'static [u8], Short, u64, &'static [u64]);
+
+const ROWS: [Row; 3] = [
+    // each of eight harts makes its turns, but one that the gate ends
+    (8, &[], Some((3, 5)), 20, &[20, 20, 20, 5, 20, 20, 20, 20]),
+    // the gate is asked past a million turns
+    (1, &[], Some((0, 1_048_600)), ENDLESS, &[1_048_600]),
+    // the life of all harts ends with a reset of one
+    (3, &STOPPER, None, ENDLESS, &[6]),
+];
 
 #[test]
-fn the_gate_is_asked_past_a_million_turns(rt: HostRuntime) -> Result<(), Fail> {
-    let (parts, shape) = parts_of(rt.alloc(), &Shape::new(1, 1, 1)?, &[])?;
-    let gate = Counting::new(Some((0, 1_048_600)));
-    driven(&rt, rt.alloc(), &gate, Trial::of(ENDLESS), parts, &shape)?;
-    same(&rt, gate.made_by(0), 1_048_600);
-    Ok(())
-}
-
-#[test]
-fn the_life_of_all_harts_ends_with_a_reset_of_one(rt: HostRuntime) -> Result<(), Fail> {
-    let (parts, shape) = parts_of(rt.alloc(), &Shape::new(3, 1, 1)?, &STOPPER)?;
-    let gate = Counting::new(None);
-    driven(&rt, rt.alloc(), &gate, Trial::of(ENDLESS), parts, &shape)?;
-    same(&rt, gate.made_by(0), 6);
-    Ok(())
+fn each_hart_makes_its_turns(rt: HostRuntime) {
+    for (harts, payload, short, turns, made) in ROWS {
+        let gate = Counting::new(short);
+        let trial = Trial {
+            size: (harts, 1, 1),
+            payload,
+            ..Trial::of(turns)
+        };
+        ended(&rt, rt.alloc(), &gate, trial);
+        made_by_each(&rt, &gate, made);
+    }
 }

@@ -1,10 +1,9 @@
 //! Two harts' turns overlap: at their gate each waits for the other, before and after every turn.
 
-use crate::fixtures::{Trial, driven, parts_of, same};
-use board_model::{HartId, Shape};
+use crate::fixtures::{Trial, ended, same};
+use board_model::HartId;
 use hart_threads::Gate;
 use std::sync::atomic::{AtomicBool, AtomicU64, Ordering};
-use std::test::*;
 use std::thread;
 use std::time::{Clock, Duration};
 
@@ -20,11 +19,6 @@ struct Meeting<'a, R> {
     missed: AtomicBool,
 }
 
-/// How many calls of that name a hart has made.
-fn calls_of(places: &[AtomicU64; 2], hart: usize) -> u64 {
-    places[hart % 2].load(Ordering::SeqCst)
-}
-
 impl<'a, R: Clock> Meeting<'a, R> {
     fn new(clock: &'a R) -> Meeting<'a, R> {
         Meeting {
@@ -35,17 +29,13 @@ impl<'a, R: Clock> Meeting<'a, R> {
         }
     }
 
-    fn was_missed(&self) -> bool {
-        self.missed.load(Ordering::SeqCst)
-    }
-
     /// Says that this hart has come so far, and waits until the other has.
     fn meet(&self, places: &[AtomicU64; 2], hart: HartId, turn: u64) {
         let mine = hart.index() % 2;
         let so_far = turn.wrapping_add(1);
         places[mine].store(so_far, Ordering::SeqCst);
         for _ in 0..MOST_SLEEPS {
-            if calls_of(places, 1 - mine) >= so_far {
+            if places[1 - mine].load(Ordering::SeqCst) >= so_far {
                 return;
             }
             thread::sleep(self.clock, Duration::from_millis(1));
@@ -61,7 +51,7 @@ impl<'a, R: Clock> Gate for Meeting<'a, R> {
 
     fn before(&self, hart: HartId, turn: u64) -> bool {
         self.meet(&self.before, hart, turn);
-        !self.was_missed()
+        !self.missed.load(Ordering::SeqCst)
     }
 
     fn after(&self, hart: HartId, turn: u64) {
@@ -70,12 +60,15 @@ impl<'a, R: Clock> Gate for Meeting<'a, R> {
 }
 
 #[test]
-fn two_harts_meet_before_and_after_every_turn(rt: HostRuntime) -> Result<(), Fail> {
-    let (parts, shape) = parts_of(rt.alloc(), &Shape::new(2, 1, 1)?, &[])?;
+fn two_harts_meet_before_and_after_every_turn(rt: HostRuntime) {
     let gate = Meeting::new(&rt);
-    driven(&rt, rt.alloc(), &gate, Trial::of(100), parts, &shape)?;
-    assert!(&rt; !gate.was_missed());
-    same(&rt, calls_of(&gate.after, 0), 100);
-    same(&rt, calls_of(&gate.after, 1), 100);
-    Ok(())
+    let trial = Trial {
+        size: (2, 1, 1),
+        ..Trial::of(100)
+    };
+    ended(&rt, rt.alloc(), &gate, trial);
+    assert!(&rt; !gate.missed.load(Ordering::SeqCst));
+    for calls in &gate.after {
+        same(&rt, calls.load(Ordering::SeqCst), 100);
+    }
 }

@@ -1,6 +1,6 @@
 //! Two threads issue commands to one store, each in a hold of its lock: the receipts agree with the journal.
 
-use crate::fixtures::{formatted, same};
+use crate::fixtures::formatted;
 use board_model::{Command, Entry, Shape};
 use disk::Disk;
 use simdisk::SimDisk;
@@ -36,6 +36,11 @@ fn times(receipts: &[u32], number: u32) -> usize {
     receipts.iter().filter(|n| **n == number).count()
 }
 
+/// Whether each number of a journal of that length is the receipt of one command.
+fn are_each_once(ones: &[u32], twos: &[u32]) -> bool {
+    (1..201).all(|number| times(ones, number).wrapping_add(times(twos, number)) == 1)
+}
+
 /// Whether the journal has that command at the place of each receipt.
 fn are_of(store: &Store<SimDisk>, receipts: &[u32], slot: u32) -> bool {
     let wanted = Some(Entry::Command(Command::Slot(slot)));
@@ -48,18 +53,12 @@ fn are_of(store: &Store<SimDisk>, receipts: &[u32], slot: u32) -> bool {
 fn receipts_of_two_threads_agree_with_the_journal(rt: HostRuntime) -> Result<(), Fail> {
     let disk = formatted(rt.alloc(), &Shape::new(1, 1, 1)?)?;
     let opened = Store::open(rt.alloc(), disk);
-    let store = Mutex::new(opened.ok().ok_or("the disk is not opened")?);
+    let store = Mutex::new(opened.ok().expect(&rt, "an open disk"));
     let (ones, twos) = issue_both(&rt, &store);
-    for number in 1..201 {
-        same(
-            &rt,
-            times(&ones, number).wrapping_add(times(&twos, number)),
-            1,
-        );
-    }
+    assert!(&rt; are_each_once(&ones, &twos));
     let store = store.into_inner();
-    assert!(&rt; are_of(&store, &ones, 1));
-    assert!(&rt; are_of(&store, &twos, 2));
-    assert!(&rt; store.entry(201).is_none());
+    assert!(&rt;
+        are_of(&store, &ones, 1) && are_of(&store, &twos, 2) && store.entry(201).is_none()
+    );
     Ok(())
 }

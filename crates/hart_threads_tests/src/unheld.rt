@@ -74,8 +74,8 @@ fn talked<J: Journal, R: Wait>(rt: &R, bus: Bus, store: Store<SimDisk>, book: Ne
 #[test]
 fn no_lock_is_held_while_an_answer_is_written(rt: HostRuntime) -> Result<(), Fail> {
     let alloc = rt.alloc();
-    let (parts, _shape) = parts_of(alloc, &Shape::new(1, 1, 1)?, &[])?;
     let book = NewBook::new(alloc, 1)?;
+    let (parts, _shape) = parts_of(alloc, &Shape::new(1, 1, 1)?, &[])?;
     let Parts {
         harts: _,
         seats: _,

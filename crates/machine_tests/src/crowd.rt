@@ -11,7 +11,7 @@ use ipi::{IpiSeat, PendingTable, SeatTable, SenderSet};
 use std::thread::{Threads, join};
 
 /// How many pairs were newly set, and how many senders were taken.
-#[derive(Clone, Copy, PartialEq, Eq, Drop)]
+#[derive(Drop)]
 pub struct Sums {
     pub raised: u64,
     pub taken: u64,

@@ -11,7 +11,7 @@ use std::test::Fail;
 #[test]
 fn one_hart_makes_two_steps(rt: HostRuntime) -> Result<(), Fail> {
     let alloc = rt.alloc();
-    let first = HartId::new(0).ok_or("no hart 0")?;
+    let first = HartId::new(0).unwrap();
     // ----
     let mut ram = Ram::new(alloc, Shape::new(1, 1, 1)?)?;
     ram.boot(&[0x13, 0x05, 0x10, 0x00, 0x73, 0x00, 0x00, 0x00]);

@@ -1,23 +1,20 @@
 //! Two harts start a third at once.
 
-ghost use Rattle.std.specs.Prelude.{◌≡◌, ◌<◌, IfOk, IfSome};
+ghost use Rattle.std.specs.Prelude.{◌≡◌, ◌<◌};
 ghost use Rattle.hsm_steps.specs.Rule.{stands};
 ghost use Rattle.hsm_steps.specs.Seating.{IsSeatOf, harts_of, harts_in, hart_view_of_seat};
 ghost use Rattle.hsm_steps.specs.Outcomes.{opening_view};
 ghost use Rattle.hsm_steps.specs.declared.view.Stage.TheVariants.{Running};
 ghost use Rattle.machine_tests.specs.Race.{AreReady};
 
-use board_model::{Addr, HartId, Refusal, Shape};
+use board_model::{Addr, HartId, Shape};
 use hsm::{HartSeat, HartTable, SeatTable, start, stop, try_enter};
 use std::alloc::Global;
+use std::process::Abort;
 use std::thread::{Threads, join};
 
-/// What a starter asks for.
-#[derive(Clone, Copy, PartialEq, Eq, Drop)]
-pub struct Plan {
-    pub address: Addr,
-    pub opaque: u64,
-}
+/// What a starter asks for: an address and an opaque value.
+pub type Plan = (Addr, u64);
 
 /// The seats of three harts, of which the first two have started, and what each of these two asks for.
 #[derive(Drop)]
@@ -44,7 +41,7 @@ fn attempt(table: &HartTable, seat: HartSeat, by: HartId, plan: Plan) -> (HartSe
     ensures seat { IsSeatOf table.entry.now result.0 }
     ensures stands { stands by Running (harts_in result.0) }
 {
-    start(table, seat, by, hart(2), plan.address, plan.opaque)
+    start(table, seat, by, hart(2), plan.0, plan.1)
 }
 
 /// One round: both start the third hart, which enters and stops. True where just one was told that it did,
@@ -72,12 +69,9 @@ pub fn round<R: Threads + Sync>(rt: &R, table: &HartTable, racers: Racers) -> (R
     );
     let (third, entry) = try_enter(table, third, hart(2));
     let (third, right) = match entry {
-        Some((address, opaque)) => {
+        Some(entered) => {
             let won = if one { plans.0 } else { plans.1 };
-            (
-                stop(table, third, hart(2)),
-                one != two && won == Plan { address, opaque },
-            )
+            (stop(table, third, hart(2)), one != two && won == entered)
         }
         None => (third, false),
     };
@@ -107,39 +101,38 @@ pub fn rounds<R: Threads + Sync>(rt: &R, table: &HartTable, racers: Racers, coun
 }
 
 /// Parts the seat of three harts of which the first runs, and has the second started.
-fn seated(table: &HartTable, whole: HartSeat, plans: (Plan, Plan)) -> Option<Racers>
+fn seated(rt: &impl Abort, table: &HartTable, whole: HartSeat, plans: (Plan, Plan)) -> Racers
     requires seat { IsSeatOf table.now whole }
     requires opening { hart_view_of_seat whole ≡ opening_view 3 0 }
     requires harts { harts_of table.now ≡ 3 }
-    ensures { IfSome result (λ r. AreReady table.entry.now r.first r.second r.third) }
+    ensures { AreReady table.entry.now result.first result.second result.third }
 {
     let (first, rest) = table.split_first(whole);
     let (second, third) = table.split_first(rest);
     let plan = plans.0;
-    let (first, _) = start(table, first, hart(0), hart(1), plan.address, plan.opaque);
+    let (first, _) = start(table, first, hart(0), hart(1), plan.0, plan.1);
     let (second, entry) = try_enter(table, second, hart(1));
     let None = entry else {
-        return Some(Racers {
+        return Racers {
             first,
             second,
             third,
             plans,
-        });
+        };
     };
-    None
+    rt.panic("it was not entered")
 }
 
 /// A table of three harts, of which the first and the second run.
-pub fn ready_racers(
-    alloc: Global,
-    plans: (Plan, Plan),
-) -> Result<Option<(HartTable, Racers)>, Refusal>
-    ensures { IfOk result (λ r. IfSome r (λ t. AreReady t.0 t.1.first t.1.second t.1.third)) }
+pub fn ready_racers(rt: &impl Abort, alloc: Global, plans: (Plan, Plan)) -> (HartTable, Racers)
+    ensures { AreReady result.0 result.1.first result.1.second result.1.third }
 {
-    let shape = Shape::new(3, 1, 1)?;
-    let (table, whole) = HartTable::new(alloc, shape, hart(0))?;
-    match seated(&table, whole, plans) {
-        Some(racers) => Ok(Some((table, racers))),
-        None => Ok(None),
-    }
+    let Ok(shape) = Shape::new(3, 1, 1) else {
+        rt.panic("not a shape")
+    };
+    let Ok((table, whole)) = HartTable::new(alloc, shape, hart(0)) else {
+        rt.panic("no memory")
+    };
+    let racers = seated(rt, &table, whole, plans);
+    (table, racers)
 }

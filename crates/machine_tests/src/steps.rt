@@ -5,37 +5,33 @@ use crate::{edges, traps};
 use board_model::{HartId, Shape};
 use hart::{Hart, Outcome};
 use ram::{Ram, Width};
+use std::alloc::Global;
 use std::process::Abort;
-use std::test::Fail;
 
 const BASE: u64 = 0x8000_0000;
 
 const END: u64 = BASE + 0x2000;
 
 /// Two pages with these numbers at their start.
-fn memory(rt: &HostRuntime, image: &[u64]) -> Result<Ram, Fail> {
-    let mut ram = Ram::new(rt.alloc(), Shape::new(1, 2, 1)?)?;
+fn memory(rt: &impl Abort, alloc: Global, image: &[u64]) -> Ram {
+    let shape = Shape::new(1, 2, 1).expect(rt, "a shape");
+    let mut ram = Ram::new(alloc, shape).expect(rt, "memory");
     for (i, part) in image.iter().take(1024).enumerate() {
         let _ = ram.store(BASE + 8 * i as u64, Width::Double, *part);
     }
-    Ok(ram)
+    ram
 }
 
-/// Hart 3, at the first word.
-fn fresh() -> Result<Hart, Fail> {
-    Ok(Hart::fresh(HartId::new(3).ok_or("no hart 3")?, BASE, 0))
-}
-
-/// Runs a program up to its first ECALL.
-fn run_to_call(rt: &HostRuntime, image: &[u64]) -> Result<Ram, Fail> {
-    let mut ram = memory(rt, image)?;
-    let mut hart = fresh()?;
+/// Hart 3 runs a program up to its first ECALL.
+fn run_to_call(rt: &impl Abort, alloc: Global, image: &[u64]) -> Ram {
+    let mut ram = memory(rt, alloc, image);
+    let mut hart = Hart::fresh(HartId::new(3).unwrap(), BASE, 0);
     for _ in 0..1_000_000 {
         if hart.step(&mut ram, false) == Outcome::Ecall {
-            return Ok(ram);
+            return ram;
         }
     }
-    Err(Fail::from("no ECALL"))
+    rt.panic("no ECALL")
 }
 
 /// The program's result of that number.
@@ -57,10 +53,9 @@ fn all_results(rt: &impl Abort, ram: &Ram, results: u64, first: usize, wants: &[
 
 /// Every instruction of a user's program, on edge values, gives what it gives under qemu-riscv64.
 #[test]
-fn edge_values_as_under_qemu(rt: HostRuntime) -> Result<(), Fail> {
-    let ram = run_to_call(&rt, &edges::PROGRAM)?;
+fn edge_values_as_under_qemu(rt: HostRuntime) {
+    let ram = run_to_call(&rt, rt.alloc(), &edges::PROGRAM);
     all_results(&rt, &ram, edges::RESULTS, 0, &edges::EXPECTED);
-    Ok(())
 }
 
 /// The cause and stval of each trap of data/traps.s in order; the saved pc is always as expected there, and
@@ -142,12 +137,11 @@ const REST: [u64; 47] = [
 ];
 
 #[test]
-fn traps_and_registers_of_the_supervisor(rt: HostRuntime) -> Result<(), Fail> {
-    let ram = run_to_call(&rt, &traps::PROGRAM)?;
+fn traps_and_registers_of_the_supervisor(rt: HostRuntime) {
+    let ram = run_to_call(&rt, rt.alloc(), &traps::PROGRAM);
     for (number, (cause, tval)) in TRAPS.iter().enumerate() {
         let kept = [*cause, *tval, 0, 0x120];
         all_results(&rt, &ram, traps::RESULTS, 4 * (number % 32), &kept);
     }
     all_results(&rt, &ram, traps::RESULTS, 4 * TRAPS.len(), &REST);
-    Ok(())
 }

@@ -2,11 +2,11 @@
 ghost use Rattle.std.specs.Prelude.{◌≤◌, length};
 
 use crate::fixtures::same;
-use crate::sites::Site;
-use board_model::Refusal;
+use crate::sites::{NEVER, saved};
+use board_model::{Refusal, Shape};
 use crew::{Crew, Plan, Sequential, Threads};
-use layout::Side;
 use std::alloc::Global;
+use std::process::Abort;
 use std::sync::atomic::{AtomicBool, AtomicU64, Ordering};
 use std::test::Fail;
 use std::thread;
@@ -43,25 +43,27 @@ fn all_begin<R: Clock + Sync, C: Crew>(clock: &R, crew: &C, jobs: &mut [u8]) -> 
     !missed.load(Ordering::SeqCst)
 }
 
+/// Threads run all of these jobs at once, at most 4, and each leaves that.
+fn run_at_once<R: Abort + Clock + thread::Threads + Sync>(rt: &R, jobs: &mut [u8], left: &[u8])
+    requires { length jobs.old ≤ 4 }
+{
+    same(rt, all_begin(rt, &Threads::new(rt), jobs), true);
+    same(rt, &*jobs, left);
+}
+
 #[test]
 fn threads_run_two_jobs_at_once(rt: HostRuntime) {
-    let mut jobs = [0; 2];
-    same(&rt, all_begin(&rt, &Threads::new(&rt), &mut jobs), true);
-    same(&rt, jobs, [1, 2]);
+    run_at_once(&rt, &mut [0; 2], &[1, 2]);
 }
 
 #[test]
 fn threads_run_three_jobs_at_once(rt: HostRuntime) {
-    let mut jobs = [0; 3];
-    same(&rt, all_begin(&rt, &Threads::new(&rt), &mut jobs), true);
-    same(&rt, jobs, [1, 2, 3]);
+    run_at_once(&rt, &mut [0; 3], &[1, 2, 3]);
 }
 
 #[test]
 fn threads_run_four_jobs_at_once(rt: HostRuntime) {
-    let mut jobs = [0; 4];
-    same(&rt, all_begin(&rt, &Threads::new(&rt), &mut jobs), true);
-    same(&rt, jobs, [1, 2, 3, 4]);
+    run_at_once(&rt, &mut [0; 4], &[1, 2, 3, 4]);
 }
 
 /// The turn, from 0, in which that crew calls each of four jobs.
@@ -77,18 +79,25 @@ fn turns_of<C: Crew>(crew: &C) -> [u64; 4] {
     jobs
 }
 
+/// The turns of a crew in that order.
+fn turns_in<R: thread::Threads + Sync>(_rt: &R, order: [usize; 4]) -> Result<[u64; 4], Refusal> {
+    let crew: Sequential<R> = Sequential::new(order)?;
+    Ok(turns_of(&crew))
+}
+
+/// Orders, and the turn of each job.
+static TURNS: [([usize; 4], [u64; 4]); 4] = [
+    ([0, 1, 2, 3], [0, 1, 2, 3]),
+    ([3, 2, 1, 0], [3, 2, 1, 0]),
+    ([2, 0, 3, 1], [1, 3, 0, 2]),
+    ([1, 2, 3, 0], [3, 0, 1, 2]),
+];
+
 #[test]
-fn turns_go_in_the_order_given(rt: HostRuntime) -> Result<(), Fail> {
-    for (order, turns) in [
-        ([0, 1, 2, 3], [0, 1, 2, 3]),
-        ([3, 2, 1, 0], [3, 2, 1, 0]),
-        ([2, 0, 3, 1], [1, 3, 0, 2]),
-        ([1, 2, 3, 0], [3, 0, 1, 2]),
-    ] {
-        let crew: Sequential<HostRuntime> = Sequential::new(order)?;
-        same(&rt, turns_of(&crew), turns);
+fn turns_go_in_the_order_given(rt: HostRuntime) {
+    for &(order, turns) in &TURNS {
+        same(&rt, turns_in(&rt, order), Ok(turns));
     }
-    Ok(())
 }
 
 /// Goes to work as the crew in it, and counts the lists of jobs, the jobs, and the lists that went to
@@ -137,15 +146,15 @@ impl<C: Crew> Crew for Counting<C> {
 /// What a write of an area in two lanes asks of its crew.
 fn asked<C: Crew + Drop>(alloc: Global, crew: C) -> Result<(u64, u64, u64), Refusal> {
     let crew = Counting::new(crew);
-    let mut site = Site::new(alloc, 2, 2)?;
-    site.write(alloc, &crew, Side::first(), 1, 7)?;
+    let (written, _calls) = saved(alloc, &crew, &Shape::new(1, 2, 2)?, NEVER)?;
+    let _counts = written?;
     Ok(crew.counts())
 }
 
 #[test]
 fn one_list_of_two_jobs(rt: HostRuntime) -> Result<(), Fail> {
     let turns: Sequential<HostRuntime> = Sequential::new([3, 2, 1, 0])?;
-    same(&rt, asked(rt.alloc(), turns)?, (1, 2, 0));
-    same(&rt, asked(rt.alloc(), Threads::new(&rt))?, (1, 2, 1));
+    same(&rt, asked(rt.alloc(), turns), Ok((1, 2, 0)));
+    same(&rt, asked(rt.alloc(), Threads::new(&rt)), Ok((1, 2, 1)));
     Ok(())
 }

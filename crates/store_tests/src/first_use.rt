@@ -1,7 +1,7 @@
 //! docs/STORE.md, "A first use": between the lines of dashes the code stands there as it stands here.
 
-use crate::fixtures::{numbers, open, same};
-use board_model::{Command, Reason, Refusal, Shape};
+use crate::fixtures::{same, slot_of};
+use board_model::{Command, Refusal, Shape};
 use simdisk::SimDisk;
 use std::alloc::Global;
 use std::test::Fail;
@@ -24,10 +24,12 @@ fn first_slot(alloc: Global) -> Result<(Store<SimDisk>, Receipt), Refusal> {
 #[test]
 fn a_slot_is_set_and_found(rt: HostRuntime) -> Result<(), Fail> {
     let (store, receipt) = first_slot(rt.alloc())?;
-    same(&rt, receipt.number(), 1);
-    same(&rt, numbers(store.now()), (None, 1, Reason::NoReason, 0));
-    same(&rt, numbers(store.found()), (None, 0, Reason::NoReason, 0));
-    let store = open(rt.alloc(), store.into_disk())?;
-    same(&rt, store.found().slot.number(), 1);
+    let (now, found) = (store.now().slot, store.found().slot);
+    same(
+        &rt,
+        (receipt.number(), now.number(), found.number()),
+        (1, 1, 0),
+    );
+    same(&rt, slot_of(rt.alloc(), store.into_disk())?, 1);
     Ok(())
 }

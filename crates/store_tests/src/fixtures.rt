@@ -1,16 +1,20 @@
 //! What the tests share.
 ghost use Rattle.std.specs.Prelude.{◌≡◌};
 
-use board_model::{Durable, Reason, Refusal};
+use board_model::{Command, Refusal};
 use disk::Disk;
-use simdisk::SimDisk;
 use std::alloc::Global;
 use std::process::Abort;
 use store::Store;
 
+/// These two have to be equal.
+pub fn same<T: PartialEq + Drop>(rt: &impl Abort, found: T, wanted: T) {
+    assert!(rt; found == wanted);
+}
+
 /// An open of which only the refusal is told.
-pub fn open(alloc: Global, disk: SimDisk) -> Result<Store<SimDisk>, Refusal>
-    requires { (⟦<SimDisk as Disk>⟧.facts disk).lent.lanes ≡ 0 }
+pub fn open<D: Disk + Drop>(alloc: Global, disk: D) -> Result<Store<D>, Refusal>
+    requires { (D.facts disk).lent.lanes ≡ 0 }
 {
     match Store::open(alloc, disk) {
         Ok(store) => Ok(store),
@@ -18,13 +22,14 @@ pub fn open(alloc: Global, disk: SimDisk) -> Result<Store<SimDisk>, Refusal>
     }
 }
 
-/// These two have to be equal.
-pub fn same<T: PartialEq + Drop>(rt: &impl Abort, found: T, wanted: T) {
-    assert!(rt; found == wanted);
+/// The slot that an open finds.
+pub fn slot_of<D: Disk + Drop>(alloc: Global, disk: D) -> Result<u32, Refusal>
+    requires { (D.facts disk).lent.lanes ≡ 0 }
+{
+    Ok(open(alloc, disk)?.found().slot.number())
 }
 
-/// What stands: the image's serial and opaque value, the slot, the reason and the next serial.
-pub fn numbers(state: Durable) -> (Option<(u64, u64)>, u32, Reason, u64) {
-    let image = state.image.map(|head| (head.serial, head.opaque));
-    (image, state.slot.number(), state.reason, state.next)
+/// Sets the boot slot; the receipt's number.
+pub fn set_slot<D: Disk + Drop>(store: &mut Store<D>, slot: u32) -> Result<u32, Refusal> {
+    Ok(store.apply(Command::Slot(slot))?.number())
 }

@@ -20,13 +20,9 @@ mod fixtures;
 #[cfg(test)]
 mod kept_back;
 #[cfg(test)]
-mod largest;
-#[cfg(test)]
-mod made;
+mod many_writes;
 #[cfg(test)]
 mod mine;
-#[cfg(test)]
-mod porting;
 #[cfg(test)]
 mod sectors;
 #[cfg(test)]

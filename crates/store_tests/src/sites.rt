@@ -1,31 +1,31 @@
-//! A board's memory and a disk for it, and calls of which a test reads the answer alone.
+//! A write of a board's memory to a disk for it, of which a test reads the answer and the calls alone.
 ghost use Rattle.std.specs.Prelude.{◌≡◌, ◌≤◌, length, IfOk};
 ghost use Rattle.board_model.specs.Shapes.{ram_bytes_of, sectors_of};
-ghost use Rattle.layout.specs.Records.{AreCounts};
 
-use board_model::{Addr, HartId, ImageHead, PageNo, Reason, Refusal, Shape, Slot};
+use board_model::{Refusal, Shape};
 use crew::Crew;
 use disk::{ArmedFault, Disk};
-use image::{read_area, write_area};
-use layout::{
-    PlaceHead, Record, Saved, Side, Version, parse_record, place_head_bytes, record_bytes,
-};
+use image::write_area;
+use layout::Side;
 use ram::Ram;
 use savers::{LaneCounts, Snapshot};
-use simdisk::{Fill, SimDisk};
+use simdisk::SimDisk;
 use std::alloc::Global;
 
-/// A disk for a board of that shape.
-#[derive(Drop)]
-pub struct Site {
-    shape: Shape,
-    disk: SimDisk,
-    ghost none_out: { (⟦<SimDisk as Disk>⟧.facts disk).lent.lanes ≡ 0 },
-    ghost enough: { sectors_of shape ≤ length (⟦<SimDisk as Disk>⟧.facts disk).content },
+/// A disk of zeros for a board of that shape.
+fn disk_for(alloc: Global, shape: &Shape) -> Result<SimDisk, Refusal>
+    ensures none_out { IfOk result (λ disk. (⟦<SimDisk as Disk>⟧.facts disk).lent.lanes ≡ 0) }
+    ensures enough { IfOk result (λ disk. sectors_of shape.now ≤ length (⟦<SimDisk as Disk>⟧.facts disk).content) }
+{
+    let disk = SimDisk::blank(alloc, shape.sectors())?;
+    if disk.sectors() < shape.sectors() {
+        return Err(Refusal::BadShape);
+    }
+    Ok(disk)
 }
 
 /// A memory in which page k is filled with the byte k after the first.
-fn memory(alloc: Global, shape: &Shape, first: u8) -> Result<Ram, Refusal>
+pub fn memory(alloc: Global, shape: &Shape, first: u8) -> Result<Ram, Refusal>
     ensures { IfOk result (λ ram. length ram ≡ ram_bytes_of shape.now) }
 {
     let mut bytes = Vec::new(alloc);
@@ -48,154 +48,35 @@ fn boot_within(ram: &mut Ram, bytes: &[u8])
     }
 }
 
-/// The sector of a record with an image in that area.
-fn record_with_image(area: Side, serial: u64, counts: LaneCounts) -> Option<[u8; 512]> {
-    let head = ImageHead {
-        serial,
-        hart: HartId::new(0)?,
-        address: Addr::new(0x8000_0000)?,
-        opaque: 0,
-    };
-    let record = Record {
-        version: Version::Two,
-        slot: Slot::new(0)?,
-        reason: Reason::NoReason,
-        next: serial.saturating_add(1),
-        image: Some(Saved { head, area, counts }),
-        trial: None,
-    };
-    Some(record_bytes(&record))
+/// How many calls were made of lanes 0 to 3.
+fn lane_calls(disk: &SimDisk) -> [u64; 4] {
+    [
+        disk.lane_calls(0),
+        disk.lane_calls(1),
+        disk.lane_calls(2),
+        disk.lane_calls(3),
+    ]
 }
 
-/// What such a record keeps of the image, which is refused where no board of that shape has such counts.
-fn saved(shape: &Shape, area: Side, serial: u64, counts: LaneCounts) -> Result<Saved, Refusal>
-    ensures { IfOk result (λ saved. AreCounts shape.now saved.counts) }
-{
-    let sector = record_with_image(area, serial, counts).ok_or(Refusal::BadRecord)?;
-    match parse_record(&sector, shape) {
-        Ok(record) => record.image.ok_or(Refusal::NoImage),
-        Err(refusal) => Err(refusal),
-    }
-}
+/// A fault that never strikes, since calls are counted from 1.
+pub const NEVER: ArmedFault = ArmedFault::FailLane(0, 0);
 
-impl Site {
-    /// A disk of zeros for a board of so many pages and lanes.
-    pub fn new(alloc: Global, pages: u64, lanes: u64) -> Result<Site, Refusal> {
-        let shape = Shape::new(1, pages, lanes)?;
-        let disk = SimDisk::blank(alloc, shape.sectors())?;
-        Site::over(shape, disk)
-    }
-
-    /// That disk, which is refused where it is too small.
-    fn over(shape: Shape, disk: SimDisk) -> Result<Site, Refusal>
-        requires { (⟦<SimDisk as Disk>⟧.facts disk).lent.lanes ≡ 0 }
-    {
-        if disk.sectors() < shape.sectors() {
-            return Err(Refusal::BadShape);
-        }
-        Ok(Site { shape, disk })
-    }
-
-    /// What a cut leaves by that fill.
-    pub fn after_cut(self, fill: Fill) -> Result<Site, Refusal> {
-        Site::over(self.shape, self.disk.after_cut(fill))
-    }
-
-    /// Writes the memory that begins with that byte into the area.
-    pub fn write<C: Crew>(
-        &mut self,
-        alloc: Global,
-        crew: &C,
-        area: Side,
-        first: u8,
-        serial: u64,
-    ) -> Result<LaneCounts, Refusal> {
-        let ram = memory(alloc, &self.shape, first)?;
-        let snapshot = Snapshot {
-            shape: &self.shape,
-            ram: &ram,
-            serial,
-        };
-        write_area(alloc, &mut self.disk, crew, area, &snapshot)
-    }
-
-    /// Writes a page of the memory into the nine sectors from that one on.
-    fn write_page(
-        &mut self,
-        at: usize,
-        ram: &Ram,
-        number: u64,
-        serial: u64,
-    ) -> Result<(), Refusal> {
-        let page = PageNo::new(number).ok_or(Refusal::BadShape)?;
-        if ram.pages() <= page.number() || self.disk.sectors() < 9 || self.disk.sectors() - 9 < at {
-            return Err(Refusal::BadShape);
-        }
-        let head = PlaceHead { page, serial };
-        self.disk
-            .write(at, &[place_head_bytes(&head)])
-            .map_err(|_| Refusal::Device)?;
-        let (sectors, _) = ram.page(page).as_chunks::<512>();
-        self.disk
-            .write(at + 1, sectors)
-            .map_err(|_| Refusal::Device)
-    }
-
-    /// Writes the memory that begins with that byte: of each page its number, and the first of its nine sectors.
-    pub fn write_pages(
-        &mut self,
-        alloc: Global,
-        first: u8,
-        serial: u64,
-        places: &[(u64, usize)],
-    ) -> Result<(), Refusal> {
-        let ram = memory(alloc, &self.shape, first)?;
-        for &(number, at) in places {
-            self.write_page(at, &ram, number, serial)?;
-        }
-        Ok(())
-    }
-
-    /// Whether the area reads as that memory.
-    fn reads_as(
-        &mut self,
-        alloc: Global,
-        area: Side,
-        serial: u64,
-        counts: LaneCounts,
-        memory: &Ram,
-    ) -> Result<bool, Refusal> {
-        let saved = saved(&self.shape, area, serial, counts)?;
-        let mut ram = Ram::new(alloc, self.shape)?;
-        read_area(&mut self.disk, &self.shape, &saved, &mut ram)?;
-        Ok(ram.bytes() == memory.bytes())
-    }
-
-    /// Whether the area reads as the memory that begins with that byte.
-    pub fn holds(
-        &mut self,
-        alloc: Global,
-        area: Side,
-        first: u8,
-        serial: u64,
-        counts: LaneCounts,
-    ) -> Result<bool, Refusal> {
-        let written = memory(alloc, &self.shape, first)?;
-        self.reads_as(alloc, area, serial, counts, &written)
-    }
-
-    /// Arms a fault.
-    pub fn arm(&mut self, fault: ArmedFault) {
-        self.disk.arm(fault);
-    }
-
-    /// How many calls were made of lanes 0 to 3.
-    pub fn lane_calls(&self) -> [u64; 4] {
-        [
-            self.disk.lane_calls(0),
-            self.disk.lane_calls(1),
-            self.disk.lane_calls(2),
-            self.disk.lane_calls(3),
-        ]
-    }
+/// What a write of a board's memory into the first area answers, how many places of each lane are in use, and how many calls it
+/// made of each lane. The disk has that fault.
+pub fn saved<C: Crew>(
+    alloc: Global,
+    crew: &C,
+    shape: &Shape,
+    fault: ArmedFault,
+) -> Result<(Result<LaneCounts, Refusal>, [u64; 4]), Refusal> {
+    let ram = memory(alloc, shape, 9)?;
+    let mut disk = disk_for(alloc, shape)?;
+    disk.arm(fault);
+    let snapshot = Snapshot {
+        shape,
+        ram: &ram,
+        serial: 7,
+    };
+    let counts = write_area(alloc, &mut disk, crew, Side::first(), &snapshot);
+    Ok((counts, lane_calls(&disk)))
 }

@@ -1,83 +1,76 @@
-//! The store over a disk over a device.
+//! The store over disks that hand on to another: one of one's own (docs/PORTING.md), one with a log, and one with a cache.
 ghost use Rattle.std.specs.Prelude.{◌≡◌, IfOk};
 
 use crate::caches::{blank, cut};
-use crate::fixtures::same;
-use board_model::{Command, Refusal, Shape};
+use crate::fixtures::{open, same, set_slot, slot_of};
+use crate::mine::Mine;
+use board_model::{Refusal, Shape};
 use disk::{ArmedFault, Disk};
 use logged_disk::LoggedDisk;
 use simdisk::{Fill, SimDisk};
 use std::alloc::Global;
 use std::test::*;
-use store::{Receipt, Store, format};
+use store::{Store, format};
 
 /// The store of a disk of 26 sectors, which is formatted for the smallest board.
-fn formatted<D: Disk + Drop>(alloc: Global, disk: D) -> Result<Store<D>, Fail>
+fn formatted<D: Disk + Drop>(alloc: Global, disk: D) -> Result<Store<D>, Refusal>
     requires { (D.facts disk).lent.lanes ≡ 0 }
 {
     let mut disk = disk;
     format(&mut disk, &Shape::new(1, 1, 1)?)?;
-    match Store::open(alloc, disk) {
-        Ok(store) => Ok(store),
-        Err((_, refusal)) => Err(refusal.into()),
-    }
+    open(alloc, disk)
 }
 
-/// The slot that the store of a device finds.
-fn slot_of(alloc: Global, device: SimDisk) -> Result<u32, Fail>
-    requires { (⟦<SimDisk as Disk>⟧.facts device).lent.lanes ≡ 0 }
+/// What the commands that set slot 2 and then slot 3 were answered, and how many failures the disk then counts.
+type Answers = (Result<u32, Refusal>, Result<u32, Refusal>, u64);
+
+/// What they are answered by a store over this disk, which fails once, at that of their calls; and the disk that is left.
+fn two_commands<D: Disk + Drop>(alloc: Global, disk: D, call: u64) -> Result<(Answers, D), Refusal>
+    requires { (D.facts disk).lent.lanes ≡ 0 }
+    ensures { IfOk result (λ left. (D.facts left.1).lent.lanes ≡ 0) }
 {
-    match Store::open(alloc, device) {
-        Ok(store) => Ok(store.found().slot.number()),
-        Err((_, refusal)) => Err(refusal.into()),
-    }
+    let mut store = formatted(alloc, disk)?;
+    store.arm(ArmedFault::FailAt(call));
+    let first = set_slot(&mut store, 2);
+    let second = set_slot(&mut store, 3);
+    let disk = store.into_disk();
+    let failures = disk.failures();
+    Ok(((first, second, failures), disk))
 }
 
-/// The number of a command's receipt.
-fn apply<D: Disk + Drop>(store: &mut Store<D>, command: Command) -> Result<u32, Refusal> {
-    Ok(store.apply(command)?.number())
-}
-
-/// Power is cut once a command was acknowledged: the device alone holds what the command made.
-#[test]
-fn an_acknowledged_command_stands_in_the_device(rt: HostRuntime) -> Result<(), Fail> {
-    let mut store = formatted(rt.alloc(), blank(rt.alloc(), 26)?)?;
-    same(&rt, apply(&mut store, Command::Slot(2)), Ok(1));
-    same(&rt, slot_of(rt.alloc(), cut(store.into_disk()))?, 2);
-    Ok(())
-}
-
-/// The first two calls of a command: its record's write and its sync. Each fails once, and the same store goes on.
-#[test]
-fn a_failure_of_the_device_is_refused_and_nothing_is_lost(rt: HostRuntime) -> Result<(), Fail> {
-    for call in 1..3 {
-        let mut store = formatted(rt.alloc(), blank(rt.alloc(), 26)?)?;
-        store.arm(ArmedFault::FailAt(call));
-        let refused = Err(Refusal::Device);
-        same(&rt, apply(&mut store, Command::Slot(2)), refused);
-        same(&rt, apply(&mut store, Command::Slot(3)), Ok(1));
-        let disk = store.into_disk();
-        same(&rt, disk.failures(), 1);
-        same(&rt, slot_of(rt.alloc(), cut(disk))?, 3);
-    }
-    Ok(())
+/// The same of a cache, and the slot that stands in its device once power is cut.
+fn cached(alloc: Global, call: u64) -> Result<(Answers, u32), Refusal> {
+    let (answers, disk) = two_commands(alloc, blank(alloc, 26)?, call)?;
+    Ok((answers, slot_of(alloc, cut(disk))?))
 }
 
 /// The same of a disk that keeps nothing back.
+fn logged(alloc: Global, call: u64) -> Result<(Answers, u32), Refusal> {
+    let disk = LoggedDisk::new(SimDisk::blank(alloc, 26)?);
+    let (answers, disk) = two_commands(alloc, disk, call)?;
+    let device = disk.into_device().after_cut(Fill::Byte(9));
+    Ok((answers, slot_of(alloc, device)?))
+}
+
+/// The same of a disk of one's own, which is opened once more.
+fn own(alloc: Global, call: u64) -> Result<(Answers, u32), Refusal> {
+    let disk = Mine::new(SimDisk::blank(alloc, 26)?);
+    let (answers, disk) = two_commands(alloc, disk, call)?;
+    Ok((answers, slot_of(alloc, disk)?))
+}
+
+/// The command that failed is refused, the same store goes on, and the failure is counted.
+const FAILED: Answers = (Err(Refusal::Device), Ok(1), 1);
+
+/// The call that fails, none where it is 0: the first two of a command are its record's write and its sync.
+static CALLS: [(u64, Answers); 3] = [(0, (Ok(1), Ok(2), 0)), (1, FAILED), (2, FAILED)];
+
+/// What was acknowledged stands.
 #[test]
-fn a_logged_device_holds_what_was_acknowledged(rt: HostRuntime) -> Result<(), Fail> {
-    let disk = LoggedDisk::new(SimDisk::blank(rt.alloc(), 26)?);
-    let mut store = formatted(rt.alloc(), disk)?;
-    store.arm(ArmedFault::FailAt(1));
-    let refused = Err(Refusal::Device);
-    same(&rt, apply(&mut store, Command::Slot(2)), refused);
-    same(&rt, apply(&mut store, Command::Slot(3)), Ok(1));
-    let device = store.into_disk().into_device();
-    same(&rt, device.failures(), 1);
-    same(
-        &rt,
-        slot_of(rt.alloc(), device.after_cut(Fill::Byte(9)))?,
-        3,
-    );
-    Ok(())
+fn a_failure_of_the_device_is_refused_and_nothing_is_lost(rt: HostRuntime) {
+    for &(call, answers) in &CALLS {
+        same(&rt, cached(rt.alloc(), call), Ok((answers, 3)));
+        same(&rt, logged(rt.alloc(), call), Ok((answers, 3)));
+        same(&rt, own(rt.alloc(), call), Ok((answers, 3)));
+    }
 }

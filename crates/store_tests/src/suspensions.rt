@@ -1,90 +1,113 @@
 //! A suspension over a file: the lanes of its image come into the file too.
+ghost use Rattle.std.specs.Prelude.{◌≡◌, IfOk};
 
-use crate::files::{file_of, formatted, found, opened};
-use crate::fixtures::same;
-use board_model::{Addr, HartId, PageNo, Refusal, Shape};
-use crew::{Crew, Sequential};
-use disk::Sector;
+use crate::files::{formatted, found, opened};
+use crate::fixtures::{open, same};
+use crate::sites::memory;
+use board_model::{Addr, HartId, Refusal, Shape};
+use crew::Sequential;
+use disk::{Disk, Sector};
 use file_disk::FileFate;
 use ram::Ram;
 use simdisk::SimDisk;
 use std::alloc::Global;
+use std::ops::Range;
+use std::process::Abort;
 use std::test::*;
-use store::{Resumption, Saving, Store};
+use std::thread::Threads;
+use store::{Resumption, Saving};
 
-/// A memory of that board in which page k is k + 1 throughout, modulo 256.
-fn memory(alloc: Global, shape: Shape) -> Result<Ram, Fail> {
-    let mut ram = Ram::new(alloc, shape)?;
-    for number in 0..256 {
-        if let Some(page) = PageNo::new(number) {
-            if page.number() < ram.pages() {
-                ram.fill_page(page, &[(number as u8).wrapping_add(1); 4096]);
-            }
-        }
-    }
-    Ok(ram)
+/// A file that was formatted for a board, and the board's memory, in which page k is k + 1 throughout, modulo 256.
+#[derive(Drop)]
+struct Sleeper {
+    shape: Shape,
+    file: Vec<Sector>,
+    ram: Ram,
 }
 
-/// Suspends by hart 0 over a file of which a killed process made so many calls, and gives what it left.
-fn suspended<C: Crew>(
-    alloc: Global,
-    file: &[Sector],
-    ram: &Ram,
-    crew: &C,
-    left: u64,
-) -> Result<Vec<Sector>, Fail> {
-    let mut store = opened(alloc, file, left, FileFate::Killed)?;
-    let hart = HartId::new(0).ok_or(Refusal::BadShape)?;
-    let address = Addr::new(0x8000_0008).ok_or(Refusal::BadShape)?;
-    let at = Resumption {
-        hart,
-        address,
+/// The sleeper of one hart, and so many pages and lanes.
+fn sleeper_of(alloc: Global, pages: u64, lanes: u64) -> Result<Sleeper, Refusal> {
+    let shape = Shape::new(1, pages, lanes)?;
+    let file = formatted(alloc, shape)?;
+    let ram = memory(alloc, &shape, 1)?;
+    Ok(Sleeper { shape, file, ram })
+}
+
+/// Where it goes on: hart 0, at its third instruction.
+fn resumption() -> Option<Resumption> {
+    Some(Resumption {
+        hart: HartId::new(0)?,
+        address: Addr::new(0x8000_0008)?,
         opaque: 77,
-    };
-    let _told = store.suspend(Saving { alloc, crew }, ram, at)?;
-    Ok(file_of(store))
+    })
 }
 
-/// Whether an image is found, and if so, whether it is this memory, byte for byte.
-fn image_of(alloc: Global, file: &[Sector], ram: &Ram) -> Result<Option<bool>, Fail> {
-    let mut store: Store<SimDisk> = found(alloc, file)?;
-    if store.found().image.is_none() {
-        return Ok(None);
-    }
-    let mut loaded = Ram::new(alloc, store.shape())?;
+/// The disk that the next process finds after a suspension of which a killed process made so many calls.
+fn suspended<R: Threads + Sync>(
+    _rt: &R,
+    alloc: Global,
+    sleeper: &Sleeper,
+    left: u64,
+) -> Result<SimDisk, Refusal>
+    ensures { IfOk result (λ disk. (⟦<SimDisk as Disk>⟧.facts disk).lent.lanes ≡ 0) }
+{
+    let at = resumption().ok_or(Refusal::BadShape)?;
+    let crew = Sequential::<R>::new([0, 1, 2, 3])?;
+    let mut store = opened(alloc, &sleeper.file, left, FileFate::Killed)?;
+    let saving = Saving { alloc, crew: &crew };
+    let _told = store.suspend(saving, &sleeper.ram, at)?;
+    found(alloc, store)
+}
+
+/// Whether the image that stands is the sleeper's memory, byte for byte.
+fn is_whole(alloc: Global, disk: SimDisk, sleeper: &Sleeper) -> Result<bool, Refusal>
+    requires { (⟦<SimDisk as Disk>⟧.facts disk).lent.lanes ≡ 0 }
+{
+    let mut loaded = Ram::new(alloc, sleeper.shape)?;
+    let mut store = open(alloc, disk)?;
     store.load_image(&mut loaded)?;
-    Ok(Some(loaded.bytes() == ram.bytes()))
+    Ok(loaded.bytes() == sleeper.ram.bytes())
+}
+
+/// What the next process finds of the image.
+fn image_left<R: Threads + Sync>(
+    rt: &R,
+    alloc: Global,
+    sleeper: &Sleeper,
+    left: u64,
+) -> Result<bool, Refusal> {
+    let disk = suspended(rt, alloc, sleeper, left)?;
+    is_whole(alloc, disk, sleeper)
+}
+
+/// After each of these numbers of calls the next process finds that of a board of so many pages and lanes.
+fn leave<R: Abort + Threads + Sync>(
+    rt: &R,
+    alloc: Global,
+    pages: u64,
+    lanes: u64,
+    calls: Range<u64>,
+    image: Result<bool, Refusal>,
+) -> Result<(), Refusal> {
+    let sleeper = sleeper_of(alloc, pages, lanes)?;
+    for left in calls {
+        same(rt, image_left(rt, alloc, &sleeper, left), image);
+    }
+    Ok(())
 }
 
 /// A board of five pages and four lanes: an area of 72 sectors, which one sync puts into the file; then the record and
 /// the gate, each with its sync. Up to the gate's write no image is found, and from then on the whole one.
 #[test]
 fn a_killed_suspension_leaves_no_image_or_a_whole_one(rt: HostRuntime) -> Result<(), Fail> {
-    let alloc = rt.alloc();
-    let shape = Shape::new(1, 5, 4)?;
-    let file = formatted(alloc, shape)?;
-    let ram = memory(alloc, shape)?;
-    let crew = Sequential::<HostRuntime>::new([0, 1, 2, 3])?;
-    for left in 0..76 {
-        let left_behind = suspended(alloc, &file, &ram, &crew, left)?;
-        same(&rt, image_of(alloc, &left_behind, &ram)?, None);
-    }
-    for left in 76..79 {
-        let left_behind = suspended(alloc, &file, &ram, &crew, left)?;
-        same(&rt, image_of(alloc, &left_behind, &ram)?, Some(true));
-    }
+    leave(&rt, rt.alloc(), 5, 4, 0..76, Err(Refusal::NoImage))?;
+    leave(&rt, rt.alloc(), 5, 4, 76..79, Ok(true))?;
     Ok(())
 }
 
 /// Each of the 2,304 sectors that the image of 256 pages has comes into the file.
 #[test]
 fn the_image_of_the_largest_board_comes_into_the_file(rt: HostRuntime) -> Result<(), Fail> {
-    let alloc = rt.alloc();
-    let shape = Shape::new(1, 256, 1)?;
-    let file = formatted(alloc, shape)?;
-    let ram = memory(alloc, shape)?;
-    let crew = Sequential::<HostRuntime>::new([0, 1, 2, 3])?;
-    let left_behind = suspended(alloc, &file, &ram, &crew, u64::MAX)?;
-    same(&rt, image_of(alloc, &left_behind, &ram)?, Some(true));
+    leave(&rt, rt.alloc(), 256, 1, 10_000..10_001, Ok(true))?;
     Ok(())
 }

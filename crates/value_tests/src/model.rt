@@ -3,21 +3,6 @@ use crate::fixtures::same;
 use board_model::{Reason, Refusal};
 use std::alloc::Global;
 use std::process::Abort;
-use std::test::Fail;
-
-/// A refusal's number and text.
-fn reads(
-    rt: &impl Abort,
-    alloc: Global,
-    refusal: Refusal,
-    code: u32,
-    text: &str,
-) -> Result<(), Fail> {
-    same(rt, refusal.code(), code);
-    let written = format!(in alloc; "{refusal}")?;
-    same(rt, written.as_str(), text);
-    Ok(())
-}
 
 /// The rows of docs/REFUSALS.md.
 const ROWS: [(Refusal, u32, &str); 20] = [
@@ -87,12 +72,18 @@ const ROWS: [(Refusal, u32, &str); 20] = [
     (Refusal::NoTrial, 20, "no trial of a boot slot stands"),
 ];
 
+/// The refusal has that number and that text.
+fn reads(rt: &impl Abort, alloc: Global, refusal: Refusal, code: u32, text: &str) {
+    same(rt, refusal.code(), code);
+    let written = format!(in alloc; "{refusal}").expect(rt, "memory");
+    same(rt, written.as_str(), text);
+}
+
 #[test]
-fn refusals_have_their_numbers_and_texts(rt: HostRuntime) -> Result<(), Fail> {
-    for (refusal, code, text) in ROWS {
-        reads(&rt, rt.alloc(), refusal, code, text)?;
+fn refusals_have_their_numbers_and_texts(rt: HostRuntime) {
+    for &(refusal, code, text) in &ROWS {
+        reads(&rt, rt.alloc(), refusal, code, text);
     }
-    same(&rt, Reason::NoReason.number(), 0);
-    same(&rt, Reason::SystemFailure.number(), 1);
-    Ok(())
+    let reasons = (Reason::NoReason.number(), Reason::SystemFailure.number());
+    same(&rt, reasons, (0, 1));
 }

@@ -2,9 +2,8 @@
 
 use crate::fixtures::same;
 use gdb_packets::{Decoder, Heard, framed};
-use std::alloc::{AllocError, Global};
+use std::alloc::Global;
 use std::process::Abort;
-use std::test::*;
 
 /// Payloads, each with its packet.
 const FRAMED: [(&[u8], &[u8]); 9] = [
@@ -23,39 +22,25 @@ const FRAMED: [(&[u8], &[u8]); 9] = [
 ];
 
 #[test]
-fn packets_are_as_gdb_writes_them(rt: HostRuntime) -> Result<(), Fail> {
-    for (payload, packet) in FRAMED {
-        let made = framed(rt.alloc(), payload)?;
+fn packets_are_as_gdb_writes_them(rt: HostRuntime) {
+    for &(payload, packet) in &FRAMED {
+        let made = framed(rt.alloc(), payload).expect(&rt, "memory");
         same(&rt, made.as_slice(), packet);
     }
-    Ok(())
 }
 
 /// What a reader hears of a stream: how many packets came, and the last one.
-fn heard(alloc: Global, bytes: &[u8]) -> Result<(usize, Vec<u8>), AllocError> {
+fn heard(rt: &impl Abort, alloc: Global, bytes: &[u8]) -> (usize, Vec<u8>) {
     let mut decoder = Decoder::new(alloc);
     let mut count: usize = 0;
     let mut last = Vec::new(alloc);
     for byte in bytes {
-        if let Heard::Packet(payload) = decoder.take(*byte)? {
+        if let Heard::Packet(payload) = decoder.take(*byte).expect(rt, "memory") {
             count = count.wrapping_add(1);
             last = payload;
         }
     }
-    Ok((count, last))
-}
-
-/// So many packets are heard in the stream, of which this is the last one.
-fn hears(
-    rt: &impl Abort,
-    alloc: Global,
-    bytes: &[u8],
-    packets: usize,
-    payload: &[u8],
-) -> Result<(), AllocError> {
-    let (count, last) = heard(alloc, bytes)?;
-    same(rt, (count, last.as_slice()), (packets, payload));
-    Ok(())
+    (count, last)
 }
 
 /// Streams, with how many packets each has and the last of them: signs and noise beside packets, wrong sums, escapes.
@@ -66,9 +51,9 @@ const STREAMS: [(&[u8], usize, &[u8]); 3] = [
 ];
 
 #[test]
-fn packets_are_heard_in_a_stream(rt: HostRuntime) -> Result<(), Fail> {
-    for (bytes, packets, payload) in STREAMS {
-        hears(&rt, rt.alloc(), bytes, packets, payload)?;
+fn packets_are_heard_in_a_stream(rt: HostRuntime) {
+    for &(bytes, packets, payload) in &STREAMS {
+        let (count, last) = heard(&rt, rt.alloc(), bytes);
+        same(&rt, (count, last.as_slice()), (packets, payload));
     }
-    Ok(())
 }

@@ -1,9 +1,8 @@
 //! The state of the largest board with its image: memory is ample, so none is refused.
 use crate::fixtures::same;
-use board_model::{Addr, Command, Entry, HartId, Plain, Refusal};
+use board_model::{Addr, Command, Entry, HartId, Plain};
 use std::alloc::Global;
 use std::process::Abort;
-use std::test::Fail;
 
 /// The bytes of 256 pages.
 const MOST: usize = 1_048_576;
@@ -16,18 +15,18 @@ fn suspension(rt: &impl Abort) -> Entry {
 }
 
 /// How many bytes the image of a formatted disk's state has after a suspension of that memory.
-fn bytes_kept(rt: &impl Abort, alloc: Global, memory: &[u8]) -> Result<usize, Refusal> {
-    let asleep = Plain::formatted().after(alloc, suspension(rt), memory)?;
-    let again = asleep.copy(alloc)?;
-    let moved = again.after(alloc, Entry::Command(Command::Slot(2)), &[])?;
-    let made = Plain::of(alloc, &moved.durable(), memory)?;
+fn bytes_kept(rt: &impl Abort, alloc: Global, memory: &[u8]) -> usize {
+    let asleep = Plain::formatted().after(alloc, suspension(rt), memory);
+    let again = asleep.expect(rt, "asleep").copy(alloc).expect(rt, "again");
+    let moved = again.after(alloc, Entry::Command(Command::Slot(2)), &[]);
+    let moved = moved.expect(rt, "moved");
+    let made = Plain::of(alloc, &moved.durable(), memory).expect(rt, "made");
     same(rt, made == moved, true);
-    Ok(made.image.map_or(0, |image| image.memory.len()))
+    made.image.map_or(0, |image| image.memory.len())
 }
 
 #[test]
-fn no_memory_is_refused_for_the_largest_image(rt: HostRuntime) -> Result<(), Fail> {
-    let memory = vec![in rt.alloc(); 7u8; 1_048_576]?;
-    same(&rt, bytes_kept(&rt, rt.alloc(), &memory)?, MOST);
-    Ok(())
+fn no_memory_is_refused_for_the_largest_image(rt: HostRuntime) {
+    let memory = vec![in rt.alloc(); 7u8; 1_048_576].expect(&rt, "memory");
+    same(&rt, bytes_kept(&rt, rt.alloc(), &memory), MOST);
 }

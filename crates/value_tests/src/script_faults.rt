@@ -1,160 +1,159 @@
-//! Lines and scripts that are refused, and where.
+//! Lines and scripts that are refused, and where; and what is passed over.
 
-use crate::scripts::{holds, malformed, refused};
-use board_model::{Refusal, Shape};
-use std::alloc::Global;
-use std::process::Abort;
-use std::test::*;
+use crate::scripts::{Row, each_is_read_as};
+use board_model::Refusal;
 
-const BOARD: &[u8] = b"board 2 4 3";
+// What the malformed lines stand behind.
+const BOARD: &[u8] = b"board 2 4 3\n";
 
+// Lines, between bars, of which a number is out of its range.
 const PAST_A_RANGE: &[u8] = b"\
-payload 4 00\n\
-slot 4294967296\n\
-tries 4294967296 1\n\
-tries 1 4294967296\n\
-turn 2 1\n\
-turn 0 0\n\
-turn 0 1000001\n\
-call 2 base 0\n\
-reg 2 0\n\
-reg 0 32\n\
-pc 2\n\
-csr 2 0x100\n\
-csr 0 0x0ff\n\
-csr 0 0x101\n\
-csr 0 0x103\n\
-csr 0 0x106\n\
-csr 0 0x13f\n\
-csr 0 0x145\n\
-csr 0 0x17f\n\
-csr 0 0x181\n\
-csr 0 sie\n\
-mem 0x7fffffff 1\n\
-mem 0x7fffffff 2\n\
-mem 0x80000000 0\n\
-mem 0x80000000 65\n\
-mem 0x80003fff 2\n\
-mem 0x80004000 1\n\
-mem 0x80003fc1 64\n\
-mem 0xffffffffffffffff 1\n\
-cutat 0 00\n\
-cutat 1000001 00\n\
-cutlane 3 1 00\n\
-cutlane 0 0 00\n\
-failat 0\n\
-failat 1000001\n\
-faillane 3 1\n\
-faillane 0 1000001\n\
-poke 116 0 00\n\
-poke 0 512 00\n\
+payload 4 00|\
+slot 4294967296|\
+tries 4294967296 1|\
+tries 1 4294967296|\
+turn 2 1|\
+turn 0 0|\
+turn 0 1000001|\
+call 2 base 0|\
+reg 2 0|\
+reg 0 32|\
+pc 2|\
+csr 2 0x100|\
+csr 0 0x0ff|\
+csr 0 0x101|\
+csr 0 0x103|\
+csr 0 0x106|\
+csr 0 0x13f|\
+csr 0 0x145|\
+csr 0 0x17f|\
+csr 0 0x181|\
+csr 0 sie|\
+mem 0x7fffffff 1|\
+mem 0x7fffffff 2|\
+mem 0x80000000 0|\
+mem 0x80000000 65|\
+mem 0x80003fff 2|\
+mem 0x80004000 1|\
+mem 0x80003fc1 64|\
+mem 0xffffffffffffffff 1|\
+cutat 0 00|\
+cutat 1000001 00|\
+cutlane 3 1 00|\
+cutlane 0 0 00|\
+failat 0|\
+failat 1000001|\
+faillane 3 1|\
+faillane 0 1000001|\
+poke 116 0 00|\
+poke 0 512 00|\
 poke 0 511 0000";
 
 const WORD_COUNTS: &[u8] = b"\
-payload 0\n\
-payload 0 00 00\n\
-format 1\n\
-on\n\
-on fresh fresh\n\
-slot\n\
-slot 1 2\n\
-discard 1\n\
-tries\n\
-tries 1\n\
-tries 1 2 3\n\
-good 1\n\
-turn 0\n\
-turn 0 1 2\n\
-call 0 base\n\
-call 0\n\
-call 0 base 0 1 2 3 4\n\
-reg 0\n\
-reg 0 1 2\n\
-pc\n\
-pc 0 0\n\
-csr 0\n\
-csr 0 0x100 0\n\
-pending 0\n\
-inspect 0\n\
-wake 0\n\
-mem 0x80000000\n\
-mem 0x80000000 1 1\n\
-cutat 1\n\
-cutat 1 00 00\n\
-cutlane 0 1\n\
-cutlane 0 1 00 00\n\
-failat\n\
-failat 1 1\n\
-faillane 0\n\
-faillane 0 1 1\n\
-cut\n\
-cut 00 00\n\
-poke 0 0\n\
-poke 0 0 00 00\n\
-board 2 4 3\n\
-board 9 9 9\n\
-format#\n\
+payload 0|\
+payload 0 00 00|\
+format 1|\
+on|\
+on fresh fresh|\
+slot|\
+slot 1 2|\
+discard 1|\
+tries|\
+tries 1|\
+tries 1 2 3|\
+good 1|\
+turn 0|\
+turn 0 1 2|\
+call 0 base|\
+call 0|\
+call 0 base 0 1 2 3 4|\
+reg 0|\
+reg 0 1 2|\
+pc|\
+pc 0 0|\
+csr 0|\
+csr 0 0x100 0|\
+pending 0|\
+inspect 0|\
+wake 0|\
+mem 0x80000000|\
+mem 0x80000000 1 1|\
+cutat 1|\
+cutat 1 00 00|\
+cutlane 0 1|\
+cutlane 0 1 00 00|\
+failat|\
+failat 1 1|\
+faillane 0|\
+faillane 0 1 1|\
+cut|\
+cut 00 00|\
+poke 0 0|\
+poke 0 0 00 00|\
+board 2 4 3|\
+board 9 9 9|\
+format#|\
 slot 1 # one";
 
 const SPELLINGS: &[u8] = b"\
-\x20slot 1\n\
-slot 1 \n\
-slot  1\n\
-slot\t1\n\
-slot 1\r\n\
-tries  1 2\n\
-tries 1  2\n\
-tries 1\t2\n\
-tries 1 2 \n\
-tries 1 2;\n\
-good \n\
-good\r\n\
-\r\n\
-\x20\n\
-\x20# no comment\n\
-Slot 1\n\
-SLOT 1\n\
-slots 1\n\
-slo 1\n\
-Tries 1 2\n\
-tries1 2\n\
-try 1 2\n\
-goods\n\
-goo\n\
-on Fresh\n\
-slot -1\n\
-slot +1\n\
-slot 1.0\n\
-slot 1_0\n\
-slot a\n\
-tries -1 2\n\
-tries 1 0x\n\
-slot 0x\n\
-slot 0X1\n\
-slot x1\n\
-slot 0x1g\n\
-slot 000000000000000000001\n\
-slot 0x00000000000000001\n\
-call 0 base 18446744073709551616\n\
-call 0 base 99999999999999999999\n\
-call 0 BASE 0\n\
-call 0 time 0\n\
-cut 0\n\
-cut 000\n\
-cut 0g\n\
-cut OLD\n\
-cut Alt\n\
-payload 0 0\n\
-payload 0 000\n\
-payload 0 0x00\n\
-payload 0 zz\n\
+\x20slot 1|\
+slot 1 |\
+slot  1|\
+slot\t1|\
+slot 1\r|\
+tries  1 2|\
+tries 1  2|\
+tries 1\t2|\
+tries 1 2 |\
+tries 1 2;|\
+good |\
+good\r|\
+\r|\
+\x20|\
+\x20# no comment|\
+Slot 1|\
+SLOT 1|\
+slots 1|\
+slo 1|\
+Tries 1 2|\
+tries1 2|\
+try 1 2|\
+goods|\
+goo|\
+on Fresh|\
+slot -1|\
+slot +1|\
+slot 1.0|\
+slot 1_0|\
+slot a|\
+tries -1 2|\
+tries 1 0x|\
+slot 0x|\
+slot 0X1|\
+slot x1|\
+slot 0x1g|\
+slot 000000000000000000001|\
+slot 0x00000000000000001|\
+call 0 base 18446744073709551616|\
+call 0 base 99999999999999999999|\
+call 0 BASE 0|\
+call 0 time 0|\
+cut 0|\
+cut 000|\
+cut 0g|\
+cut OLD|\
+cut Alt|\
+payload 0 0|\
+payload 0 000|\
+payload 0 0x00|\
+payload 0 zz|\
 slot \xb1";
 
 // `state` and `quit` are lines of the console alone, and a boot attempts by itself.
 const OTHER_KEYWORDS: &[u8] = b"\
-state\n\
-quit\n\
-attempt\n\
+state|\
+quit|\
+attempt|\
 consume";
 
 // Scripts, between bars, of which a number of the board line is out of its range.
@@ -210,66 +209,33 @@ const FOURTH_LINES: &[u8] = b"\
 board 1 1 1\nformat\n\nslot x\nslot\n|\
 board 1 1 1\n\n\nboard x\n";
 
-/// Each line of the table is a fault where it stands alone after the board line.
-fn each_malformed(rt: &impl Abort, alloc: Global, table: &[u8]) -> Result<(), Fail> {
-    for text in table.split(|b| *b == b'\n') {
-        malformed(rt, alloc, BOARD, text)?;
-    }
-    Ok(())
-}
+// Scripts, between bars, of a board of 2 harts, 4 pages and 3 lanes and two lines more.
+const PASSED_OVER: &[u8] = b"\
+board 2 4 3\nformat\npc 1|\
+board 2 4 3\nformat\npc 1\n|\
+board 2 4 3\nformat\npc 1\n\n\n|\
+# first\n\nboard 0x2 04 3\n#\n#board\nformat\n# \xff\xfe \r\t\0\npc 1\n#|\
+\n\nboard 2 4 3\n# caf\xc3\xa9\nformat\n\npc 1\n|\
+#\r\nboard 2 4 3\nformat\npc 0x0001\n#\r\n";
 
-#[test]
-fn malformed_lines(rt: HostRuntime) -> Result<(), Fail> {
-    for table in [PAST_A_RANGE, WORD_COUNTS, SPELLINGS, OTHER_KEYWORDS] {
-        each_malformed(&rt, rt.alloc(), table)?;
-    }
-    Ok(())
-}
-
-/// Each script of the table is refused so.
-fn each_refused(
-    rt: &impl Abort,
-    alloc: Global,
-    table: &[u8],
-    refusal: Refusal,
-) -> Result<(), Fail> {
-    for script in table.split(|b| *b == b'|') {
-        refused(rt, alloc, script, refusal)?;
-    }
-    Ok(())
-}
-
-/// Tables of scripts, and by what each script of them is refused.
-const REFUSED: [(&[u8], Refusal); 6] = [
-    (BAD_SHAPES, Refusal::BadShape),
-    (BAD_BOARDS, Refusal::BadScript(1)),
-    (FIRST_LINES, Refusal::BadScript(1)),
-    (SECOND_LINES, Refusal::BadScript(2)),
-    (THIRD_LINES, Refusal::BadScript(3)),
-    (FOURTH_LINES, Refusal::BadScript(4)),
+/// Lines behind a board line, and whole scripts.
+const ROWS: [Row; 11] = [
+    (BOARD, b"", 0, PAST_A_RANGE, Err(Refusal::BadScript(2))),
+    (BOARD, b"", 0, WORD_COUNTS, Err(Refusal::BadScript(2))),
+    (BOARD, b"", 0, SPELLINGS, Err(Refusal::BadScript(2))),
+    (BOARD, b"", 0, OTHER_KEYWORDS, Err(Refusal::BadScript(2))),
+    (b"", b"", 0, BAD_SHAPES, Err(Refusal::BadShape)),
+    (b"", b"", 0, BAD_BOARDS, Err(Refusal::BadScript(1))),
+    (b"", b"", 0, FIRST_LINES, Err(Refusal::BadScript(1))),
+    (b"", b"", 0, SECOND_LINES, Err(Refusal::BadScript(2))),
+    (b"", b"", 0, THIRD_LINES, Err(Refusal::BadScript(3))),
+    (b"", b"", 0, FOURTH_LINES, Err(Refusal::BadScript(4))),
+    (b"", b"", 0, PASSED_OVER, Ok((2, 4, 3, 2))),
 ];
 
 #[test]
-fn the_first_fault_answers(rt: HostRuntime) -> Result<(), Fail> {
-    for (table, refusal) in REFUSED {
-        each_refused(&rt, rt.alloc(), table, refusal)?;
+fn the_first_fault_answers(rt: HostRuntime) {
+    for row in &ROWS {
+        each_is_read_as(&rt, rt.alloc(), row);
     }
-    Ok(())
-}
-
-#[test]
-fn what_is_passed_over(rt: HostRuntime) -> Result<(), Fail> {
-    let shape = Shape::new(2, 4, 3)?;
-    let scripts: [&[u8]; 6] = [
-        b"board 2 4 3\nformat\npc 1",
-        b"board 2 4 3\nformat\npc 1\n",
-        b"board 2 4 3\nformat\npc 1\n\n\n",
-        b"# first\n\nboard 0x2 04 3\n#\n#board\nformat\n# \xff\xfe \r\t\0\npc 1\n#",
-        b"\n\nboard 2 4 3\n# caf\xc3\xa9\nformat\n\npc 1\n",
-        b"#\r\nboard 2 4 3\nformat\npc 0x0001\n#\r\n",
-    ];
-    for script in scripts {
-        holds(&rt, rt.alloc(), script, shape, 2)?;
-    }
-    Ok(())
 }

@@ -1,66 +1,64 @@
-//! What the tests of scripts share. A test that finds no memory ends with that error, so that an allocation that fails
+//! What the tests of scripts share. A test that finds no memory ends with that message, so that an allocation that fails
 //! shows as such and not as a wrong answer.
 
-use crate::fixtures::same;
-use board_model::{Refusal, Shape};
-use script_lang::{Script, parse_script};
-use std::alloc::{AllocError, Global};
+use board_model::Refusal;
+use script_lang::parse_script;
+use std::alloc::Global;
 use std::process::Abort;
-use std::test::Fail;
 
-/// What parsing answers, if memory does not run out.
-pub fn parsed(alloc: Global, script: &[u8]) -> Result<Result<Script, Refusal>, AllocError> {
+/// What a script is read as: the harts, pages and lanes of its board and how many lines follow, or its refusal.
+pub type Answer = Result<(u32, u32, u32, usize), Refusal>;
+
+/// A piece so many times between two texts.
+#[derive(Drop)]
+pub struct Text<'a> {
+    pub start: &'a [u8],
+    pub piece: &'a [u8],
+    pub count: usize,
+    pub end: &'a [u8],
+}
+
+/// A row of a table of scripts: a start, a piece and how many times it stands there, ends between bars, and what the script with each
+/// end is read as.
+pub type Row = (&'static [u8], &'static [u8], usize, &'static [u8], Answer);
+
+fn written(rt: &impl Abort, alloc: Global, text: &Text<'_>) -> Vec<u8> {
+    let mut script = text.start.to_vec(alloc).expect(rt, "memory");
+    for _ in 0..text.count {
+        script.extend_from_slice(text.piece).expect(rt, "memory");
+    }
+    script.extend_from_slice(text.end).expect(rt, "memory");
+    script
+}
+
+fn answer(rt: &impl Abort, alloc: Global, script: &[u8]) -> Answer {
     match parse_script(alloc, script) {
-        Err(Refusal::Memory) => Err(AllocError),
-        answer => Ok(answer),
+        Ok(read) => {
+            let shape = read.shape;
+            let lines = read.lines.len();
+            Ok((shape.harts(), shape.pages(), shape.lanes(), lines))
+        }
+        Err(Refusal::Memory) => rt.panic("memory"),
+        Err(refusal) => Err(refusal),
     }
 }
 
-/// A board line, and this text.
-pub fn after_board(alloc: Global, board: &[u8], text: &[u8]) -> Result<Vec<u8>, AllocError> {
-    let mut script = board.to_vec(alloc)?;
-    script.extend_from_slice(b"\n")?;
-    script.extend_from_slice(text)?;
-    Ok(script)
+/// The script of that text is read so.
+pub fn is_read_as(rt: &impl Abort, alloc: Global, text: &Text<'_>, wanted: &Answer) {
+    let script = written(rt, alloc, text);
+    let found = answer(rt, alloc, &script);
+    assert!(rt; found == *wanted, "of {script:?}");
 }
 
-/// The script is refused so.
-pub fn refused(
-    rt: &impl Abort,
-    alloc: Global,
-    script: &[u8],
-    refusal: Refusal,
-) -> Result<(), Fail> {
-    match parsed(alloc, script)? {
-        Ok(_) => assert!(rt; false, "{script:?} has a fault"),
-        Err(found) => assert!(rt; found == refusal, "of {script:?}"),
+/// The scripts of that row are read so.
+pub fn each_is_read_as(rt: &impl Abort, alloc: Global, row: &Row) {
+    for end in row.3.split(|b| *b == b'|') {
+        let text = Text {
+            start: row.0,
+            piece: row.1,
+            count: row.2,
+            end,
+        };
+        is_read_as(rt, alloc, &text, &row.4);
     }
-    Ok(())
-}
-
-/// The text after that board line is a fault at line 2.
-pub fn malformed(rt: &impl Abort, alloc: Global, board: &[u8], text: &[u8]) -> Result<(), Fail> {
-    let script = after_board(alloc, board, text)?;
-    refused(rt, alloc, &script, Refusal::BadScript(2))
-}
-
-/// What was read has this shape and so many lines.
-fn has(rt: &impl Abort, script: &Script, shape: Shape, lines: usize) {
-    assert!(rt; script.shape == shape);
-    same(rt, script.lines.len(), lines);
-}
-
-/// The script has this shape and so many lines.
-pub fn holds(
-    rt: &impl Abort,
-    alloc: Global,
-    script: &[u8],
-    shape: Shape,
-    lines: usize,
-) -> Result<(), Fail> {
-    match parsed(alloc, script)? {
-        Ok(found) => has(rt, &found, shape, lines),
-        Err(refusal) => assert!(rt; false, "refused {refusal:?}"),
-    }
-    Ok(())
 }

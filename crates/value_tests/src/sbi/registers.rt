@@ -106,26 +106,25 @@ fn answered(rt: &impl Abort, answer: SbiRet) -> (u64, u64, u64, u64) {
     )
 }
 
-#[test]
-fn a_value_goes_to_a1(rt: HostRuntime) {
-    for value in [0, 7, u64::MAX] {
-        same(&rt, answered(&rt, Ok(value)), (0, value, A2, 0x8000_1004));
-    }
-}
+/// Answers, each with what a0 and a1 hold then: an error is negative in a0, and its value is 0.
+const ANSWERS: [(SbiRet, i64, u64); 11] = [
+    (Ok(0), 0, 0),
+    (Ok(7), 0, 7),
+    (Ok(u64::MAX), 0, u64::MAX),
+    (Err(SbiError::Failed), -1, 0),
+    (Err(SbiError::NotSupported), -2, 0),
+    (Err(SbiError::InvalidParam), -3, 0),
+    (Err(SbiError::Denied), -4, 0),
+    (Err(SbiError::InvalidAddress), -5, 0),
+    (Err(SbiError::AlreadyAvailable), -6, 0),
+    (Err(SbiError::AlreadyStarted), -7, 0),
+    (Err(SbiError::AlreadyStopped), -8, 0),
+];
 
 #[test]
-fn an_error_is_negative_in_a0_and_its_value_is_0(rt: HostRuntime) {
-    for (error, number) in [
-        (SbiError::Failed, -1i64),
-        (SbiError::NotSupported, -2),
-        (SbiError::InvalidParam, -3),
-        (SbiError::Denied, -4),
-        (SbiError::InvalidAddress, -5),
-        (SbiError::AlreadyAvailable, -6),
-        (SbiError::AlreadyStarted, -7),
-        (SbiError::AlreadyStopped, -8),
-    ] {
-        let a0 = number.cast_unsigned();
-        same(&rt, answered(&rt, Err(error)), (a0, 0, A2, 0x8000_1004));
+fn an_answer_goes_to_a0_and_a1(rt: HostRuntime) {
+    for (answer, a0, a1) in ANSWERS {
+        let found = answered(&rt, answer);
+        same(&rt, found, (a0.cast_unsigned(), a1, A2, 0x8000_1004));
     }
 }
