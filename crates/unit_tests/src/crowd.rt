@@ -4,7 +4,7 @@ ghost use Rattle.std.specs.Prelude.{◌≡◌, ℕ, ◌<◌, ◌≤◌, ◌+◌,
 ghost use denote.Param.Send.{IsSync};
 ghost use Rattle.ipi.specs.Pairs.{Sits, SameHarts};
 ghost use Rattle.ipi.specs.Seating.{IsSeatOf, harts_of, pending_view_of_seat, pending_views_in};
-ghost use Rattle.machine_tests.specs.Crowd.{AreFrom};
+ghost use Rattle.unit_tests.specs.Crowd.{AreFrom};
 
 use board_model::HartId;
 use ipi::{IpiSeat, PendingTable, SeatTable, SenderSet};

@@ -5,7 +5,7 @@ ghost use Rattle.hsm_steps.specs.Rule.{stands};
 ghost use Rattle.hsm_steps.specs.Seating.{IsSeatOf, harts_of, harts_in, hart_view_of_seat};
 ghost use Rattle.hsm_steps.specs.Outcomes.{opening_view};
 ghost use Rattle.hsm_steps.specs.declared.view.Stage.TheVariants.{Running};
-ghost use Rattle.machine_tests.specs.Race.{AreReady};
+ghost use Rattle.unit_tests.specs.Race.{AreReady};
 
 use board_model::{Addr, HartId, Shape};
 use hsm::{HartSeat, HartTable, SeatTable, start, stop, try_enter};

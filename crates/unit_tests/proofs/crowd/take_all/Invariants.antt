@@ -1,7 +1,7 @@
 use Rattle.std.proofs.Common.{ℕ, ◌<◌}
 use Rattle.ipi.specs.Pairs.{Sits}
 use Rattle.ipi.specs.Seating.{IsSeatOf, harts_of, pending_view_of_seat}
-use Rattle.machine_tests.proofs.crowd.take_all.Given as goal
+use Rattle.unit_tests.proofs.crowd.take_all.Given as goal
 
 abbrev pub invariant-loop-number : goal.invariant-loop-number
 invariant-loop-number l = record {

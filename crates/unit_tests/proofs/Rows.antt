@@ -6,7 +6,7 @@ use Rattle.tallies.proofs.Totals.{total-append}
 use Rattle.ipi.specs.Ledger.{PendingView, PendingSeatView}
 use Rattle.tallies.specs.Notes.{numbers, is_of, seats, first_hart, other_harts, together}
 use Rattle.ipi.specs.Pairs.{SameHarts}
-use Rattle.machine_tests.specs.Crowd.{AreFrom}
+use Rattle.unit_tests.specs.Crowd.{AreFrom}
 
 -- a seat of the first hart alone has it
 pub sits_alone : (first : ℕ) (ds : List PendingView) → AreFrom first ds → length ds ≡ 1 → total (is_of first) ds ≡ 1

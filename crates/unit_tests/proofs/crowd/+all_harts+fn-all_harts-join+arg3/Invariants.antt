@@ -1,5 +1,5 @@
 use Rattle.std.proofs.Common.{◌-◌, ◌*◌}
-use Rattle.machine_tests.proofs.crowd.+all_harts+fn-all_harts-join+arg3.Given as goal
+use Rattle.unit_tests.proofs.crowd.+all_harts+fn-all_harts-join+arg3.Given as goal
 
 abbrev pub decreases-all_harts : goal.decreases-all_harts
 decreases-all_harts g l = 2 * l.harts

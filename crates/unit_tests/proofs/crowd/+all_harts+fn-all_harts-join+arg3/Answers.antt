@@ -1,6 +1,6 @@
 use Rattle.std.proofs.Common.{◌≡◌, ◌∙◌}
-use Rattle.machine_tests.proofs.Rows.{sits_alone, same_whole}
-use Rattle.machine_tests.proofs.crowd.+all_harts+fn-all_harts-join+arg3.Goals as goal
+use Rattle.unit_tests.proofs.Rows.{sits_alone, same_whole}
+use Rattle.unit_tests.proofs.crowd.+all_harts+fn-all_harts-join+arg3.Goals as goal
 
 pub one_hart-requires-clause-acts : goal.one_hart-requires-clause-acts
 one_hart-requires-clause-acts g t c =

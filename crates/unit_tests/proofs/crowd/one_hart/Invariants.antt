@@ -1,6 +1,6 @@
 use Rattle.ipi.specs.Pairs.{SameHarts}
 use Rattle.ipi.specs.Seating.{IsSeatOf, pending_view_of_seat}
-use Rattle.machine_tests.proofs.crowd.one_hart.Given as goal
+use Rattle.unit_tests.proofs.crowd.one_hart.Given as goal
 
 abbrev pub invariant-loop-round : goal.invariant-loop-round
 invariant-loop-round l = record {

@@ -1,5 +1,5 @@
 use Rattle.hsm_steps.specs.declared.view.Stage.TheVariants.{Running}
-use Rattle.machine_tests.proofs.two_tables.fn.first_use.join+arg2.Goals as goal
+use Rattle.unit_tests.proofs.two_tables.fn.first_use.join+arg2.Goals as goal
 
 pub status-requires : goal.status-requires
 status-requires c = record {
