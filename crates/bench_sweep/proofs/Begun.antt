@@ -1,8 +1,12 @@
 -- Where a bench begins.
-use Rattle.std.proofs.Common.{◌≡◌, ◌⊎◌, ◌<◌, ◌+◌, ◌++◌, ◌∷◌, ℕ, false, length, take, get_or, inl, inr, List, [], Option, None, Some, refl, sym, ◌∙◌, ap, subst}
+use Rattle.std.proofs.Common.{◌≡◌, ◌⊎◌, ◌<◌, ◌+◌, ◌++◌, ◌∷◌, ℕ, Bool, true, false, Result, Ok, Err, length, take, get_or, inl, inr, List, [], Option, None, Some, refl, sym, ◌∙◌, ap, subst}
 use Rattle.board_model.specs.Durable.{DurableState, Change, CarriesWhole}
 use Rattle.board_model.specs.Kept.{Kept, nothing_kept}
 use Rattle.board_model.specs.Shapes.{Size}
+use Rattle.board_model.specs.declared.refusal.Refusal.{Refusal}
+use Rattle.board_model.specs.declared.refusal.Refusal.TheVariants.{Memory}
+use Rattle.simdisk.specs.declared.fill.Fill.{Fill}
+use Rattle.std.specs.Prelude.{MatchResult}
 use Rattle.script_lang.specs.declared.line.Line.{Line}
 use Rattle.script_lang.specs.declared.line.Line.TheVariants as lines
 use Rattle.bench_report.specs.declared.power.OffDisk.{OffDisk}
@@ -16,11 +20,13 @@ use Rattle.bench_report.specs.Happens.{says, off, formatted_anew}
 use Rattle.bench_report.specs.PowerOns.{FormatsOn}
 use Rattle.bench_report.specs.Steps.{FormatStep, Step, Moves, Run}
 use Rattle.bench_report.proofs.RunLines.{run_more}
-use Rattle.bench_report.specs.Agree.{OffIs, Agrees, IsBench}
+use Rattle.bench_report.specs.Agree.{OffIs, Agrees, IsBench, EndsBy, Matches}
 use Rattle.bench_judge.specs.declared.ledgers.Ledger.{Ledger}
 use Rattle.bench_judge.specs.Ledgers.{Tells}
 use Rattle.bench_sweep.specs.Made.{IsFormatted}
 use Rattle.bench_sweep.specs.Runs.{TellsWhole, Runs, Begins, Begun, Formats}
+use Rattle.bench_sweep.specs.Told.{ShowsEnoughMemory}
+use Rattle.bench_sweep.proofs.Fed.{off_grows}
 
 -- ---- the line that formats the disk
 abbrev Fresh : Bench → Bench → Type 0
@@ -57,6 +63,13 @@ said line a is = absurd is
 moved_fresh : (size : Size) (line : Line) (b : Bench) (a : Answer) (new : Bench) → Formats line a → Moves size line b a new → Fresh b new
 moved_fresh size line b a new is (inl x) = fresh_by size line b a new is x.0
 moved_fresh size line b a new is (inr x) = absurd (let no : printed.Formatted ≡ printed.PowerLost = sym (said line a is) ∙ ap (λ (y : Answer). y.line) x.4 in let never : ⊥ = cc in never)
+
+-- ---- a line before it
+pub moved_by : (size : Size) (line : Line) (b : Bench) (answer : Result Answer Refusal) (fill : Fill) (power : Power) (slots : List (List ℕ)) (did : Bool) → b.power ≡ None
+    → MatchResult answer (λ a. (new : Bench) × Moves size line b a new × EndsBy size line fill b a power × IsBench size new power slots) (λ e. (e ≡ Memory) × Matches size b power slots) → MatchResult answer (λ a. ShowsEnoughMemory a.line × (did ≡ true → Formats line a)) (λ e. ⊥)
+    → (a : Answer) × (new : Bench) × Moves size line b a new × IsBench size new power slots × (new.growths ≡ b.growths) × (did ≡ true → Formats line a)
+moved_by size line b (Ok a) fill power slots did off (new, moves, ends, is) (enough, formats) = (a, new, moves, is, off_grows size line b a new off enough moves, formats)
+moved_by size line b (Err e) fill power slots did off moved told = absurd told
 
 -- after the lines before it
 pub begun_by : (size : Size) (start : List (List ℕ)) (lines : List Line) (i : ℕ) (line : Line) (d : Line) (power : Power) (slots : List (List ℕ)) (b new : Bench) (answers : List Answer) (a : Answer) → i < length lines → line ≡ get_or lines i d → Run size (bench_with start) (take i lines) answers b

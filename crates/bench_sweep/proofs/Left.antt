@@ -1,6 +1,6 @@
 -- What a run leaves, and what a power-on that keeps its image finds of it.
 use Rattle.std.proofs.Common.{◌≡◌, ◌≤◌, ◌⊎◌, ℕ, inl, inr, Bool, true, false, List, [], ◌∷◌, Option, None, Some, Result, Ok, Err, OnOk, refl, sym, ◌∙◌, ap, subst, arith, length}
-use Rattle.std.specs.Prelude.{IfSome, is_some, if◌then◌else◌, length}
+use Rattle.std.specs.Prelude.{IfSome, MatchResult, is_some, if◌then◌else◌, length}
 use Rattle.board_model.proofs.Attempts.{attempt_image}
 use Rattle.board_model.specs.Durable.{DurableState, Image, Change, Attempt, IsWhole, after, refusal_of}
 use Rattle.board_model.specs.Kept.{Kept, MayKeep, found_of}
@@ -13,6 +13,8 @@ use Rattle.board_model.specs.declared.durable.Durable.{Durable}
 use Rattle.board_model.specs.declared.durable.ImageHead.{ImageHead}
 use Rattle.board_model.specs.declared.durable.Trial.{Trial}
 use Rattle.board_model.specs.declared.plain.Plain.{Plain}
+use Rattle.board_model.specs.declared.refusal.Refusal.{Refusal}
+use Rattle.board_model.specs.declared.refusal.Refusal.TheVariants.{Memory}
 use Rattle.disk.specs.Facts.{IsLeft}
 use Rattle.disk.specs.FaultState.{Armed, Unarmed, FaultArmed, CutArmed, FaultState, Cause, fault_state_left}
 use Rattle.disk.specs.declared.device.ArmedFault.{ArmedFault}
@@ -112,7 +114,7 @@ sound_of size b power formatted agrees = (formatted, by power agrees)
     by (Off disk) is = let P : Option BenchLife → Type 0 = λ p. GoesOn b.kept p in subst P (sym is.0) tt
     by (On board) is = let M : DiskState → Type 0 = λ m. BoardIs size m b.kept b.power board in life b.power board (subst M formatted is.0)
 
-pub line_runs : (size : Size) (line : Line) (b : Bench) (old new : Power) (slots now : List (List ℕ)) (answer : Answer) (was ledger : Ledger) → IsPlainLine line → moves_harts line ≡ false → powers_on line ≡ false → RunsCalm size b old slots was → ShowsEnoughMemory answer.line
+line_runs : (size : Size) (line : Line) (b : Bench) (old new : Power) (slots now : List (List ℕ)) (answer : Answer) (was ledger : Ledger) → IsPlainLine line → moves_harts line ≡ false → powers_on line ≡ false → RunsCalm size b old slots was → ShowsEnoughMemory answer.line
     → ((x : Bench) × Step size line b answer x × Matches size x new now)
     → ((z : Size) (k n : Kept) → TellsWhole z was k → LineTold line answer k n → TellsWhole z ledger n) → LineMoves size line b new now ledger
 line_runs size line b old new slots now answer was ledger plain none unasked r enough (x, step, matches) follows =
@@ -121,6 +123,12 @@ line_runs size line b old new slots now answer was ledger plain none unasked r e
       does = (answer, step);
       runs = record { agrees = matches.0; same = matches.1; follows = record { formatted = told.1 ∙ r.follows.formatted; kept = follows size b.kept x.kept r.follows.kept told.0; enough = line_grows size line b answer x (inr none) enough step ∙ r.follows.enough } };
     }
+
+pub answered_runs : (size : Size) (line : Line) (b : Bench) (old new : Power) (slots now : List (List ℕ)) (answer : Result Answer Refusal) (was ledger : Ledger) → IsPlainLine line → moves_harts line ≡ false → powers_on line ≡ false → RunsCalm size b old slots was
+    → MatchResult answer (λ a. (x : Bench) × Step size line b a x × Matches size x new now) (λ e. (e ≡ Memory) × Matches size b new now)
+    → MatchResult answer (λ a. ShowsEnoughMemory a.line × ((z : Size) (k n : Kept) → TellsWhole z was k → LineTold line a k n → TellsWhole z ledger n)) (λ e. ⊥) → LineMoves size line b new now ledger
+answered_runs size line b old new slots now (Ok a) was ledger plain none unasked r did (enough, follows) = line_runs size line b old new slots now a was ledger plain none unasked r enough did follows
+answered_runs size line b old new slots now (Err e) was ledger plain none unasked r did told = absurd told
 
 -- a line that powers a board on, which was off
 pub power_runs : (size : Size) (mode : BootMode) (b : Bench) (old new : Power) (disk : OffDisk) (slots : List (List ℕ)) (answer : Answer) (now : Option Durable) (was ledger : Ledger) → old ≡ Off disk → RunsCalm size b old slots was → ShowsEnoughMemory answer.line

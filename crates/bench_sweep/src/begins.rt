@@ -1,12 +1,13 @@
 //! Where a bench begins: behind the first format of its script that answers Ok.
 
-ghost use Rattle.std.specs.Prelude.{◌≡◌, ◌≤◌, ℕ, List, false, true, length, take, All, IfOk, IfErr, OnOk, ◌↔◌, IsTrue};
+ghost use Rattle.std.specs.Prelude.{◌≡◌, ◌≤◌, ℕ, List, false, true, length, take, All, Err, IfOk, IfErr, MatchResult, OnErr, OnOk, ◌↔◌, IsTrue};
 ghost use Rattle.board_model.specs.Shapes.{Size};
 ghost use Rattle.board_model.specs.declared.refusal.Refusal.TheVariants.{Memory};
 ghost use Rattle.script_lang.specs.Lines.{IsLineInRange};
 ghost use Rattle.bench_report.specs.Agree.{Agrees, IsBench};
 ghost use Rattle.bench_report.specs.Bench.{Bench, bench_with};
 ghost use Rattle.bench_report.specs.Steps.{Moves};
+ghost use Rattle.bench_sweep.specs.Told.{ShowsEnoughMemory};
 ghost use Rattle.bench_sweep.specs.Runs.{Begun, IsFormattedAt, Formats, StopsOff};
 
 use crate::follows::enough_memory;
@@ -46,6 +47,23 @@ fn begins_off(power: &Power) -> Result<(), Refusal>
     Err(Refusal::Memory)
 }
 
+/// Whether the line formatted the disk, by what was answered. Refused `Memory` where the line was, where it says so, or
+/// where it says nothing.
+fn formatted_by(line: &Line, answer: Result<Answer, Refusal>) -> Result<bool, Refusal>
+    requires memory { OnErr answer (answer ≡ Err Memory) }
+    ensures formats { IfOk result (λ did. MatchResult answer (λ a. ShowsEnoughMemory a.line
+        × (did ≡ true → Formats line.now a)) (λ e. ⊥)) }
+    ensures refused { IfErr result (λ e. e ≡ Memory) }
+{
+    match answer {
+        Err(refusal) => Err(refusal),
+        Ok(answer) => {
+            enough_memory(answer.line)?;
+            Ok(is_formatted(line, &answer))
+        }
+    }
+}
+
 /// Runs a line before the disk is formatted, and answers whether it was by that. Refused `Memory` alone.
 fn run_before_format<C: Crew>(
     setting: &Setting<'_, C>,
@@ -60,14 +78,8 @@ fn run_before_format<C: Crew>(
 {
     begins_off(&bench.power)?;
     let (after, answer) = line_with_cuts(setting, line, bench);
-    match answer {
-        Err(refusal) => Err(refusal),
-        Ok(answer) => {
-            enough_memory(answer.line)?;
-            let formatted = is_formatted(line, &answer);
-            Ok((after, formatted))
-        }
-    }
+    let formatted = formatted_by(line, answer)?;
+    Ok((after, formatted))
 }
 
 /// A board over a blank disk of the size that it needs, whose slots boot copies of these.

@@ -1,6 +1,6 @@
 //! What a ledger takes from the answers of a script's lines.
 
-ghost use Rattle.std.specs.Prelude.{◌≡◌, ◌↔◌, ℕ, List, ◌∷◌, Some, None, false, true, is_some, IsTrue, IsSomeAnd, MatchOption, IfErr, OnOk};
+ghost use Rattle.std.specs.Prelude.{◌≡◌, ◌↔◌, ℕ, List, ◌∷◌, Some, None, false, true, is_some, IsTrue, IsSomeAnd, Err, MatchOption, MatchResult, IfErr, OnErr, OnOk};
 ghost use Rattle.board_model.specs.Durable.{Change, Suspend, Consume, Discard, CarriesWhole};
 ghost use Rattle.board_model.specs.Kept.{Kept, found_of};
 ghost use Rattle.board_model.specs.Shapes.{Size};
@@ -250,7 +250,7 @@ pub fn enough_memory(said: Printed) -> Result<(), Refusal>
 
 /// A power-on by that mode gave that answer, and the state is then that one: what the open found settles the command
 /// in doubt. Refused `Memory` where the power-on was, or the ledger is; then the ledger is of no use.
-pub fn record_power_on(
+fn record_power_on(
     ledger: &mut Ledger,
     alloc: Global,
     mode: BootMode,
@@ -271,6 +271,23 @@ pub fn record_power_on(
             record_answer(ledger, alloc, mode, &found, answer.line, now)
         }
     }
+}
+
+/// The same, where enough memory shows in what the power-on said. Refused `Memory` also where it does not.
+pub fn record_powered(
+    ledger: &mut Ledger,
+    alloc: Global,
+    mode: BootMode,
+    answer: &Answer,
+    now: Option<Durable>,
+) -> Result<(), Refusal>
+    ensures enough { OnOk result (ShowsEnoughMemory answer.now.line) }
+    ensures kept { OnOk result ((size : Size) (old new : Kept) → TellsWhole size ledger.old old
+        → PowerTold mode answer.now.found answer.now.line now old new → TellsWhole size ledger.new new) }
+    ensures memory { IfErr result (λ e. e ≡ Memory) }
+{
+    enough_memory(answer.line)?;
+    record_power_on(ledger, alloc, mode, answer, now)
 }
 
 /// A command of the console gave that answer.
@@ -300,7 +317,7 @@ pub fn record_console(
 
 /// A line that moves no hart and powers no board on gave that answer. Refused `Memory` where the ledger is; then the
 /// ledger is of no use.
-pub fn record_line(
+fn record_line(
     ledger: &mut Ledger,
     alloc: Global,
     line: &Line,
@@ -314,6 +331,28 @@ pub fn record_line(
     match line {
         Line::Command(command) => record_console(ledger, alloc, *command, answer.line),
         _ => Ok(()),
+    }
+}
+
+/// The same, where the line was refused no memory. Refused `Memory` also where it was.
+pub fn record_answered(
+    ledger: &mut Ledger,
+    alloc: Global,
+    line: &Line,
+    answer: Result<Answer, Refusal>,
+) -> Result<(), Refusal>
+    requires memory { OnErr answer (answer ≡ Err Memory) }
+    ensures kept { OnOk result (MatchResult answer (λ a. ShowsEnoughMemory a.line
+        × ((size : Size) (old new : Kept) → TellsWhole size ledger.old old → LineTold line.now a old new
+        → TellsWhole size ledger.new new)) (λ e. ⊥)) }
+    ensures memory { IfErr result (λ e. e ≡ Memory) }
+{
+    match answer {
+        Err(refusal) => Err(refusal),
+        Ok(answer) => {
+            enough_memory(answer.line)?;
+            record_line(ledger, alloc, line, &answer)
+        }
     }
 }
 

@@ -19,7 +19,7 @@ ghost use Rattle.bench_sweep.specs.Swept.{IsPlainLine};
 ghost use Rattle.bench_sweep.specs.Told.{moves_harts, powers_on};
 ghost use Rattle.bench_sweep.specs.declared.points.Caller.{Caller};
 
-use crate::follows::{enough_memory, record_console, record_line, record_power_on};
+use crate::follows::{record_answered, record_console, record_powered};
 use crate::harts::{is_of_harts, run_hart_line};
 use crate::points::{Bench as Kind, Point};
 use crate::site::{Going, Site};
@@ -165,8 +165,7 @@ fn run_power_on(
         Power::On(board) => Ok(Power::On(board)),
         Power::Off(off) => {
             let (power, answer, now) = power_on(alloc, mode, off, payloads);
-            enough_memory(answer.line)?;
-            record_power_on(ledger, alloc, mode, &answer, now)?;
+            record_powered(ledger, alloc, mode, &answer, now)?;
             Ok(power)
         }
     }
@@ -190,14 +189,8 @@ fn run_still_line<C: Crew>(
     ensures refused { IfErr result (λ e. e ≡ Memory) }
 {
     let (power, answer) = line_alone(setting, line, power, payloads);
-    match answer {
-        Err(refusal) => Err(refusal),
-        Ok(answer) => {
-            enough_memory(answer.line)?;
-            record_line(ledger, setting.alloc, line, &answer)?;
-            Ok(power)
-        }
-    }
+    record_answered(ledger, setting.alloc, line, answer)?;
+    Ok(power)
 }
 
 /// The mode of a line that powers a board on.
