@@ -59,6 +59,26 @@ def texts_of(edit, crate):
     return rt().read_edit(edit, crate.folder)
 
 
+def take_kept():
+    """Gives each library of the repository, the lowest first, what an earlier `rt ci` on this machine proved of the same text, so that it
+    is not proved here once more. A kit from 13f on keeps that. What stands built here stays."""
+    main, top = rt(), os.getcwd()
+    if not hasattr(main, "Kept"):
+        return
+    main.Crate.cuts_libraries, main.Crate.allowed = True, main.handles_of(top)
+    found = [it for it in main.crates_of(top) if not it.is_program]
+    kept = main.Kept(found)
+    for crate in found:
+        if not crate.is_built():
+            # (what is given is linked, and must not be linked onto itself)
+            shutil.rmtree(f"{crate.folder}/out/rlib", ignore_errors=True)
+            if not kept.give(crate, False, kept.key(crate)):
+                continue
+            with open(f"{crate.folder}/out/rlib/stamp", "w", encoding="utf-8") as it:
+                it.write(crate.stamp())
+        kept.is_built(crate)
+
+
 def linked(folder, to):
     """A copy of kept work. What was proved is linked where it can be: a check replaces such a file, and never writes into one."""
 
