@@ -1,12 +1,15 @@
--- A reader hears what was framed.
-use Rattle.std.proofs.Common.{◌≡◌, ◌∙◌, ℕ, ◌+◌, ◌/◌, ◌%◌, ◌≤◌, Bool, true, false, List, [], ◌∷◌, ◌++◌, if◌then◌else◌, length, inl, inr, refl, sym, ap, arith}
-use Rattle.std.specs.Prelude.{◌==◌, ⊤}
+-- A reader hears what was framed; what it hears has the packets of its bytes.
+use Rattle.std.proofs.Common.{◌≡◌, ◌∙◌, ℕ, ◌+◌, ◌/◌, ◌%◌, ◌≤◌, Bool, true, false, List, [], ◌∷◌, ◌++◌, Option, Some, None, if◌then◌else◌, length, inl, inr, refl, sym, ap, arith}
+use Rattle.std.specs.Prelude.{◌==◌, ◌||◌, ⊤, nat_le}
 use Rattle.std.specs.Option.{option_to_list}
 use Rattle.std.proofs.lemmas.Bool.{eqb-true, or_cases, or_parts, lt-leb}
 use Rattle.std.proofs.lemmas.List.{append_assoc, append-nil, length-append}
-use Rattle.gdb_packets.specs.declared.heard.Place.TheVariants.{Between, Body, Sum}
-use Rattle.gdb_packets.specs.Packets.{is_special, toggled, body_of, sum_of, digit_of, framed_of}
-use Rattle.gdb_packets.specs.Streams.{Standing, standing_after, packets_read}
+use Rattle.gdb_packets.specs.declared.heard.Heard.{Heard}
+use Rattle.gdb_packets.specs.declared.heard.Heard.TheVariants as heards
+use Rattle.gdb_packets.specs.declared.heard.Place.{Place}
+use Rattle.gdb_packets.specs.declared.heard.Place.TheVariants.{Between, Body, Sum, LastDigit}
+use Rattle.gdb_packets.specs.Packets.{is_special, toggled, body_of, sum_of, digit_of, framed_of, payload_read}
+use Rattle.gdb_packets.specs.Streams.{Standing, Completes, EndsPacket, Hears, packet_told, packets_in, packets_read, payload_in, standing_after}
 use Rattle.gdb_packets.proofs.Spelled.{frame_read}
 
 -- a byte that neither begins nor ends a body
@@ -56,3 +59,39 @@ frame_heard payload before more l =
     ap (λ x. packets_read Body [] x) (append_assoc body (35 ∷ high ∷ low ∷ []) more)
     ∙ body_heard [] body (high ∷ low ∷ more) (body_plain payload) (omega (arith, l))
     ∙ ap (λ x. option_to_list x ++ packets_read Between body more) (frame_read payload)
+
+-- ---- what is heard
+sign_is_none : (x y z : Bool) → payload_in (if x then heards.Received else (if y then heards.Again else (if z then heards.Interrupt else heards.Nothing))) ≡ None
+sign_is_none true y z = refl
+sign_is_none false true z = refl
+sign_is_none false false true = refl
+sign_is_none false false false = refl
+
+body_is_none : (x y : Bool) → payload_in (if x then heards.Nothing else (if y then heards.Damaged else heards.Nothing)) ≡ None
+body_is_none true y = refl
+body_is_none false true = refl
+body_is_none false false = refl
+
+ended_packet : (found : Option (List ℕ)) (what : Heard) → EndsPacket found what → payload_in what ≡ found
+ended_packet (Some payload) (heards.Packet packet) is = ap Some is
+ended_packet (Some payload) heards.Nothing never = absurd never
+ended_packet (Some payload) heards.Damaged never = absurd never
+ended_packet (Some payload) heards.Received never = absurd never
+ended_packet (Some payload) heards.Again never = absurd never
+ended_packet (Some payload) heards.Interrupt never = absurd never
+ended_packet None what is = ap payload_in is
+
+-- a byte completes a packet just where the packets of the bytes have it
+completed : (place : Place) (body : List ℕ) (b : ℕ) (what : Heard) → Completes place body b what → payload_in what ≡ packet_told place body b
+completed Between body b what is = ap payload_in is ∙ sign_is_none (b == 43) (b == 45) (b == 3)
+completed Body body b what is = ap payload_in is ∙ body_is_none ((b == 36) || (b == 35)) (nat_le 65536 (length body))
+completed Sum body b what is = ap payload_in is
+completed (LastDigit high) body b what is = ended_packet (payload_read body high b) what is
+
+pub packets_heard : (now last : Standing) (bytes : List ℕ) (heard : List Heard) → Hears now bytes heard last → packets_in heard ≡ packets_read now.place now.body bytes
+packets_heard now last [] [] is = refl
+packets_heard now last [] (what ∷ more) never = absurd never
+packets_heard now last (b ∷ bytes) [] never = absurd never
+packets_heard now last (b ∷ bytes) (what ∷ more) (this, rest) =
+    ap (λ x. option_to_list x ++ packets_in more) (completed now.place now.body b what this)
+    ∙ ap (λ (xs : List (List ℕ)). option_to_list (packet_told now.place now.body b) ++ xs) (packets_heard (standing_after now.place now.body b) last bytes more rest)

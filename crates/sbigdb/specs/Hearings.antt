@@ -1,22 +1,38 @@
--- What is heard in an input.
-use Rattle.std.specs.Prelude.{◌≡◌, ℕ, List, [], Option}
-use Rattle.std.specs.Io.KnownBytes.{Consumes}
-use Rattle.std.specs.List.{FoldsTo, flat_map}
-use Rattle.std.specs.Option.{option_to_list}
-use Rattle.gdb_packets.specs.Streams.{packets_read, payload_in}
+-- What is heard in an input, and how that ended.
+use Rattle.std.specs.Prelude.{◌≡◌, ℕ, Bool, true, false, List, [], ◌∷◌, ◌++◌, Option}
+use Rattle.std.specs.Io.KnownBytes.{Consumes, IsAtEnd}
+use Rattle.std.specs.List.{FoldsTo}
+use Rattle.gdb_packets.specs.Streams.{Hears, Standing}
 use Rattle.gdb_packets.specs.declared.heard.Heard.{Heard}
 use Rattle.gdb_packets.specs.declared.heard.Place.TheVariants.{Between}
+use Rattle.sbigdb.specs.declared.listening.Silence.{Silence}
+use Rattle.sbigdb.specs.declared.listening.Silence.TheVariants as silences
 
--- the payloads of the packets among what was heard
-abbrev pub packets_in : List Heard → List (List ℕ)
-packets_in heard = flat_map (λ what. option_to_list (payload_in what)) heard
+-- a reader that has heard nothing yet
+abbrev pub newly : Standing
+newly = record { place = Between; body = [] }
 
--- Each thing that was heard in an input was handed on, in its order. The packets are those in the bytes that were taken.
-pub record HandedOn {F : Type 0} (step : F → Heard → F → Type 0) (first : F) (input : Option (List ℕ)) : Type 0 where
+-- these were handed on, one after another, and more was wanted after each
+abbrev pub AreTaken : {F : Type 0} → (F → Heard → Bool → F → Type 0) → F → List Heard → F → Type 0
+AreTaken gives first heard last = FoldsTo (λ before what after. gives before what true after) first heard last
+
+-- The same of all that was heard; but where no more was wanted, that was said after the last of it.
+abbrev pub HandsOn : {F : Type 0} → (F → Heard → Bool → F → Type 0) → Silence → F → List Heard → F → Type 0
+HandsOn {F} gives silences.Unwanted first heard last =
+    (all : List Heard) × (what : Heard) × (mid : F) × (heard ≡ all ++ what ∷ []) × AreTaken gives first all mid × gives mid what false last
+HandsOn gives silences.InputEnded first heard last = AreTaken gives first heard last
+HandsOn gives silences.InputFailed first heard last = AreTaken gives first heard last
+HandsOn gives silences.Memory first heard last = AreTaken gives first heard last
+
+-- What was handed on is what the bytes that were taken of the input complete, all of it and in its order. Where the input
+-- ended, nothing of it is left.
+pub record HandedOn {F : Type 0} (gives : F → Heard → Bool → F → Type 0) (why : Silence) (first : F) (input : Option (List ℕ)) : Type 0 where
   pub heard : List Heard
   pub last : F
-  pub handed : FoldsTo step first heard last
+  pub handed : HandsOn gives why first heard last
   pub bytes : List ℕ
   pub left : Option (List ℕ)
   pub taken : Consumes input left bytes
-  pub packets : packets_in heard ≡ packets_read Between [] bytes
+  pub standing : Standing
+  pub told : Hears newly bytes heard standing
+  pub ended : why ≡ silences.InputEnded → IsAtEnd left

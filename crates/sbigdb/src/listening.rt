@@ -12,6 +12,19 @@ use std::io::Read;
 use std::sync::Wait;
 use std::sync::atomic::{AtomicBool, Ordering};
 
+/// Why no more is heard.
+#[derive(Drop)]
+pub(crate) enum Silence {
+    /// The input has ended.
+    InputEnded,
+    /// A read of it failed.
+    InputFailed,
+    /// Memory was refused.
+    Memory,
+    /// What was heard last was said to be the last that is wanted.
+    Unwanted,
+}
+
 /// Whether nothing is to be read behind it: a packet that ends the talk, behind which a debugger may keep its pipe open.
 fn ends_talk(heard: &Heard) -> bool {
     match heard {
@@ -42,37 +55,27 @@ pub(crate) fn hand_on<R: Wait>(
     }
 }
 
-/// The next byte of an input; none where it has ended or failed.
-fn next_byte<I: Read>(input: &mut I) -> Option<u8>
-    ensures { IfSome result (λ byte. Consumes (I.remaining input.old) (I.remaining input.new) (byte ∷ [])) }
-{
-    let mut byte = [0u8; 1];
-    match input.read(&mut byte) {
-        Ok(0) | Err(_) => None,
-        Ok(_) => Some(byte[0]),
-    }
-}
-
-/// Reads an input to its end, and hands on whatever is heard in it, in its order, until no more is wanted.
+/// Reads an input, and hands on what its bytes complete, in its order, until it ends or fails, no more is wanted, or memory
+/// is refused. Says which. A read that was interrupted is made again.
 pub(crate) fn listen<I: Read + Drop, F: FnMut(Heard) -> bool>(
     alloc: Global,
-    mut input: I,
+    input: I,
     mut give: F,
-)
+) -> Silence
     requires { F.IsAlwaysCallable give }
-    // The packets that are handed on are those in the bytes that were read.
-    ensures { HandedOn (λ before what after. (more : Bool) × F.step before what more after) give (I.remaining input) }
+    ensures { HandedOn F.step result give (I.remaining input) }
 {
     let mut decoder = Decoder::new(alloc);
-    for _ in 0..u64::MAX {
-        let Some(byte) = next_byte(&mut input) else {
-            return;
+    for byte in input.bytes() {
+        let Ok(byte) = byte else {
+            return Silence::InputFailed;
         };
         let Ok(what) = decoder.take(byte) else {
-            return;
+            return Silence::Memory;
         };
         if !give(what) {
-            return;
+            return Silence::Unwanted;
         }
     }
+    Silence::InputEnded
 }

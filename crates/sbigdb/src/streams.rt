@@ -10,7 +10,7 @@ ghost use Rattle.debug_packets.specs.Talks.{acknowledges_in, is_over_in, session
 ghost use Rattle.debug_packets.specs.declared.talk.Talk.{Talk};
 ghost use Rattle.sbigdb.specs.Responses.{AnswersAll, Begins, Responds};
 
-use crate::listening::{hand_on, listen};
+use crate::listening::{Silence, hand_on, listen};
 use crate::start::Start;
 use crate::told::{Told, told_payloads};
 use bench_report::Setting;
@@ -136,7 +136,7 @@ fn serve<R: Threads + Wait + Sync>(
     discuss(setting, plan, told, heard.iter(rt), interrupt, &mut out)
 }
 
-/// The whole talk. Refused `Memory`, and `Output` where the debugger does not read.
+/// The whole talk. Refused `Memory`, to what listens too, and `Output` where the debugger does not read.
 pub fn converse<R: Threads + Wait + Sync>(
     host: &HostRuntime,
     rt: &R,
@@ -158,15 +158,20 @@ pub fn converse<R: Threads + Wait + Sync>(
         move |scope| -> Result<(), Refusal>
             requires { All (IsLineInRange start.script.shape) start.script.lines.items × (length start.payloads ≡ 4) }
         {
-            let reader = scope.spawn(move || {
-                if let Ok(input) = BufReader::new(alloc, host.stdin()) {
-                    listen(alloc, input, |what| hand_on(rt, what, &sender, interrupt));
-                }
+            let reader = scope.spawn(move || -> Silence {
+                let Ok(input) = BufReader::new(alloc, host.stdin()) else {
+                    return Silence::Memory;
+                };
+                listen(alloc, input, |what| hand_on(rt, what, &sender, interrupt))
             });
-            if reader.is_err() {
+            let Ok(reader) = reader else {
                 return Err(Refusal::Memory);
+            };
+            serve(rt, host, start, plan, &receiver, interrupt)?;
+            match reader.join(rt) {
+                Silence::Memory => Err(Refusal::Memory),
+                _ => Ok(()),
             }
-            serve(rt, host, start, plan, &receiver, interrupt)
         },
     )
 }
