@@ -8,7 +8,7 @@ use Rattle.report_lines.specs.Texts.{answer_text}
 use Rattle.board_model.specs.Shapes.{Size}
 use Rattle.board_model.specs.declared.refusal.Refusal.{Refusal}
 use Rattle.debug_packets.specs.Resumes.{IsAskedBy}
-use Rattle.debug_packets.specs.Texts.{HandOver, board_line}
+use Rattle.debug_packets.specs.Texts.{HandOver, board_line, hart_lines}
 use Rattle.debug_packets.specs.Stops.{stop_text}
 use Rattle.debug_packets.specs.Talks.{hart_in, last_in, session_in, takes_in}
 use Rattle.debug_packets.specs.declared.talk.Talk.{Talk}
@@ -110,20 +110,22 @@ line_of_script (Ok script) = just_one script.lines
 abbrev pub line_in : Size → List ℕ → Option Line
 line_in size text = line_of_script (script_of (board_line size ++ text))
 
--- words of the debugger's own, beside `script`
-abbrev pub is_own : List ℕ → Bool
-is_own text = if bytes_eq text [] then true else (if bytes_eq text (codes "help") then true else bytes_eq text (codes "harts"))
+-- it asks for help, which is a fixed text
+abbrev pub is_help : List ℕ → Bool
+is_help text = if bytes_eq text [] then true else bytes_eq text (codes "help")
 
 -- the line was run and noted, and its report is said; what is none changes nothing
 abbrev pub LineRan : Option Line → Size → Timeline → Timeline → List ℕ → Type 0
 LineRan None size old new said = new ≡ old
 LineRan (Some line) size old new said = (answer : Answer) × Ran size line answer old new × (said ≡ answer_text answer)
 
--- `script` says the history; the debugger's own words change nothing
+-- the debugger's own words change nothing: `script` says the history, and `harts` where each hart stands
 abbrev pub TextSaid : List ℕ → Size → Timeline → Timeline → List ℕ → Type 0
 TextSaid text size old new said =
     MatchBool (bytes_eq text (codes "script")) ((new ≡ old) × (said ≡ history_text size old.begins old.history ++ codes "\n"))
-    (MatchBool (is_own text) (new ≡ old) (LineRan (line_in size text) size old new said))
+    (MatchBool (is_help text) (new ≡ old)
+    (MatchBool (bytes_eq text (codes "harts")) ((new ≡ old) × (said ≡ hart_lines size.harts old.bench))
+    (LineRan (line_in size text) size old new said)))
 
 -- what is said goes to the console, and then comes `OK`
 abbrev pub HexSaid : Option (List ℕ) → Size → Timeline → Timeline → List (List ℕ) → List ℕ → Type 0

@@ -1,6 +1,7 @@
 -- What is replied to a request, of a bench with a board of that size whose hart h is shown. Source:
 -- "Debugging with GDB", appendix "GDB Remote Serial Protocol", "Packets" and "General Query Packets".
-use Rattle.std.specs.Prelude.{◌≡◌, ⊤, ℕ, ◌+◌, ◌-◌, List, [], ◌∷◌, ◌++◌, Option, Some, None, IsSome, nat_lt, nat_le, ◌&&◌, if◌then◌else◌}
+use Rattle.std.specs.Prelude.{◌≡◌, ⊤, ℕ, ◌+◌, ◌-◌, List, [], ◌∷◌, ◌++◌, Option, Some, None, false, nat_lt, nat_le, ◌&&◌, if◌then◌else◌}
+use Rattle.std.specs.Fmt.{digits}
 use Rattle.board_model.specs.Shapes.{Size}
 use Rattle.debug_timeline.specs.Lives.{machine_of, memory_in, register_in}
 use Rattle.debug_timeline.specs.declared.debugged.DebuggedBench.{DebuggedBench}
@@ -55,6 +56,11 @@ SaysPart object size b offset count (Some text) = IsPart object size b offset co
 abbrev pub Says : List ℕ → Option (List ℕ) → Type 0
 Says text out = out ≡ Some text
 
+-- what this stub can; a packet of it has at most that many bytes
+abbrev pub features_text : List ℕ
+features_text =
+    codes "PacketSize=" ++ (digits 16 false 16384 ++ codes ";QStartNoAckMode+;qXfer:features:read+;qXfer:memory-map:read+;qXfer:threads:read+;ReverseStep+;ReverseContinue+;vContSupported+;swbreak+")
+
 -- what a request that moves nothing is replied, where `stands` is the stop reply of why nothing runs
 abbrev pub IsLookReply : Look → Size → ℕ → DebuggedBench → List ℕ → Option (List ℕ) → Type 0
 IsLookReply looks.Reason size h b stands out = Says stands out
@@ -69,7 +75,7 @@ IsLookReply (looks.ClearPoint address) size h b stands out = Says (codes "OK") o
 IsLookReply (looks.SetWatch address count) size h b stands out = Says (codes "OK") out
 IsLookReply (looks.ClearWatch address count) size h b stands out = Says (codes "OK") out
 IsLookReply looks.Write size h b stands out = Says (codes "E01") out
-IsLookReply looks.Supports size h b stands out = IsSome out
+IsLookReply looks.Supports size h b stands out = Says features_text out
 IsLookReply (looks.Part object offset count) size h b stands out = SaysPart object size b offset count out
 IsLookReply looks.CurrentThread size h b stands out = Says (codes "QC" ++ digit_of (h + 1) ∷ []) out
 IsLookReply looks.IsAttached size h b stands out = Says (codes "1") out

@@ -1,10 +1,11 @@
 -- Texts of a session. Source: docs/SCRIPT.md for the board line; "Debugging with GDB", appendix "GDB Remote Serial Protocol",
 -- "Thread List Format".
-use Rattle.std.specs.Prelude.{◌≡◌, ℕ, ◌+◌, false, List, ◌++◌, map}
+use Rattle.std.specs.Prelude.{◌≡◌, ℕ, ◌+◌, false, List, ◌++◌, Option, Some, None, map}
 use Rattle.std.specs.Fmt.{decimal, digits}
 use Rattle.std.specs.List.{flat_map, range_with_len}
 use Rattle.board_model.specs.Shapes.{Size}
 use Rattle.debug_session.specs.Texts.{state_text}
+use Rattle.debug_timeline.specs.Lives.{machine_of, pc_in}
 use Rattle.debug_timeline.specs.declared.debugged.DebuggedBench.{DebuggedBench}
 use Rattle.gdb_replies.specs.Replies.{pairs_of}
 use lib.Chars.{codes}
@@ -12,6 +13,18 @@ use lib.Chars.{codes}
 abbrev pub board_line : Size → List ℕ
 board_line size =
     codes "board " ++ (decimal size.harts ++ (codes " " ++ (decimal size.pages ++ (codes " " ++ (decimal size.lanes ++ codes "\n")))))
+
+-- where a hart stands, by its pc; none is there where no board is on that has it
+abbrev pub stands_text : ℕ → Option ℕ → List ℕ
+stands_text h None = codes "hart " ++ (decimal h ++ codes " off\n")
+stands_text h (Some pc) = codes "hart " ++ (decimal h ++ (codes " pc 0x" ++ (digits 16 false pc ++ codes "\n")))
+
+abbrev pub hart_line : DebuggedBench → ℕ → List ℕ
+hart_line b h = stands_text h (pc_in h (machine_of b))
+
+-- `monitor harts`
+abbrev pub hart_lines : ℕ → DebuggedBench → List ℕ
+hart_lines harts b = flat_map (hart_line b) (range_with_len 0 harts)
 
 -- a hart as a thread, with its state
 abbrev pub thread_line : DebuggedBench → ℕ → List ℕ

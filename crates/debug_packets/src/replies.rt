@@ -6,7 +6,7 @@ ghost use Rattle.gdb_packets.specs.Packets.{digit_of};
 ghost use Rattle.gdb_replies.specs.Replies.{registers_text};
 ghost use Rattle.debug_timeline.specs.Lives.{memory_in, register_in};
 ghost use Rattle.debug_session.specs.Sessions.{bench_of, machine_of_session, size_of};
-ghost use Rattle.debug_packets.specs.Replies.{hart_named, memory_reply, register_reply, thread_reply, IsLookReply, IsPart};
+ghost use Rattle.debug_packets.specs.Replies.{features_text, hart_named, memory_reply, register_reply, thread_reply, IsLookReply, IsPart};
 ghost use Rattle.debug_packets.specs.Stops.{stop_text};
 
 use crate::stops::stop_text;
@@ -122,7 +122,9 @@ fn part_of<C: Crew>(
 }
 
 /// What this stub can.
-fn features(alloc: Global) -> Result<Vec<u8>, Refusal> {
+fn features(alloc: Global) -> Result<Vec<u8>, Refusal>
+    ensures { IfOk result (λ v. v.items ≡ features_text) }
+{
     let text = format!(in alloc;
         "PacketSize={PACKET_BYTES:x};QStartNoAckMode+;qXfer:features:read+;qXfer:memory-map:read+;qXfer:threads:read+;\
         ReverseStep+;ReverseContinue+;vContSupported+;swbreak+"

@@ -3,7 +3,7 @@
 ghost use Rattle.std.specs.Prelude.{◌≡◌, ◌++◌, ◌<◌, ℕ, List, map, string_bytes, IfOk, OnOk};
 ghost use Rattle.debug_session.specs.Sessions.{bench_of, size_of};
 ghost use Rattle.report_lines.specs.Texts.{found_line, answer_text};
-ghost use Rattle.debug_packets.specs.Texts.{HandOver, board_line, thread_line, thread_lines, threads_object};
+ghost use Rattle.debug_packets.specs.Texts.{HandOver, board_line, hart_line, hart_lines, thread_line, thread_lines, threads_object};
 
 use crate::answers::Payloads;
 use bench_report::Answer;
@@ -62,19 +62,29 @@ pub fn board_text(alloc: Global, shape: &Shape) -> Result<String, AllocError>
     format!(in alloc; "board {harts} {pages} {lanes}\n")
 }
 
-/// Where each hart stands.
-pub fn harts_text<C: Crew>(session: &Session<'_, C>) -> Result<String, Refusal> {
+/// Where a hart stands.
+fn hart_line<C: Crew>(session: &Session<'_, C>, hart: HartId) -> Result<String, AllocError>
+    ensures { IfOk result (λ text. string_bytes text ≡ hart_line (bench_of session.now) hart) }
+{
     let alloc = session.setting().alloc;
+    let number = hart.number();
+    match session.bench().pc(hart) {
+        Some(pc) => format!(in alloc; "hart {number} pc 0x{pc:x}\n"),
+        None => format!(in alloc; "hart {number} off\n"),
+    }
+}
+
+/// Where each hart stands.
+pub fn harts_text<C: Crew>(session: &Session<'_, C>) -> Result<String, Refusal>
+    ensures { IfOk result (λ text. string_bytes text ≡ hart_lines (size_of session.now).harts (bench_of session.now)) }
+{
     let shape = session.setting().shape;
-    let mut text = String::new(alloc);
+    let mut text = String::new(session.setting().alloc);
     for number in 0..u64::from(shape.harts()) {
         let Some(hart) = shape.hart(number) else {
-            continue;
+            return Err(Refusal::BadShape);
         };
-        let line = match session.bench().pc(hart) {
-            Some(pc) => format!(in alloc; "hart {number} pc 0x{pc:x}\n")?,
-            None => format!(in alloc; "hart {number} off\n")?,
-        };
+        let line = hart_line(session, hart)?;
         text.push_str(line.as_str())?;
     }
     Ok(text)

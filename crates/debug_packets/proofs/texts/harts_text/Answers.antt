@@ -1,0 +1,14 @@
+use Rattle.std.proofs.Common.{◌∙◌, ◌++◌, ap, string_bytes, sym}
+use Rattle.debug_session.specs.Sessions.{bench_of}
+use Rattle.gdb_replies.proofs.Counted.{counted_more}
+use Rattle.debug_packets.specs.Texts.{hart_line}
+use Rattle.debug_packets.proofs.texts.harts_text.Goals as goal
+
+pub loop-number-preserved : goal.loop-number-preserved
+loop-number-preserved g c =
+    let line = hart_line (bench_of c.args.session.now) in
+    let n = c.loop-number.number in
+    c.in_ok-push_str.ensures.bytes
+    ∙ ap (λ x. string_bytes c.loop-number.text ++ x) (c.as_str.ensures.value ∙ c.in_ok-line.ensures ∙ ap line c.in-Some.ensures.some.0)
+    ∙ ap (λ x. x ++ line n) c.loop-number.invariant
+    ∙ sym (counted_more line n)
