@@ -1,0 +1,292 @@
+//! Boards that are about to be run, and their runs.
+
+ghost use Rattle.std.specs.Prelude.{◌≡◌, ◌+◌, [], true, Some, IfOk};
+ghost use Rattle.board_model.specs.Durable.{formatted as new_state};
+ghost use Rattle.store.specs.Leaves.{IsIdle, LeavesOnly};
+ghost use Rattle.store.specs.Views.{found_state};
+ghost use Rattle.machine.specs.Held.{IsHeld};
+ghost use Rattle.receipts.specs.Views.{id_of, parts_of};
+ghost use Rattle.board_tests.specs.Begun.{IsBegun};
+
+use crate::dozing::UntilWoken;
+use board::{Board, Parts, Payloads};
+use board_console::console;
+use board_model::{BootMode, Command, Refusal, Shape, Slot};
+use disk::{ArmedFault, Disk};
+use hart_threads::{AfterConsole, Closing, Gate, Rested, SharedBoard, Threaded, Why, drive};
+use rv_decode::Reg;
+use shared_store::{Heard, Journal, Locks, NewBook, Part, SharedBus, SharedStore, Unshared};
+use simdisk::SimDisk;
+use std::alloc::Global;
+use std::marker::Brand;
+use std::process::Abort;
+use std::sync::{Mutex, OnceLock, Wait};
+use std::thread::Threads;
+use std::time::Clock;
+use store::{Saving, format};
+
+/// These two have to be equal.
+pub fn same<T: PartialEq + Drop>(rt: &impl Abort, found: T, wanted: T) {
+    assert!(rt; found == wanted);
+}
+
+/// A formatted disk for a board of that shape.
+pub fn formatted(alloc: Global, shape: &Shape) -> Result<SimDisk, Refusal>
+    ensures idle { IfOk result (λ disk. IsIdle (⟦<SimDisk as Disk>⟧.facts disk)) }
+    ensures alone { IfOk result (λ disk. LeavesOnly (⟦<SimDisk as Disk>⟧.facts disk) shape.now new_state) }
+{
+    let mut disk = SimDisk::blank(alloc, shape.sectors())?;
+    format(&mut disk, shape)?;
+    Ok(disk)
+}
+
+/// Slot 0 boots these bytes, and the other slots nothing.
+fn booting(alloc: Global, payload: &[u8]) -> Result<Payloads, Refusal> {
+    let mut bytes = Vec::new(alloc);
+    bytes.extend_from_slice(payload)?;
+    let mut payloads = Payloads::new(alloc);
+    payloads.set(Slot::new(0).ok_or(Refusal::BadShape)?, bytes);
+    Ok(payloads)
+}
+
+/// The parts of a board that was powered on fresh over a new disk, and its shape.
+pub fn parts_of(
+    alloc: Global,
+    shape: &Shape,
+    payload: &[u8],
+) -> Result<(Parts<SimDisk>, Shape), Refusal>
+    ensures held { IfOk result (λ p. IsHeld p.1 p.0.harts.items p.0.tables (Some p.0.seats) p.0.bus.doze) }
+    ensures begun { IfOk result (λ p. IsBegun p.1 p.0.store) }
+{
+    let disk = formatted(alloc, shape)?;
+    let payloads = booting(alloc, payload)?;
+    match Board::power_on(alloc, disk, BootMode::Fresh, &payloads) {
+        Ok(board) => {
+            let shape = board.shape();
+            Ok((board.into_parts(), shape))
+        }
+        Err(unpowered) => Err(unpowered.refusal),
+    }
+}
+
+/// Those parts, with a fault of the disk armed.
+fn armed(parts: Parts<SimDisk>, shape: &Shape, fault: ArmedFault) -> Parts<SimDisk>
+    requires held { IsHeld shape.now parts.harts.items parts.tables (Some parts.seats) parts.bus.doze }
+    requires begun { IsBegun shape.now parts.store }
+    ensures held { IsHeld shape.now result.harts.items result.tables (Some result.seats) result.bus.doze }
+    ensures begun { IsBegun shape.now result.store }
+{
+    let _ = shape;
+    let mut parts = parts;
+    parts.store.arm(fault);
+    parts
+}
+
+/// A call that no store here comes to.
+pub const NEVER: ArmedFault = ArmedFault::FailAt(1_000_000);
+
+/// A board's run on threads.
+#[derive(Clone, Copy, Drop)]
+pub struct Trial<'a> {
+    /// The harts, pages and lanes of the board, and what it boots.
+    pub size: (u64, u64, u64),
+    pub payload: &'a [u8],
+    /// How many turns a hart makes at most.
+    pub turns: u64,
+    /// What is issued before the harts run, whatever it is answered under that fault of the disk.
+    pub commands: &'a [Command],
+    pub fault: ArmedFault,
+    /// What the console reads; it waits for this gate first, and tells it when it has left.
+    pub input: &'a [u8],
+    pub until: Option<&'a UntilWoken>,
+}
+
+impl<'a> Trial<'a> {
+    /// So many turns of one hart that boots nothing, with no command, and a console that returns at once.
+    pub fn of(turns: u64) -> Trial<'a> {
+        Trial {
+            size: (1, 1, 1),
+            payload: &[],
+            turns,
+            commands: &[],
+            fault: NEVER,
+            input: b"",
+            until: None,
+        }
+    }
+}
+
+/// How a loop ended: how many turns it made and why it ended, the hart's a0, a1 and pc then, the number of its receipt, how
+/// many of its turns it dozed, and how often it found the board woken.
+#[derive(Drop)]
+pub struct End {
+    pub made: u64,
+    pub why: Why,
+    pub regs: (u64, u64),
+    pub pc: u64,
+    pub receipt: Option<u32>,
+    pub dozed: u64,
+    pub woken: u64,
+}
+
+/// How the loop of a board's first hart ended, what its console wrote, and its disk.
+#[derive(Drop)]
+pub struct Ran {
+    end: Option<End>,
+    said: Vec<u8>,
+    pub disk: SimDisk,
+}
+
+/// How the first of these loops ended.
+fn end_of<J: Threaded>(loops: &[Rested<'_, J>]) -> Option<End> {
+    let ended = &loops.first()?.ended;
+    Some(End {
+        made: ended.made,
+        why: ended.why,
+        regs: (ended.hart.reg(Reg::new(10)), ended.hart.reg(Reg::new(11))),
+        pc: ended.hart.pc(),
+        receipt: ended.told.as_ref().map(|told| told.number()),
+        dozed: ended.looks.made(),
+        woken: ended.looks.woken(),
+    })
+}
+
+/// Issues these commands, whatever they are answered.
+fn issue<J: Journal>(
+    store: &mut SharedStore<SimDisk, J>,
+    part: Part<J>,
+    heard: Heard,
+    commands: &[Command],
+) {
+    let (mut part, mut heard) = (part, heard);
+    for command in commands {
+        let (told, _answered) = store.apply(part, &mut heard, *command);
+        part = told;
+    }
+}
+
+/// What the console of a trial writes.
+fn talk<J: Journal, R: Wait + Clock>(
+    rt: &R,
+    alloc: Global,
+    bus: &Mutex<SharedBus<J>>,
+    store: &Mutex<SharedStore<SimDisk, J>>,
+    part: Part<J>,
+    heard: Heard,
+    trial: Trial<'_>,
+) -> Vec<u8> {
+    let mut out = Vec::new(alloc);
+    let (mut input, mut heard) = (trial.input, heard);
+    let mut locks = Locks::new(bus, store);
+    if let Some(gate) = trial.until {
+        gate.wait(rt);
+    }
+    let (_part, _left) = console(rt, &mut locks, part, &mut heard, &mut input, &mut out);
+    if let Some(gate) = trial.until {
+        gate.tell();
+    }
+    out
+}
+
+/// Runs the harts of a board that was powered on fresh under that gate, with its console.
+pub fn driven<R: Threads + Wait + Clock + Abort + Sync>(
+    rt: &R,
+    alloc: Global,
+    gate: &(dyn Gate + Sync),
+    trial: Trial<'_>,
+) -> Ran
+    ensures { IsIdle (⟦<SimDisk as Disk>⟧.facts result.disk) }
+{
+    let (harts, pages, lanes) = trial.size;
+    let Ok(size) = Shape::new(harts, pages, lanes) else {
+        rt.panic("not a shape")
+    };
+    let Ok((parts, shape)) = parts_of(alloc, &size, trial.payload) else {
+        rt.panic("no board")
+    };
+    let parts = armed(parts, &shape, trial.fault);
+    let Ok(book) = NewBook::new(alloc, shape.harts() + 2) else {
+        rt.panic("no memory")
+    };
+    let lock = OnceLock::new();
+    driven_as::<Brand, R>(rt, alloc, gate, trial, parts, book, lock, &shape)
+}
+
+/// How the loop of such a board's first hart ends, and what its console writes.
+pub fn ended<R: Threads + Wait + Clock + Abort + Sync>(
+    rt: &R,
+    alloc: Global,
+    gate: &(dyn Gate + Sync),
+    trial: Trial<'_>,
+) -> (End, Vec<u8>) {
+    let ran = driven(rt, alloc, gate, trial);
+    (ran.end.expect(rt, "a loop"), ran.said)
+}
+
+/// Runs those parts of a board, of a journal that has a name.
+fn driven_as<J: Threaded + Send + Sync, R: Threads + Wait + Clock + Abort + Sync>(
+    rt: &R,
+    alloc: Global,
+    gate: &(dyn Gate + Sync),
+    trial: Trial<'_>,
+    parts: Parts<SimDisk>,
+    book: NewBook,
+    lock: OnceLock<AfterConsole>,
+    shape: &Shape,
+) -> Ran
+    requires held { IsHeld shape.now parts.harts.items parts.tables (Some parts.seats) parts.bus.doze }
+    requires begun { IsBegun shape.now parts.store }
+    requires named { (J.size ≡ shape.now) × (J.found ≡ found_state parts.store) × (J.issued ≡ [])
+        × (J.memory ≡ parts.bus.ram) }
+    requires book { (id_of book ≡ J.book) × (parts_of book ≡ J.parts) × (J.parts ≡ shape.now.harts + 2) }
+    requires driven { (lock.id ≡ J.parting) × (trial.turns ≡ J.turns) × (J.gated ≡ true) }
+    ensures { IsIdle (⟦<SimDisk as Disk>⟧.facts result.disk) }
+{
+    let Parts {
+        harts,
+        seats,
+        tables,
+        bus,
+        store,
+    } = parts;
+    let (mut whole, boot) = Unshared::<SimDisk, J>::new(store, book);
+    let part = whole.hand_out();
+    let Ok(given) = whole.hand_out_all(alloc, harts.len()) else {
+        rt.panic("no memory")
+    };
+    let doze = bus.doze;
+    let (first, heard) = (whole.listener(), whole.listener());
+    let bus: Mutex<SharedBus<J>> = Mutex::new(SharedBus::new(bus));
+    let mut shared = whole.share();
+    issue(&mut shared, boot, first, trial.commands);
+    let store = Mutex::new(shared);
+    let closing = Closing::new(lock);
+    let crew = crew::Threads::new(rt);
+    let (rung, told, size) = (&bus, &store, *shape);
+    let board = SharedBoard {
+        saving: Saving { alloc, crew: &crew },
+        tables: &tables,
+        shape: &size,
+        bus: &bus,
+        store: &store,
+        closing: &closing,
+    };
+    let done = drive(
+        rt,
+        &gate,
+        board,
+        harts,
+        seats,
+        doze,
+        trial.turns,
+        given,
+        part,
+        move |part| talk(rt, alloc, rung, told, part, heard, trial),
+    );
+    let Ok((loops, said)) = done else {
+        rt.panic("a thread was not had")
+    };
+    let end = end_of(&loops);
+    let disk = store.into_inner().unshare().close().into_disk();
+    Ran { end, said, disk }
+}
