@@ -1,7 +1,5 @@
 //! Listening: what comes on an input is handed on to the talk.
 
-ghost use Rattle.std.specs.Prelude.{Bool, [], ◌∷◌, IfSome};
-ghost use Rattle.std.specs.Io.KnownBytes.{Consumes};
 ghost use Rattle.sbigdb.specs.Hearings.{HandedOn};
 
 use crossbeam_channel::Sender;
