@@ -284,6 +284,9 @@ pub fn record_powered(
     ensures enough { OnOk result (ShowsEnoughMemory answer.now.line) }
     ensures kept { OnOk result ((size : Size) (old new : Kept) → TellsWhole size ledger.old old
         → PowerTold mode answer.now.found answer.now.line now old new → TellsWhole size ledger.new new) }
+    ensures serial { OnOk result ((size : Size) (old new : Kept) → TellsWhole size ledger.old old
+        → PowerTold mode answer.now.found answer.now.line now old new
+        → Resumes ledger.old ledger.new (power_resumes mode answer.now.found answer.now.line)) }
     ensures memory { IfErr result (λ e. e ≡ Memory) }
 {
     enough_memory(answer.line)?;
