@@ -17,8 +17,6 @@ mod display;
 mod fields;
 mod flat;
 mod instr;
-mod opcode;
-mod tables;
 mod word;
 
 pub use code::{decode, encode, one_reading};
@@ -26,7 +24,7 @@ pub use fields::{
     BranchOffset, CsrNumber, CsrUimm, Imm12, Imm20, JumpOffset, Reg, Shamt, WordShamt,
 };
 pub use flat::{FlatInstr, FlatOp, flatten};
-pub use instr::{
-    ArithOp, ArithWordOp, BranchOp, CsrOp, ImmOp, Instr, LoadOp, ShiftOp, StoreOp, SystemOp,
-    UpperOp,
+pub use instr::Instr;
+pub use rv_codes::{
+    ArithOp, ArithWordOp, BranchOp, CsrOp, ImmOp, LoadOp, ShiftOp, StoreOp, SystemOp, UpperOp,
 };
