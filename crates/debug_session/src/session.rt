@@ -103,13 +103,6 @@ impl<'a, C: Crew> Session<'a, C> {
         &self.setting
     }
 
-    /// The timeline.
-    pub fn timeline(&self) -> &Timeline
-        ensures { result.now ≡ timeline_of self.now }
-    {
-        &self.timeline
-    }
-
     /// The bench as it stands.
     pub fn bench(&self) -> &DebuggedBench
         ensures { result.now ≡ bench_of self.now }

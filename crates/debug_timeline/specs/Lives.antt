@@ -43,11 +43,6 @@ machine_on (Some (On board)) = Some (machine_in board)
 abbrev pub machine_of : DebuggedBench → Option Machine
 machine_of bench = machine_on bench.live.power
 
--- the board is on
-abbrev pub is_there : Option Machine → Bool
-is_there None = false
-is_there (Some m) = true
-
 -- the pc of a hart that the machine has
 abbrev pub pc_in : ℕ → Option Machine → Option ℕ
 pc_in h None = None

@@ -2,7 +2,7 @@
 
 ghost use Rattle.std.specs.Prelude.{◌≡◌, ◌<◌, None, Some, length, MatchOption};
 ghost use Rattle.bench_report.specs.Views.{machine_in};
-ghost use Rattle.debug_timeline.specs.Lives.{csr_shown, is_there, machine_of, machine_on, memory_in, register_at, register_in, state_in};
+ghost use Rattle.debug_timeline.specs.Lives.{csr_shown, machine_of, machine_on, memory_in, register_at, register_in, state_in};
 ghost use Rattle.hart.specs.Csrs.{csr_number};
 
 use crate::debugged::DebuggedBench;
@@ -138,15 +138,5 @@ impl DebuggedBench {
         }
         let first = first as usize;
         Some(&bytes[first..first + count as usize])
-    }
-
-    /// Whether the board is on.
-    pub fn is_on(&self) -> bool
-        ensures { result ≡ is_there (machine_of self.now) }
-    {
-        match &self.live.power {
-            Some(Power::On(_)) => true,
-            _ => false,
-        }
     }
 }

@@ -20,7 +20,7 @@ use disk::Disk;
 use hart::Hart;
 use sbi_calls::{Seats, Tables};
 use shared_store::{Locks, Part};
-use std::alloc::{AllocError, Global};
+use std::alloc::Global;
 use std::sync::Wait;
 use std::thread::Threads;
 use susp::Doze;

@@ -7,4 +7,4 @@ mod shows;
 
 pub use laws::one_line;
 pub use line::{MachineLine, MemBytes, Value};
-pub use shows::{called, csr, csr_of, mem, pc, pending, reg};
+pub use shows::{called, csr_of, mem, pc, reg};

@@ -2,7 +2,7 @@
 
 ghost use Rattle.std.specs.Prelude.{◌≡◌, ◌<◌, ◌≤◌, ◌++◌, ◌-◌, length, replicate};
 ghost use Rattle.machine.specs.Machine.{hart_at};
-ghost use Rattle.machine_lines.specs.Shows.{own_line, made_line, called_line, waits, pending_line, reg_line, pc_line, CsrLine, mem_line};
+ghost use Rattle.machine_lines.specs.Shows.{own_line, made_line, called_line, waits, reg_line, pc_line, CsrLine, mem_line};
 
 use crate::line::{MachineLine, MemBytes};
 use board_model::{HartId, RAM_BASE};
@@ -63,43 +63,6 @@ pub fn called(machine: &Machine, hart: HartId, word: Option<Word>) -> MachineLin
         None => MachineLine::NotStarted(hart),
         Some(said) => made(machine, hart, said),
     }
-}
-
-/// Whether an interrupt is pending for the hart of that number, where the board has it. The machine stays as
-/// it was.
-fn waits(machine: &mut Machine, number: u64) -> bool
-    requires { number < 8 }
-    ensures value { result ≡ waits machine.old number }
-    ensures stays { machine.new ≡ machine.old }
-{
-    let hart = HartId::new(number).unwrap();
-    machine.has(hart) && machine.pending(hart)
-}
-
-/// The bit of each hart in a set of harts.
-const BITS: [u32; 8] = [1, 2, 4, 8, 16, 32, 64, 128];
-
-/// `pending`: the harts for which an interrupt is pending. The machine stays as it was.
-pub fn pending(machine: &mut Machine) -> MachineLine
-    ensures line { result ≡ pending_line machine.old }
-    ensures stays { machine.new ≡ machine.old }
-{
-    let mut set = 0;
-    for number in 0..8 {
-        if waits(machine, number) {
-            set += BITS[number as usize];
-        }
-    }
-    MachineLine::Pending(set)
-}
-
-/// `csr H C`: a control and status register by its number. The machine stays as it was.
-pub fn csr(machine: &mut Machine, hart: HartId, number: u32) -> MachineLine
-    ensures line { CsrLine hart number machine.old result }
-    ensures stays { machine.new ≡ machine.old }
-{
-    let pending = machine.has(hart) && machine.pending(hart);
-    csr_of(machine, hart, number, pending)
 }
 
 /// The line of `csr H C`, where `pending` says whether an interrupt is pending for the hart.

@@ -4,7 +4,7 @@ ghost use Rattle.std.specs.Prelude.{◌≡◌, All, length, IfOk};
 ghost use Rattle.script_lang.specs.Lines.{IsLineInRange};
 
 use crate::start::Start;
-use command_line::{FileFault, ProgramFault, read_file};
+use command_line::{FileFault, read_file};
 use debug_options::Options;
 use payload_files::read_payloads;
 use script_lang::{Script, parse_script};
