@@ -1,10 +1,8 @@
-//! Tests of boards. Boards whose harts run on threads (docs/THREADS.md): what no clause says of them. The console: its lines, the
-//! command line, and whole sessions over memory (docs/CONSOLE.md). Then runs of the bench that stop before the end of their script, as
+//! Tests of boards. Boards whose harts run on threads (docs/THREADS.md): what no clause says of them. The console: its
+//! lines, and whole sessions over memory (docs/CONSOLE.md). Then runs of the bench that stop before the end of their script, as
 //! no script of `crates/examples` shows them: a writer that fails, and the disk that is left (docs/SCRIPT.md).
 #![tactic(auto)]
 
-#[cfg(test)]
-mod command_lines;
 #[cfg(test)]
 mod dozing;
 #[cfg(test)]
@@ -39,5 +37,3 @@ mod told;
 mod trials;
 #[cfg(test)]
 mod two_threads;
-#[cfg(test)]
-mod unheld;

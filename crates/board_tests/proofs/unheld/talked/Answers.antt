@@ -1,5 +1,0 @@
-use Rattle.board_tests.proofs.Empty.{none_carried}
-use Rattle.board_tests.proofs.unheld.talked.Goals as goal
-
-pub new-whole-requires-clause-carried : goal.new-whole-requires-clause-carried
-new-whole-requires-clause-carried g c κs within = none_carried g.J.Journal.memory _ c.requires.begun.1 c.requires.begun.2
