@@ -1,4 +1,5 @@
-//! docs/PORTING.md, "A disk of your own": between the lines of dashes the code stands there as it stands here.
+//! A disk that hands each call on to another: the skeleton of docs/PORTING.md, "A disk of your own". What is to be copied stands between
+//! the lines of dashes.
 // ----
 ghost use Rattle.disk.specs.Facts.{Unchanged};
 

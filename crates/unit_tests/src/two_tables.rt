@@ -1,4 +1,4 @@
-//! docs/TABLES.md, "A first use": between the lines of dashes the code stands there as it stands here.
+//! The use of both tables that docs/TABLES.md, "A first use", names.
 
 ghost use Rattle.std.specs.Prelude.{◌≡◌, ◌<◌};
 ghost use Rattle.hsm_steps.specs.Rule.{stands};

@@ -98,7 +98,7 @@ sleeper:
 
 /* Each trap: stvec is trap_entry, and sscratch the frame of what runs. It keeps all registers in the frame, calls
    struct frame *trap(struct frame *) on the stack that the frame names, and goes on with the frame that it answers.
-   go_on(struct frame *) goes on with a frame from anywhere. (struct frame: frame.h) */
+   go_on(struct frame *) goes on with a frame from anywhere. (struct frame: guest.h) */
     .section .text.trap_entry, "ax"
     .globl trap_entry
     .balign 4
