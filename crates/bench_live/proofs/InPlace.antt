@@ -6,6 +6,7 @@ use Rattle.board_model.specs.Shapes.{Size}
 use Rattle.board_model.specs.declared.refusal.Refusal.{Refusal}
 use Rattle.machine.specs.Machine.{Machine}
 use Rattle.machine_lines.specs.Shows.{HasHart}
+use Rattle.machine_lines.specs.declared.line.MachineLine.TheVariants as shown
 use Rattle.sbi.specs.declared.words.Word.{Word}
 use Rattle.script_lang.specs.declared.line.Line.{Line}
 use Rattle.script_lang.specs.declared.line.Line.TheVariants as lines
@@ -14,8 +15,8 @@ use Rattle.bench_report.specs.declared.power.Power.TheVariants.{On}
 use Rattle.report_lines.specs.declared.printed.Answer.{Answer}
 use Rattle.bench_report.specs.Agree.{BoardIs, IsBench, OnIs}
 use Rattle.bench_report.specs.Bench.{BenchLife, Bench}
-use Rattle.bench_report.specs.Happens.{unpowered}
-use Rattle.bench_report.specs.Steps.{Moves}
+use Rattle.bench_report.specs.Happens.{shows, unpowered}
+use Rattle.bench_report.specs.Steps.{Moves, TurnStep}
 use Rattle.bench_report.specs.Turns.{GuestTurns}
 use Rattle.bench_report.specs.Views.{SimBoard, SimStore, store_in, machine_in}
 use Rattle.bench_report.proofs.Came.{turns}
@@ -23,7 +24,7 @@ use Rattle.bench_report.proofs.Commanded.{Running}
 use Rattle.bench_report.proofs.Lines.{stands_by}
 use Rattle.bench_rows.specs.declared.rows.Row.TheVariants as rows
 use Rattle.bench_rows.specs.Rows.{RowMoves, row_answer}
-use Rattle.bench_rows.proofs.Turns.{Struck, Went, loss_of, moves_of, trimmed}
+use Rattle.bench_rows.proofs.Turns.{Struck, Went, loss_of, moves_of, trimmed, went_step}
 use Rattle.bench_live.specs.Lives.{WentInPlace}
 
 -- what the board did
@@ -46,6 +47,9 @@ module _ (size : Size) (h n : ℕ) (b : Bench) (made : ℕ) (word : Word) (new :
 
   short : Went h made b made word new
   short = record { life = life; on = on; has = has; guest = trimmed h n b made word new guest }
+
+  pub step_of : TurnStep b.power h n b (shows (shown.Turn h made word)) new
+  step_of = went_step long
 
   pub row_of : new.fault_state.struck ≡ false → RowMoves size h (rows.Made made word) b new × Moves size (lines.Turn h n) b (row_answer h (rows.Made made word)) new
   row_of calm = (moves_of size h made b made word new short calm, moves_of size h n b made word new long calm)

@@ -1,13 +1,17 @@
 -- How a bench that is run line by line stands for the bench of the model.
-use Rattle.std.specs.Prelude.{◌≡◌, ⊤, ℕ, Bool, true, false, List, Option, Some, None}
+use Rattle.std.specs.Prelude.{◌≡◌, ⊤, ℕ, Bool, true, false, List, Option, Some, None, Ok}
 use Rattle.board_model.specs.Shapes.{Size}
 use Rattle.sbi.specs.declared.words.Word.{Word}
 use Rattle.sbi.specs.declared.words.Word.TheVariants as words
 use Rattle.bench_report.specs.declared.power.Power.{Power}
 use Rattle.bench_report.specs.declared.power.Power.TheVariants.{Off, On}
 use Rattle.bench_report.specs.Bench.{Bench, BenchLife}
-use Rattle.bench_report.specs.Agree.{Agrees, BoardAfter, IsBench, IsUnstruck}
+use Rattle.bench_report.specs.Agree.{Agrees, ArmsIts, BoardAfter, CutsIts, EndsBy, HasDisk, InspectsOrLost, IsBench, IsCutBy, IsUnstruck, PokesIts}
 use Rattle.bench_report.specs.Happens.{unpowered}
+use Rattle.report_lines.specs.declared.printed.Answer.{Answer}
+use Rattle.script_lang.specs.declared.line.Line.{Line}
+use Rattle.simdisk.specs.declared.SimDisk.{SimDisk}
+use Rattle.simdisk.specs.declared.fill.Fill.{Fill}
 use Rattle.bench_report.specs.Turns.{GuestTurns}
 use Rattle.machine_lines.specs.Shows.{HasHart}
 use Rattle.bench_live.specs.declared.live.LiveBench.{LiveBench}
@@ -55,8 +59,23 @@ abbrev pub IsThere : Option Power → Type 0
 IsThere None = ⊥
 IsThere (Some power) = IsOn power
 
--- what a board is after its last turn, and whether an armed cut struck in it
-abbrev pub IsSettled : Word → Power → Power → Bool → Type 0
-IsSettled word power left lost =
+-- power was cut by the fill, on the very disk of a board that was on and that agreed with the bench behind its last turn
+abbrev pub IsCutIn : Size → Fill → Bench → Power → Power → Type 0
+IsCutIn size fill b power left =
+    (after : Power) × (disk : SimDisk) × HasDisk power disk × Agrees size b after × HasDisk after disk × IsCutBy fill disk left
+
+-- what a board is after its last turn, and whether an armed cut struck in it: then power is lost, and the disk holds what the
+-- fill says
+abbrev pub IsSettled : Word → Fill → Power → Power → Bool → Type 0
+IsSettled word fill power left lost =
     (size : Size) (b : Bench) → IsAfter size word b power
     → (lost ≡ b.fault_state.struck) × (lost ≡ false → Agrees size b left) × (lost ≡ true → Agrees size (unpowered b) left)
+    × (lost ≡ true → IsCutIn size fill b power left)
+
+-- what bench_report says of a line, beside what the bench of the model does: of the power before it and the power after it
+abbrev pub LineDid : Size → Line → Fill → Bench → Answer → Option Power → Option Power → Type 0
+LineDid size line fill b answer (Some before) (Some left) =
+    EndsBy size line fill b answer left × ArmsIts line left × CutsIts line before left × PokesIts line before (Ok answer) left
+    × InspectsOrLost line before answer
+LineDid size line fill b answer None left = ⊥
+LineDid size line fill b answer (Some before) None = ⊥

@@ -2,10 +2,11 @@
 
 ghost use Rattle.std.specs.Prelude.{◌≡◌, true, false};
 ghost use Rattle.board_model.specs.Shapes.{Size};
-ghost use Rattle.bench_report.specs.Agree.{Agrees, IsUnstruck};
+ghost use Rattle.bench_report.specs.Agree.{Agrees, HasDisk, IsUnstruck};
 ghost use Rattle.bench_report.specs.Bench.{Bench};
 ghost use Rattle.bench_report.specs.Happens.{unpowered};
-ghost use Rattle.bench_live.specs.Lives.{IsAfter, IsOn};
+ghost use Rattle.simdisk.specs.declared.SimDisk.{SimDisk};
+ghost use Rattle.bench_live.specs.Lives.{IsAfter, IsCutIn, IsOn};
 
 use bench_report::{Power, after, cut, struck};
 use machine::Word;
@@ -14,7 +15,8 @@ use simdisk::Fill;
 /// What a board is after what is said of its last turn: off where that ended the life.
 fn ended(power: Power, word: Word) -> Power
     requires on { IsOn power }
-    ensures { (size : Size) (b : Bench) → IsAfter size word b power → Agrees size b result }
+    ensures reported { (size : Size) (b : Bench) → IsAfter size word b power → Agrees size b result }
+    ensures disk { (d : SimDisk) → HasDisk result d → HasDisk power d }
 {
     match power {
         Power::On(board) => after(board, word),
@@ -22,13 +24,16 @@ fn ended(power: Power, word: Word) -> Power
     }
 }
 
-/// What a board is after what is said of its last turn, and whether an armed cut struck in it: then power is lost.
+/// What a board is after what is said of its last turn, and whether an armed cut struck in it: then power is lost, and what
+/// was written since the last sync holds what the fill says.
 pub fn settled(power: Power, word: Word, fill: Fill) -> (Power, bool)
     requires on { IsOn power }
     ensures told { (size : Size) (b : Bench) → IsAfter size word b power → result.1 ≡ b.fault_state.struck }
     ensures kept { (size : Size) (b : Bench) → IsAfter size word b power → result.1 ≡ false → Agrees size b result.0 }
     ensures lost { (size : Size) (b : Bench) → IsAfter size word b power → result.1 ≡ true
         → Agrees size (unpowered b) result.0 }
+    ensures exact { (size : Size) (b : Bench) → IsAfter size word b power → result.1 ≡ true
+        → IsCutIn size fill b power result.0 }
     ensures calm { IsUnstruck result.0 }
 {
     let left = ended(power, word);

@@ -8,7 +8,7 @@ ghost use Rattle.bench_report.specs.Bench.{Bench, bench_with};
 ghost use Rattle.bench_report.specs.Happens.{off};
 ghost use Rattle.bench_report.specs.Steps.{Moves};
 ghost use Rattle.bench_report.specs.Views.{facts};
-ghost use Rattle.bench_live.specs.Lives.{IsSettled, IsSound, IsThere, Shows};
+ghost use Rattle.bench_live.specs.Lives.{IsSettled, IsSound, IsThere, LineDid, Shows};
 ghost use Rattle.bench_report.specs.declared.power.Power.{Power};
 ghost use Rattle.bench_rows.specs.Rows.{IsWithin, RowMoves, row_answer};
 ghost use Rattle.script_lang.specs.Lines.{IsLineInRange};
@@ -59,13 +59,15 @@ impl LiveBench {
         })
     }
 
-    /// Runs a line, as `bench_report::line_with_cuts` does. Refused `Memory` alone, where a payload or a poke found
-    /// none; then the bench is of no use.
+    /// Runs a line, as `bench_report::line_with_cuts` does, with what that says of cuts, pokes and armed faults.
+    /// Refused `Memory` alone, where a payload or a poke found none; then the bench is of no use.
     pub fn run<C: Crew>(&mut self, setting: &Setting<'_, C>, line: &Line) -> Result<Answer, Refusal>
         requires range { IsLineInRange setting.now.shape.now line.now }
         requires sound { IsSound self.old }
         ensures reported { IfOk result (λ answer. (b : Bench) → Shows setting.now.shape.now b self.old
             → (new : Bench) × Moves setting.now.shape.now line.now b answer new × Shows setting.now.shape.now new self.new) }
+        ensures does { IfOk result (λ answer. (b : Bench) → Shows setting.now.shape.now b self.old
+            → LineDid setting.now.shape.now line.now self.new.fill b answer self.old.power self.new.power) }
         ensures sound { OnOk result (IsSound self.new) }
         ensures fill { self.new.fill ≡ fill_after line.now self.old.fill }
         ensures refused { IfErr result (λ e. e ≡ Memory) }
@@ -92,6 +94,8 @@ impl LiveBench {
         ensures reported { (size : Size) (b : Bench) → Shows size b self.old → (new : Bench)
             × RowMoves size hart result b new × Moves size (lines.Turn hart count) b (row_answer hart result) new
             × Shows size new self.new }
+        ensures does { (size : Size) (b : Bench) → Shows size b self.old
+            → LineDid size (lines.Turn hart count) self.new.fill b (row_answer hart result) self.old.power self.new.power }
         ensures range { IsWithin count result }
         ensures sound { IsSound self.new }
         ensures fill { self.new.fill ≡ self.old.fill }
@@ -117,7 +121,7 @@ impl LiveBench {
     fn settle(&mut self, word: Word) -> bool
         requires on { IsThere self.old.power }
         ensures settled { (power : Power) → self.old.power ≡ Some power
-            → (left : Power) × (self.new.power ≡ Some left) × IsSettled word power left result }
+            → (left : Power) × (self.new.power ≡ Some left) × IsSettled word self.old.fill power left result }
         ensures sound { IsSound self.new }
         ensures payloads { self.new.payloads ≡ self.old.payloads }
         ensures fill { self.new.fill ≡ self.old.fill }

@@ -1,6 +1,7 @@
 -- A bench on whose disk a cut or a failure is armed.
-use Rattle.std.proofs.Common.{◌≡◌, ◌≤◌, true, false, ℕ, Option, None, Some, sym, ◌∙◌, ap, subst, length}
+use Rattle.std.proofs.Common.{◌≡◌, ◌≤◌, true, false, ℕ, Option, None, Some, Result, sym, ◌∙◌, ap, subst, length}
 use Rattle.board_model.specs.Shapes.{Size}
+use Rattle.board_model.specs.declared.refusal.Refusal.{Refusal}
 use Rattle.disk.specs.Facts.{Facts, Unchanged}
 use Rattle.disk.specs.FaultState.{FaultState, fault_state_armed}
 use Rattle.disk.specs.declared.device.ArmedFault.{ArmedFault}
@@ -9,8 +10,10 @@ use Rattle.store.specs.Lives.{Life as StoreLife}
 use Rattle.store.specs.Views.{life_of}
 use Rattle.bench_report.specs.Views.{SimBoard, store_in, machine_in, facts, fault_state, store_size, store_facts, store_fault_state, IsLife}
 use Rattle.bench_report.specs.Bench.{BenchLife, Bench}
+use Rattle.bench_report.specs.Asides.{AsideStep}
+use Rattle.bench_report.specs.Deeds.{WritePast}
 use Rattle.bench_report.specs.Happens.{armed_with}
-use Rattle.bench_report.specs.Agree.{LifeIs, BoardIs, DeviceIs, OffIs, OnIs, ArmsIts}
+use Rattle.bench_report.specs.Agree.{LifeIs, BoardIs, DeviceIs, OffIs, OnIs, ArmsIts, CutsIts, PokesIts}
 use Rattle.bench_report.specs.Steps.{Step}
 use Rattle.bench_report.specs.declared.power.Power.{Power}
 use Rattle.report_lines.specs.declared.printed.Answer.{Answer}
@@ -48,3 +51,19 @@ pub unstruck_arming : (size : Size) (line : Line) (b : Bench) (a : Answer) (new 
 unstruck_arming size (lines.Arm arming) b a new power step calm hit =
     absurd (let no : true ≡ false = sym hit ∙ ap (λ (x : Bench). x.fault_state.struck) step.1 ∙ calm in let never : ⊥ = cc in never)
 unstruck_arming size line b a new power step calm hit = tt
+
+-- nor does one that cuts power
+pub unstruck_cut : (size : Size) (line : Line) (b : Bench) (a : Answer) (new : Bench) (before left : Power) → Step size line b a new → new.fault_state.struck ≡ true → CutsIts line before left
+unstruck_cut size (lines.Cut fill) b a new before left step hit =
+    absurd (let no : true ≡ false = sym hit ∙ ap (λ (x : Bench). x.fault_state.struck) step.1 in let never : ⊥ = cc in never)
+unstruck_cut size line b a new before left step hit = tt
+
+-- nor one that writes past the firmware, with the board on or off
+pub unstruck_poke : (size : Size) (line : Line) (b : Bench) (a : Answer) (new : Bench) (before left : Power) (did : Result Answer Refusal) → Step size line b a new → b.fault_state.struck ≡ false → new.fault_state.struck ≡ true
+    → PokesIts line before did left
+unstruck_poke size (lines.Poke k offset bytes) b a new before left did step calm hit = absurd (by b.power step)
+  where
+    by : (p : Option BenchLife) → AsideStep WritePast p b a new → ⊥
+    by None is = let no : true ≡ false = sym hit ∙ ap (λ (x : Bench). x.fault_state.struck) is.1 ∙ calm in let never : ⊥ = cc in never
+    by (Some life) is = let no : true ≡ false = sym hit ∙ ap (λ (x : Bench). x.fault_state.struck) is.1 ∙ calm in let never : ⊥ = cc in never
+unstruck_poke size line b a new before left did step calm hit = tt

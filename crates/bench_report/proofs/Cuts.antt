@@ -1,5 +1,5 @@
 -- A line between two lines: run to its end, or cut within.
-use Rattle.std.proofs.Common.{◌≡◌, true, false, ℕ, List, inl, inr, Result, Ok, Err, refl, sym, ◌∙◌, MatchResult}
+use Rattle.std.proofs.Common.{◌≡◌, true, false, ℕ, List, inl, inr, Result, Ok, Err, refl, sym, ◌∙◌, MatchResult, IfOk}
 use Rattle.board_model.specs.Shapes.{Size}
 use Rattle.board_model.specs.declared.refusal.Refusal.{Refusal}
 use Rattle.board_model.specs.declared.refusal.Refusal.TheVariants.{Memory}
@@ -9,11 +9,11 @@ use Rattle.simdisk.specs.declared.fill.Fill.{Fill}
 use Rattle.bench_report.specs.Bench.{Bench}
 use Rattle.bench_report.specs.Happens.{says, unpowered}
 use Rattle.bench_report.specs.Steps.{Step, Moves}
-use Rattle.bench_report.specs.Agree.{Agrees, Matches, IsBench, HasDisk, IsCutBy, EndsBy, ArmsIts}
+use Rattle.bench_report.specs.Agree.{Agrees, Matches, IsBench, HasDisk, IsCutBy, EndsBy, ArmsIts, CutsIts, PokesIts, InspectsIts, InspectsOrLost}
 use Rattle.bench_report.specs.declared.power.Power.{Power}
 use Rattle.report_lines.specs.declared.printed.Answer.{Answer}
 use Rattle.report_lines.specs.declared.printed.Printed.TheVariants as printed
-use Rattle.bench_report.proofs.Armed.{unstruck_arming}
+use Rattle.bench_report.proofs.Armed.{unstruck_arming, unstruck_cut, unstruck_poke}
 
 abbrev pub Ran : Size → Line → Bench → Result Answer Refusal → Power → List (List ℕ) → Type 0
 Ran size line b r after payloads =
@@ -41,8 +41,22 @@ told_whole size line fill b (Ok answer) after payloads did calm =
     (did.0, inl (did.1, quiet), inl (did.0, did.1, quiet), (did.2.0, did.2.1, quiet))
 told_whole size line fill b (Err e) after payloads did calm = did
 
--- no cut strikes within a line that arms one
+-- a line in which a cut struck: it arms none, nor cuts power or writes past the firmware
 pub cut_arms : (size : Size) (line : Line) (b : Bench) (r : Result Answer Refusal) (after left : Power) (payloads : List (List ℕ)) → Ran size line b r after payloads
     → ((new : Bench) → Agrees size new after → new.fault_state.struck ≡ true) → b.fault_state.struck ≡ false → ArmsIts line left
 cut_arms size line b (Ok would) after left payloads did hit calm = unstruck_arming size line b would did.0 left did.1 calm (hit did.0 did.2.0)
 cut_arms size line b (Err e) after left payloads did hit calm = absurd (let no : true ≡ false = sym (hit b did.1.0) ∙ calm in let never : ⊥ = cc in never)
+
+module _ (size : Size) (line : Line) (b : Bench) (after left : Power) (payloads : List (List ℕ)) (before : Power) where
+  pub cut_cuts : (r : Result Answer Refusal) → Ran size line b r after payloads → ((new : Bench) → Agrees size new after → new.fault_state.struck ≡ true) → b.fault_state.struck ≡ false → CutsIts line before left
+  cut_cuts (Ok would) did hit calm = unstruck_cut size line b would did.0 before left did.1 (hit did.0 did.2.0)
+  cut_cuts (Err e) did hit calm = absurd (let no : true ≡ false = sym (hit b did.1.0) ∙ calm in let never : ⊥ = cc in never)
+
+  pub cut_pokes : (r said : Result Answer Refusal) → Ran size line b r after payloads → ((new : Bench) → Agrees size new after → new.fault_state.struck ≡ true) → b.fault_state.struck ≡ false → PokesIts line before said left
+  cut_pokes (Ok would) said did hit calm = unstruck_poke size line b would did.0 before left said did.1 calm (hit did.0 did.2.0)
+  cut_pokes (Err e) said did hit calm = absurd (let no : true ≡ false = sym (hit b did.1.0) ∙ calm in let never : ⊥ = cc in never)
+
+-- a line in which none struck
+pub whole_inspects : (line : Line) (before : Power) (r : Result Answer Refusal) → InspectsIts line before r → IfOk r (InspectsOrLost line before)
+whole_inspects line before (Ok answer) is = inr is
+whole_inspects line before (Err e) is = tt

@@ -1,5 +1,5 @@
 -- How the code's disk and board stand for the bench of the model.
-use Rattle.std.specs.Prelude.{◌≡◌, false, ◌⊎◌, Bool, true, false, ℕ, List, [], ◌∷◌, All, ◌≤◌, Option, Some, None, Result, OnOk, IfOk, length, ⊤}
+use Rattle.std.specs.Prelude.{◌≡◌, false, ◌⊎◌, Bool, true, false, ℕ, List, [], ◌∷◌, All, ◌≤◌, Option, Some, None, Result, Ok, OnOk, IfOk, length, ⊤}
 use Rattle.board_model.specs.Durable.{DurableState}
 use Rattle.board_model.specs.Kept.{Kept, MayFind, found_of}
 use Rattle.board_model.specs.Shapes.{Size, sectors_of}
@@ -25,7 +25,9 @@ use Rattle.bench_report.specs.Sides.{SidesAre}
 use Rattle.bench_report.specs.Armings.{fault_of, newest_fill}
 use Rattle.bench_report.specs.Steps.{Step}
 use Rattle.bench_report.specs.Examined.{AnswersOf}
+use Rattle.bench_report.specs.Happens.{says}
 use Rattle.report_lines.specs.declared.printed.Answer.{Answer}
+use Rattle.report_lines.specs.declared.printed.Printed.TheVariants as printed
 
 -- what a crash may leave of the disk is what an open may find of the commands that it keeps
 abbrev pub DiskIs : Size → DiskState → Kept → Facts → Type 0
@@ -117,6 +119,11 @@ abbrev pub ArmsIts : Line → Power → Type 0
 ArmsIts (lines.Arm arming) power = IsArmed (fault_of arming) power
 ArmsIts line power = ⊤
 
+-- what a line leaves that cuts power
+abbrev pub CutsIts : Line → Power → Power → Type 0
+CutsIts (lines.Cut fill) before left = (disk : SimDisk) × HasDisk before disk × IsCutBy fill disk left
+CutsIts line before left = ⊤
+
 -- That sector of the disk of a board that is off stands with these bytes in it, from that one on, and nothing
 -- else has changed.
 abbrev pub Pokes : ℕ → ℕ → List ℕ → Power → Power → Type 0
@@ -140,6 +147,10 @@ Inspects (On board) answer = ⊤
 abbrev pub InspectsIts : Line → Power → Result Answer Refusal → Type 0
 InspectsIts lines.Inspect before did = IfOk did (Inspects before)
 InspectsIts line before did = ⊤
+
+-- the same of a line in which a cut may strike that was armed
+abbrev pub InspectsOrLost : Line → Power → Answer → Type 0
+InspectsOrLost line before answer = (answer ≡ says printed.PowerLost) ⊎ InspectsIts line before (Ok answer)
 
 -- what an armed cut is to leave after a line: as the line says that armed the newest one
 abbrev pub fill_after : Line → Fill → Fill

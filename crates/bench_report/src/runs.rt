@@ -10,7 +10,7 @@ ghost use Rattle.report_lines.specs.Counts.{Adds, Reported};
 ghost use Rattle.bench_report.specs.Prefix.{KeepsPrefixLaw};
 ghost use Rattle.bench_report.specs.Bench.{Bench, bench_with};
 ghost use Rattle.bench_report.specs.Views.{facts};
-ghost use Rattle.bench_report.specs.Agree.{ArmsIts, fill_after, fills_after, EndsBy, Agrees, OffIs, IsBench};
+ghost use Rattle.bench_report.specs.Agree.{ArmsIts, CutsIts, PokesIts, InspectsOrLost, fill_after, fills_after, EndsBy, Agrees, OffIs, IsBench};
 ghost use Rattle.bench_report.specs.Laws.{KeepsLaws};
 ghost use Rattle.report_lines.specs.declared.printed.Answer.{Answer};
 ghost use Rattle.board_model.specs.declared.refusal.Refusal.{Refusal};
@@ -76,9 +76,12 @@ fn run_line<C: Crew, W: Write>(
         → (answer : Answer) × (new : Bench) × Moves setting.now.shape.now line.now b answer new
         × EndsBy setting.now.shape.now line.now result.0.fill b answer result.0.power
         × IsBench setting.now.shape.now new result.0.power result.0.payloads
-        × Adds (W.contents out.old) (W.contents out.new) report.old report.new answer) }
+        × Adds (W.contents out.old) (W.contents out.new) report.old report.new answer
+        × PokesIts line.now bench.power (Ok answer) result.0.power × InspectsOrLost line.now bench.power answer) }
     ensures arms { OnOk result.1 ((b : Bench) → IsBench setting.now.shape.now b bench.power bench.payloads
         → ArmsIts line.now result.0.power) }
+    ensures cuts { (b : Bench) → IsBench setting.now.shape.now b bench.power bench.payloads
+        → CutsIts line.now bench.power result.0.power }
     ensures fill { result.0.fill ≡ fill_after line.now bench.fill }
     ensures few { OnOk result.1 (report.new.lines ≤ report.old.lines + 2) }
     ensures stopped { OnErr result.1 ((b : Bench) → IsBench setting.now.shape.now b bench.power bench.payloads → Agrees setting.now.shape.now b result.0.power
@@ -217,6 +220,8 @@ pub fn run_left_with<C: Crew, W: Write>(
     // A script with a fault runs nothing.
     ensures nothing { (e : Refusal) → script_of script.now ≡ Err e → (W.contents out.new ≡ W.contents out.old)
         × MatchResult result (λ left. ⊥) (λ s. ((s.refusal ≡ e) ⊎ (s.refusal ≡ Refusal.Memory)) × (s.disk ≡ None)) }
+    // A run that gives no disk back has written nothing.
+    ensures given { IfErr result (λ s. s.disk ≡ None → W.contents out.new ≡ W.contents out.old) }
 {
     let script = parse_script(alloc, script)?;
     blank_disks::<SimDisk>();
@@ -258,6 +263,8 @@ pub fn run_left<C: Crew, W: Write>(
     // A script with a fault runs nothing.
     ensures nothing { (e : Refusal) → script_of script.now ≡ Err e → (W.contents out.new ≡ W.contents out.old)
         × MatchResult result (λ left. ⊥) (λ s. ((s.refusal ≡ e) ⊎ (s.refusal ≡ Refusal.Memory)) × (s.disk ≡ None)) }
+    // A run that gives no disk back has written nothing.
+    ensures given { IfErr result (λ s. s.disk ≡ None → W.contents out.new ≡ W.contents out.old) }
 {
     run_left_with(alloc, script, crew, Payloads::new(alloc), out)
 }

@@ -4,7 +4,7 @@ ghost use Rattle.std.specs.Prelude.{◌≡◌, false, ◌<◌, ◌≤◌, ℕ, L
 ghost use Rattle.board_model.specs.Shapes.{Size};
 ghost use Rattle.script_lang.specs.Lines.{IsLineInRange};
 ghost use Rattle.store.specs.Leaves.{IsIdle};
-ghost use Rattle.bench_report.specs.Views.{arms, store_in, machine_in, facts, store_fault_state};
+ghost use Rattle.bench_report.specs.Views.{arms, disk_in, store_in, machine_in, facts, store_fault_state};
 ghost use Rattle.bench_report.specs.Bench.{Bench, BenchLife};
 ghost use Rattle.bench_report.specs.Happens.{armed_with, off, unpowered, says, shows};
 ghost use Rattle.bench_report.specs.PowerOns.{FormatsOn, PowersOn, TellsNow};
@@ -13,7 +13,7 @@ ghost use Rattle.bench_report.specs.Asides.{AsideStep};
 ghost use Rattle.bench_report.specs.Deeds.{SetSlot, CallWake, WritePast};
 ghost use Rattle.bench_report.specs.Steps.{FormatStep, OnStep, ConsoleStep, TurnStep, CallStep, ArmStep, Step, Moves};
 ghost use Rattle.simdisk.specs.declared.SimDisk.{SimDisk};
-ghost use Rattle.bench_report.specs.Agree.{HasDisk, IsCutBy, IsArmed, ArmsIts, Pokes, PokesIts, Inspects, InspectsIts, fill_after, EndsBy, Agrees, OffIs, OnIs, BoardAfter, IsBench, IsUnstruck, Matches, StepsTo};
+ghost use Rattle.bench_report.specs.Agree.{HasDisk, IsCutBy, IsArmed, ArmsIts, CutsIts, Pokes, PokesIts, Inspects, InspectsIts, InspectsOrLost, fill_after, EndsBy, Agrees, OffIs, OnIs, BoardAfter, IsBench, IsUnstruck, Matches, StepsTo};
 ghost use Rattle.board_model.specs.declared.refusal.Refusal.TheVariants.{Memory};
 
 use crate::armings::{fault_of, newest_fill};
@@ -309,7 +309,8 @@ fn payload_line(
 /// A board after what is said of a turn or a call of a hart: off where that ended the life. A board that dozes
 /// is on.
 pub fn after(board: Board<SimDisk>, word: Word) -> Power
-    ensures { (size : Size) (b : Bench) → BoardAfter size word b board → Agrees size b result }
+    ensures reported { (size : Size) (b : Bench) → BoardAfter size word b board → Agrees size b result }
+    ensures disk { (d : SimDisk) → HasDisk result d → d ≡ disk_in board }
 {
     match word {
         Word::Goes(_) => Power::On(board),
@@ -454,6 +455,7 @@ pub fn line_alone<C: Crew>(
         × Matches setting.now.shape.now new result.0 payloads.new)
         (λ e. (e ≡ Memory) × Matches setting.now.shape.now b result.0 payloads.new) }
     ensures arms { ArmsIts line.now result.0 }
+    ensures cuts { CutsIts line.now power result.0 }
     ensures pokes { PokesIts line.now power result.1 result.0 }
     ensures inspects { InspectsIts line.now power result.1 }
     ensures slots { length payloads.new ≡ length payloads.old }
@@ -499,6 +501,11 @@ pub fn line_with_cuts<C: Crew>(
     ensures fill { result.0.fill ≡ fill_after line.now bench.fill }
     ensures arms { (b : Bench) → IsBench setting.now.shape.now b bench.power bench.payloads
         → OnOk result.1 (ArmsIts line.now result.0.power) }
+    ensures cuts { (b : Bench) → IsBench setting.now.shape.now b bench.power bench.payloads
+        → CutsIts line.now bench.power result.0.power }
+    ensures pokes { (b : Bench) → IsBench setting.now.shape.now b bench.power bench.payloads
+        → PokesIts line.now bench.power result.1 result.0.power }
+    ensures inspects { IfOk result.1 (InspectsOrLost line.now bench.power) }
     ensures slots { length result.0.payloads ≡ length bench.payloads }
     ensures refused { OnErr result.1 (result.1 ≡ Err Memory) }
 {

@@ -4,7 +4,7 @@ use Rattle.bench_report.proofs.runs.run_line.Goals as goal
 
 pub returns-in-Ok-clause-ok : goal.returns-in-Ok-clause-ok
 returns-in-Ok-clause-ok g c =
-    on_ok c.add-added.result _ _ (λ adds b h. (let did = rw c.in-Ok.is at (c.line_with_cuts-after.ensures.reported b h) in (c.in-Ok.answer, did.0, did.1, did.2, did.3, adds))) c.add-added.ensures.ok
+    on_ok c.add-added.result _ _ (λ adds b h. (let did = rw c.in-Ok.is at (c.line_with_cuts-after.ensures.reported b h) in (c.in-Ok.answer, did.0, did.1, did.2, did.3, adds, rw c.in-Ok.is at (c.line_with_cuts-after.ensures.pokes b h), rw c.in-Ok.is at c.line_with_cuts-after.ensures.inspects))) c.add-added.ensures.ok
 
 pub returns-in-Ok-clause-stopped : goal.returns-in-Ok-clause-stopped
 returns-in-Ok-clause-stopped g c = on_err c.add-added.result _ (λ b h. (let did = rw c.in-Ok.is at (c.line_with_cuts-after.ensures.reported b h) in inr (c.in-Ok.answer, did.0, did.1, did.3.0)))

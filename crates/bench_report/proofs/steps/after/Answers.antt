@@ -6,8 +6,8 @@ use Rattle.bench_report.proofs.Devices.{stays}
 use Rattle.bench_report.proofs.Ended.{over_ended}
 use Rattle.bench_report.proofs.steps.after.Goals as goal
 
-pub returns-in-Over : goal.returns-in-Over
-returns-in-Over c = λ size b h.
+pub returns-in-Over-clause-reported : goal.returns-in-Over-clause-reported
+returns-in-Over-clause-reported c = λ size b h.
     let P : Word → Type 0 = λ w. BoardAfter size w b c.args.board in
     let was = subst P c.in-Over.is h in
     let store = store_in c.args.board in

@@ -1,5 +1,5 @@
 use Rattle.std.proofs.Common.{sym, ◌∙◌}
-use Rattle.bench_report.proofs.Cuts.{told_cut, told_whole, cut_arms}
+use Rattle.bench_report.proofs.Cuts.{told_cut, told_whole, cut_arms, cut_cuts, cut_pokes, whole_inspects}
 use Rattle.bench_report.proofs.steps.line_with_cuts.Goals as goal
 
 pub returns-then-struck-clause-reported : goal.returns-then-struck-clause-reported
@@ -18,3 +18,18 @@ pub returns-then-struck-clause-arms : goal.returns-then-struck-clause-arms
 returns-then-struck-clause-arms g c = λ b h.
     cut_arms c.args.setting.now.shape.now c.args.line.now b c.line_alone-after.result.1 c.line_alone-after.result.0 _ _ (c.line_alone-after.ensures.reported b h)
     (λ new is. sym (c.struck.ensures.reported c.args.setting.now.shape.now new is) ∙ c.if-struck.true) h.2
+
+-- nor within one that cuts power
+pub returns-then-struck-clause-cuts : goal.returns-then-struck-clause-cuts
+returns-then-struck-clause-cuts g c = λ b h.
+    cut_cuts c.args.setting.now.shape.now c.args.line.now b c.line_alone-after.result.0 _ _ _ c.line_alone-after.result.1 (c.line_alone-after.ensures.reported b h)
+    (λ new is. sym (c.struck.ensures.reported c.args.setting.now.shape.now new is) ∙ c.if-struck.true) h.2
+
+-- nor within one that writes past the firmware
+pub returns-then-struck-clause-pokes : goal.returns-then-struck-clause-pokes
+returns-then-struck-clause-pokes g c = λ b h.
+    cut_pokes c.args.setting.now.shape.now c.args.line.now b c.line_alone-after.result.0 _ _ _ c.line_alone-after.result.1 _ (c.line_alone-after.ensures.reported b h)
+    (λ new is. sym (c.struck.ensures.reported c.args.setting.now.shape.now new is) ∙ c.if-struck.true) h.2
+
+pub returns-else-struck-clause-inspects : goal.returns-else-struck-clause-inspects
+returns-else-struck-clause-inspects g c = whole_inspects _ _ c.line_alone-after.result.1 c.line_alone-after.ensures.inspects

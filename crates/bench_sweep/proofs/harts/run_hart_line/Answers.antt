@@ -14,4 +14,4 @@ returns-in-None-clause-goes g c = λ size b slots r.
 pub returns-in-Some-clause-goes : goal.returns-in-Some-clause-goes
 returns-in-Some-clause-goes g c = λ size b slots r.
     line_on size c.args.line.now b c.args.power c.after.result c.in-On.board c.run_in_place.new.board c.in_ok-run_in_place-in-On.field-0 (Some c.in-Some.word) slots c.args.ledger.now c.run_in_place.new.ledger c.in-On.is c.in-Some.is
-    (λ n at. c.after.ensures size n at) (λ x at follows. c.in_ok-run_in_place-in-On.ensures.goes size x at follows) r
+    (λ n at. c.after.ensures.reported size n at) (λ x at follows. c.in_ok-run_in_place-in-On.ensures.goes size x at follows) r

@@ -1,10 +1,13 @@
-use Rattle.std.proofs.Common.{◌≡◌, ◌∙◌, ℕ, List, Option, inl, refl, sym, subst}
+use Rattle.std.proofs.Common.{◌≡◌, ◌∙◌, ℕ, List, Option, inl, inr, refl, sym, subst}
 use Rattle.board_model.specs.Shapes.{Size}
 use Rattle.bench_report.specs.declared.power.Power.{Power}
 use Rattle.bench_report.specs.Agree.{Agrees, IsBench}
 use Rattle.bench_report.specs.Bench.{Bench}
+use Rattle.bench_report.specs.Happens.{shows}
+use Rattle.machine_lines.specs.declared.line.MachineLine.TheVariants as shown
+use Rattle.script_lang.specs.declared.line.Line.TheVariants as lines
 use Rattle.bench_live.specs.Lives.{IsAfter, PowerShows}
-use Rattle.bench_live.proofs.Lives.{lost_row, made_row, stays}
+use Rattle.bench_live.proofs.Lives.{did_from, lost_did, lost_row, made_did, made_row, stays}
 use Rattle.bench_live.proofs.live.LiveBench.turns.Goals as goal
 
 pub returns-then-is_still_on-clause-reported : goal.returns-then-is_still_on-clause-reported
@@ -46,3 +49,41 @@ returns-in_default-in_place-clause-reported g c = λ size b shows.
     let was : IsBench size b c.in-Some.power c.args.self.now.payloads = subst P c.in-Some.is shows in
     let A : Power → Type 0 = λ p. Agrees size b p in
     (b, refl, inl (c.in_default-in_place.ensures.reported size b was.0, was.2), (subst A (sym c.in_default-in_place.ensures.none) was.0, was.1, was.2))
+
+pub returns-then-is_still_on-clause-does : goal.returns-then-is_still_on-clause-does
+returns-then-is_still_on-clause-does g c = λ size b shows.
+    let P : Option Power → Type 0 = λ p. PowerShows size b p c.args.self.now.payloads in
+    let was : IsBench size b c.in-Some.power c.args.self.now.payloads = subst P c.in-Some.is shows in
+    let went = c.in-Some-in_place.ensures.reported size b was.0 in
+    let agrees = stays size c.in-Some-in_place.word went.0 c.in_place.new.power (c.is_still_on.ensures.on c.if-is_still_on.true) went.5 in
+    did_from size (lines.Turn c.args.hart c.args.count) c.args.self.now.fill _ b _ _ _ c.in-Some.power c.in_place.new.power c.in-Some.is refl refl
+    (made_did size c.args.hart c.args.count c.in-Some-in_place.made c.in-Some-in_place.word c.args.self.now.fill b c.in-Some.power c.in_place.new.power c.in_place.new.power went
+    (c.is_still_on.ensures.reported c.if-is_still_on.true size went.0 agrees))
+
+pub returns-then-settle-clause-does : goal.returns-then-settle-clause-does
+returns-then-settle-clause-does g c = λ size b shows.
+    let P : Option Power → Type 0 = λ p. PowerShows size b p c.args.self.now.payloads in
+    let was : IsBench size b c.in-Some.power c.args.self.now.payloads = subst P c.in-Some.is shows in
+    let went = c.in-Some-in_place.ensures.reported size b was.0 in
+    let did = c.settle.ensures.settled c.in_place.new.power refl in
+    let told = did.2 size went.0 went.5 in
+    did_from size (lines.Turn c.args.hart c.args.count) c.args.self.now.fill _ b _ _ _ c.in-Some.power did.0 c.in-Some.is did.1 c.settle.ensures.fill
+    (lost_did size c.args.hart c.args.count c.in-Some-in_place.made c.in-Some-in_place.word c.args.self.now.fill b c.in-Some.power c.in_place.new.power did.0 went (sym told.0 ∙ c.if-settle.true)
+    (told.3 c.if-settle.true))
+
+pub returns-else-settle-clause-does : goal.returns-else-settle-clause-does
+returns-else-settle-clause-does g c = λ size b shows.
+    let P : Option Power → Type 0 = λ p. PowerShows size b p c.args.self.now.payloads in
+    let was : IsBench size b c.in-Some.power c.args.self.now.payloads = subst P c.in-Some.is shows in
+    let went = c.in-Some-in_place.ensures.reported size b was.0 in
+    let did = c.settle.ensures.settled c.in_place.new.power refl in
+    let told = did.2 size went.0 went.5 in
+    did_from size (lines.Turn c.args.hart c.args.count) c.args.self.now.fill _ b _ _ _ c.in-Some.power did.0 c.in-Some.is did.1 c.settle.ensures.fill
+    (made_did size c.args.hart c.args.count c.in-Some-in_place.made c.in-Some-in_place.word c.args.self.now.fill b c.in-Some.power c.in_place.new.power did.0 went (sym told.0 ∙ c.if-settle.false))
+
+pub returns-in_default-in_place-clause-does : goal.returns-in_default-in_place-clause-does
+returns-in_default-in_place-clause-does g c = λ size b was_shown.
+    let P : Option Power → Type 0 = λ p. PowerShows size b p c.args.self.now.payloads in
+    let was : IsBench size b c.in-Some.power c.args.self.now.payloads = subst P c.in-Some.is was_shown in
+    did_from size (lines.Turn c.args.hart c.args.count) c.args.self.now.fill _ b (shows shown.Off) _ _ c.in-Some.power c.in_place.new.power c.in-Some.is refl refl
+    (inl (b, c.in_default-in_place.ensures.reported size b was.0, was.2), tt, tt, tt, inr tt)
