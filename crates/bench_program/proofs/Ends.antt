@@ -33,6 +33,11 @@ pub said_behind : {R A : Type 0} (remaining : R → Option (List ℕ)) (input : 
 said_behind remaining input r script i h s said =
     rw (← i) (said_through (remaining (reader_inner r)) (reader_buffer r) (reader_capacity r) script h s said)
 
+-- what two clauses say of a result
+pub on_ok_both : {T E P Q R : Type 0} (r : Result T E) → (P → Q → R) → OnOk r P → OnOk r Q → OnOk r R
+on_ok_both (Ok x) f p q = f p q
+on_ok_both (Err e) f p q = tt
+
 -- words that the parser refuses name no work, as the kind of its error says
 pub not_taken : {T : Type 0} (r : Result T Error) (app : App) (crews : ValueParser) (words : List (List ℕ)) → app ≡ sbibench crews
     → IfErr r (HasKind (fault_of app words))
