@@ -7,7 +7,7 @@ ghost use Rattle.bench_program.specs.Faults.{status_after, without_work};
 ghost use Rattle.command_line.specs.Pipes.{pipe_contents};
 ghost use Rattle.payload_files.specs.Named.{AreFilesOf};
 ghost use Rattle.bench_program.specs.Usage.{payload_files, IsBounded, NamesNoWork};
-ghost use Rattle.bench_program.specs.Written.{AreDone, AreWrong, IsDone, IsFault, IsFaultIn, IsFaultOf, IsReported, IsUnread, IsWorked, IsWritten, IsWrong, IsWrongOver, TellsWrong};
+ghost use Rattle.bench_program.specs.Written.{AreDone, AreWrong, IsDone, IsFault, IsFaultIn, IsFaultOf, IsReadOf, IsReported, IsUnread, IsWorked, IsWritten, IsWrong, IsWrongOver, TellsWrong};
 ghost use Rattle.bench_program.specs.declared.fault.BenchFault.{BenchFault};
 ghost use Rattle.bench_program.specs.declared.fault.BenchFault.TheVariants.{Closed, File, Input, Refused, Wrong};
 ghost use Rattle.bench_program.specs.declared.usage.Savers.{Savers};
@@ -35,6 +35,8 @@ const READ_AT_ONCE: usize = 262_144;
 /// at each power-off.
 fn input_script<I: Read + Drop>(alloc: Global, input: I) -> Result<Vec<u8>, BenchFault>
     ensures said { IfOk result (λ script. IfSome (I.remaining input) (λ bytes. script_of script.items ≡ script_of bytes)) }
+    // It is the whole input, but for what is more than any script has.
+    ensures bytes { IfOk result (λ script. IfSome (I.remaining input) (IsReadOf script.items)) }
     ensures failed { IfErr result (λ fault. (fault ≡ Input) ⊎ (fault ≡ Refused Memory)) }
 {
     match BufReader::with_capacity(alloc, READ_AT_ONCE, input) {
