@@ -12,26 +12,27 @@ use Rattle.board_model.specs.declared.refusal.Refusal.TheVariants.{Memory}
 use Rattle.command_line.specs.Kinds.{no_work}
 use Rattle.command_line.specs.declared.NoWork.{NoWork}
 use Rattle.command_line.specs.declared.NoWork.TheVariants as whys
-use Rattle.script_lang.specs.Scripts.{script_of}
 use Rattle.bench_program.specs.Faults.{without_work}
 use Rattle.bench_program.specs.Usage.{sbibench, NamesNoWork}
 use Rattle.bench_program.specs.declared.fault.BenchFault.{BenchFault}
 use Rattle.bench_program.specs.declared.fault.BenchFault.TheVariants.{Usage, Refused}
 
 -- a buffer of some size that holds nothing has just the bytes behind it
-pub said_through : (known : Option (List ℕ)) (held : List ℕ) (size : ℕ) (script : List ℕ) → held ≡ [] → size ≡ 262144
-    → IfSome (if size == 0 then None else prepend_known held known) (λ bytes. script_of script ≡ script_of bytes)
-    → IfSome known (λ bytes. script_of script ≡ script_of bytes)
-said_through None held size script h s said = tt
-said_through (Some bytes) held size script h s said = rw (h, s) at said
+pub of_those_behind : (Of : List ℕ → Type 0) (known : Option (List ℕ)) (held : List ℕ) (size : ℕ) → held ≡ [] → size ≡ 262144
+    → IfSome (if size == 0 then None else prepend_known held known) Of → IfSome known Of
+of_those_behind Of None held size h s of = tt
+of_those_behind Of (Some bytes) held size h s of = rw (h, s) at of
 
 -- a reader of that size that holds nothing gives what the reader behind it does
-pub said_behind : {R A : Type 0} (remaining : R → Option (List ℕ)) (input : R) (r : BufReader R A) (script : List ℕ)
-    → reader_inner r ≡ input → reader_buffer r ≡ [] → reader_capacity r ≡ 262144
-    → IfSome (reader_remaining remaining r) (λ bytes. script_of script ≡ script_of bytes)
-    → IfSome (remaining input) (λ bytes. script_of script ≡ script_of bytes)
-said_behind remaining input r script i h s said =
-    rw (← i) (said_through (remaining (reader_inner r)) (reader_buffer r) (reader_capacity r) script h s said)
+pub of_what_is_behind : {R A : Type 0} (Of : List ℕ → Type 0) (remaining : R → Option (List ℕ)) (input : R) (r : BufReader R A)
+    → reader_inner r ≡ input → reader_buffer r ≡ [] → reader_capacity r ≡ 262144 → IfSome (reader_remaining remaining r) Of → IfSome (remaining input) Of
+of_what_is_behind Of remaining input r i h s of =
+    rw (← i) (of_those_behind Of (remaining (reader_inner r)) (reader_buffer r) (reader_capacity r) h s of)
+
+-- what two clauses say of a result
+pub on_ok_both : {T E P Q R : Type 0} (r : Result T E) → (P → Q → R) → OnOk r P → OnOk r Q → OnOk r R
+on_ok_both (Ok x) f p q = f p q
+on_ok_both (Err e) f p q = tt
 
 -- words that the parser refuses name no work, as the kind of its error says
 pub not_taken : {T : Type 0} (r : Result T Error) (app : App) (crews : ValueParser) (words : List (List ℕ)) → app ≡ sbibench crews

@@ -1,5 +1,5 @@
 -- What the program writes, by the work that its words ask for. Source: docs/SCRIPT.md, "The program".
-use Rattle.std.specs.Prelude.{◌≡◌, ◌⊎◌, ◌<◌, ⊤, ℕ, List, Option, None, Ok, Err, IfSome, IsSome, get_or}
+use Rattle.std.specs.Prelude.{◌≡◌, ◌⊎◌, ◌<◌, ⊤, ℕ, List, Option, None, Ok, Err, IfSome, IsSome, get_or, take}
 use Rattle.board_model.specs.declared.refusal.Refusal.{Refusal}
 use Rattle.board_model.specs.declared.refusal.Refusal.TheVariants.{Memory, Output, NotPlain}
 use Rattle.std.specs.Io.KnownBytes.{Appends}
@@ -52,14 +52,18 @@ abbrev pub TellsWrong : Work → List (List ℕ) → List ℕ → Option (List �
 TellsWrong (Compare drawn) payloads script old now = (differ : ℕ) × (0 < differ) × IsCompared drawn.number payloads script old now differ
 TellsWrong work payloads script old now = ⊥
 
+-- what is read of an input of these bytes: all of them, but for what is more than any script has
+abbrev pub IsReadOf : List ℕ → List ℕ → Type 0
+IsReadOf script bytes = script ≡ take 268500993 bytes
+
 -- the work was done over an input of which these bytes are known
 abbrev pub IsWorked : Work → List (List ℕ) → Option (List ℕ) → Option (List ℕ) → Option (List ℕ) → Type 0
 IsWorked work payloads input old now = (script : List ℕ) × IfSome input (λ bytes. script_of script ≡ script_of bytes)
-    × IsWritten work payloads script old now
+    × IfSome input (IsReadOf script) × IsWritten work payloads script old now
 
 abbrev pub IsWrongOver : Work → List (List ℕ) → Option (List ℕ) → Option (List ℕ) → Option (List ℕ) → Type 0
 IsWrongOver work payloads input old now = (script : List ℕ) × IfSome input (λ bytes. script_of script ≡ script_of bytes)
-    × TellsWrong work payloads script old now
+    × IfSome input (IsReadOf script) × TellsWrong work payloads script old now
 
 -- The options were done over it and over files of which these bytes are known: each slot begins with the file that is
 -- named for it.

@@ -6,7 +6,7 @@ mod fault;
 mod streams;
 mod usage;
 
-ghost use Rattle.std.specs.Prelude.{◌≡◌, ◌⊎◌, ◌≤◌, [], Result, OnOk, IfOk, IfErr, IfSome, Ok, Err, take};
+ghost use Rattle.std.specs.Prelude.{◌≡◌, ◌⊎◌, ◌≤◌, [], Result, OnOk, IfOk, IfErr, IfSome, Ok, Err};
 ghost use Rattle.std.specs.Io.Buffered.{writer_buffer, writer_contents};
 ghost use Rattle.board_model.specs.declared.refusal.Refusal.{Refusal};
 ghost use Rattle.board_model.specs.declared.refusal.Refusal.TheVariants.{Memory};
@@ -17,7 +17,7 @@ ghost use Rattle.bench_program.specs.declared.fault.BenchFault.TheVariants.{Inpu
 ghost use Rattle.script_lang.specs.Scripts.{script_of, Script as Said};
 ghost use Rattle.bench_sweep.specs.Swept.{IsBenchOf, IsNotPlain, NoBenchRuns};
 ghost use Rattle.bench_program.specs.Benches.{judged};
-ghost use Rattle.bench_program.specs.Written.{IsCompared, IsReported, IsShown};
+ghost use Rattle.bench_program.specs.Written.{IsCompared, IsReadOf, IsReported, IsShown};
 
 pub use crate::fault::BenchFault;
 pub use crate::streams::run_on;
@@ -52,7 +52,7 @@ pub fn read_script<R: Read + Drop>(alloc: Global, input: R) -> Result<Vec<u8>, B
     ensures said { IfOk result (λ script. IfSome (R.remaining input) (λ bytes. script_of script.items
         ≡ script_of bytes)) }
     // It is the whole input, but for what is more than any script has.
-    ensures bytes { IfOk result (λ script. IfSome (R.remaining input) (λ bytes. script.items ≡ take 268500993 bytes)) }
+    ensures bytes { IfOk result (λ script. IfSome (R.remaining input) (IsReadOf script.items)) }
     ensures failed { IfErr result (λ e. (e ≡ Input) ⊎ (e ≡ Refused Memory)) }
 {
     match read_at_most(alloc, input, READ_AT_MOST) {

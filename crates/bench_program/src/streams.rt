@@ -1,13 +1,13 @@
 //! The program over any streams: it does what the command line asks for, from a reader to a writer.
 
-ghost use Rattle.std.specs.Prelude.{◌≡◌, ◌⊎◌, ◌≤◌, map, Err, Result, OnOk, IfOk, IfErr, IfSome};
+ghost use Rattle.std.specs.Prelude.{◌≡◌, ◌⊎◌, ◌≤◌, [], map, Err, Result, OnOk, IfOk, IfErr, IfSome};
 ghost use Rattle.board_model.specs.declared.refusal.Refusal.TheVariants.{Memory};
-ghost use Rattle.std.specs.Io.Buffered.{writer_contents};
+ghost use Rattle.std.specs.Io.Buffered.{writer_buffer, writer_contents};
 ghost use Rattle.bench_program.specs.Faults.{status_after, without_work};
 ghost use Rattle.command_line.specs.Pipes.{pipe_contents};
 ghost use Rattle.payload_files.specs.Named.{AreFilesOf};
 ghost use Rattle.bench_program.specs.Usage.{payload_files, IsBounded, NamesNoWork};
-ghost use Rattle.bench_program.specs.Written.{AreDone, AreWrong, IsDone, IsFault, IsFaultIn, IsFaultOf, IsReported, IsUnread, IsWorked, IsWritten, IsWrong, IsWrongOver, TellsWrong};
+ghost use Rattle.bench_program.specs.Written.{AreDone, AreWrong, IsDone, IsFault, IsFaultIn, IsFaultOf, IsReadOf, IsReported, IsUnread, IsWorked, IsWritten, IsWrong, IsWrongOver, TellsWrong};
 ghost use Rattle.bench_program.specs.declared.fault.BenchFault.{BenchFault};
 ghost use Rattle.bench_program.specs.declared.fault.BenchFault.TheVariants.{Closed, File, Input, Refused, Wrong};
 ghost use Rattle.bench_program.specs.declared.usage.Savers.{Savers};
@@ -35,6 +35,8 @@ const READ_AT_ONCE: usize = 262_144;
 /// at each power-off.
 fn input_script<I: Read + Drop>(alloc: Global, input: I) -> Result<Vec<u8>, BenchFault>
     ensures said { IfOk result (λ script. IfSome (I.remaining input) (λ bytes. script_of script.items ≡ script_of bytes)) }
+    // It is the whole input, but for what is more than any script has.
+    ensures bytes { IfOk result (λ script. IfSome (I.remaining input) (IsReadOf script.items)) }
     ensures failed { IfErr result (λ fault. (fault ≡ Input) ⊎ (fault ≡ Refused Memory)) }
 {
     match BufReader::with_capacity(alloc, READ_AT_ONCE, input) {
@@ -64,6 +66,7 @@ fn report_with<C: Crew, O: Write + Drop>(
 ) -> Result<(), BenchFault>
     ensures reported { OnOk result (IsReported payloads script.now
         (writer_contents (pipe_contents O.contents) out.old) (writer_contents (pipe_contents O.contents) out.new)) }
+    ensures flushed { OnOk result (writer_buffer out.new ≡ []) }
     ensures faults { IfErr result (λ fault. (savers : Savers) → IsFaultIn (Report savers) script.now fault) }
 {
     match write_report(alloc, script, crew, payloads, out) {
@@ -83,6 +86,7 @@ fn report<R: Threads + Sync, O: Write + Drop>(
 ) -> Result<(), BenchFault>
     ensures reported { OnOk result (IsReported payloads script.now
         (writer_contents (pipe_contents O.contents) out.old) (writer_contents (pipe_contents O.contents) out.new)) }
+    ensures flushed { OnOk result (writer_buffer out.new ≡ []) }
     ensures faults { IfErr result (λ fault. IsFaultIn (Report savers) script.now fault) }
 {
     match savers {
@@ -104,6 +108,7 @@ fn judge<R: Threads + Sync, O: Write + Drop>(
 ) -> Result<(), BenchFault>
     ensures written { OnOk result (IsWritten (Judge bench) payloads script.now
         (writer_contents (pipe_contents O.contents) out.old) (writer_contents (pipe_contents O.contents) out.new)) }
+    ensures flushed { OnOk result (writer_buffer out.new ≡ []) }
     ensures faults { IfErr result (λ fault. IsFaultIn (Judge bench) script.now fault) }
 {
     match write_bench::<R, Pipe<O>>(alloc, script, bench, payloads, out) {
@@ -124,8 +129,10 @@ fn compare<R: Threads + Sync, O: Write + Drop>(
     requires most { drawn.number ≤ 1000000 }
     ensures written { OnOk result (IsWritten (Compare drawn) payloads.now script.now
         (writer_contents (pipe_contents O.contents) out.old) (writer_contents (pipe_contents O.contents) out.new)) }
+    ensures flushed { OnOk result (writer_buffer out.new ≡ []) }
     ensures wrong { result ≡ Err Wrong → TellsWrong (Compare drawn) payloads.now script.now
         (writer_contents (pipe_contents O.contents) out.old) (writer_contents (pipe_contents O.contents) out.new) }
+    ensures told { result ≡ Err Wrong → writer_buffer out.new ≡ [] }
     ensures faults { IfErr result (λ fault. IsFaultIn (Compare drawn) script.now fault) }
 {
     match write_schedules::<R, Pipe<O>>(alloc, script, drawn, payloads, out) {
@@ -145,6 +152,7 @@ fn show_schedule<R: Threads + Sync, O: Write + Drop>(
 ) -> Result<(), BenchFault>
     ensures written { OnOk result (IsWritten (Show drawn) payloads.now script.now
         (writer_contents (pipe_contents O.contents) out.old) (writer_contents (pipe_contents O.contents) out.new)) }
+    ensures flushed { OnOk result (writer_buffer out.new ≡ []) }
     ensures faults { IfErr result (λ fault. IsFaultIn (Show drawn) script.now fault) }
 {
     match write_schedule::<R, Pipe<O>>(alloc, script, drawn, payloads, out) {
@@ -202,8 +210,10 @@ fn run_work<R: Threads + Sync, I: Read + Drop, O: Write + Drop>(
     requires most { IsBounded work }
     ensures worked { OnOk result (IsWorked work payloads (I.remaining input)
         (writer_contents (pipe_contents O.contents) out.old) (writer_contents (pipe_contents O.contents) out.new)) }
+    ensures flushed { OnOk result (writer_buffer out.new ≡ []) }
     ensures wrong { result ≡ Err Wrong → IsWrongOver work payloads (I.remaining input)
         (writer_contents (pipe_contents O.contents) out.old) (writer_contents (pipe_contents O.contents) out.new) }
+    ensures told { result ≡ Err Wrong → writer_buffer out.new ≡ [] }
     ensures faults { IfErr result (λ fault. IsFaultOf work (I.remaining input) fault) }
 {
     let script = match input_script(alloc, input) {
@@ -230,8 +240,10 @@ fn run_options<R: Threads + Sync, P: PayloadFiles, I: Read + Drop, O: Write + Dr
     requires most { IsBounded options.now.work }
     ensures done { OnOk result (AreDone options.now (P.bytes_at files.now) (I.remaining input)
         (writer_contents (pipe_contents O.contents) out.old) (writer_contents (pipe_contents O.contents) out.new)) }
+    ensures flushed { OnOk result (writer_buffer out.new ≡ []) }
     ensures wrong { result ≡ Err Wrong → AreWrong options.now (P.bytes_at files.now) (I.remaining input)
         (writer_contents (pipe_contents O.contents) out.old) (writer_contents (pipe_contents O.contents) out.new) }
+    ensures told { result ≡ Err Wrong → writer_buffer out.new ≡ [] }
     ensures faults { IfErr result (λ fault. IsUnread options.now fault ⊎ (fault ≡ Refused Memory)
         ⊎ IsFaultOf options.now.work (I.remaining input) fault) }
 {
@@ -256,11 +268,13 @@ fn run_words<
     out: &mut BufWriter<Pipe<O>>,
     faults: &mut F,
 ) -> Result<(), BenchFault>
-    ensures done { OnOk result (IsDone (map S.text words.now) (P.bytes_at files.now) (I.remaining input)
+    ensures done { OnOk result ((IsDone (map S.text words.now) (P.bytes_at files.now) (I.remaining input)
         (writer_contents (pipe_contents O.contents) out.old) (writer_contents (pipe_contents O.contents) out.new)
+        × (writer_buffer out.new ≡ []))
         ⊎ NamesNoWork (map S.text words.now) NoWork.Shown) }
     ensures wrong { result ≡ Err Wrong → IsWrong (map S.text words.now) (P.bytes_at files.now) (I.remaining input)
         (writer_contents (pipe_contents O.contents) out.old) (writer_contents (pipe_contents O.contents) out.new) }
+    ensures told { result ≡ Err Wrong → writer_buffer out.new ≡ [] }
     ensures faults { IfErr result (λ fault. IsFault (map S.text words.now) (I.remaining input) fault) }
 {
     match options_of(alloc, words) {
@@ -300,16 +314,19 @@ pub fn run_on<
     faults: &mut F,
 ) -> u8
     // The status is the one of what was done; and what was done is the work that the words name, whole, where they
-    // name any. A fault is one that this work may have over that input, or that the command line has.
+    // name any: nothing of what it wrote is held back. A fault is one that this work may have over that input, or that
+    // the command line has.
     ensures status { (done : Result (Unit {0}) BenchFault) × (result ≡ status_after done)
-        × OnOk done (IsDone (map S.text words.now) (P.bytes_at files.now) (I.remaining input)
+        × OnOk done ((IsDone (map S.text words.now) (P.bytes_at files.now) (I.remaining input)
         (writer_contents (pipe_contents O.contents) out.old)
         (writer_contents (pipe_contents O.contents) out.new)
+        × (writer_buffer out.new ≡ []))
         ⊎ NamesNoWork (map S.text words.now) NoWork.Shown)
         × IfErr done (λ fault. IsFault (map S.text words.now) (I.remaining input) fault)
         × (done ≡ Err Wrong → IsWrong (map S.text words.now) (P.bytes_at files.now) (I.remaining input)
         (writer_contents (pipe_contents O.contents) out.old)
-        (writer_contents (pipe_contents O.contents) out.new)) }
+        (writer_contents (pipe_contents O.contents) out.new)
+        × (writer_buffer out.new ≡ [])) }
 {
     let done = run_words(alloc, threads, files, words, input, out, faults);
     end(&done, faults)

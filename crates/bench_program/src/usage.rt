@@ -139,7 +139,7 @@ pub enum Bench {
     Faults,
 }
 
-/// Who writes the lanes of an image. The report does not depend on it.
+/// Who writes the lanes of an image. No clause compares the reports of two crews: docs/SCRIPT.md, "The program", says where they are one.
 #[derive(Clone, Copy, Drop)]
 pub enum Savers {
     /// One thread, one lane after another in rising order.

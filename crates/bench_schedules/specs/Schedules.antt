@@ -30,12 +30,12 @@ other_answers (line ∷ more) (a ∷ answers) = if is_other line then (a ∷ oth
 abbrev pub other_answer : Bool → Answer → List Answer
 other_answer other a = if other then (a ∷ []) else []
 
--- a power-on was refused for want of memory
+-- a power-on, or an examination of the disk, was refused for want of memory
 abbrev pub IsMemoryRefused : Answer → Type 0
-IsMemoryRefused a = a.line ≡ printed.OnRefused 11
+IsMemoryRefused a = (a.line ≡ printed.OnRefused 11) ⊎ (a.line ≡ printed.InspectRefused 11)
 
--- With these payloads in the slots the lines ran, and no sign tells that memory was refused: no power-on was refused for want
--- of it, and the disk always had it for its record.
+-- With these payloads in the slots the lines ran, and no answer tells that memory was refused: no power-on and no examination
+-- of the disk was refused for want of it, and the disk always had it for its record. Of suspensions nothing is said.
 pub record RanWell (size : Size) (start : List (List ℕ)) (those : List Line) (answers : List Answer) (end : Bench) : Type 0 where
   pub run : Run size (bench_with start) those answers end
   pub answered : All (λ a. IsMemoryRefused a → ⊥) answers

@@ -295,8 +295,9 @@ fn show_script<R: Threads + Sync, W: Write>(
 /// script's line. At the end it writes how many differ. Each schedule is drawn from the seed and its number alone.
 ///
 /// Refused `BadShape` or `BadScript` where the script has a fault, and then nothing is written; `Memory` where memory was
-/// refused in any run, which is never a difference; `Output` where the writer failed. After the last two any part may stand
-/// in the writer.
+/// refused in any run, to a power-on, to an examination of the disk or to the disk's record, which is never a difference,
+/// or where a difference was not found again; `Output` where the writer failed. After the last two any part may stand in
+/// the writer.
 pub fn schedules<R: Threads + Sync, W: Write>(
     alloc: Global,
     script: &[u8],

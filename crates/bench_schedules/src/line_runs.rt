@@ -15,12 +15,13 @@ use board_model::{Refusal, Shape};
 use crew::Crew;
 use script_lang::Line;
 
-/// Whether a power-on was refused for want of memory.
+/// Whether a power-on, or an examination of the disk, was refused for want of memory.
 fn is_memory_refused(answer: &Answer) -> bool
     ensures { result ≡ false → IsMemoryRefused answer.now → ⊥ }
 {
     match answer.line {
         Printed::OnRefused(number) => number == 11,
+        Printed::InspectRefused(number) => number == 11,
         _ => false,
     }
 }
@@ -57,8 +58,8 @@ fn answer_line<C: Crew>(
     }
 }
 
-/// Runs a line. Refused `Memory` alone: where the bench was refused memory, or its answer is that a power-on was. The bench
-/// is then of no further use.
+/// Runs a line. Refused `Memory` alone: where the bench was refused memory, or its answer is that a power-on or an
+/// examination of the disk was. The bench is then of no further use.
 pub fn run_line<C: Crew>(
     setting: &Setting<'_, C>,
     line: &Line,

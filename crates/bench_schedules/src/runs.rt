@@ -53,7 +53,8 @@ fn next_place(
 }
 
 /// Runs lines, with these payloads in the slots, up to the first that answers other than in the script's own run; `turn`
-/// lines are not compared. Refused `Memory` alone: where a run was refused memory, its answers are not compared.
+/// lines are not compared. Refused `Memory` alone: where an answer or the disk tells that the run was refused memory, its
+/// answers are not compared.
 pub fn run_until<C: Crew>(
     setting: &Setting<'_, C>,
     payloads: &Payloads,
@@ -83,7 +84,8 @@ pub fn run_until<C: Crew>(
 }
 
 /// As `run_until`, but where a difference was found, a second run of these lines has to find the same one. Where it does
-/// not, a guest's suspension was refused memory, which no other sign tells: then the run is refused `Memory`.
+/// not, a guest's suspension was refused memory, which no answer tells: then the run is refused `Memory`. No clause says it,
+/// and a suspension that is refused memory in both runs may be a difference.
 pub fn run_confirmed<C: Crew>(
     setting: &Setting<'_, C>,
     payloads: &Payloads,

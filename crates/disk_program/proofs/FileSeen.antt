@@ -1,5 +1,5 @@
 -- From what an examiner makes of a disk to what the program writes of its file.
-use Rattle.std.proofs.Common.{◌≡◌, ◌≢◌, ◌⊎◌, ◌%◌, ℕ, Bool, true, false, List, Option, None, Some, Result, Ok, Err, IfErr, IfSome, OnOk, inl, inr, length, refl, subst}
+use Rattle.std.proofs.Common.{◌≡◌, ◌≢◌, ◌⊎◌, ◌%◌, ℕ, Bool, true, false, List, [], Option, None, Some, Result, Ok, Err, IfErr, IfSome, OnOk, inl, inr, length, refl, subst}
 use Rattle.std.specs.Io.KnownBytes.{Appends}
 use Rattle.board_files.specs.Disks.{IsLookedAt, first_sectors}
 use Rattle.board_files.specs.Faults.{IsFileFault}
@@ -102,20 +102,21 @@ if_err : (Is : ProgramFault → Type 0) (r : Result (Unit {0}) FileFault) → If
 if_err Is (Ok done) is = tt
 if_err Is (Err e) is = is
 
-on_ok : (P : Type 0) (r : Result (Unit {0}) FileFault) → OnOk r P → OnOk (fault_of r) P
-on_ok P (Ok done) p = p
-on_ok P (Err e) p = tt
+on_ok : (P Q : Type 0) (r : Result (Unit {0}) FileFault) → OnOk r P → OnOk r Q → OnOk (fault_of r) (P × Q)
+on_ok P Q (Ok done) p q = (p, q)
+on_ok P Q (Err e) p q = tt
 
-pub ends_closed : (disk_at : List ℕ → Option (List ℕ)) (work : Work) (old now : Option (List ℕ)) (closed : Bool)
-    (r : Result (Unit {0}) FileFault) → closed ≡ true → OnOk r (WritesWork disk_at work old now)
-    → IfErr r (λ e. IsFaultOf disk_at work e.fault) → IsWorked disk_at work old now closed 1
-ends_closed disk_at work old now closed r is did failed = (fault_of r, rw is refl, on_ok _ r did, if_err _ r failed)
+pub ends_closed : (disk_at : List ℕ → Option (List ℕ)) (work : Work) (old now : Option (List ℕ)) (held : List ℕ) (closed : Bool)
+    (r : Result (Unit {0}) FileFault) → closed ≡ true → OnOk r (WritesWork disk_at work old now) → OnOk r (held ≡ [])
+    → IfErr r (λ e. IsFaultOf disk_at work e.fault) → IsWorked disk_at work old now held closed 1
+ends_closed disk_at work old now held closed r is did whole failed = (fault_of r, rw is refl, on_ok _ _ r did whole, if_err _ r failed)
 
-pub ends_open : (disk_at : List ℕ → Option (List ℕ)) (work : Work) (old now : Option (List ℕ)) (closed : Bool) (status : ℕ)
+pub ends_open : (disk_at : List ℕ → Option (List ℕ)) (work : Work) (old now : Option (List ℕ)) (held : List ℕ) (closed : Bool) (status : ℕ)
     (r : Result (Unit {0}) FileFault) → closed ≡ false → status ≡ status_after (fault_of r)
-    → OnOk r (WritesWork disk_at work old now) → IfErr r (λ e. IsFaultOf disk_at work e.fault)
-    → IsWorked disk_at work old now closed status
-ends_open disk_at work old now closed status r shut is did failed = (fault_of r, rw shut is, on_ok _ r did, if_err _ r failed)
+    → OnOk r (WritesWork disk_at work old now) → OnOk r (held ≡ []) → IfErr r (λ e. IsFaultOf disk_at work e.fault)
+    → IsWorked disk_at work old now held closed status
+ends_open disk_at work old now held closed status r shut is did whole failed =
+    (fault_of r, rw shut is, on_ok _ _ r did whole, if_err _ r failed)
 
 -- the words of a command line whose own text has an error of that kind ask for none
 pub asks_for_none : (words : List (List ℕ)) (kind : ErrorKind) (why : NoWork) → why ≡ no_work kind

@@ -1,5 +1,5 @@
 -- What the examiner makes of a disk's file, and its status. Source: docs/CONSOLE.md, "The program `sbidisk`".
-use Rattle.std.specs.Prelude.{◌≡◌, ◌≢◌, ◌⊎◌, ◌%◌, ℕ, Bool, true, false, List, Option, IfErr, IfSome, OnOk, Result, length, ⊤}
+use Rattle.std.specs.Prelude.{◌≡◌, ◌≢◌, ◌⊎◌, ◌%◌, ℕ, Bool, true, false, List, [], Option, IfErr, IfSome, OnOk, Result, length, ⊤}
 use Rattle.std.specs.Io.KnownBytes.{Appends}
 use Rattle.board_files.specs.Disks.{IsLookedAt, first_sectors}
 use Rattle.board_files.specs.Faults.{IsFileFault}
@@ -79,13 +79,14 @@ abbrev pub status_by : Bool → Result (Unit {0}) ProgramFault → ℕ
 status_by true done = 1
 status_by false done = status_after done
 
--- the status is the one of the work, which was done whole where it has no fault, or of a fault that it may have
-abbrev pub IsWorked : (List ℕ → Option (List ℕ)) → Work → Option (List ℕ) → Option (List ℕ) → Bool → ℕ → Type 0
-IsWorked disk_at work old now closed status = (done : Result (Unit {0}) ProgramFault) × (status ≡ status_by closed done)
-    × OnOk done (WritesWork disk_at work old now) × IfErr done (λ fault. IsFaultOf disk_at work fault)
+-- the status is the one of the work, which was done whole where it has no fault, or of a fault that it may have; `held` is what
+-- the writer holds back
+abbrev pub IsWorked : (List ℕ → Option (List ℕ)) → Work → Option (List ℕ) → Option (List ℕ) → List ℕ → Bool → ℕ → Type 0
+IsWorked disk_at work old now held closed status = (done : Result (Unit {0}) ProgramFault) × (status ≡ status_by closed done)
+    × OnOk done (WritesWork disk_at work old now × (held ≡ [])) × IfErr done (λ fault. IsFaultOf disk_at work fault)
 
 -- What comes of the words: the work that they name was done, or has a fault; or they ask for none.
-abbrev pub IsExamined : (List ℕ → Option (List ℕ)) → List (List ℕ) → Option (List ℕ) → Option (List ℕ) → Bool → ℕ → Type 0
-IsExamined disk_at words old now closed status =
-    ((work : Work) × IsNamedBy words work × IsWorked disk_at work old now closed status)
+abbrev pub IsExamined : (List ℕ → Option (List ℕ)) → List (List ℕ) → Option (List ℕ) → Option (List ℕ) → List ℕ → Bool → ℕ → Type 0
+IsExamined disk_at words old now held closed status =
+    ((work : Work) × IsNamedBy words work × IsWorked disk_at work old now held closed status)
     ⊎ ((why : NoWork) × AskForNone words why × (status ≡ status_after (without_work why)))

@@ -1,7 +1,7 @@
 //! The program over files and streams: it tells what a disk's file holds (docs/CONSOLE.md, "The program `sbidisk`").
 
-ghost use Rattle.std.specs.Prelude.{◌≡◌, ◌≤◌, map, IfErr, OnOk};
-ghost use Rattle.std.specs.Io.Buffered.{writer_contents, writer_inner};
+ghost use Rattle.std.specs.Prelude.{◌≡◌, ◌≤◌, [], map, IfErr, OnOk};
+ghost use Rattle.std.specs.Io.Buffered.{writer_buffer, writer_contents, writer_inner};
 ghost use Rattle.command_line.specs.Faults.{status_after, without_work};
 ghost use Rattle.command_line.specs.Pipes.{is_closed_pipe, pipe_contents};
 ghost use Rattle.disk_program.specs.Examined.{IsExamined, IsFaultOf, IsFaultOver, IsWorked, RefusesLines, RefusesMemory, WritesMemory, WritesSeen, WritesWork};
@@ -28,6 +28,7 @@ fn look<D: DiskFiles, W: Write + Drop>(
 ) -> Result<(), FileFault>
     ensures done { OnOk result (WritesSeen (D.disk_at files.now path.now)
         (writer_contents (pipe_contents W.contents) out.old) (writer_contents (pipe_contents W.contents) out.new)) }
+    ensures flushed { OnOk result (writer_buffer out.new ≡ []) }
     ensures failed { IfErr result (λ e. IsFaultOver RefusesLines (D.disk_at files.now path.now) e.fault) }
 {
     let file = files.open(path)?;
@@ -53,6 +54,7 @@ fn recall<D: DiskFiles, W: Write + Drop>(
 ) -> Result<(), FileFault>
     ensures done { OnOk result (WritesMemory (D.disk_at files.now path.now)
         (writer_contents (pipe_contents W.contents) out.old) (writer_contents (pipe_contents W.contents) out.new)) }
+    ensures flushed { OnOk result (writer_buffer out.new ≡ []) }
     ensures failed { IfErr result (λ e. IsFaultOver RefusesMemory (D.disk_at files.now path.now) e.fault) }
 {
     let file = files.open(path)?;
@@ -77,6 +79,7 @@ fn do_work<D: DiskFiles, W: Write + Drop>(
 ) -> Result<(), FileFault>
     ensures done { OnOk result (WritesWork (D.disk_at files.now) work.entry
         (writer_contents (pipe_contents W.contents) out.old) (writer_contents (pipe_contents W.contents) out.new)) }
+    ensures flushed { OnOk result (writer_buffer out.new ≡ []) }
     ensures failed { IfErr result (λ e. IsFaultOf (D.disk_at files.now) work.entry e.fault) }
 {
     match work {
@@ -97,7 +100,7 @@ fn examine_by<D: DiskFiles, W: Write + Drop, F: Write + IsTerminal>(
     ensures range { result ≤ 2 }
     ensures worked { IsWorked (D.disk_at files.now) work.entry
         (writer_contents (pipe_contents W.contents) out.old) (writer_contents (pipe_contents W.contents) out.new)
-        (is_closed_pipe (writer_inner out.new)) result }
+        (writer_buffer out.new) (is_closed_pipe (writer_inner out.new)) result }
 {
     let done = do_work(alloc, files, work, out);
     if out.get_ref().is_closed() {
@@ -132,12 +135,12 @@ pub fn examine_on<D: DiskFiles, S: AsStr, W: Write + Drop, F: Write + IsTerminal
 ) -> u8
     ensures range { result ≤ 2 }
     // The status is the one of the work that the words name, or 1 where nobody reads the output any more. It is 0 only where
-    // the lines or the memory of the file that they name were written whole, and nothing else, or where the words ask for the
-    // help or the version. A work that fails has a fault that it may have over that file, so 2 is the status of words alone
+    // the lines or the memory of the file that they name were written whole, and nothing else, and nothing of them is held
+    // back, or where the words ask for the help or the version. A work that fails has a fault that it may have over that file, so 2 is the status of words alone
     // that name none.
     ensures status { IsExamined (D.disk_at files.now) (map S.text words.now)
         (writer_contents (pipe_contents W.contents) out.old) (writer_contents (pipe_contents W.contents) out.new)
-        (is_closed_pipe (writer_inner out.new)) result }
+        (writer_buffer out.new) (is_closed_pipe (writer_inner out.new)) result }
 {
     match work_of(alloc, words) {
         Ok(Some(work)) => examine_by(alloc, files, work, out, faults),

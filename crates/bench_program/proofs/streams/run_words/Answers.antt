@@ -8,12 +8,12 @@ use Rattle.bench_program.specs.declared.fault.BenchFault.{BenchFault}
 use Rattle.bench_program.specs.declared.fault.BenchFault.TheVariants.{Refused}
 use Rattle.board_model.specs.declared.refusal.Refusal.TheVariants.{Memory}
 use Rattle.bench_program.specs.declared.usage.Options.{Options}
-use Rattle.bench_program.proofs.Ends.{nothing_more, line_fault}
+use Rattle.bench_program.proofs.Ends.{nothing_more, line_fault, on_ok_both}
 use Rattle.bench_program.proofs.Told.{of_options}
 use Rattle.bench_program.proofs.streams.run_words.Goals as goal
 
 pub returns-in-Ok-clause-done : goal.returns-in-Ok-clause-done
-returns-in-Ok-clause-done g c = on_ok_weaker c.run_options.result (λ done. inl (c.in-Ok.options, c.in-Ok.ensures.named, done)) c.run_options.ensures.done
+returns-in-Ok-clause-done g c = on_ok_both c.run_options.result (λ done kept. inl ((c.in-Ok.options, c.in-Ok.ensures.named, done), kept)) c.run_options.ensures.done c.run_options.ensures.flushed
 
 pub returns-in-Err-clause-done : goal.returns-in-Err-clause-done
 returns-in-Err-clause-done g c =

@@ -10,7 +10,7 @@ pub returns-in-Report-clause-worked : goal.returns-in-Report-clause-worked
 returns-in-Report-clause-worked g c = rw c.in-Report.is (
     on_ok_weaker c.report.result
     (λ (done : IsReported c.args.payloads c.deref.result.now (writer_contents (pipe_contents g.O.Write.contents) c.args.out.now) (writer_contents (pipe_contents g.O.Write.contents) c.report.new.out)).
-    (c.in-Ok.script.items, c.in-Ok.ensures.said, rw (sym c.deref.ensures.value) done))
+    (c.in-Ok.script.items, c.in-Ok.ensures.said, c.in-Ok.ensures.bytes, rw (sym c.deref.ensures.value) done))
     c.report.ensures.reported)
 
 pub returns-in-Err-clause-faults : goal.returns-in-Err-clause-faults
