@@ -22,6 +22,7 @@ use Rattle.simdisk.specs.declared.SimDisk.{SimDisk}
 use Rattle.board_model.specs.declared.console_command.ConsoleCommand.{ConsoleCommand}
 use Rattle.board_model.specs.ConsoleCommands.{console_change}
 use Rattle.board_model.specs.declared.durable.Command.TheVariants as commands
+use Rattle.std.proofs.lemmas.List.{append-nil}
 use Rattle.std.proofs.lemmas.List.Elements.{All-cons, All-nil}
 use Rattle.board.specs.Boots.{PayloadsFit}
 use Rattle.board.specs.Moments.{attempts_of}
@@ -47,7 +48,9 @@ use Rattle.script_lang.specs.declared.line.Line.{Line}
 use Rattle.script_lang.specs.declared.line.Line.TheVariants as lines
 use Rattle.bench_judge.specs.declared.ledgers.Ledger.{Ledger}
 use Rattle.bench_judge.specs.Ledgers.{Tells}
-use Rattle.bench_sweep.specs.Lines.{LineMoves}
+use Rattle.bench_sweep.specs.Lines.{LineMoves, PowerMoves}
+use Rattle.bench_sweep.specs.Resumes.{power_resumes, Resumes}
+use Rattle.bench_sweep.specs.Made.{shows}
 use Rattle.bench_sweep.specs.Runs.{TellsWhole, Runs, RunsCalm, LeftOff, IsSpoilt, FindsState, Finds, PowerFinds}
 use Rattle.bench_sweep.specs.Swept.{IsPlainLine}
 use Rattle.bench_sweep.specs.Told.{ShowsEnoughMemory, moves_harts, powers_on, CommandTold, PowerTold, LineTold}
@@ -145,6 +148,18 @@ power_runs size mode b old new disk slots answer now was ledger is r enough powe
       runs = record { agrees = did.2; same = r.same ∙ sym did.3; follows = record { formatted = told.1 ∙ r.follows.formatted; kept = follows size b.kept did.0.kept r.follows.kept told.0; enough = power_grows size mode b answer did.0 did.1.0 enough ∙ r.follows.enough } };
     }
 
+-- and the ledger has the serial of the image that it resumed
+pub power_resumed : (size : Size) (mode : BootMode) (b : Bench) (old new : Power) (disk : OffDisk) (slots : List (List ℕ)) (answer : Answer) (now : Option Durable) (was ledger : Ledger) → old ≡ Off disk → RunsCalm size b old slots was
+    → (OffIs size b disk.disk → slots ≡ b.payloads → StepsTo size b new (λ x. PowersOn size mode b answer x × TellsNow answer.found now x))
+    → ((z : Size) (k n : Kept) → TellsWhole z was k → PowerTold mode answer.found answer.line now k n → Resumes was ledger (power_resumes mode answer.found answer.line)) → PowerMoves size mode b new was ledger
+power_resumed size mode b old new disk slots answer now was ledger is r powers_it serial =
+    let A : Power → Type 0 = λ p. Agrees size b p in
+    let off : OffIs size b disk.disk = subst A is r.agrees in
+    let did = powers_it off r.same in
+    let told = power_tells size mode b answer now did.0 r.follows.formatted did.1.0 did.1.1 in
+    let P : Option BenchLife → Type 0 = λ p. OnStep size p mode b answer did.0 in
+    record { bench = did.0; answer = answer; does = subst P (sym off.0) did.1.0; is = did.2; resumed = serial size b.kept did.0.kept r.follows.kept told.0 }
+
 -- a line of the console
 pub command_runs : {E : Type 0} (r : Result (Unit {0}) E) (c : ConsoleCommand) (old new : Power) (slots : List (List ℕ)) (answer : Answer) (was ledger : Ledger)
     → ((z : Size) (b : Bench) → Agrees z b old → StepsTo z b new (ConsoleStep c b.power b answer))
@@ -168,6 +183,12 @@ busy_runs size mode b old board slots ledger is r =
     let A : Power → Type 0 = λ p. Agrees size b p in
     let on : OnIs size b board = subst A is r.agrees in
     record { bench = b; does = (says printed.Busy, busy size mode b b.power board on.0); runs = record { agrees = on; same = r.same; follows = r.follows } }
+
+pub busy_resumed : (size : Size) (mode : BootMode) (b : Bench) (old : Power) (board : SimBoard) (slots : List (List ℕ)) (ledger : Ledger) → old ≡ On board → RunsCalm size b old slots ledger → PowerMoves size mode b (On board) ledger ledger
+busy_resumed size mode b old board slots ledger is r =
+    let A : Power → Type 0 = λ p. Agrees size b p in
+    let on : OnIs size b board = subst A is r.agrees in
+    record { bench = b; answer = says printed.Busy; does = busy size mode b b.power board on.0; is = on; resumed = sym (append-nil ledger.resumed.items) }
 
 -- ---- a disk with nothing armed fails by itself alone
 differ : {A : Type 0} (a b c : Armed) → a ≡ b → a ≡ c → (b ≡ c → ⊥) → A
@@ -253,10 +274,11 @@ module _ (z : Size) (s : DurableState) (b : Bench) where
       by (inr (room, w)) rest = let P : Option ℕ → Type 0 = λ r. Writes r Attempt (life_begun s z) start first m in wrote first m o mid (subst P allowed w) rest
 
 -- the board is on
-record Booted (b : Bench) (found : Option Durable) (new : Bench) : Type 0 where
+record Booted (b : Bench) (a : Answer) (new : Bench) : Type 0 where
   pub changes : List Change
   pub may : MayKeep b.kept changes
-  pub shows : found ≡ Some (durable_of (found_of changes))
+  pub shows : a.found ≡ Some (durable_of (found_of changes))
+  pub line : a.line ≡ printed.On modes.Keep
   pub life : BenchLife
   pub on : new.power ≡ Some life
   pub image : life.now.image ≡ (found_of changes).image
@@ -277,7 +299,7 @@ record Unbooted (b : Bench) (line : Printed) (new : Bench) : Type 0 where
 
 module _ (size : Size) (b : Bench) (a : Answer) (new : Bench) (formatted : b.disk_state ≡ Formatted) (none : b.power ≡ None) (left : b.fault_state ≡ fault_state_left b.fault_state) (fits : (z : Size) → PayloadsFit z b.payloads) where
   abbrev Ended : Type 0
-  Ended = Booted b a.found new ⊎ Unbooted b a.line new
+  Ended = Booted b a new ⊎ Unbooted b a.line new
 
   stands : (z : Size) (s : DurableState) (changes : List Change) → MayKeep b.kept changes → s ≡ found_of changes → ShowsFound a.found s → Boots None modes.Keep z s (settled changes b) a.line new → Ended
   stands z s changes may found shows_it (inl (fit, (o, mid, issues, booted))) = by (goes_from z s (settled changes b) s.trial refl o mid issues)
@@ -291,6 +313,7 @@ module _ (size : Size) (b : Bench) (a : Answer) (new : Bench) (formatted : b.dis
             changes = changes;
             may = may;
             shows = found_as a.found s shows_it ∙ ap (λ (t : DurableState). Some (durable_of t)) found;
+            line = did.2;
             life = has_machine did.3 did.0;
             on = ap (λ (x : Bench). x.power) did.5;
             image = ap (λ (l : BenchLife). l.now.image) same ∙ image ∙ ap (λ (t : DurableState). t.image) found;
@@ -324,10 +347,10 @@ module _ (size : Size) (b : Bench) (a : Answer) (new : Bench) (formatted : b.dis
       by (inr (m, cause, e)) = let P : FaultState → Type 0 = λ x. IsSpoilt x in inr (subst P (sym e ∙ off.2.0) (fails_itself b.fault_state m left cause))
 
   -- a store that goes on from what was found
-  abbrev Stored : SimBoard → Booted b a.found new → Type 0
+  abbrev Stored : SimBoard → Booted b a new → Type 0
   Stored board k = FindsState size (store_in board) × ((found_of k.changes).image ≡ (store_now (store_in board)).image)
 
-  stored : (board : SimBoard) (k : Booted b a.found new) → IsSize size → IsWhole size (found_of k.changes) → OnIs size new board → Stored board k
+  stored : (board : SimBoard) (k : Booted b a new) → IsSize size → IsWhole size (found_of k.changes) → OnIs size new board → Stored board k
   stored board k is_size whole on =
       let M : DiskState → Type 0 = λ m. BoardIs size m new.kept new.power board in
       let P : Option BenchLife → Type 0 = λ p. BoardIs size Formatted new.kept p board in
@@ -337,8 +360,14 @@ module _ (size : Size) (b : Bench) (a : Answer) (new : Bench) (formatted : b.dis
       let F : FaultState → Type 0 = λ m. m ≡ fault_state_left m in
       (record { sized = is.0.0.2; is_size = is_size; whole = subst W (sym image) whole; left = subst F (sym k.fault ∙ on.1.0) left }, sym image)
 
+  -- and that was said
+  said : (k : Booted b a new) (p : Plain) → state_in p ≡ found_of k.changes → a ≡ shows (durable_of (state_in p))
+  said k p is =
+      ap (λ (o : Option Durable). record { found = o; line = a.line }) (k.shows ∙ ap (λ (s : DurableState). Some (durable_of s)) (sym is))
+      ∙ ap (λ (l : Printed). record { found = Some (durable_of (state_in p)); line = l }) k.line
+
   -- what was found is what the ledger tells
-  pub finds : (ledger : Ledger) (power : Power) (found : Option Plain) → IsSize size → TellsWhole size ledger b.kept → PowersOn size modes.Keep b a new → Agrees size new power → PowerFinds size power a.found a.line found → Finds ledger found
+  pub finds : (ledger : Ledger) (power : Power) (found : Option Plain) → IsSize size → TellsWhole size ledger b.kept → PowersOn size modes.Keep b a new → Agrees size new power → PowerFinds size power a.found a.line found → Finds ledger found a
   finds ledger (Off off) found is_size tells did agrees sees = elim (powers did) [
     | inl k ↦ absurd (let e : None ≡ Some k.life = sym agrees.0 ∙ k.on in let no : ⊥ = cc in no)
     | inr u ↦ absurd (sees (spoilt off.disk u agrees))
@@ -348,6 +377,6 @@ module _ (size : Size) (b : Bench) (a : Answer) (new : Bench) (formatted : b.dis
     | inl k ↦ (
         let x = stored board k is_size (whole_found size ledger b.kept k.changes tells k.may) agrees in
         let p = sees (durable_of (found_of k.changes)) (found_of k.changes) k.shows refl x.1 x.0 in
-        record { kept = b.kept; tells = tells.tells; plain = p.0; is = p.1; may = (k.changes, k.may, p.2) }
+        record { kept = b.kept; tells = tells.tells; plain = p.0; is = p.1; may = (k.changes, k.may, p.2); says = said k p.0 p.2 }
         )
   ]

@@ -27,11 +27,10 @@ use Rattle.bench_sweep.specs.Runs.{RunsAt, RanTo, IsLife}
 
 -- ---- a run with a fault armed
 module _ (size : Size) (kind : Kind) (at : Point) (b : Bench) (lines : List Line) (count : ℕ) (power : Power) (slots : List (List ℕ)) (ledger : Ledger) (few : count ≤ length lines) (ran : RanTo size (armed_with (fault_at kind at.caller at.call) b) (take count lines) power slots ledger) where
-  made : (row : Row) → row.caller ≡ at.caller → row.number ≡ at.number → unpowered ran.bench ≡ unpowered ran.end → EndsAs kind lines count ran.answers → ran.bench.fault_state.own ≡ 0 → IsLeft size (off ran.bench) row → RunsRow size kind b lines row
-  made row caller number same ends none (after, said) =
+  made : (row : Row) → row.caller ≡ at.caller → row.number ≡ at.number → unpowered ran.bench ≡ unpowered ran.end → EndsAs kind lines count ran.answers → ran.bench.fault_state.own ≡ 0 → IsLeft size (off ran.bench) row → RunsRow size kind at.before b lines row
+  made row caller number same ends none ((after, said), finds) =
       let P : Bench → Type 0 = λ x. LooksAt size x row.left after in
       let Q : Caller → Type 0 = λ who. Run size (armed_with (fault_at kind who at.call) b) (take count lines) ran.answers ran.end in record {
-        made = at.before;
         call = at.call;
         counts = number ∙ at.counts;
         count = count;
@@ -43,24 +42,24 @@ module _ (size : Size) (kind : Kind) (at : Point) (b : Bench) (lines : List Line
         refused_none = (ap (λ (x : Bench). x.growths) (sym same) ∙ ran.runs.follows.enough, ap (λ (x : Bench). x.fault_state.own) (sym same) ∙ none);
         after = after;
         says = subst P same said;
+        finds = finds;
       }
 
 -- up to the line in which a cut struck
 pub to_cut : (size : Size) (at : Point) (b : Bench) (lines : List Line) (count : ℕ) (power : Power) (slots : List (List ℕ)) (ledger : Ledger) → count ≤ length lines → (ran : RanTo size (armed_with (fault_at Cuts at.caller at.call) b) (take count lines) power slots ledger)
-    → ran.bench.fault_state.struck ≡ true → ran.bench.fault_state.own ≡ 0 → (row : Row) → row.caller ≡ at.caller → row.number ≡ at.number → IsLeft size (off ran.bench) row → RunsRow size Cuts b lines row
+    → ran.bench.fault_state.struck ≡ true → ran.bench.fault_state.own ≡ 0 → (row : Row) → row.caller ≡ at.caller → row.number ≡ at.number → IsLeft size (off ran.bench) row → RunsRow size Cuts at.before b lines row
 to_cut size at b lines count power slots ledger few ran hit none row caller number left = let s = ran.struck hit in made size Cuts at b lines count power slots ledger few ran row caller number (ap (λ (x : Bench). unpowered x) s.0) s.1 none left
 
 -- or to the last of them
 pub past_failure : (size : Size) (at : Point) (b : Bench) (lines : List Line) (count : ℕ) (power : Power) (slots : List (List ℕ)) (ledger : Ledger) → count ≡ length lines → (ran : RanTo size (armed_with (fault_at Fails at.caller at.call) b) (take count lines) power slots ledger)
-    → ran.bench.fault_state.struck ≡ false → ran.bench.fault_state.own ≡ 0 → (row : Row) → row.caller ≡ at.caller → row.number ≡ at.number → IsLeft size (off ran.bench) row → RunsRow size Fails b lines row
+    → ran.bench.fault_state.struck ≡ false → ran.bench.fault_state.own ≡ 0 → (row : Row) → row.caller ≡ at.caller → row.number ≡ at.number → IsLeft size (off ran.bench) row → RunsRow size Fails at.before b lines row
 past_failure size at b lines count power slots ledger all ran calm none row caller number left = made size Fails at b lines count power slots ledger (omega (arith, all)) ran row caller number (ap (λ (x : Bench). unpowered x) (ran.calm calm)) all none left
 
 -- over the first of some lines, of which a cut ended it
-pub over_all : (size : Size) (b : Bench) (lines : List Line) (n : ℕ) → n ≤ length lines → (row : Row) → RunsRow size Cuts b (take n lines) row → RunsRow size Cuts b lines row
-over_all size b lines n few row r =
+pub over_all : (size : Size) (before : ℕ) (b : Bench) (lines : List Line) (n : ℕ) → n ≤ length lines → (row : Row) → RunsRow size Cuts before b (take n lines) row → RunsRow size Cuts before b lines row
+over_all size before b lines n few row r =
     let long = length-take-le n lines few in
     let P : List Line → Type 0 = λ ls. Run size (armed_with (fault_at Cuts row.caller r.call) b) ls r.answers r.end in record {
-      made = r.made;
       call = r.call;
       counts = r.counts;
       count = r.count;
@@ -72,6 +71,7 @@ over_all size b lines n few row r =
       refused_none = r.refused_none;
       after = r.after;
       says = r.says;
+      finds = r.finds;
     }
 
 -- ---- lives
@@ -181,10 +181,10 @@ plain_run size first lines n at all none (inr (long, f)) = record {
 }
 
 -- a row behind so many lines
-pub row_of : (size : Size) (kind : Kind) (first : Bench) (lines rest : List Line) (n : ℕ) (at : Site) → rest ≡ drop n lines → (f : SoFar size first (take n lines) at) → (row : Row) → RunsRow size kind (unpowered f.bench) rest row
+pub row_of : (size : Size) (kind : Kind) (before : ℕ) (first : Bench) (lines rest : List Line) (n : ℕ) (at : Site) → rest ≡ drop n lines → (f : SoFar size first (take n lines) at) → (row : Row) → RunsRow size kind before (unpowered f.bench) rest row
     → IsRow size kind first lines row
-row_of size kind first lines rest n at is f row r =
-    let P : List Line → Type 0 = λ ls. RunsWith size kind row.caller row.number (unpowered f.bench) ls row.left in record { before = n; bench = f.bench; plain = f.comes; run = subst P is r }
+row_of size kind before first lines rest n at is f row r =
+    let P : List Line → Type 0 = λ ls. RunsWith size kind row.caller before row.number (unpowered f.bench) ls row.left in record { before = n; bench = f.bench; plain = f.comes; made = before; run = subst P is r }
 
 -- ---- counts of callers
 pub zip_long : {A B : Type 0} (R : A → B → Type 0) (xs : List A) (ys : List B) → AllZip R xs ys → length ys ≡ length xs

@@ -1,16 +1,19 @@
 -- What a line that moves harts does, by the steps of the model, and that the ledger follows it.
 use Rattle.std.specs.Prelude.{◌≡◌, ℕ, List, Option, None, Some}
 use Rattle.board_model.specs.Shapes.{Size}
+use Rattle.board_model.specs.declared.boot_mode.BootMode.{BootMode}
 use Rattle.sbi.specs.declared.words.Word.{Word}
 use Rattle.script_lang.specs.declared.line.Line.{Line}
+use Rattle.script_lang.specs.declared.line.Line.TheVariants as lines
 use Rattle.report_lines.specs.declared.printed.Answer.{Answer}
 use Rattle.bench_report.specs.declared.power.Power.{Power}
 use Rattle.bench_report.specs.Bench.{BenchLife, Bench}
 use Rattle.bench_report.specs.Steps.{Step}
 use Rattle.bench_report.specs.Turns.{GuestTurn, GuestTurns}
-use Rattle.bench_report.specs.Agree.{OnIs, BoardAfter}
+use Rattle.bench_report.specs.Agree.{OnIs, BoardAfter, Agrees}
 use Rattle.bench_report.specs.Views.{SimBoard}
 use Rattle.bench_judge.specs.declared.ledgers.Ledger.{Ledger}
+use Rattle.bench_sweep.specs.Resumes.{power_resumes, Resumes}
 use Rattle.bench_sweep.specs.Runs.{Follows, Runs}
 
 -- one turn of hart h, and what was said of it
@@ -46,3 +49,11 @@ pub record LineMoves (size : Size) (line : Line) (b : Bench) (power : Power) (sl
   pub bench : Bench
   pub does : DoesLine size line b bench
   pub runs : Runs size bench power slots ledger
+
+-- A line that powers a board on by that mode was run, and the ledger has the serial of the image that it resumed besides.
+pub record PowerMoves (size : Size) (mode : BootMode) (b : Bench) (power : Power) (old ledger : Ledger) : Type 0 where
+  pub bench : Bench
+  pub answer : Answer
+  pub does : Step size (lines.On mode) b answer bench
+  pub is : Agrees size bench power
+  pub resumed : Resumes old ledger (power_resumes mode answer.found answer.line)

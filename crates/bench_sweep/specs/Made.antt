@@ -1,8 +1,9 @@
 -- Which runs of a script a bench makes, and what each row of it tells. Source: docs/SCRIPT.md, "The benches".
-use Rattle.std.specs.Prelude.{◌≡◌, ◌≤◌, ◌+◌, ℕ, List, [], ◌∷◌, ◌++◌, None, length, take, drop}
+use Rattle.std.specs.Prelude.{◌≡◌, ◌≤◌, ◌+◌, ℕ, List, [], ◌∷◌, ◌++◌, None, Some, length, take, drop}
 use Rattle.std.specs.List.{flat_map}
 use Rattle.board_model.specs.Shapes.{Size}
 use Rattle.board_model.specs.declared.boot_mode.BootMode.TheVariants as modes
+use Rattle.board_model.specs.declared.durable.Durable.{Durable}
 use Rattle.script_lang.specs.declared.line.Line.{Line}
 use Rattle.report_lines.specs.declared.printed.Answer.{Answer}
 use Rattle.report_lines.specs.declared.printed.Printed.TheVariants as printed
@@ -55,15 +56,24 @@ pub record IsPlainRun (size : Size) (first : Bench) (lines : List Line) : Type 0
 abbrev pub LooksAt : Size → Bench → Answer → Bench → Type 0
 LooksAt size b left after = PowersOn size modes.Keep (record b { payloads = no_payloads }) left after
 
+-- that power-on found this state, and the board is on
+abbrev pub shows : Durable → Answer
+shows d = record { found = Some d; line = printed.On modes.Keep }
+
+-- it found a state
+abbrev pub ShowsState : Answer → Type 0
+ShowsState left = (d : Durable) × (left ≡ shows d)
+
 -- a run with a cut ends with the line within which it struck, and one with a failure with the script
 abbrev pub EndsAs : Kind → List Line → ℕ → List Answer → Type 0
 EndsAs Cuts lines count answers = (before : List Answer) × (answers ≡ before ++ says printed.PowerLost ∷ [])
 EndsAs Fails lines count answers = count ≡ length lines
 
 -- Lines are run on a bench that is off, on whose disk that is armed: at the call of that caller that has that number,
--- where so many were made before. No memory is refused. Then power is cut, and a power-on that keeps the image says that.
-pub record RunsWith (size : Size) (kind : Kind) (caller : Caller) (number : ℕ) (b : Bench) (lines : List Line) (left : Answer) : Type 0 where
-  pub made : ℕ
+-- where so many were made before. No memory is refused. Then power is cut, and a power-on that keeps the image says that:
+-- it found a state.
+pub record RunsWith (size : Size) (kind : Kind) (caller : Caller) (made number : ℕ) (b : Bench) (lines : List Line) (left : Answer)
+    : Type 0 where
   pub call : ℕ
   pub counts : number ≡ made + call
   pub count : ℕ
@@ -75,10 +85,12 @@ pub record RunsWith (size : Size) (kind : Kind) (caller : Caller) (number : ℕ)
   pub refused_none : WasRefusedNoMemory end
   pub after : Bench
   pub says : LooksAt size (unpowered end) left after
+  pub finds : ShowsState left
 
 -- A row that says that is such a run: some first lines are run as they are, and those behind them with that armed.
 pub record IsRunOf (size : Size) (kind : Kind) (caller : Caller) (number : ℕ) (first : Bench) (lines : List Line) (left : Answer) : Type 0 where
   pub before : ℕ
   pub bench : Bench
   pub plain : ComesTo size first (take before lines) bench
-  pub run : RunsWith size kind caller number (unpowered bench) (drop before lines) left
+  pub made : ℕ
+  pub run : RunsWith size kind caller made number (unpowered bench) (drop before lines) left

@@ -7,7 +7,7 @@ use Rattle.bench_report.specs.Happens.{unpowered}
 use Rattle.bench_sweep.specs.declared.points.Bench.{Bench as Kind}
 use Rattle.bench_sweep.specs.declared.rows.Row.{Row}
 use Rattle.bench_sweep.specs.declared.sweeps.Report.{Report}
-use Rattle.bench_sweep.specs.Made.{LooksAt, IsFormatted, IsPlainRun, RunsWith, IsRunOf}
+use Rattle.bench_sweep.specs.Made.{LooksAt, ShowsState, IsFormatted, IsPlainRun, RunsWith, IsRunOf}
 use Rattle.bench_sweep.specs.Swept.{Cell, Writes, all_runs, callers, total}
 
 -- The report goes on in the same writer: these runs were made at so many points, one line was written for each, and
@@ -18,13 +18,13 @@ pub record Reports {W : Type 0} (contents : W → Option (List ℕ)) (Is : Row �
   pub wrote : Writes Is (contents old.out.now) (contents new.out.now) old.sweep new.sweep made n
 
 -- ---- rows so far
--- a row whose run ended at that bench
+-- a row whose run ended at that bench, where a state was found
 abbrev pub IsLeft : Size → Bench → Row → Type 0
-IsLeft size end row = (after : Bench) × LooksAt size (unpowered end) row.left after
+IsLeft size end row = ((after : Bench) × LooksAt size (unpowered end) row.left after) × ShowsState row.left
 
--- a row whose run begins at that bench, which is off
-abbrev pub RunsRow : Size → Kind → Bench → List Line → Row → Type 0
-RunsRow size kind b lines row = RunsWith size kind row.caller row.number b lines row.left
+-- a row whose run begins at that bench, which is off, where its caller had made so many calls
+abbrev pub RunsRow : Size → Kind → ℕ → Bench → List Line → Row → Type 0
+RunsRow size kind made b lines row = RunsWith size kind row.caller made row.number b lines row.left
 
 -- a row of a bench over those lines, of which the first begin at that bench
 abbrev pub IsRow : Size → Kind → Bench → List Line → Row → Type 0

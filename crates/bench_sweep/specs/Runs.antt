@@ -22,11 +22,12 @@ use Rattle.bench_report.specs.Happens.{off, unpowered}
 use Rattle.bench_report.specs.Steps.{Run}
 use Rattle.bench_report.specs.Agree.{OffIs, BoardAfter, Agrees, IsBench}
 use Rattle.bench_report.specs.Views.{SimStore, SimBoard, machine_in, fault_state, store_in, store_size, store_now, store_fault_state}
+use Rattle.bench_judge.specs.Judged.{IsRight}
 use Rattle.bench_judge.specs.Ledgers.{Tells}
 use Rattle.bench_judge.specs.declared.ledgers.Ledger.{Ledger}
 use Rattle.bench_sweep.specs.declared.points.Bench.TheVariants.{Cuts}
 use Rattle.bench_sweep.specs.declared.site.Site.{Site}
-use Rattle.bench_sweep.specs.Made.{IsFormatted, EndsAs}
+use Rattle.bench_sweep.specs.Made.{IsFormatted, EndsAs, shows}
 use Rattle.bench_sweep.specs.Told.{HartTold}
 
 -- The ledger tells the commands kept; an image that stands, or is in doubt, has the memory of a board of that size.
@@ -153,13 +154,20 @@ pub record FindsState (size : Size) (store : SimStore) : Type 0 where
   pub whole : IsWhole size (store_now store)
   pub left : store_fault_state store ≡ fault_state_left (store_fault_state store)
 
--- A state was found, which the commands that the ledger tells let an open find.
-pub record Finds (ledger : Ledger) (found : Option Plain) : Type 0 where
+-- A state was found, which the commands that the ledger tells let an open find; and it is the one that was said.
+pub record Finds (ledger : Ledger) (found : Option Plain) (left : Answer) : Type 0 where
   pub kept : Kept
   pub tells : Tells ledger kept
   pub plain : Plain
   pub is : found ≡ Some plain
   pub may : MayFind kept (state_in plain)
+  pub says : left ≡ shows (durable_of (state_in plain))
+
+-- What was said is the state that was judged, with its memory, which is right by the ledger.
+pub record IsJudged (ledger : Ledger) (left : Answer) : Type 0 where
+  pub plain : Plain
+  pub right : IsRight ledger.state ledger.doubt (Some plain) ledger.resumed.items
+  pub says : left ≡ shows (durable_of (state_in plain))
 
 -- Of a power-on that found and said so: the state that its open found was found with its memory, where the board's
 -- image is the one found; or memory was refused.

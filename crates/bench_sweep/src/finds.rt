@@ -17,7 +17,7 @@ ghost use Rattle.bench_report.specs.Agree.{OffIs};
 ghost use Rattle.bench_report.specs.Bench.{Bench, Formatted};
 ghost use Rattle.bench_report.specs.Views.{fault_state, store_in, store_size, store_now, store_fault_state};
 ghost use Rattle.bench_sweep.specs.Made.{LooksAt};
-ghost use Rattle.bench_sweep.specs.Runs.{LeftOff, Finds, FindsState, IsSpoilt, PowerFinds};
+ghost use Rattle.bench_sweep.specs.Runs.{LeftOff, Finds, FindsState, IsJudged, IsSpoilt, PowerFinds};
 
 use crate::follows::enough_memory;
 use bench_judge::{Ledger, Sweep};
@@ -137,7 +137,7 @@ fn sizes(shape: &Shape)
 /// it makes no turn, and is not refused for a payload that is longer than RAM. Refused `Memory` alone.
 fn look_at(alloc: Global, shape: &Shape, off: OffDisk) -> Result<Found, Refusal>
     ensures finds { IfOk result (λ found. (b : Bench) (slots : List (List ℕ)) (ledger : Ledger)
-        → LeftOff shape.now b off slots ledger → Finds ledger found.plain) }
+        → LeftOff shape.now b off slots ledger → Finds ledger found.plain found.left) }
     ensures says { IfOk result (λ found. (b : Bench) → OffIs shape.now b off.disk
         → (after : Bench) × LooksAt shape.now b found.left after) }
     ensures refused { IfErr result (λ e. e ≡ Memory) }
@@ -160,6 +160,7 @@ pub fn count_run(
     requires { (slots : List (List ℕ)) × (b : Bench) × LeftOff shape.now b off slots ledger.now }
     ensures says { IfOk result (λ left. (b : Bench) → OffIs shape.now b off.disk
         → (after : Bench) × LooksAt shape.now b left after) }
+    ensures judged { IfOk result (λ left. IsJudged ledger.now left) }
     ensures points { sweep.new.points ≡ sweep.old.points }
     ensures runs { OnOk result (sweep.new.runs ≡ counted sweep.old.runs 1) }
     ensures right { OnOk result (sweep.new.wrong ≡ sweep.old.wrong) }

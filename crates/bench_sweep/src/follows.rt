@@ -348,6 +348,7 @@ pub fn record_answered(
     ensures kept { OnOk result (MatchResult answer (λ a. ShowsEnoughMemory a.line
         × ((size : Size) (old new : Kept) → TellsWhole size ledger.old old → LineTold line.now a old new
         → TellsWhole size ledger.new new)) (λ e. ⊥)) }
+    ensures resumed { ledger.new.resumed ≡ ledger.old.resumed }
     ensures memory { IfErr result (λ e. e ≡ Memory) }
 {
     match answer {

@@ -12,7 +12,7 @@ ghost use Rattle.bench_report.specs.Agree.{Agrees, OffIs, IsUnstruck};
 ghost use Rattle.bench_report.specs.Bench.{Bench};
 ghost use Rattle.bench_report.specs.Happens.{armed_with, off, unpowered};
 ghost use Rattle.bench_report.specs.Views.{arms, facts, sim_log_of};
-ghost use Rattle.bench_sweep.specs.Lines.{LineMoves};
+ghost use Rattle.bench_sweep.specs.Lines.{LineMoves, PowerMoves};
 ghost use Rattle.bench_sweep.specs.Points.{calls_of, fault_at};
 ghost use Rattle.bench_sweep.specs.Runs.{Runs, RunsAt, RunsCalm, LeftAt, RanTo, StopsOff};
 ghost use Rattle.bench_sweep.specs.Swept.{IsPlainLine};
@@ -67,6 +67,7 @@ impl Site {
             → LeftAt size (unpowered b) copy) }
         ensures calls { IfOk result (λ copy. (caller : Caller)
             → calls_of caller copy.off.disk ≡ calls_of caller self.now.off.disk) }
+        ensures resumed { IfOk result (λ copy. copy.ledger.resumed.items ≡ self.now.ledger.resumed.items) }
         ensures refused { IfErr result (λ e. e ≡ Memory) }
     {
         let off = cut_by(&self.off, Fill::Old)?;
@@ -83,6 +84,7 @@ impl Site {
     pub fn armed(self, bench: Kind, point: Point) -> Site
         ensures runs { (size : Size) (b : Bench) → LeftAt size b self
             → RunsCalm size (armed_with (fault_at bench point.caller point.call) b) (Off result.off) result.payloads result.ledger }
+        ensures ledger { result.ledger ≡ self.ledger }
         ensures arms { arms result.off.disk (fault_at bench point.caller point.call) }
     {
         let Site {
@@ -103,6 +105,7 @@ impl Going {
     /// The run that begins at that site.
     pub fn from(site: Site) -> Going
         ensures calm { IsUnstruck result.power }
+        ensures ledger { result.ledger ≡ site.ledger }
         ensures runs { (size : Size) (b : Bench) → RunsCalm size b (Off site.off) site.payloads site.ledger
             → RunsCalm size b result.power result.payloads result.ledger }
     {
@@ -115,7 +118,8 @@ impl Going {
 
     /// Turns the board off.
     pub fn into_site(self) -> Site
-        ensures { (size : Size) (b : Bench) → Runs size b self.power self.payloads self.ledger → RunsAt size (off b) result }
+        ensures runs { (size : Size) (b : Bench) → Runs size b self.power self.payloads self.ledger → RunsAt size (off b) result }
+        ensures ledger { result.ledger ≡ self.ledger }
     {
         Site {
             off: OffDisk {
@@ -159,6 +163,8 @@ fn run_power_on(
 ) -> Result<Power, Refusal>
     ensures runs { IfOk result (λ now. (b : Bench) → RunsCalm shape.now b power payloads.now ledger.old
         → LineMoves shape.now (lines.On mode) b now payloads.now ledger.new) }
+    ensures resumed { IfOk result (λ now. (b : Bench) → RunsCalm shape.now b power payloads.now ledger.old
+        → PowerMoves shape.now mode b now ledger.old ledger.new) }
     ensures refused { IfErr result (λ e. e ≡ Memory) }
 {
     match power {
@@ -186,6 +192,7 @@ fn run_still_line<C: Crew>(
     requires calm { IsUnstruck power }
     ensures runs { IfOk result (λ now. (b : Bench) → RunsCalm setting.now.shape.now b power payloads.old ledger.old
         → LineMoves setting.now.shape.now line.now b now payloads.new ledger.new) }
+    ensures resumed { ledger.new.resumed ≡ ledger.old.resumed }
     ensures refused { IfErr result (λ e. e ≡ Memory) }
 {
     let (power, answer) = line_alone(setting, line, power, payloads);
@@ -262,6 +269,7 @@ fn run_command(alloc: Global, command: ConsoleCommand, going: &mut Going) -> Res
     ensures runs { OnOk result ((size : Size) (b : Bench)
         → RunsCalm size b going.old.power going.old.payloads going.old.ledger
         → LineMoves size (lines.Command command) b going.new.power going.new.payloads going.new.ledger) }
+    ensures resumed { going.new.ledger.resumed ≡ going.old.ledger.resumed }
     ensures refused { IfErr result (λ e. e ≡ Memory) }
 {
     let answer = console(command, &mut going.power);

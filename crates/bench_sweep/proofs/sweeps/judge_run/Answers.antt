@@ -1,4 +1,6 @@
 use Rattle.std.proofs.Common.{◌≡◌, refl}
+use Rattle.board_model.specs.Plains.{state_in}
+use Rattle.board_model.specs.Views.{durable_of}
 use Rattle.bench_report.specs.Bench.{Bench}
 use Rattle.bench_report.specs.Happens.{unpowered}
 use Rattle.bench_sweep.specs.Reports.{IsLeft}
@@ -18,5 +20,5 @@ returns-clause-wrote g c =
     let size = c.args.setting.now.shape.now in
     let did = c.in_ok-left.ensures in
     let Was : Bench → Type 0 = λ b. RunsAt size b c.args.site.now in
-    reports_one _ Was (λ b. IsLeft size b) c.write_row.result _ _ _ (λ b r. did.says (unpowered b) (c.in_ok-off.ensures.left size b r.agrees)) refl c.write_row.ensures.ok did.points did.runs
+    reports_one _ Was (λ b. IsLeft size b) c.write_row.result _ _ _ (λ b r. (did.says (unpowered b) (c.in_ok-off.ensures.left size b r.agrees), (durable_of (state_in did.judged.plain), did.judged.says))) refl c.write_row.ensures.ok did.points did.runs
     did.right

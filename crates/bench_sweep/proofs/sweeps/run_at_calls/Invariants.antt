@@ -10,4 +10,4 @@ use Rattle.bench_sweep.proofs.sweeps.run_at_calls.Given as goal
 abbrev pub invariant-loop-done : goal.invariant-loop-done
 invariant-loop-done g l =
     (b : Bench) → RunsAt l.runner.setting.shape.now b l.site
-    → Reports g.W.Write.contents (RunsRow l.runner.setting.shape.now l.runner.bench (unpowered b) l.runner.lines.now) l.fn.report l.report (runs_from l.runner.bench l.calls.caller (l.calls.made + 1) l.done) 0
+    → Reports g.W.Write.contents (RunsRow l.runner.setting.shape.now l.runner.bench l.calls.made (unpowered b) l.runner.lines.now) l.fn.report l.report (runs_from l.runner.bench l.calls.caller (l.calls.made + 1) l.done) 0

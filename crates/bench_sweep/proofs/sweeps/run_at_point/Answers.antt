@@ -9,7 +9,7 @@ run_to_cut-requires-clause-lines g c κs within = swept_take c.args.runner.now.s
 pub returns-in-Cuts-clause-wrote : goal.returns-in-Cuts-clause-wrote
 returns-in-Cuts-clause-wrote g c = rw c.in-Cuts.is (
     on_ok_weaker c.run_to_cut.result (λ did b l.
-    reports_weaker _ _ _ _ _ _ _ (over_all c.args.runner.now.setting.shape.now b c.args.runner.now.lines.now c.args.count c.requires.few) (did b l))
+    reports_weaker _ _ _ _ _ _ _ (over_all c.args.runner.now.setting.shape.now c.args.point.before b c.args.runner.now.lines.now c.args.count c.requires.few) (did b l))
     c.run_to_cut.ensures.wrote)
 
 pub returns-in-Fails-clause-wrote : goal.returns-in-Fails-clause-wrote

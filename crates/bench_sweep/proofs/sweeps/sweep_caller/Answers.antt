@@ -47,7 +47,7 @@ loop-from-preserved g c =
       wrote = λ b r.
           (let f = sits_at size (unpowered b) lines from _ c.loop-from-test.true (i.lives b r) in
           reports_as _ _ _ _ _ _ _ _ (next_exact kind c.args.caller made calls (omega (arith, i.counts, did.ensures.calls, did.ensures.below))) refl
-          (reports_more _ _ _ _ _ _ _ _ _ (i.wrote b r) (reports_weaker _ _ _ _ _ _ _ (row_of size kind (unpowered b) lines _ from c.loop-from.site rest f) (did.ensures.wrote f.bench f.site))));
+          (reports_more _ _ _ _ _ _ _ _ _ (i.wrote b r) (reports_weaker _ _ _ _ _ _ _ (row_of size kind made (unpowered b) lines _ from c.loop-from.site rest f) (did.ensures.wrote f.bench f.site))));
     }
 
 pub returns-clause-wrote : goal.returns-clause-wrote

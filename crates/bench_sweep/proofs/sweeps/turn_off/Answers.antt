@@ -11,5 +11,5 @@ same false false e = refl
 
 pub returns-clause-runs : goal.returns-clause-runs
 returns-clause-runs c = λ size b r.
-    let at = c.into_site-site.ensures size b r in
+    let at = c.into_site-site.ensures.runs size b r in
     (sym (c.is_struck.ensures.exact size b r.agrees) ∙ same _ _ c.if-is_struck-struck.false, ap (λ (m : FaultState). m.own) at.agrees.2.0 ∙ sym c.refused.ensures ∙ c.if-refused-ne0.false, at)
