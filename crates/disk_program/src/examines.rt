@@ -136,8 +136,8 @@ pub fn examine_on<D: DiskFiles, S: AsStr, W: Write + Drop, F: Write + IsTerminal
     ensures range { result ≤ 2 }
     // The status is the one of the work that the words name, or 1 where nobody reads the output any more. It is 0 only where
     // the lines or the memory of the file that they name were written whole, and nothing else, and nothing of them is held
-    // back, or where the words ask for the help or the version. A work that fails has a fault that it may have over that file, so 2 is the status of words alone
-    // that name none.
+    // back, or where the words ask for the help or the version. A work that fails has a fault that it may have over that
+    // file, so 2 is the status of words alone that name none.
     ensures status { IsExamined (D.disk_at files.now) (map S.text words.now)
         (writer_contents (pipe_contents W.contents) out.old) (writer_contents (pipe_contents W.contents) out.new)
         (writer_buffer out.new) (is_closed_pipe (writer_inner out.new)) result }
