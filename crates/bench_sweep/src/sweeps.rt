@@ -232,8 +232,8 @@ fn run_at_calls<C: Crew, W: Write>(
     requires sits { Sits runner.now.setting.shape.now site.now }
     ensures wrote { OnOk result ((b : ModelBench)
         → RunsAt runner.now.setting.shape.now b site.now
-        → Reports W.contents
-        (RunsRow runner.now.setting.shape.now runner.now.bench calls.made (unpowered b) runner.now.lines.now) report.old report.new (runs_from runner.now.bench calls.caller (calls.made + 1) calls.count) 0) }
+        → Reports W.contents (RunsRow runner.now.setting.shape.now runner.now.bench calls.made (unpowered b) runner.now.lines.now)
+        report.old report.new (runs_from runner.now.bench calls.caller (calls.made + 1) calls.count) 0) }
     ensures refused { IfErr result (λ e. (e ≡ Memory) ⊎ (e ≡ Output)) }
 {
     for done in 0..calls.count {
@@ -314,8 +314,8 @@ fn sweep_stretch<C: Crew, W: Write>(
         → IsLife runner.now.setting.shape.now b runner.now.lines.now did.0 site.new) }
     ensures wrote { IfOk result (λ did. (b : ModelBench)
         → RunsAt runner.now.setting.shape.now b site.old
-        → Reports W.contents
-        (RunsRow runner.now.setting.shape.now runner.now.bench made (unpowered b) runner.now.lines.now) report.old report.new (runs_from runner.now.bench caller (made + 1) did.1) 0) }
+        → Reports W.contents (RunsRow runner.now.setting.shape.now runner.now.bench made (unpowered b) runner.now.lines.now)
+        report.old report.new (runs_from runner.now.bench caller (made + 1) did.1) 0) }
     ensures refused { IfErr result (λ e. (e ≡ Memory) ⊎ (e ≡ Output)) }
 {
     let Stretch { count, next } = stretch_of(runner, site)?;
