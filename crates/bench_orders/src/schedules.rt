@@ -81,7 +81,8 @@ fn add_next<R: Rng>(
 }
 
 /// Draws a schedule of a script's lines, each stretch in an order of its own. The fronts are those of its stretches,
-/// in order; they say where an order is drawn, and nothing rests on them. A stretch of one hart stays as it is.
+/// in order; they say where an order is drawn, and nothing rests on them. A stretch of one hart stays as it is, of which
+/// there is no clause.
 ///
 /// Refused only where memory is.
 pub fn schedule<R: Rng>(

@@ -270,8 +270,8 @@ pub fn run_left<C: Crew, W: Write>(
 }
 
 /// Runs a script (docs/SCRIPT.md) that begins with these payloads, and writes its report. The crew writes the lanes
-/// of an image; what comes of it is the same for each. A slot boots its own payload until a line `payload` says
-/// otherwise.
+/// of an image; where no fault strikes, the report is the same for each. A slot boots its own payload until a line
+/// `payload` says otherwise.
 ///
 /// Refused `BadShape` or `BadScript` where the script has a fault, and then nothing ran and nothing is
 /// written; `Memory` where memory was refused, to the writer too; `Output` where the writer failed else. After
@@ -301,8 +301,8 @@ pub fn run_with<C: Crew, W: Write>(
     }
 }
 
-/// Runs a script (docs/SCRIPT.md) that begins with no payloads, and writes its report. The crew writes the lanes of an image; what comes of
-/// it is the same for each.
+/// Runs a script (docs/SCRIPT.md) that begins with no payloads, and writes its report. The crew writes the lanes of an image; where
+/// no fault strikes, the report is the same for each.
 ///
 /// Refused `BadShape` or `BadScript` where the script has a fault, and then nothing ran and nothing is
 /// written; `Memory` where memory was refused, to the writer too; `Output` where the writer failed else. After
