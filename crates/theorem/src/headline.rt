@@ -4,7 +4,7 @@
 //! makes of it (board_model). `StandsFor c size s`: these bytes, as the content of a disk, are the state s, with
 //! the memory of its image (store). Of the facts of a disk, `may_leave` has each content that may be there where
 //! power fails now, and `since` each that might have been there where it failed at a moment since (disk).
-ghost use Rattle.std.specs.Prelude.{◌+◌, ◌≤◌, ◌≡◌, ◌⊎◌, ◌∷◌, [], ℕ, List, Some, None, Ok, Err, IfOk, IfErr, OnOk, IsErrOf, IsErr};
+ghost use Rattle.std.specs.Prelude.{◌+◌, ◌++◌, ◌≤◌, ◌≡◌, ◌⊎◌, ◌∷◌, [], ℕ, List, Some, None, Ok, Err, IfOk, IfErr, OnOk, IsErrOf, IsErr, length, map, take};
 ghost use Rattle.std.specs.Io.KnownBytes.{Appends};
 ghost use Rattle.board_model.specs.Durable.{DurableState, Image, Change, Suspend, Consume, formatted, after, fold};
 ghost use Rattle.board_model.specs.Kept.{MayFind, found_of};
@@ -19,7 +19,7 @@ ghost use Rattle.store.specs.Asked.{Asked};
 ghost use Rattle.store.specs.Leaves.{IsIdle, Leaves, LeavesOnly, LeavesEither, StandsForEither};
 ghost use Rattle.store.specs.Lives.{Applied};
 ghost use Rattle.store.specs.Standing.{StandsFor};
-ghost use Rattle.store.specs.Views.{disk_of, size_of_store, found_state, now_state, doubt_of};
+ghost use Rattle.store.specs.Views.{disk_of, size_of_store, found_state, now_state, doubt_of, journal_of};
 ghost use Rattle.board.specs.Views.{store_of, machine_of};
 ghost use Rattle.machine.specs.Machine.{woken};
 ghost use Rattle.lives.specs.Events.{Event, World, new_world, Runs, Rises};
@@ -82,7 +82,7 @@ fn issue<D: Disk + Drop>(store: &mut Store<D>, command: &Command) -> Result<Rece
 /// first that is not acknowledged: a crash at any moment of it leaves what could have been left at its start, or
 /// what some first of the commands make of the state before it, and so for each moment from which one looks on; a
 /// crash at its end leaves what the acknowledged ones make, or these and the next one. Answers how many were
-/// acknowledged.
+/// acknowledged: the journal of the life grew by just these.
 pub fn commands_in_a_row<D: Disk + Drop>(store: &mut Store<D>, commands: &[Command]) -> usize
     requires up { doubt_of store.old ≡ None }
     ensures wherever_power_fails { (t : ℕ) (c : Content) → t ≤ (disk_of store.old).moment
@@ -90,6 +90,8 @@ pub fn commands_in_a_row<D: Disk + Drop>(store: &mut Store<D>, commands: &[Comma
         ⊎ IsAfterFirst (size_of_store store.old) (now_state store.old) commands.now 0 (result + 1) c }
     ensures holds_every_acknowledged_one { (c : Content) → (disk_of store.new).may_leave c
         → IsAfterFirst (size_of_store store.old) (now_state store.old) commands.now result (result + 1) c }
+    ensures acknowledged { journal_of store.new ≡ journal_of store.old ++ map change_of (take result commands.now) }
+    ensures few { result ≤ length commands.now }
 {
     store.stands();
     let mut acknowledged = 0;
