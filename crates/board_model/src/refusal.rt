@@ -5,31 +5,50 @@ ghost use Rattle.board_model.specs.Views.{number_of_refusal};
 ghost use Rattle.board_model.specs.declared.refusal.Refusal.TheVariants.{Memory};
 
 use std::alloc::{AllocError, AllocFailed};
-use std::error::Error;
-use std::fmt;
+use thiserror::Error;
 
 /// Why a call was refused. What stands after each refusal is said at the calls, and in docs/REFUSALS.md.
-#[derive(Clone, Copy, Debug, PartialEq, Eq, Drop)]
+#[derive(Clone, Copy, Debug, PartialEq, Eq, Drop, Error)]
 pub enum Refusal {
+    #[error("the disk is not formatted")]
     NotFormatted,
+    #[error("the disk is formatted already")]
     AlreadyFormatted,
+    #[error("a number of the shape is out of its range, or the disk, the payload or the RAM does not fit the shape")]
     BadShape,
+    #[error("the selected record is not in its form")]
     BadRecord,
+    #[error("the device failed, and the durable state is unchanged")]
     Device,
+    #[error("the fate of a command is in doubt until the disk is opened again")]
     Down,
+    #[error("this life has ended by a reset or a suspension")]
     Over,
+    #[error("no image stands")]
     NoImage,
+    #[error("the boot slot is above 3")]
     BadSlot,
+    #[error("the journal of this life is full")]
     JournalFull,
+    #[error("memory was refused")]
     Memory,
+    #[error("every serial has been given out")]
     SerialsSpent,
+    #[error("a place of the image is not in its form")]
     BadImage,
+    #[error("line {0} of the script is not in its form")]
     BadScript(u64),
+    #[error("an image stands, and a fresh boot would leave it behind")]
     ImageThere,
+    #[error("the report could not be written")]
     Output,
+    #[error("the script has a line that no bench runs, or formats no disk")]
     NotPlain,
+    #[error("the board does not doze, or was woken already")]
     NotDozing,
+    #[error("a trial has 1 to 7 boots")]
     BadTries,
+    #[error("no trial of a boot slot stands")]
     NoTrial,
 }
 
@@ -65,44 +84,6 @@ macro_rules! refusal_lines {
         }
     };
 }
-
-/// What is said of a refusal.
-fn text(refusal: Refusal) -> &'static str {
-    match refusal {
-        Refusal::NotFormatted => "the disk is not formatted",
-        Refusal::AlreadyFormatted => "the disk is formatted already",
-        Refusal::BadShape =>
-            "a number of the shape is out of its range, or the disk, the payload or the RAM does not fit the shape",
-        Refusal::BadRecord => "the selected record is not in its form",
-        Refusal::Device => "the device failed, and the durable state is unchanged",
-        Refusal::Down => "the fate of a command is in doubt until the disk is opened again",
-        Refusal::Over => "this life has ended by a reset or a suspension",
-        Refusal::NoImage => "no image stands",
-        Refusal::BadSlot => "the boot slot is above 3",
-        Refusal::JournalFull => "the journal of this life is full",
-        Refusal::Memory => "memory was refused",
-        Refusal::SerialsSpent => "every serial has been given out",
-        Refusal::BadImage => "a place of the image is not in its form",
-        Refusal::BadScript(_) => "a line of the script is not in its form",
-        Refusal::ImageThere => "an image stands, and a fresh boot would leave it behind",
-        Refusal::Output => "the report could not be written",
-        Refusal::NotPlain => "the script has a line that no bench runs, or formats no disk",
-        Refusal::NotDozing => "the board does not doze, or was woken already",
-        Refusal::BadTries => "a trial has 1 to 7 boots",
-        Refusal::NoTrial => "no trial of a boot slot stands",
-    }
-}
-
-impl fmt::Display for Refusal {
-    fn fmt<W: fmt::Write>(&self, f: &mut fmt::Formatter<W>) -> fmt::Result {
-        match *self {
-            Refusal::BadScript(line) => write!(f, "line {line} of the script is not in its form"),
-            refusal => f.write_str(text(refusal)),
-        }
-    }
-}
-
-impl Error for Refusal {}
 
 impl Refusal {
     /// The number of the refusal, as reports and fault texts print it (docs/REFUSALS.md).

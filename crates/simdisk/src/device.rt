@@ -139,6 +139,10 @@ impl Disk for SimDisk {
         ensures counts { (FailsNext (⟦<SimDisk as Disk>⟧.fault_state self.old).struck
             (⟦<SimDisk as Logged>⟧.armed self.old) → ⊥)
             → ⟦<SimDisk as Logged>⟧.armed self.new ≡ one_call_on (⟦<SimDisk as Logged>⟧.armed self.old) }
+        ensures spared { OnErr result
+            ((⟦<SimDisk as Disk>⟧.fault_state self.old).own < (⟦<SimDisk as Disk>⟧.fault_state self.new).own
+            → FailsNext (⟦<SimDisk as Disk>⟧.fault_state self.old).struck (⟦<SimDisk as Logged>⟧.armed self.old)
+            → ⟦<SimDisk as Logged>⟧.armed self.new ≡ ⟦<SimDisk as Logged>⟧.armed self.old) }
     {
         self.calls = self.calls.saturating_add(1);
         if self.faults.strikes() {

@@ -77,18 +77,24 @@ is_suspended (start_pending a o) e = absurd (cc)
 is_suspended started e = absurd (cc)
 is_suspended suspended e = refl
 
-pub named_out : (y : HartState) → IsOutCode (named y) → IsOutside y
-named_out stopped e = tt
-named_out (start_pending a o) e = tt
-named_out started e = absurd ((not_out codes.Started e).0 refl)
-named_out suspended e = absurd ((not_out codes.Suspended e).1 refl)
+pub is_stopped : (y : HartState) → named y ≡ codes.Stopped → y ≡ stopped
+is_stopped stopped e = refl
+is_stopped (start_pending a o) e = absurd (cc)
+is_stopped started e = absurd (cc)
+is_stopped suspended e = absurd (cc)
+
+pub named_pending : (y : HartState) → named y ≡ codes.StartPending → IsOutside y
+named_pending stopped e = absurd (cc)
+named_pending (start_pending a o) e = tt
+named_pending started e = absurd (cc)
+named_pending suspended e = absurd (cc)
 
 abbrev arguments : Option (ℕ × ℕ) → ℕ × ℕ
 arguments None = (0, 0)
 arguments (Some p) = p
 
 pub none_is : (y : HartState) → IsOutside y → None ≡ entry y → y ≡ stopped
-none_is stopped is e = refl
+none_is stopped is e = absurd is
 none_is (start_pending a o) is e = absurd (cc)
 none_is started is e = absurd is
 none_is suspended is e = absurd is

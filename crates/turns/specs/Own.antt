@@ -37,12 +37,12 @@ abbrev pub ResumesOwn : ℕ → Known → Known → Type 0
 ResumesOwn by k k' = (mid : Known) × TakesOwn by k mid × (found : ℕ) × OneStep by Running (Unquieted found) mid k'
 
 -- ---- before the step
--- a hart that has not entered: it finds no start that is armed for it, or enters by that start and then takes
--- what is pending
+-- a hart that has not entered takes what is pending; then it finds no start that is armed for it, or enters by that start
 abbrev pub EntersOwn : ℕ → Known → Known → Ready → Type 0
-EntersOwn by k k' readies.Idle = FindsNone by k.harts k'.harts × (k'.pairs ≡ k.pairs)
+EntersOwn by k k' readies.Idle =
+    (mid : Known) × TakesOwn by k mid × FindsNone by mid.harts k'.harts × (k'.pairs ≡ mid.pairs)
 EntersOwn by k k' (readies.Enters a o) =
-    (mid : Known) × EntersAs by k.harts a o mid.harts × (mid.pairs ≡ k.pairs) × TakesOwn by mid k'
+    (mid : Known) × TakesOwn by k mid × EntersAs by mid.harts a o k'.harts × (k'.pairs ≡ mid.pairs)
 EntersOwn by k k' readies.Woke = ⊥
 EntersOwn by k k' (readies.Steps pending) = ⊥
 
@@ -57,7 +57,7 @@ WakesOwn by k k' (readies.Steps pending) = ⊥
 abbrev pub GoesOwn : ℕ → Code → Known → Known → Ready → Type 0
 GoesOwn by codes.Started k k' ready = (pending : Bool) × LooksOwn by k k' pending × (ready ≡ readies.Steps pending)
 GoesOwn by codes.Suspended k k' ready = WakesOwn by k k' ready
-GoesOwn by codes.Stopped k k' ready = EntersOwn by k k' ready
+GoesOwn by codes.Stopped k k' ready = (k' ≡ k) × (ready ≡ readies.Idle)
 GoesOwn by codes.StartPending k k' ready = EntersOwn by k k' ready
 
 -- one look at its own state, and what follows by that

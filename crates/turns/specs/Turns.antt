@@ -81,7 +81,7 @@ abbrev pub TakesAlone : ℕ → ℕ → Seats → Seats → Type 0
 TakesAlone harts by s s' = (t : TableState) → IsTable harts s t → IsTable harts s' (after_take t by)
 
 abbrev pub IsOutside : HartState → Type 0
-IsOutside stopped = Unit {0}
+IsOutside stopped = ⊥
 IsOutside (start_pending a o) = Unit {0}
 IsOutside started = ⊥
 IsOutside suspended = ⊥

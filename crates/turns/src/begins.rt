@@ -44,7 +44,8 @@ pub(crate) fn take(seats: Seats, tables: &Tables, by: HartId) -> Seats
     Seats { harts, pending }
 }
 
-/// Enters, where the hart is START_PENDING, and takes what is pending for it.
+/// Takes what is pending for the hart, which is START_PENDING, and then enters where its start is armed. So what is sent
+/// to it once it is STARTED stays pending.
 fn enter(seats: Seats, tables: &Tables, by: HartId) -> (Seats, Ready)
     requires seats { AreSeatsOfBoth tables.now seats }
     requires by { by < harts_of_both tables.now }
@@ -55,12 +56,12 @@ fn enter(seats: Seats, tables: &Tables, by: HartId) -> (Seats, Ready)
     ensures alone { EntersAlone (harts_of_both tables.entry.now) by seats result.0 result.1 }
 {
     hsm::one_table();
-    let Seats { harts, pending } = seats;
+    let Seats { harts, pending } = take(seats, tables, by);
     let (harts, entry) = hsm::try_enter(&tables.harts, harts, by);
     let seats = Seats { harts, pending };
     match entry {
         None => (seats, Ready::Idle),
-        Some(start) => (take(seats, tables, by), Ready::Enters(start.0, start.1)),
+        Some(start) => (seats, Ready::Enters(start.0, start.1)),
     }
 }
 
@@ -107,6 +108,7 @@ pub fn begin(seats: Seats, tables: &Tables, by: HartId) -> (Seats, Ready)
             (seats, Ready::Steps(pending))
         }
         State::Suspended => wake(seats, tables, by),
-        State::Stopped | State::StartPending => enter(seats, tables, by),
+        State::Stopped => (seats, Ready::Idle),
+        State::StartPending => enter(seats, tables, by),
     }
 }

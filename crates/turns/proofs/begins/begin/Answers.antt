@@ -1,4 +1,4 @@
-use Rattle.std.proofs.Common.{◌≡◌, Bool, List, refl, sym, ap, ◌∙◌, subst, ⊎_elim}
+use Rattle.std.proofs.Common.{◌≡◌, Bool, List, refl, sym, ap, ◌∙◌, subst, inl, inr}
 use Rattle.hsm_steps.specs.Words.{HartView}
 use Rattle.hsm_steps.specs.declared.view.Stage.TheVariants.{Running}
 use Rattle.hsm_steps.specs.Rule.{stands}
@@ -11,7 +11,7 @@ use Rattle.hsm.specs.declared.state.State.TheVariants as codes
 use Rattle.sbi_calls.specs.Both.{harts_of_both, known, views, IsTable}
 use Rattle.turns.specs.declared.readies.Ready.TheVariants as readies
 use Rattle.turns.specs.Turns.{begun_by}
-use Rattle.turns.proofs.Begun.{sits, runs, suspends, is_out, gives_then, is_started, is_suspended, named_out, IsOutCode}
+use Rattle.turns.proofs.Begun.{sits, runs, suspends, is_out, gives_then, is_started, is_suspended, is_stopped, named_pending}
 use Rattle.turns.specs.Own.{GoesOwn}
 use Rattle.turns.proofs.begins.begin.Goals as goal
 
@@ -26,7 +26,7 @@ wake-requires-clause-acts c = (
 
 pub enter-requires-clause-acts : goal.enter-requires-clause-acts
 enter-requires-clause-acts c = (
-  c.status-harts.ensures.stays.stages _ _ (is_out c.args.by (views c.args.seats) c.status-harts.result.1 c.status-harts.ensures.fresh c.requires.rests.0 c.in-Stopped.is),
+  c.status-harts.ensures.stays.stages _ _ (is_out c.args.by (views c.args.seats) c.status-harts.result.1 c.status-harts.ensures.fresh c.requires.rests.0 (inr c.in-StartPending.is)),
   c.requires.rests.1,
 )
 
@@ -62,16 +62,33 @@ returns-in-Suspended-clause-alone c = λ t are.
     let a = c.status-harts.ensures.alone (listed t.states) are.0.1 in
     c.wake.ensures.alone t ((are.0.0, a.1), are.1) (is_suspended (listed t.states c.args.by) (sym a.0 ∙ c.in-Suspended.is))
 
-pub returns-in-Stopped-clause-gives : goal.returns-in-Stopped-clause-gives
-returns-in-Stopped-clause-gives c = let kept = c.status-harts.ensures.stays in
+pub returns-in-StartPending-clause-gives : goal.returns-in-StartPending-clause-gives
+returns-in-StartPending-clause-gives c = let kept = c.status-harts.ensures.stays in
     gives_then c.args.tables.now c.args.by c.args.seats (record { harts = c.status-harts.result.0; pending = c.args.seats.pending }) c.enter.result.0
     (record { seats = (c.status-harts.ensures.seat, c.requires.seats.1); others = record { harts = kept.harts; stages = λ k st ne s. kept.stages k st s }; pairs = record { harts = refl; each = λ h. refl } })
     c.enter.ensures.gives
 
+pub returns-in-StartPending-clause-alone : goal.returns-in-StartPending-clause-alone
+returns-in-StartPending-clause-alone c = λ t are.
+    let a = c.status-harts.ensures.alone (listed t.states) are.0.1 in
+    c.enter.ensures.alone t ((are.0.0, a.1), are.1) (named_pending (listed t.states c.args.by) (sym a.0 ∙ c.in-StartPending.is))
+
+pub returns-in-Stopped-clause-gives : goal.returns-in-Stopped-clause-gives
+returns-in-Stopped-clause-gives c = let kept = c.status-harts.ensures.stays in
+    record { seats = (c.status-harts.ensures.seat, c.requires.seats.1); others = record { harts = kept.harts; stages = λ k st ne s. kept.stages k st s }; pairs = record { harts = refl; each = λ h. refl } }
+
+pub returns-in-Stopped-clause-rests : goal.returns-in-Stopped-clause-rests
+returns-in-Stopped-clause-rests c = (
+  inl (c.status-harts.ensures.stays.stages _ _ (is_out c.args.by (views c.args.seats) c.status-harts.result.1 c.status-harts.ensures.fresh c.requires.rests.0 (inl c.in-Stopped.is))),
+  c.requires.rests.1,
+)
+
 pub returns-in-Stopped-clause-alone : goal.returns-in-Stopped-clause-alone
 returns-in-Stopped-clause-alone c = λ t are.
     let a = c.status-harts.ensures.alone (listed t.states) are.0.1 in
-    c.enter.ensures.alone t ((are.0.0, a.1), are.1) (named_out (listed t.states c.args.by) (subst IsOutCode a.0 c.in-Stopped.is))
+    let e = is_stopped (listed t.states c.args.by) (sym a.0 ∙ c.in-Stopped.is) in
+    subst (λ (y : HartState). (readies.Idle ≡ (begun_by c.args.by t y).ready) × IsTable (harts_of_both c.args.tables.now) (record { harts = c.status-harts.result.0; pending = c.args.seats.pending }) (begun_by c.args.by t y).table) (sym e)
+    (refl, ((are.0.0, a.1), are.1))
 
 pub returns-in-Started-clause-own : goal.returns-in-Started-clause-own
 returns-in-Started-clause-own c =
@@ -91,9 +108,12 @@ pub returns-in-Stopped-clause-own : goal.returns-in-Stopped-clause-own
 returns-in-Stopped-clause-own c =
     let step = c.status-harts.ensures.steps in
     let mid = known (record { harts = c.status-harts.result.0; pending = c.args.seats.pending }) in
+    let P : Code → Type 0 = λ x. GoesOwn c.args.by x mid mid readies.Idle in
+    (step.0, mid, (step.2, refl), subst P (sym c.in-Stopped.is ∙ step.1) (refl, refl))
+
+pub returns-in-StartPending-clause-own : goal.returns-in-StartPending-clause-own
+returns-in-StartPending-clause-own c =
+    let step = c.status-harts.ensures.steps in
+    let mid = known (record { harts = c.status-harts.result.0; pending = c.args.seats.pending }) in
     let P : Code → Type 0 = λ x. GoesOwn c.args.by x mid (known c.enter.result.0) c.enter.result.1 in
-    let goes : P (state_in_word c.args.by step.0) = ⊎_elim
-    (λ (e : c.status-harts.result.1 ≡ codes.Stopped). subst P (sym e ∙ step.1) c.enter.ensures.own)
-    (λ (e : c.status-harts.result.1 ≡ codes.StartPending). subst P (sym e ∙ step.1) c.enter.ensures.own)
-    c.in-Stopped.is in
-    (step.0, mid, (step.2, refl), goes)
+    (step.0, mid, (step.2, refl), subst P (sym c.in-StartPending.is ∙ step.1) c.enter.ensures.own)

@@ -9,45 +9,47 @@ use Rattle.sbi_calls.specs.declared.tables.Seats.{Seats}
 use Rattle.sbi_calls.specs.Both.{harts_of_both, harts_known, known, IsTable}
 use Rattle.sbi_calls.specs.Answers.{with_state}
 use Rattle.turns.specs.declared.readies.Ready.TheVariants as readies
-use Rattle.turns.specs.Turns.{begun_by}
+use Rattle.turns.specs.Turns.{begun_by, IsOutside}
 use Rattle.turns.proofs.Begun.{gives_then, none_is, some_is}
 use Rattle.turns.proofs.begins.enter.Goals as goal
 
+pub returns-in-None-clause-gives : goal.returns-in-None-clause-gives
+returns-in-None-clause-gives c =
+    gives_then c.args.tables.now c.args.by c.args.seats c.take-harts.result (record { harts = c.try_enter-harts.result.0; pending = c.take-harts.result.pending })
+    c.take-harts.ensures.gives
+    (record { seats = (c.try_enter-harts.ensures.seat, c.take-harts.ensures.gives.seats.1); others = c.try_enter-harts.ensures.others; pairs = record { harts = refl; each = λ h. refl } })
+
 pub returns-in-None-clause-alone : goal.returns-in-None-clause-alone
 returns-in-None-clause-alone c = λ t are out.
-    let n = harts_of_both c.args.tables.now in
-    let s : Seats = record { harts = c.try_enter-harts.result.0; pending = c.args.seats.pending } in
-    let a = c.try_enter-harts.ensures.alone (listed t.states) are.0.1 in
-    let e = none_is (listed t.states c.args.by) out (sym c.in-None.is ∙ a.0) in
-    let are_begun = c.one_table.ensures.changed n c.args.by begin _ t.states are.0.0 c.requires.by a.1 in
-    let same = ap (λ (y : HartState). slice_set t.states c.args.by (begin y)) e ∙ (ap (λ (y : HartState). slice_set t.states c.args.by y) (sym e) ∙ set-get_or t.states c.args.by stopped) in
-    let kept : AreStates n (harts_known s) t.states = subst (λ (l : List HartState). AreStates n (harts_known s) l) same are_begun in
-    subst (λ (y : HartState). (readies.Idle ≡ (begun_by c.args.by t y).ready) × IsTable n s (begun_by c.args.by t y).table) (sym e) (refl, (kept, are.1))
+    let took = c.take-harts.ensures.alone t are in
+    let a = c.try_enter-harts.ensures.alone (listed t.states) took.0.1 in
+    absurd (subst IsOutside (none_is (listed t.states c.args.by) out (sym c.in-None.is ∙ a.0)) out)
 
 pub returns-in-Some-clause-gives : goal.returns-in-Some-clause-gives
 returns-in-Some-clause-gives c =
-    gives_then c.args.tables.now c.args.by c.args.seats (record { harts = c.try_enter-harts.result.0; pending = c.args.seats.pending }) c.take.result
-    (record { seats = (c.try_enter-harts.ensures.seat, c.requires.seats.1); others = c.try_enter-harts.ensures.others; pairs = record { harts = refl; each = λ h. refl } })
-    c.take.ensures.gives
+    gives_then c.args.tables.now c.args.by c.args.seats c.take-harts.result (record { harts = c.try_enter-harts.result.0; pending = c.take-harts.result.pending })
+    c.take-harts.ensures.gives
+    (record { seats = (c.try_enter-harts.ensures.seat, c.take-harts.ensures.gives.seats.1); others = c.try_enter-harts.ensures.others; pairs = record { harts = refl; each = λ h. refl } })
 
 pub returns-in-Some-clause-alone : goal.returns-in-Some-clause-alone
 returns-in-Some-clause-alone c = λ t are out.
     let n = harts_of_both c.args.tables.now in
-    let s : Seats = record { harts = c.try_enter-harts.result.0; pending = c.args.seats.pending } in
+    let s : Seats = record { harts = c.try_enter-harts.result.0; pending = c.take-harts.result.pending } in
     let p = c.in-Some.start in
-    let a = c.try_enter-harts.ensures.alone (listed t.states) are.0.1 in
+    let took = c.take-harts.ensures.alone t are in
+    let a = c.try_enter-harts.ensures.alone (listed t.states) took.0.1 in
     let e = some_is p (listed t.states c.args.by) (sym c.in-Some.is ∙ a.0) in
-    let are_begun = c.one_table.ensures.changed n c.args.by begin _ t.states are.0.0 c.requires.by a.1 in
+    let are_begun = c.one_table.ensures.changed n c.args.by begin _ t.states took.0.0 c.requires.by a.1 in
     let runs : AreStates n (harts_known s) (slice_set t.states c.args.by started) = subst (λ (l : List HartState). AreStates n (harts_known s) l) (ap (λ (y : HartState). slice_set t.states c.args.by (begin y)) e) are_begun in
-    subst (λ (y : HartState). (readies.Enters p.0 p.1 ≡ (begun_by c.args.by t y).ready) × IsTable n c.take.result (begun_by c.args.by t y).table) (sym e)
-    (refl, c.take.ensures.alone (with_state t c.args.by started) (runs, are.1))
+    subst (λ (y : HartState). (readies.Enters p.0 p.1 ≡ (begun_by c.args.by t y).ready) × IsTable n s (begun_by c.args.by t y).table) (sym e)
+    (refl, (runs, took.1))
 
 pub returns-in-None-clause-own : goal.returns-in-None-clause-own
 returns-in-None-clause-own c =
-    let P : Option (ℕ × ℕ) → Type 0 = λ e. MatchOption e (FindsNone c.args.by (harts_in c.args.seats.harts) (harts_in c.try_enter-harts.result.0)) (λ x. EntersAs c.args.by (harts_in c.args.seats.harts) x.0 x.1 (harts_in c.try_enter-harts.result.0)) in
-    (subst P c.in-None.is c.try_enter-harts.ensures.steps, refl)
+    let P : Option (ℕ × ℕ) → Type 0 = λ e. MatchOption e (FindsNone c.args.by (harts_in c.take-harts.result.harts) (harts_in c.try_enter-harts.result.0)) (λ x. EntersAs c.args.by (harts_in c.take-harts.result.harts) x.0 x.1 (harts_in c.try_enter-harts.result.0)) in
+    (known c.take-harts.result, c.take-harts.ensures.own, subst P c.in-None.is c.try_enter-harts.ensures.steps, refl)
 
 pub returns-in-Some-clause-own : goal.returns-in-Some-clause-own
 returns-in-Some-clause-own c =
-    let P : Option (ℕ × ℕ) → Type 0 = λ e. MatchOption e (FindsNone c.args.by (harts_in c.args.seats.harts) (harts_in c.try_enter-harts.result.0)) (λ x. EntersAs c.args.by (harts_in c.args.seats.harts) x.0 x.1 (harts_in c.try_enter-harts.result.0)) in
-    (known (record { harts = c.try_enter-harts.result.0; pending = c.args.seats.pending }), subst P c.in-Some.is c.try_enter-harts.ensures.steps, refl, c.take.ensures.own)
+    let P : Option (ℕ × ℕ) → Type 0 = λ e. MatchOption e (FindsNone c.args.by (harts_in c.take-harts.result.harts) (harts_in c.try_enter-harts.result.0)) (λ x. EntersAs c.args.by (harts_in c.take-harts.result.harts) x.0 x.1 (harts_in c.try_enter-harts.result.0)) in
+    (known c.take-harts.result, c.take-harts.ensures.own, subst P c.in-Some.is c.try_enter-harts.ensures.steps, refl)
