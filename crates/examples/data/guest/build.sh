@@ -3,7 +3,8 @@
 #
 # For a board of so many pages at least (1) and harts at most (1), with a stack of so many bytes for each hart (1024); the linker refuses
 # what does not fit. CC names the compiler: riscv64-linux-gnu-gcc or riscv64-unknown-elf-gcc (Debian: gcc-riscv64-linux-gnu or
-# gcc-riscv64-unknown-elf), or clang; else the first of these that is there.
+# gcc-riscv64-unknown-elf), or clang; else the first of these that is there. clang takes GNU's linker where one is there, and its own one
+# by LD=ld.lld.
 set -eu
 kit=$(cd "$(dirname "$0")" && pwd)
 harts=1 pages=1 stack=1024
@@ -13,7 +14,7 @@ while :; do
         --pages) pages=$2 ;;
         --stack) stack=$2 ;;
         [!-]*) break ;;
-        *) sed -n '2,6s/^# \{0,1\}//p' "$0"; exit 2 ;;
+        *) sed -n '2,7s/^# \{0,1\}//p' "$0"; exit 2 ;;
     esac
     shift 2
 done
@@ -28,7 +29,7 @@ march=rv64i_zicsr
 case $CC in
     *clang*)
         binutils=llvm
-        for each in riscv64-linux-gnu- riscv64-unknown-elf-; do is_there "${each}ld" && binutils=$each && break; done
+        [ "${LD:-}" = ld.lld ] || for each in riscv64-linux-gnu- riscv64-unknown-elf-; do is_there "${each}ld" && binutils=$each && break; done
         # clang has Zicsr in rv64i up to version 16
         [ "$("$CC" -dumpversion | cut -d. -f1)" -ge 17 ] || march=rv64i
         target=--target=riscv64
