@@ -2,13 +2,6 @@
    those that a kernel does not use. */
 #include "sbi.h"
 
-/* A debugger's way back through the calls ends where a hart begins: nobody called that. */
-    .cfi_sections .debug_frame
-    .macro begins
-    .cfi_startproc
-    .cfi_undefined ra
-    .endm
-
 /* A hart's stack ends STACK bytes below that of the hart before it (guest.ld). */
     .macro own_stack
     la sp, stacks_end
@@ -26,10 +19,8 @@
     .section .text.start, "ax"
     .globl start
 start:
-    begins
     la sp, stacks_end
     j kernel
-    .cfi_endproc
 
 /* What a kernel shows, in a place that every script and every reader of a memory knows: eight words at 0x80000040. */
     .balign 64
@@ -42,20 +33,16 @@ shown:
     .globl hart_start
     .balign 4
 hart_start:
-    begins
     own_stack
     j hart_main
-    .cfi_endproc
 
 /* Where a board wakes that shall begin anew: sbi_system_suspend(type, board_wake, opaque). void woken(u64 hart, u64 opaque) */
     .section .text.board_wake, "ax"
     .globl board_wake
     .balign 4
 board_wake:
-    begins
     own_stack
     j woken
-    .cfi_endproc
 
 /* long board_suspend(u64 type, u64 opaque): a suspend of the board that returns where it was called, SBI_SUCCESS once the board woke,
    or the error. A woken hart has nothing but its number and the opaque value: what the caller may count on (its stack, ra, s0 to s11)
