@@ -360,8 +360,8 @@ impl<D: Disk + Drop> Store<D> {
         record_after(&self.current, command)
     }
 
-    /// Loads the memory of the image that stands. Nothing of the disk changes, and no command is issued: the
-    /// image stays.
+    /// Loads the memory of the image that stands. Nothing of the disk changes or is made durable, and no command is
+    /// issued: the image stays.
     ///
     /// Refused `BadShape` for a memory of another size, `NoImage` where no image stands, `Device` where the
     /// disk failed in this call, and `BadImage` where the image reads as no memory. After `BadShape` and
@@ -375,6 +375,7 @@ impl<D: Disk + Drop> Store<D> {
         ensures length { length ram.new ≡ length ram.old }
         ensures life { life_of self.new ≡ life_of self.old }
         ensures reads_alone { ReadsAlone (disk_of self.old) (disk_of self.new) }
+        ensures unsynced { (disk_of self.new).moment ≡ (disk_of self.old).moment }
         ensures no_failure { OnOk result
             (((disk_of self.new).failures ≡ (disk_of self.old).failures)
             × (fault_state_of self.new ≡ fault_state_of self.old)) }
