@@ -1,7 +1,8 @@
 //! Rows of turns.
 
-ghost use Rattle.std.specs.Prelude.{◌≡◌, ◌+◌, ◌*◌, ◌≤◌, ℕ, length, take, All, IfOk, true};
+ghost use Rattle.std.specs.Prelude.{◌≡◌, ◌+◌, ◌*◌, ◌≤◌, ◌<◌, ℕ, length, take, get_or, All, IfOk, true, false};
 ghost use Rattle.script_lang.specs.Lines.{turns_in};
+ghost use Rattle.script_lang.specs.declared.line.Line.{Line as Said};
 ghost use Rattle.bench_orders.specs.Orders.{IsTurn, named, left_of, IsRowOf};
 
 use crate::copies::copied_row;
@@ -14,7 +15,8 @@ use std::alloc::{AllocError, Global};
 
 /// Whether a line makes turns: 1 to 1,000,000, as each `turn` line of a script does.
 pub fn is_turn(line: &Line) -> bool
-    ensures { result ≡ true → IsTurn line.now }
+    ensures turns { result ≡ true → IsTurn line.now }
+    ensures others { result ≡ false → IsTurn line.now → ⊥ }
 {
     match line {
         Line::Turn(_, count) => 1 <= *count && *count <= 1_000_000,
@@ -22,10 +24,11 @@ pub fn is_turn(line: &Line) -> bool
     }
 }
 
-/// How many first lines make turns.
+/// How many first lines make turns. The line behind them, where there is one, makes none.
 pub fn row_length(lines: &[Line]) -> usize
     ensures few { result ≤ length lines.now }
     ensures turns { All IsTurn (take result lines.now) }
+    ensures behind { (line : Said) → result < length lines.now → line ≡ get_or lines.now result line → IsTurn line → ⊥ }
 {
     let mut count = 0;
     for line in lines {

@@ -1,4 +1,5 @@
 pub mod Alike
+pub mod Aparts
 pub mod Ledgers
 pub mod Lines
 pub mod Places

@@ -1,4 +1,4 @@
-pub mod Reported
+pub mod Told
 pub mod Compared
 pub mod RunSoFar
 pub mod Numbers

@@ -3,20 +3,17 @@ use Rattle.std.specs.Prelude.{Ok, Bool, ◌≡◌, ◌≢◌, ◌⊎◌, ◌+◌
 use Rattle.std.specs.Fmt.{decimal}
 use Rattle.std.specs.List.{flat_map}
 use Rattle.std.specs.Io.KnownBytes.{Appends}
-use Rattle.board_console.specs.Texts.{state_text}
 use Rattle.board_model.specs.Shapes.{Size}
-use Rattle.board_model.specs.declared.durable.Durable.{Durable}
 use Rattle.script_lang.specs.Lines.{text_of}
 use Rattle.script_lang.specs.Scripts.{Script, script_of}
 use Rattle.script_lang.specs.Spellings.{script_text, IsWritable}
 use Rattle.script_lang.specs.declared.line.Line.{Line}
 use Rattle.bench_report.specs.Bench.{Bench, bench_with}
 use Rattle.bench_report.specs.Steps.{Run}
-use Rattle.report_lines.specs.Texts.{line_text}
 use Rattle.report_lines.specs.declared.printed.Answer.{Answer}
-use Rattle.report_lines.specs.declared.printed.Printed.{Printed}
 use Rattle.report_lines.specs.declared.printed.Printed.TheVariants as printed
 use Rattle.bench_orders.specs.Orders.{IsScheduleOf, is_other}
+use Rattle.bench_schedules.specs.Told.{IsFirstApart, told_lines}
 use Rattle.bench_schedules.specs.declared.runs.Difference.{Difference}
 use lib.Chars.{codes}
 
@@ -70,18 +67,13 @@ pub record RanOwn (size : Size) (start : List (List ℕ)) (those : List Line) (o
   pub ran : RanWell size start those answers end
   pub told : own ≡ other_answers those answers
 
--- the text of the line that is written: what an open found, where the own run found something else; otherwise the line after that
-abbrev pub IsReportedText : Option Durable → Printed → Option Durable → List ℕ → Type 0
-IsReportedText None line own text = text ≡ line_text line
-IsReportedText (Some d) line own text =
-    ((own ≡ Some d) × (text ≡ line_text line)) ⊎ ((own ≢ Some d) × (text ≡ codes "found " ++ state_text d))
-
--- what is written of schedule k, where `number` gives the script's line at a place
+-- what is written of schedule k, where `number` gives the script's line at a place: the first line in which what is told of both
+-- runs differs there, as the schedule's run has it and as the script's own run has it, which is another text
 abbrev pub RunText : (ℕ → ℕ) → ℕ → Option Difference → List ℕ → Type 0
 RunText number k None text = text ≡ []
 RunText number k (Some d) text =
-    (apart : List ℕ) × IsReportedText d.answer.found d.answer.line d.own.found apart
-    × (text ≡ codes "schedule " ++ decimal k ++ codes " line " ++ decimal (number d.place) ++ codes " " ++ apart ++ 10 ∷ [])
+    (own said : List ℕ) × IsFirstApart (told_lines d.own) (told_lines d.answer) own said
+    × (text ≡ codes "schedule " ++ decimal k ++ codes " line " ++ decimal (number d.place) ++ codes " " ++ said ++ codes " own " ++ own ++ 10 ∷ [])
 
 -- what is written of the schedules from number k on
 abbrev pub RunsText : (ℕ → ℕ) → ℕ → List (Option Difference) → List ℕ → Type 0

@@ -113,7 +113,7 @@ fn write_run<C, W: Write>(
         None => Ok(0),
         Some(difference) => {
             let number = number_of_other(runner.numbers, runner.lines, difference.place);
-            write_difference(out, k, number, &difference)?;
+            write_difference(runner.setting.alloc, out, k, number, &difference)?;
             Ok(1)
         }
     }

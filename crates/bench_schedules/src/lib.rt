@@ -10,6 +10,7 @@ mod own_runs;
 mod runs;
 mod scripts;
 mod stretches;
+mod told;
 mod written;
 
 pub use benches::{Compared, schedules, show};

@@ -4,8 +4,9 @@
 set -eu
 here=$(cd "$(dirname "$0")" && pwd)
 mkdir -p "$1" && cd "$1"
-for n in 1 2 3 4 5 6 7 8 9 10; do
+for n in 1 2 3 4 5 6 7 8 9 10 11; do
     case $n in 2) harts=4 ;; 9) harts=3 ;; *) harts=2 ;; esac
+    case $n in 11) look='on keep' ;; *) look='mem 0x80000040 32' ;; esac
     for kind in race right; do
         bug=$([ $kind = right ] || echo '#define BUG')
         printf '#define RACE %s\n%s\n#include "%s/races.c"\n' "$n" "$bug" "$here" >"$kind$n.c"
@@ -18,7 +19,7 @@ for n in 1 2 3 4 5 6 7 8 9 10; do
                 while [ $hart -lt "$harts" ]; do echo "turn $hart 500"; hart=$((hart + 1)); done
                 round=$((round + 1))
             done
-            echo 'mem 0x80000040 32'
+            echo "$look"
         } >"$kind$n.sbi"
         rm -f "$kind$n.c" "$kind$n.elf"
     done

@@ -1,5 +1,6 @@
-/* Ten small kernels, each with a planted race (RACE and BUG defined) and without it (RACE alone), over the guest kit of the folder above.
-   build.sh makes them, with a script for each whose last line shows what the kernel shows: the plain script of each passes. */
+/* Eleven small kernels, each with a planted race (RACE and BUG defined) and without it (RACE alone), over the kit of the folder above.
+   build.sh makes them, with a script for each whose last line shows what the kernel shows: the plain script of each passes. The eleventh
+   shows it by the opaque value of its suspension alone. */
 #include "guest.h"
 
 #define BARRIER asm volatile("" : : : "memory")
@@ -128,12 +129,12 @@ void hart_main(u64 number, u64 opaque)
     halt();
 }
 
-#elif RACE == 4 || RACE == 5 /* a lock by a load and a store; Peterson's lock with its two stores in the wrong order */
+#elif RACE == 4 || RACE == 5 || RACE == 11 /* a lock by a load and a store, twice; Peterson's with its stores in the wrong order */
 static volatile u64 lock, want[2], turn, count, done;
 
 static void take(u64 me)
 {
-#if RACE == 4 && defined(BUG)
+#if RACE != 5 && defined(BUG)
     while (lock)
         ;
     lock = 1;
@@ -173,7 +174,13 @@ void kernel(u64 hart, u64 reason)
     work(0);
     while (!done)
         ;
+#if RACE == 11
+    while (state(1) != SBI_STOPPED)
+        ;
+    board_suspend(SBI_TO_DISK, count);
+#else
     shown[0] = count;
+#endif
     halt();
 }
 
