@@ -12,6 +12,7 @@ use board_model::Refusal;
 use std::alloc::Global;
 use std::fs::{self, File, OpenOptions};
 use std::io::{self, IsTerminal, Write};
+use thiserror::Error;
 
 /// A fault of a program over files, and of a file's fault which file it was, and why.
 #[derive(Drop)]
@@ -23,7 +24,8 @@ pub struct FileFault {
 }
 
 /// Which file could not be read or written, and what the system says of it.
-#[derive(Drop)]
+#[derive(Debug, Drop, Error)]
+#[error("{path}: {why}")]
 struct Reason {
     path: String,
     why: io::Error,
@@ -90,8 +92,7 @@ pub fn tell_fault<F: Write>(faults: &mut F, program: &'static str, fault: &FileF
     let line = ToldBy(program, fault.fault);
     let _told = write!(faults, "{line}");
     if let Some(reason) = &fault.reason {
-        let (path, why) = (reason.path.as_str(), &reason.why);
-        let _told = writeln!(faults, "{program}: {path}: {why}");
+        let _told = writeln!(faults, "{program}: {reason}");
     }
     if fault.is_loss {
         let _told = writeln!(faults, "{program}: the commands of this session are lost");

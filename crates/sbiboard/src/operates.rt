@@ -12,24 +12,31 @@ use std::process::ExitCode;
 use std::sync::Wait;
 use std::thread::Threads;
 
+/// Tells the fault of what was done, where it has one, and ends with its status.
+fn end(rt: &HostRuntime, done: &Result<(), FileFault>) -> ExitCode
+    ensures { exit_status result ≤ 2 }
+{
+    ExitCode::from(end_with(&mut rt.stderr(), "sbiboard", done))
+}
+
 /// The whole program: runs a board on threads with the operator's console on standard input and output, or
 /// says on standard error why not. Answers the status that docs/CONSOLE.md, "Statuses and faults", has. The
 /// second handle makes the threads of harts and lanes, and waits for them.
 pub fn operate<R: Threads + Wait + Sync>(rt: &HostRuntime, threads: &R) -> ExitCode
     ensures { exit_status result ≤ 2 }
 {
-    let mut faults = rt.stderr();
     let words = match words(rt, USAGE) {
         Ok(words) => words,
-        Err(why) => {
-            let done = without_work(why).map_err(FileFault::from);
-            return ExitCode::from(end_with(&mut faults, "sbiboard", &done));
-        }
+        Err(why) => return end(rt, &without_work(why).map_err(FileFault::from)),
+    };
+    let out = match Screen::new(rt) {
+        Ok(out) => out,
+        Err(refusal) => return end(rt, &Err(FileFault::refused(refusal))),
     };
     // Not `rt.reader()`: it holds 8 KiB by value, and LLVM does not finish with a session that moves them.
     let streams = Streams {
         input: EndHint::new(rt, rt.stdin()),
-        out: Screen::new(rt),
+        out,
     };
     let files = SystemFiles(rt);
     let ended = operate_on(
@@ -38,7 +45,7 @@ pub fn operate<R: Threads + Wait + Sync>(rt: &HostRuntime, threads: &R) -> ExitC
         &files,
         words.as_slice(),
         streams,
-        &mut faults,
+        &mut rt.stderr(),
     );
     ExitCode::from(ended.status)
 }

@@ -12,8 +12,13 @@ use Rattle.ipi.specs.Pairs.{Shows, ActsAlone}
 use Rattle.ipi.specs.Views.{ArePairs, pair_at, row_of}
 use Rattle.sbi_calls.specs.declared.tables.Tables.{Tables}
 use Rattle.sbi_calls.specs.declared.tables.Seats.{Seats}
-use Rattle.sbi_calls.specs.Both.{GivesBack}
-use Rattle.turns.specs.Turns.{RestsAt, IsOutside, has_true, has_pending}
+use Rattle.sbi_calls.specs.Both.{GivesBack, Known, TableState}
+use Rattle.sbi_calls.specs.Answers.{with_state}
+use Rattle.turns.specs.declared.readies.Ready.{Ready}
+use Rattle.turns.specs.declared.readies.Ready.TheVariants as readies
+use Rattle.turns.specs.Entries.{EntersTaken}
+use Rattle.turns.specs.Own.{TakesOwn, EntersOwn}
+use Rattle.turns.specs.Turns.{RestsAt, IsOutside, has_true, has_pending, after_take, begun_by}
 
 -- ---- where the hart stands
 pub sits : (h : ℕ) (vs : List HartView) → RestsAt h vs → SitsIn h vs
@@ -131,3 +136,23 @@ looked n m by c c' found e acts pairs are =
       same_bool found (has_pending by pairs) (λ r. let s = a.0.0 r in is_true (row_of pairs by) s.0 s.1) (λ h. a.0.1 (some_true (row_of pairs by) h)),
       (are.0, subst (λ (k : ℕ). Shows k c' (pair_at pairs)) e a.1),
     )
+
+-- a hart whose start is pending begins as it would have begun before the take, and the table is then the one after both
+pub entered_ready : (by : ℕ) (t : TableState) (y : HartState) → IsOutside y → (begun_by by (after_take t by) y).ready ≡ (begun_by by t y).ready
+entered_ready by t stopped out = absurd out
+entered_ready by t (start_pending a o) out = refl
+entered_ready by t started out = absurd out
+entered_ready by t suspended out = absurd out
+
+pub entered_table : (by : ℕ) (t : TableState) (y : HartState) → IsOutside y → with_state (after_take t by) by started ≡ (begun_by by t y).table
+entered_table by t stopped out = absurd out
+entered_table by t (start_pending a o) out = refl
+entered_table by t started out = absurd out
+entered_table by t suspended out = absurd out
+
+-- a take, and then an entry
+pub then_enters : (by : ℕ) (k mid k' : Known) (ready : Ready) → TakesOwn by k mid → EntersTaken by mid k' ready → EntersOwn by k k' ready
+then_enters by k mid k' readies.Idle took e = (mid, took, e.0, e.1)
+then_enters by k mid k' (readies.Enters a o) took e = (mid, took, e.0, e.1)
+then_enters by k mid k' readies.Woke took e = absurd e
+then_enters by k mid k' (readies.Steps pending) took e = absurd e

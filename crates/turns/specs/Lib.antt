@@ -1,3 +1,4 @@
 pub mod Turns
 pub mod Many
 pub mod Own
+pub mod Entries

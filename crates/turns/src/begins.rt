@@ -6,6 +6,7 @@ ghost use Rattle.ipi.specs.Pairs.{Sits};
 ghost use Rattle.sbi_calls.specs.Both.{AreSeatsOfBoth, GivesBack, Acts, harts_of_both, known, pair_crew};
 ghost use Rattle.turns.specs.Turns.{Rests, RestsAs, BeginsAlone, LooksAlone, TakesAlone, EntersAlone, WakesAlone};
 ghost use Rattle.turns.specs.Own.{LooksOwn, TakesOwn, EntersOwn, WakesOwn, BeginsOwn};
+ghost use Rattle.turns.specs.Entries.{HasJustTaken, EntersTaken, EntersTakenAlone};
 
 use crate::readies::Ready;
 use board_model::HartId;
@@ -44,8 +45,29 @@ pub(crate) fn take(seats: Seats, tables: &Tables, by: HartId) -> Seats
     Seats { harts, pending }
 }
 
-/// Takes what is pending for the hart, which is START_PENDING, and then enters where its start is armed. So what is sent
-/// to it once it is STARTED stays pending.
+/// Enters where the start of the hart is armed. What was pending for it was taken just before: so what is sent to it once it
+/// is STARTED stays pending.
+fn enter_taken(seats: Seats, tables: &Tables, by: HartId) -> (Seats, Ready)
+    requires seats { AreSeatsOfBoth tables.now seats }
+    requires by { by < harts_of_both tables.now }
+    requires acts { Acts by Out seats }
+    requires taken { HasJustTaken by (known seats) }
+    ensures gives { GivesBack tables.entry.now by seats result.0 }
+    ensures rests { RestsAs by result.1 result.0 }
+    ensures own { EntersTaken by (known seats) (known result.0) result.1 }
+    ensures alone { EntersTakenAlone (harts_of_both tables.entry.now) by seats result.0 result.1 }
+{
+    hsm::one_table();
+    let Seats { harts, pending } = seats;
+    let (harts, entry) = hsm::try_enter(&tables.harts, harts, by);
+    let seats = Seats { harts, pending };
+    match entry {
+        None => (seats, Ready::Idle),
+        Some(start) => (seats, Ready::Enters(start.0, start.1)),
+    }
+}
+
+/// Takes what is pending for the hart, which is START_PENDING, and then enters where its start is armed.
 fn enter(seats: Seats, tables: &Tables, by: HartId) -> (Seats, Ready)
     requires seats { AreSeatsOfBoth tables.now seats }
     requires by { by < harts_of_both tables.now }
@@ -55,14 +77,8 @@ fn enter(seats: Seats, tables: &Tables, by: HartId) -> (Seats, Ready)
     ensures own { EntersOwn by (known seats) (known result.0) result.1 }
     ensures alone { EntersAlone (harts_of_both tables.entry.now) by seats result.0 result.1 }
 {
-    hsm::one_table();
-    let Seats { harts, pending } = take(seats, tables, by);
-    let (harts, entry) = hsm::try_enter(&tables.harts, harts, by);
-    let seats = Seats { harts, pending };
-    match entry {
-        None => (seats, Ready::Idle),
-        Some(start) => (seats, Ready::Enters(start.0, start.1)),
-    }
+    let seats = take(seats, tables, by);
+    enter_taken(seats, tables, by)
 }
 
 /// Wakes the suspended hart where an interrupt is pending for it, which stays.
@@ -87,7 +103,7 @@ fn wake(seats: Seats, tables: &Tables, by: HartId) -> (Seats, Ready)
 }
 
 /// What a turn of the hart comes to before the step, by one look at its own state: a STOPPED hart is idle;
-/// one that is START_PENDING enters where its start is armed; a suspended one wakes where an interrupt is
+/// one that is START_PENDING takes what is pending, and enters where its start is armed; a suspended one wakes where an interrupt is
 /// pending for it; a STARTED one makes a step, for which one more look says whether an interrupt is pending.
 #[inline(always)]
 pub fn begin(seats: Seats, tables: &Tables, by: HartId) -> (Seats, Ready)

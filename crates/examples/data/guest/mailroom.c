@@ -268,7 +268,7 @@ static void await_stop_of_others(void)
             ;
 }
 
-/* A hart that has not entered yet takes the interrupt as it enters, and then looks. */
+/* A hart that has not entered yet takes the interrupt before it enters, and then looks. */
 static void stop_others(void)
 {
     is_closing = 1;

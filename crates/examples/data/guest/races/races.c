@@ -352,7 +352,7 @@ void hart_main(u64 number, u64 opaque)
     halt();
 }
 
-#elif RACE == 10 /* what is sent between a start and the hart's first turn is taken at its entry, and it does not look */
+#elif RACE == 10 /* what is sent between a start and the hart's first turn is taken before it enters, and it does not look */
 static volatile u64 mail, back;
 
 void kernel(u64 hart, u64 reason)

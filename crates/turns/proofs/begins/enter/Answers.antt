@@ -1,55 +1,36 @@
-use Rattle.std.proofs.Common.{◌≡◌, ℕ, List, Option, refl, sym, ap, ◌∙◌, subst}
-use Rattle.std.specs.Prelude.{slice_set, MatchOption}
-use Rattle.std.proofs.lemmas.List.{set-get_or}
-use Rattle.hsm_steps.specs.States.{HartState, stopped, started, begin}
+use Rattle.std.proofs.Common.{List, sym, ap, ◌∙◌, subst}
+use Rattle.hsm_steps.specs.Words.{HartView}
+use Rattle.hsm_steps.specs.declared.view.Stage.TheVariants.{Out}
+use Rattle.hsm_steps.specs.Rule.{stands}
 use Rattle.hsm_steps.specs.Seating.{harts_in}
-use Rattle.hsm.specs.Calls.{EntersAs, FindsNone}
-use Rattle.hsm.specs.Views.{listed, AreStates}
+use Rattle.hsm.specs.Views.{listed}
 use Rattle.sbi_calls.specs.declared.tables.Seats.{Seats}
-use Rattle.sbi_calls.specs.Both.{harts_of_both, harts_known, known, IsTable}
-use Rattle.sbi_calls.specs.Answers.{with_state}
-use Rattle.turns.specs.declared.readies.Ready.TheVariants as readies
-use Rattle.turns.specs.Turns.{begun_by, IsOutside}
-use Rattle.turns.proofs.Begun.{gives_then, none_is, some_is}
+use Rattle.sbi_calls.specs.Both.{TableState, IsTable, harts_of_both, known}
+use Rattle.turns.specs.Turns.{after_take}
+use Rattle.turns.proofs.Begun.{gives_then, entered_ready, entered_table, then_enters}
 use Rattle.turns.proofs.begins.enter.Goals as goal
 
-pub returns-in-None-clause-gives : goal.returns-in-None-clause-gives
-returns-in-None-clause-gives c =
-    gives_then c.args.tables.now c.args.by c.args.seats c.take-harts.result (record { harts = c.try_enter-harts.result.0; pending = c.take-harts.result.pending })
-    c.take-harts.ensures.gives
-    (record { seats = (c.try_enter-harts.ensures.seat, c.take-harts.ensures.gives.seats.1); others = c.try_enter-harts.ensures.others; pairs = record { harts = refl; each = λ h. refl } })
+pub enter_taken-requires-clause-acts : goal.enter_taken-requires-clause-acts
+enter_taken-requires-clause-acts c = (
+  subst (λ (v : List HartView). stands c.args.by Out v) (sym (ap harts_in c.take-seats.ensures.harts)) c.requires.acts.0,
+  c.take-seats.ensures.gives.pairs.each c.args.by ∙ c.requires.acts.1,
+)
 
-pub returns-in-None-clause-alone : goal.returns-in-None-clause-alone
-returns-in-None-clause-alone c = λ t are out.
-    let took = c.take-harts.ensures.alone t are in
-    let a = c.try_enter-harts.ensures.alone (listed t.states) took.0.1 in
-    absurd (subst IsOutside (none_is (listed t.states c.args.by) out (sym c.in-None.is ∙ a.0)) out)
+pub enter_taken-requires-clause-taken : goal.enter_taken-requires-clause-taken
+enter_taken-requires-clause-taken c = ((known c.args.seats).pairs, c.take-seats.ensures.own.1, c.take-seats.ensures.own.2)
 
-pub returns-in-Some-clause-gives : goal.returns-in-Some-clause-gives
-returns-in-Some-clause-gives c =
-    gives_then c.args.tables.now c.args.by c.args.seats c.take-harts.result (record { harts = c.try_enter-harts.result.0; pending = c.take-harts.result.pending })
-    c.take-harts.ensures.gives
-    (record { seats = (c.try_enter-harts.ensures.seat, c.take-harts.ensures.gives.seats.1); others = c.try_enter-harts.ensures.others; pairs = record { harts = refl; each = λ h. refl } })
+pub returns-clause-gives : goal.returns-clause-gives
+returns-clause-gives c =
+    gives_then c.args.tables.now c.args.by c.args.seats c.take-seats.result c.enter_taken.result.0 c.take-seats.ensures.gives c.enter_taken.ensures.gives
 
-pub returns-in-Some-clause-alone : goal.returns-in-Some-clause-alone
-returns-in-Some-clause-alone c = λ t are out.
-    let n = harts_of_both c.args.tables.now in
-    let s : Seats = record { harts = c.try_enter-harts.result.0; pending = c.take-harts.result.pending } in
-    let p = c.in-Some.start in
-    let took = c.take-harts.ensures.alone t are in
-    let a = c.try_enter-harts.ensures.alone (listed t.states) took.0.1 in
-    let e = some_is p (listed t.states c.args.by) (sym c.in-Some.is ∙ a.0) in
-    let are_begun = c.one_table.ensures.changed n c.args.by begin _ t.states took.0.0 c.requires.by a.1 in
-    let runs : AreStates n (harts_known s) (slice_set t.states c.args.by started) = subst (λ (l : List HartState). AreStates n (harts_known s) l) (ap (λ (y : HartState). slice_set t.states c.args.by (begin y)) e) are_begun in
-    subst (λ (y : HartState). (readies.Enters p.0 p.1 ≡ (begun_by c.args.by t y).ready) × IsTable n s (begun_by c.args.by t y).table) (sym e)
-    (refl, (runs, took.1))
+pub returns-clause-own : goal.returns-clause-own
+returns-clause-own c =
+    then_enters c.args.by (known c.args.seats) (known c.take-seats.result) (known c.enter_taken.result.0) c.enter_taken.result.1 c.take-seats.ensures.own c.enter_taken.ensures.own
 
-pub returns-in-None-clause-own : goal.returns-in-None-clause-own
-returns-in-None-clause-own c =
-    let P : Option (ℕ × ℕ) → Type 0 = λ e. MatchOption e (FindsNone c.args.by (harts_in c.take-harts.result.harts) (harts_in c.try_enter-harts.result.0)) (λ x. EntersAs c.args.by (harts_in c.take-harts.result.harts) x.0 x.1 (harts_in c.try_enter-harts.result.0)) in
-    (known c.take-harts.result, c.take-harts.ensures.own, subst P c.in-None.is c.try_enter-harts.ensures.steps, refl)
-
-pub returns-in-Some-clause-own : goal.returns-in-Some-clause-own
-returns-in-Some-clause-own c =
-    let P : Option (ℕ × ℕ) → Type 0 = λ e. MatchOption e (FindsNone c.args.by (harts_in c.take-harts.result.harts) (harts_in c.try_enter-harts.result.0)) (λ x. EntersAs c.args.by (harts_in c.take-harts.result.harts) x.0 x.1 (harts_in c.try_enter-harts.result.0)) in
-    (known c.take-harts.result, c.take-harts.ensures.own, subst P c.in-Some.is c.try_enter-harts.ensures.steps, refl)
+pub returns-clause-alone : goal.returns-clause-alone
+returns-clause-alone c = λ t are out.
+    let entered = c.enter_taken.ensures.alone (after_take t c.args.by) (c.take-seats.ensures.alone t are) out in
+    let y = listed t.states c.args.by in (
+      entered.0 ∙ entered_ready c.args.by t y out,
+      subst (λ (x : TableState). IsTable (harts_of_both c.args.tables.now) c.enter_taken.result.0 x) (entered_table c.args.by t y out) entered.1,
+    )
