@@ -5,6 +5,7 @@
 mod fault;
 mod files;
 mod flags;
+mod heap;
 mod options;
 mod parses;
 mod pipe;
@@ -21,6 +22,7 @@ pub use crate::files::{
     FileFault, end_with, explain_fault, first_of, not_regular, open_regular, read_file, tell_fault,
 };
 pub use crate::flags::flag;
+pub use crate::heap::keep_heap;
 pub use crate::options::{number, option, path, path_given, payload_paths, with_payloads};
 pub use crate::parses::{out_of_range, parse};
 pub use crate::pipe::Pipe;

@@ -1,0 +1,27 @@
+-- Rows that are handed on in order.
+use Rattle.std.specs.Prelude.{◌≡◌, ◌+◌, ℕ, List, [], ◌∷◌, Option, None, Some, Result, Ok, Err, length}
+use Rattle.board_model.specs.declared.refusal.Refusal.{Refusal}
+use Rattle.board_model.specs.declared.refusal.Refusal.TheVariants.{Memory}
+
+-- what a slot holds once the row of that number was made
+abbrev pub IsMade : {Row : Type 0} → (ℕ → Row → Type 0) → ℕ → Option (Result Row Refusal) → Type 0
+IsMade is n None = ⊥
+IsMade is n (Some (Ok row)) = is n row
+IsMade is n (Some (Err e)) = e ≡ Memory
+
+-- the rows of the numbers from that one on, in order
+abbrev pub AreRows : {Row : Type 0} → (ℕ → Row → Type 0) → ℕ → List Row → Type 0
+AreRows is first [] = Unit {0}
+AreRows is first (row ∷ rows) = is first row × AreRows is (first + 1) rows
+
+-- these rows are taken, one after another
+abbrev pub TakesAll : {Row S : Type 0} → (S → Row → S → Type 0) → S → List Row → S → Type 0
+TakesAll takes s [] t = t ≡ s
+TakesAll {Row} {S} takes s (row ∷ rows) t = (mid : S) × takes s row mid × TakesAll takes mid rows t
+
+-- The rows of so many numbers from that one on are taken in their order.
+pub record Handed {Row S : Type 0} (is : ℕ → Row → Type 0) (takes : S → Row → S → Type 0) (first count : ℕ) (old new : S) : Type 0 where
+  pub rows : List Row
+  pub many : length rows ≡ count
+  pub each : AreRows is first rows
+  pub taken : TakesAll takes old rows new

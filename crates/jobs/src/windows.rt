@@ -1,0 +1,239 @@
+//! Rows that several threads make, a window of them at a time.
+
+ghost use Rattle.std.specs.Prelude.{◌≡◌, ◌⊎◌, ◌+◌, ◌<◌, ◌≤◌, ◌^◌, ℕ, length, IfOk, IfErr, OnOk, slice_index_or};
+ghost use Rattle.board_model.specs.declared.refusal.Refusal.TheVariants.{Memory, Output};
+ghost use Rattle.jobs.specs.Handed.{IsMade, Handed};
+
+use board_model::Refusal;
+use std::alloc::Global;
+use std::thread;
+use std::thread::Threads;
+
+/// How many rows are made at a time for each thread, where there are several.
+const ROWS_EACH: usize = 16;
+
+/// How many threads make rows, and how many rows they make before these are handed on.
+#[derive(Drop)]
+pub struct Jobs<'a, R> {
+    rt: &'a R,
+    count: usize,
+    window: usize,
+    ghost some: { 0 < count },
+    ghost room: { 0 < window },
+}
+
+impl<'a, R> Jobs<'a, R> {
+    /// At most so many threads, of which the handle makes them. One hands on each row as it is made.
+    pub fn new(rt: &'a R, count: usize) -> Jobs<'a, R>
+        requires { 0 < count }
+    {
+        let window = if count == 1 {
+            1
+        } else {
+            count.saturating_mul(ROWS_EACH)
+        };
+        Jobs { rt, count, window }
+    }
+}
+
+/// How the row of a number is made.
+pub trait Task: Sync {
+    type Row: Send + Drop;
+
+    /// There is a row of that number.
+    ghost has: { Self → ℕ → Type 0 };
+
+    /// That is a row of that number.
+    ghost is_row: { Self → ℕ → Self.Row → Type 0 };
+
+    /// Makes the row of that number. Refused `Memory` alone.
+    fn row(&self, number: u64) -> Result<Self::Row, Refusal>
+        requires has { has self.now number }
+        ensures row { IfOk result (λ row. is_row self.now number row) }
+        ensures refused { IfErr result (λ e. e ≡ Memory) };
+}
+
+/// What rows are handed on to.
+pub trait Sink<Row> {
+    /// From the first to the second it takes that row.
+    ghost takes: { Self → Row → Self → Type 0 };
+
+    /// Takes a row. Refused `Memory` or `Output`.
+    fn take(&mut self, row: Row) -> Result<(), Refusal>
+        ensures took { OnOk result (takes self.old row self.new) }
+        ensures refused { IfErr result (λ e. (e ≡ Memory) ⊎ (e ≡ Output)) };
+}
+
+/// Makes the row of each slot, by at most so many threads. The first slot has that number.
+fn make_each<R: Threads + Sync, T: Task>(
+    rt: &R,
+    task: &T,
+    jobs: usize,
+    first: u64,
+    slots: &mut [Option<Result<T::Row, Refusal>>],
+)
+    requires jobs { 0 < jobs }
+    requires room { first + length slots.old < 2 ^ 64 }
+    requires has { (i : ℕ) → i < length slots.old → T.has task.now (first + i) }
+    ensures each { (i : ℕ) (d : _) → i < length slots.old → IsMade (T.is_row task.now) (first + i) (slice_index_or slots.new i d) }
+    ensures as_many { length slots.new ≡ length slots.old }
+{
+    thread::for_each_mut(
+        rt,
+        slots,
+        jobs,
+        &|i, slot| *slot = Some(task.row(first + i as u64)),
+    );
+}
+
+/// Takes the row of that number out of its slot.
+fn row_in<T: Task>(
+    task: &T,
+    number: u64,
+    slot: &mut Option<Result<T::Row, Refusal>>,
+) -> Result<T::Row, Refusal>
+    requires { IsMade (T.is_row task.now) number slot.old }
+    ensures row { IfOk result (λ row. T.is_row task.now number row) }
+    ensures refused { IfErr result (λ e. e ≡ Memory) }
+{
+    let _task = task;
+    let _number = number;
+    match slot.take() {
+        Some(made) => made,
+        None => unreachable!(),
+    }
+}
+
+/// Hands on the rows of the slots, in order, up to the first that was refused.
+fn hand_on<T: Task, S: Sink<T::Row>>(
+    task: &T,
+    first: u64,
+    slots: &mut [Option<Result<T::Row, Refusal>>],
+    sink: &mut S,
+) -> Result<(), Refusal>
+    requires room { first + length slots.old < 2 ^ 64 }
+    requires made { (i : ℕ) (d : _) → i < length slots.old → IsMade (T.is_row task.now) (first + i) (slice_index_or slots.old i d) }
+    ensures handed { OnOk result (Handed (T.is_row task.now) S.takes first (length slots.old) sink.old sink.new) }
+    ensures as_many { length slots.new ≡ length slots.old }
+    ensures refused { IfErr result (λ e. (e ≡ Memory) ⊎ (e ≡ Output)) }
+{
+    for i in 0..slots.len() {
+        let row = row_in(task, first + i as u64, &mut slots[i])?;
+        sink.take(row)?;
+    }
+    Ok(())
+}
+
+/// Makes the rows of the slots, and hands them on.
+fn run_window<R: Threads + Sync, T: Task, S: Sink<T::Row>>(
+    rt: &R,
+    task: &T,
+    jobs: usize,
+    first: u64,
+    slots: &mut [Option<Result<T::Row, Refusal>>],
+    sink: &mut S,
+) -> Result<(), Refusal>
+    requires jobs { 0 < jobs }
+    requires room { first + length slots.old < 2 ^ 64 }
+    requires has { (i : ℕ) → i < length slots.old → T.has task.now (first + i) }
+    ensures handed { OnOk result (Handed (T.is_row task.now) S.takes first (length slots.old) sink.old sink.new) }
+    ensures as_many { length slots.new ≡ length slots.old }
+    ensures refused { IfErr result (λ e. (e ≡ Memory) ⊎ (e ≡ Output)) }
+{
+    make_each(rt, task, jobs, first, slots);
+    hand_on(task, first, slots, sink)
+}
+
+/// The same of so many of the slots, from the first on.
+fn run_front<R: Threads + Sync, T: Task, S: Sink<T::Row>>(
+    rt: &R,
+    task: &T,
+    jobs: usize,
+    first: u64,
+    size: usize,
+    slots: &mut [Option<Result<T::Row, Refusal>>],
+    sink: &mut S,
+) -> Result<(), Refusal>
+    requires jobs { 0 < jobs }
+    requires size { size ≤ length slots.old }
+    requires room { first + size < 2 ^ 64 }
+    requires has { (i : ℕ) → i < size → T.has task.now (first + i) }
+    ensures handed { OnOk result (Handed (T.is_row task.now) S.takes first size sink.old sink.new) }
+    ensures as_many { length slots.new ≡ length slots.old }
+    ensures refused { IfErr result (λ e. (e ≡ Memory) ⊎ (e ≡ Output)) }
+{
+    run_window(rt, task, jobs, first, &mut slots[..size], sink)
+}
+
+/// Makes so many rows from that number on, as many at a time as there are slots, and hands them on.
+fn run_windows<R: Threads + Sync, T: Task, S: Sink<T::Row>>(
+    rt: &R,
+    task: &T,
+    jobs: usize,
+    first: u64,
+    count: u64,
+    slots: &mut [Option<Result<T::Row, Refusal>>],
+    sink: &mut S,
+) -> Result<(), Refusal>
+    requires jobs { 0 < jobs }
+    requires some { 0 < length slots.old }
+    requires room { first + count < 2 ^ 64 }
+    requires has { (i : ℕ) → i < count → T.has task.now (first + i) }
+    ensures handed { OnOk result (Handed (T.is_row task.now) S.takes first count sink.old sink.new) }
+    ensures refused { IfErr result (λ e. (e ≡ Memory) ⊎ (e ≡ Output)) }
+{
+    let window = slots.len();
+    let mut done = 0;
+    while done < count {
+        let size = (count - done).min(window as u64);
+        run_front(rt, task, jobs, first + done, size as usize, slots, sink)?;
+        done += size;
+    }
+    Ok(())
+}
+
+/// So many slots with no row.
+fn no_rows<Row: Drop>(
+    alloc: Global,
+    count: usize,
+) -> Result<Vec<Option<Result<Row, Refusal>>>, Refusal>
+    ensures slots { IfOk result (λ v. length v.items ≡ count) }
+    ensures refused { IfErr result (λ e. e ≡ Memory) }
+{
+    let mut slots = Vec::new(alloc);
+    for _ in 0..count {
+        slots.push(None)?;
+    }
+    Ok(slots)
+}
+
+/// Makes so many rows from that number on, by the threads of these jobs, and hands them on in order. A window of rows is
+/// kept at a time, which are handed on once all of them are made.
+///
+/// It ends at the first row that is refused, or that the sink refuses, with that refusal: `Memory`, or `Output` of the sink.
+/// All rows before it were handed on then, and none behind it.
+pub fn hand_on_all<R: Threads + Sync, T: Task, S: Sink<T::Row>>(
+    jobs: &Jobs<'_, R>,
+    alloc: Global,
+    task: &T,
+    first: u64,
+    count: u64,
+    sink: &mut S,
+) -> Result<(), Refusal>
+    requires room { first + count < 2 ^ 64 }
+    requires has { (i : ℕ) → i < count → T.has task.now (first + i) }
+    // The rows of these numbers, each of its own, were taken one after another.
+    ensures handed { OnOk result (Handed (T.is_row task.now) S.takes first count sink.old sink.new) }
+    ensures refused { IfErr result (λ e. (e ≡ Memory) ⊎ (e ≡ Output)) }
+{
+    let mut slots = no_rows::<T::Row>(alloc, jobs.window)?;
+    run_windows(
+        jobs.rt,
+        task,
+        jobs.count,
+        first,
+        count,
+        slots.as_mut_slice(),
+        sink,
+    )
+}
