@@ -29,12 +29,13 @@ pub struct CachedDisk<D: Disk + Drop> {
 }
 
 impl<D: Disk + Drop> CachedDisk<D> {
-    /// The disk over that device, all of which is durable. At `Err` memory was refused.
+    /// The disk over that device, all of which is durable. What is armed stays as it was. At `Err` memory was refused.
     pub fn new(alloc: Global, device: D) -> Result<CachedDisk<D>, AllocError>
         requires { IsFresh (D.facts device).content (D.facts device) }
         ensures fresh { IfOk result (λ disk. IsFresh (D.facts device).content (⟦<CachedDisk<D> as Disk>⟧.facts disk)) }
         ensures failures { IfOk result (λ disk. (⟦<CachedDisk<D> as Disk>⟧.facts disk).failures
             ≡ (D.facts device).failures) }
+        ensures fault_state { IfOk result (λ disk. ⟦<CachedDisk<D> as Disk>⟧.fault_state disk ≡ D.fault_state device) }
     {
         let waiting = Vec::with_capacity(alloc, MOST)?;
         let log = Log::picked(&device);

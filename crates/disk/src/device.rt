@@ -94,12 +94,13 @@ pub trait Disk {
     fn sectors(&self) -> usize
         ensures { result ≡ length (facts self.now).content };
 
-    /// Reads what stands from that sector on. At `Err` the buffer holds any bytes. Sectors that
-    /// are lent are not the disk's to read.
+    /// Reads what stands from that sector on, and makes nothing durable. At `Err` the buffer holds
+    /// any bytes. Sectors that are lent are not the disk's to read.
     fn read(&mut self, first: usize, sectors: &mut [Sector]) -> Result<(), Fault>
         requires within { first + length sectors.old ≤ length (facts self.old).content }
         requires apart { Apart first (length sectors.old) (facts self.old).lent }
         ensures found { OnOk result (AreSectorsAt first (facts self.old).content sectors.new) }
+        ensures unsynced { (facts self.new).moment ≡ (facts self.old).moment }
         ensures called { MakesCalls 1 Stays (facts self.old) (facts self.new) (fault_state self.old)
             (fault_state self.new) result };
 

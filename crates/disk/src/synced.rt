@@ -19,11 +19,12 @@ pub fn write_synced<D: Disk>(disk: &mut D, at: usize, bytes: &Sector) -> Result<
     disk.sync()
 }
 
-/// What stands in a sector: `read` for one sector.
+/// What stands in a sector: `read` for one sector, which makes nothing durable.
 pub fn read_sector<D: Disk>(disk: &mut D, at: usize) -> Result<Sector, Fault>
     requires within { at < length (D.facts disk.old).content }
     requires none_out { (D.facts disk.old).lent.lanes ≡ 0 }
     ensures found { IfOk result (λ bytes. bytes ≡ sector (D.facts disk.old).content at) }
+    ensures unsynced { (D.facts disk.new).moment ≡ (D.facts disk.old).moment }
     ensures called { MakesCalls 1 Stays (D.facts disk.old) (D.facts disk.new) (D.fault_state disk.old)
         (D.fault_state disk.new) result }
 {

@@ -4,6 +4,7 @@ ghost use Rattle.disk.specs.Facts.{Content, Unchanged, InRow, Joined, Only, Pass
 ghost use Rattle.disk.specs.Calls.{MakesCalls};
 ghost use Rattle.disk.specs.FaultState.{CausedInLanes};
 ghost use Rattle.write_log.specs.WriteLog.{ranges};
+ghost use Rattle.file_disk.specs.Beside.{faults_beside};
 ghost use Rattle.file_disk.specs.Files.{AreMarks, EverAllowed, IfKnown, IfKnown-prop, IsDurable, IsKeptIn, LeavesNoMore};
 ghost use Rattle.std.proofs.Props.{props};
 
@@ -35,13 +36,15 @@ pub struct FileDisk<F: SectorFile + Drop> {
 }
 
 impl<F: SectorFile + Drop> FileDisk<F> {
-    /// The disk in memory with this file, which holds just its sectors, all of them durable. At `Err` memory was
-    /// refused.
+    /// The disk in memory with this file, which holds just its sectors, all of them durable. What is armed stays as it
+    /// was. At `Err` memory was refused.
     pub fn new(alloc: Global, memory: SimDisk, file: F) -> Result<FileDisk<F>, AllocError>
         requires none_out { (⟦<SimDisk as Disk>⟧.facts memory).lent.lanes ≡ 0 }
         requires durable { IfKnown (F.file_facts file) (IsDurable (⟦<SimDisk as Disk>⟧.facts memory).content) }
         ensures same { IfOk result (λ disk. Unchanged (⟦<SimDisk as Disk>⟧.facts memory)
             (⟦<FileDisk<F> as Disk>⟧.facts disk)) }
+        ensures fault_state { IfOk result (λ disk. ⟦<FileDisk<F> as Disk>⟧.fault_state disk
+            ≡ faults_beside 0 (⟦<SimDisk as Disk>⟧.fault_state memory)) }
     {
         let marks = vec![in alloc; false; memory.sectors()]?;
         Ok(FileDisk {

@@ -12,6 +12,7 @@ pub reads_none : (a : Facts) (m : FaultState) → a.lent.lanes ≡ 0 → a.calls
 reads_none a m idle few = record {
   content = refl;
   crash = passes_none a;
+  unsynced = refl;
   none_out = idle;
   no_fewer = omega arith;
   no_failure = refl;
@@ -49,6 +50,7 @@ pub reads_more : {T : Type 0} (p q places : ℕ) (a : Facts) (m : FaultState) (b
 reads_more p q places a m b n r c o was more fits all = record {
   content = more.content ∙ was.content;
   crash = passes_stays a b c Stays was.crash more.crash;
+  unsynced = more.unsynced ∙ was.unsynced;
   none_out = more.none_out;
   no_fewer = omega (arith, was.no_failure, more.no_fewer);
   no_failure = onward r a.failures b.failures c.failures was.no_failure more.no_failure;

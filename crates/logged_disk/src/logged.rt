@@ -18,12 +18,13 @@ pub struct LoggedDisk<D: Disk + Drop> {
 }
 
 impl<D: Disk + Drop> LoggedDisk<D> {
-    /// The disk over that device, all of which is durable.
+    /// The disk over that device, all of which is durable. What is armed stays as it was.
     pub fn new(device: D) -> LoggedDisk<D>
         requires { IsFresh (D.facts device).content (D.facts device) }
         ensures fresh { IsFresh (D.facts device).content (⟦<LoggedDisk<D> as Disk>⟧.facts result) }
         ensures counts { ((⟦<LoggedDisk<D> as Disk>⟧.facts result).failures ≡ (D.facts device).failures)
             × ((⟦<LoggedDisk<D> as Disk>⟧.facts result).calls ≡ (D.facts device).calls) }
+        ensures fault_state { ⟦<LoggedDisk<D> as Disk>⟧.fault_state result ≡ D.fault_state device }
     {
         let log = Log::picked(&device);
         LoggedDisk { device, log }

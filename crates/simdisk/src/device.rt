@@ -44,6 +44,7 @@ impl Disk for SimDisk {
         requires within { first + length sectors.old ≤ length (⟦<SimDisk as Disk>⟧.facts self.old).content }
         requires apart { Apart first (length sectors.old) (⟦<SimDisk as Disk>⟧.facts self.old).lent }
         ensures found { OnOk result (AreSectorsAt first (⟦<SimDisk as Disk>⟧.facts self.old).content sectors.new) }
+        ensures unsynced { (⟦<SimDisk as Disk>⟧.facts self.new).moment ≡ (⟦<SimDisk as Disk>⟧.facts self.old).moment }
         ensures called { MakesCalls 1 Stays (⟦<SimDisk as Disk>⟧.facts self.old) (⟦<SimDisk as Disk>⟧.facts self.new)
             (⟦<SimDisk as Disk>⟧.fault_state self.old) (⟦<SimDisk as Disk>⟧.fault_state self.new) result }
         ensures not_its_own { (⟦<SimDisk as Disk>⟧.fault_state self.new).own

@@ -169,27 +169,6 @@ impl SimDisk {
         self.arm(ArmedFault::CutAt(call));
     }
 
-    /// The n-th call from now on of the lane of that number fails. It replaces what was armed.
-    pub fn fail_lane(&mut self, lane: usize, call: u64)
-        ensures facts { Unchanged (⟦<SimDisk as Disk>⟧.facts self.old) (⟦<SimDisk as Disk>⟧.facts self.new) }
-        ensures armed { ⟦<SimDisk as Disk>⟧.fault_state self.new
-            ≡ fault_state_armed (ArmedFault.FailLane lane call) (⟦<SimDisk as Disk>⟧.fault_state self.old) }
-        ensures call { ⟦<SimDisk as Logged>⟧.armed self.new ≡ Some (ArmedFault.FailLane lane call) }
-    {
-        self.arm(ArmedFault::FailLane(lane, call));
-    }
-
-    /// Power is lost within the n-th call from now on of the lane of that number. It replaces what
-    /// was armed.
-    pub fn cut_lane(&mut self, lane: usize, call: u64)
-        ensures facts { Unchanged (⟦<SimDisk as Disk>⟧.facts self.old) (⟦<SimDisk as Disk>⟧.facts self.new) }
-        ensures armed { ⟦<SimDisk as Disk>⟧.fault_state self.new
-            ≡ fault_state_armed (ArmedFault.CutLane lane call) (⟦<SimDisk as Disk>⟧.fault_state self.old) }
-        ensures call { ⟦<SimDisk as Logged>⟧.armed self.new ≡ Some (ArmedFault.CutLane lane call) }
-    {
-        self.arm(ArmedFault::CutLane(lane, call));
-    }
-
     /// How often the disk failed by itself, which is where its write log was refused memory. A disk
     /// that a crash left goes on counting.
     pub fn refused(&self) -> u64

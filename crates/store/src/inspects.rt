@@ -57,6 +57,7 @@ fn read_records<D: Disk>(disk: &mut D) -> Result<Records, Fault>
     ensures gate { IfOk result (λ r. r.gate ≡ selected (D.facts disk.old).content) }
     ensures live { IfOk result (λ r. r.live ≡ live_sector (D.facts disk.old).content) }
     ensures other { IfOk result (λ r. r.other ≡ other_sector (D.facts disk.old).content) }
+    ensures unsynced { (D.facts disk.new).moment ≡ (D.facts disk.old).moment }
     ensures called { MakesCalls 3 Stays (D.facts disk.old) (D.facts disk.new) (D.fault_state disk.old)
         (D.fault_state disk.new) result }
 {
@@ -92,6 +93,7 @@ fn see_image<D: Disk>(
     ensures seen { IfOk result (IsImageSeen shape.now (D.facts disk.old).content) }
     ensures refused { IfErr result (λ e. InspectRefused (D.facts disk.old) e (D.facts disk.new)) }
     ensures reads_alone { ReadsAlone (D.facts disk.old) (D.facts disk.new) }
+    ensures unsynced { (D.facts disk.new).moment ≡ (D.facts disk.old).moment }
     ensures cause { FailsForCause (D.facts disk.old) (D.fault_state disk.old) result (D.facts disk.new)
         (D.fault_state disk.new) }
     ensures calls { SeenCalls shape.now result (D.facts disk.old).calls (D.facts disk.new).calls }
@@ -125,6 +127,7 @@ fn examine<D: Disk>(alloc: Global, disk: &mut D, shape: &Shape) -> Result<Inspec
     ensures inspected { IfOk result (IsInspected shape.now (D.facts disk.old).content) }
     ensures refused { IfErr result (λ e. InspectRefused (D.facts disk.old) e (D.facts disk.new)) }
     ensures reads_alone { ReadsAlone (D.facts disk.old) (D.facts disk.new) }
+    ensures unsynced { (D.facts disk.new).moment ≡ (D.facts disk.old).moment }
     ensures cause { FailsForCause (D.facts disk.old) (D.fault_state disk.old) result (D.facts disk.new)
         (D.fault_state disk.new) }
     ensures calls { ExaminedCalls shape.now result (D.facts disk.old).calls (D.facts disk.new).calls }
@@ -166,6 +169,7 @@ pub fn inspect<D: Disk>(alloc: Global, disk: &mut D) -> Result<Inspection, Refus
     ensures no_sectors { length (D.facts disk.old).content ≡ 0
         → (result ≡ Err Refusal.BadShape) × (disk.new ≡ disk.old) }
     ensures reads_alone { ReadsAlone (D.facts disk.old) (D.facts disk.new) }
+    ensures unsynced { (D.facts disk.new).moment ≡ (D.facts disk.old).moment }
     ensures cause { MatchResult result (λ _. D.fault_state disk.new ≡ D.fault_state disk.old) (λ e. CausedRefusal
         (D.fault_state disk.old) e (D.fault_state disk.new)) }
     ensures no_failure { OnOk result ((D.facts disk.new).failures ≡ (D.facts disk.old).failures) }

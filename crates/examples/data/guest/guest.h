@@ -14,6 +14,25 @@ void woken(u64 hart, u64 opaque);      /* the hart of a board that wakes at boar
 void hart_start(void);
 void board_wake(void);
 
+/* A line of text and a number, for tools/guest-text, from a script's `mem`, from an image, or under GDB. Each hart keeps its newest
+   SAID_LINES lines (a power of two: CFLAGS=-DSAID_LINES=64), of SAID_TEXT letters at most. say knows its hart by the stack that start.S
+   gave it; on a stack of your own take say_as. */
+void say(const char *text, u64 value);
+void say_as(u64 hart, const char *text, u64 value);
+
+#ifndef SAID_LINES
+#define SAID_LINES 8
+#endif
+#define SAID_TEXT 40
+
+struct said {
+    unsigned mark; /* "said" once the line is whole */
+    unsigned hart;
+    u64 number; /* what was said before, by whichever hart, has a lower one */
+    u64 value;
+    char text[SAID_TEXT];
+};
+
 /* A suspend of the board that returns where it was called: SBI_SUCCESS once the board woke, or the error. Interrupts are off then, and
    stvec, sie and sscratch are to be set anew. */
 long board_suspend(u64 type, u64 opaque);

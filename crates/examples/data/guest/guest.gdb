@@ -1,0 +1,24 @@
+# To be sourced once in a session of GDB over sbigdb (docs/DEBUGGING.md): gdb-multiarch own.elf -x guest/guest.gdb ..
+# A line of `monitor` may move the board, and GDB keeps registers that it has read.
+define hookpost-monitor
+  maintenance flush register-cache
+end
+
+python
+class GuestText(gdb.Command):
+    """What the guest has said so far by say (guest.h), oldest first: guest-text"""
+
+    def __init__(self):
+        super().__init__("guest-text", gdb.COMMAND_DATA)
+
+    def invoke(self, words, is_terminal):
+        said = gdb.parse_and_eval("said")
+        harts = range(said.type.range()[1] + 1)
+        lines = [said[hart][n] for hart in harts for n in range(said[hart].type.range()[1] + 1)]
+        for line in sorted((it for it in lines if int(it["mark"])), key=lambda it: (int(it["number"]), int(it["hart"]))):
+            text = line["text"].string().rstrip("\0")
+            print(f"hart {int(line['hart'])}: {text} {int(line['value'])}")
+
+
+GuestText()
+end
