@@ -13,15 +13,29 @@ const LINES: Run = Run {
     ..PLAIN
 };
 
-/// A board suspends itself to its disk at once, and its image is shown, once whole, and once into too small an output.
-static SHOWN: [Run; 3] = [
-    Run {
-        words: &[
-            "sbiboard", "--disk", "D", "--mode", "fresh", "--new", "--turns", "10", "--p0", "p0",
-        ],
-        payloads: [SLEEPS, b"", b"", b""],
-        ..PLAIN
-    },
+/// A board suspends itself to its disk at once.
+const SUSPENDED: Run = Run {
+    words: &[
+        "sbiboard", "--disk", "D", "--mode", "fresh", "--new", "--turns", "10", "--p0", "p0",
+    ],
+    payloads: [SLEEPS, b"", b"", b""],
+    ..PLAIN
+};
+
+/// The memory of its image is written, which has its payload and zeros behind it.
+const RECALLED: Run = Run {
+    words: &["sbidisk", "--memory", "D"],
+    room: 1_048_576,
+    told: b"\
+\x13\x05\x10\x00\x13\x15\xf5\x01\x13\x05\x15\x00\x93\x05\x10\x00\x93\x95\xf5\x01\
+\x13\x06\x00\x00\x13\x08\x00\x00\xb7\x58\x55\x53\x93\x88\x08\x35\x73\x00\x00\x00",
+    zeros: 4096 - 40,
+    ..LINES
+};
+
+/// The image of such a board is shown, once whole, and once into too small an output; and its memory is written.
+static SHOWN: [Run; 4] = [
+    SUSPENDED,
     Run {
         told: b"\
 inspect gate 1 live ok other ok image whole\n\
@@ -35,11 +49,39 @@ image hart 0 address 0x0000000080000000 opaque 0x0000000000000000 pages 1\n",
         faults: b"sbidisk: refusal 16\n",
         ..LINES
     },
+    RECALLED,
 ];
 
 #[test]
 fn a_disk_with_an_image_is_shown(rt: HostRuntime) -> Result<(), Fail> {
     all_come(&rt, rt.alloc(), b"", &SHOWN)
+}
+
+/// The same of the largest board.
+static LARGEST: [Run; 3] = [
+    Run {
+        words: &[
+            "sbiboard", "--disk", "D", "--mode", "fresh", "--new", "--harts", "8", "--pages",
+            "256", "--lanes", "4", "--turns", "10", "--p0", "p0",
+        ],
+        ..SUSPENDED
+    },
+    Run {
+        told: b"\
+inspect gate 1 live ok other ok image whole\n\
+found slot 0 reason 0 image 0 next 1\n\
+image hart 0 address 0x0000000080000000 opaque 0x0000000000000000 pages 256\n",
+        ..LINES
+    },
+    Run {
+        zeros: 256 * 4096 - 40,
+        ..RECALLED
+    },
+];
+
+#[test]
+fn the_largest_image_is_shown(rt: HostRuntime) -> Result<(), Fail> {
+    all_come(&rt, rt.alloc(), b"", &LARGEST)
 }
 
 /// The bytes of the disk's file, and runs over it.

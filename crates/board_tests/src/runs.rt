@@ -23,7 +23,8 @@ pub enum Program {
 }
 
 /// A run: the program and its words, the payload files `p0` to `p3` in hexadecimal digits, what fails of the files, the lines of
-/// the console and the room of the output; and the status, the output and the faults that have to come of it.
+/// the console and the room of the output; and the status, the output and the faults that have to come of it. Behind what is told
+/// the output has so many zeros.
 pub struct Run {
     pub program: Program,
     pub words: &'static [&'static str],
@@ -33,6 +34,7 @@ pub struct Run {
     pub room: usize,
     pub status: u8,
     pub told: &'static [u8],
+    pub zeros: usize,
     pub faults: &'static [u8],
 }
 
@@ -52,6 +54,7 @@ pub const PLAIN: Run = Run {
     room: 65536,
     status: 0,
     told: b"",
+    zeros: 0,
     faults: b"",
 };
 
@@ -73,8 +76,16 @@ fn operated<R: Threads + Wait + Sync>(
 /// A run that ended so has come to what is told of it.
 fn compare(rt: &impl Abort, run: &Run, status: u8, told: &[u8], faults: &[u8]) {
     same(rt, status, run.status);
-    same(rt, told, run.told);
+    same(rt, is_told(run, told), true);
     same(rt, faults, run.faults);
+}
+
+/// Whether that is what the run has to tell, with its zeros behind.
+fn is_told(run: &Run, told: &[u8]) -> bool {
+    match told.strip_prefix(run.told) {
+        Some(rest) => rest.len() == run.zeros && rest.iter().all(|byte| *byte == 0),
+        None => false,
+    }
 }
 
 /// A run of `sbidisk` over these files, which comes to what is told of it.
