@@ -16,11 +16,11 @@ use Rattle.hart_threads.specs.Ends.{Ending}
 use Rattle.board_session.specs.Sessions.{RunsOver, Begins, IsOfLife, TalksIf, AreDriven, RanOver}
 
 -- what is of the life of the store that the board gave up is of the one that it had
-pub ran_over : (new : Bool) (shape : Size) (mode : BootMode) (payloads : List (List ℕ)) (turns : ℕ) (old disk : Facts) (left : Option Left) (a : DialogueEnds) (input output : Option (List ℕ)) (heard : Hearing) (ends : List Ending) (size z : Size) (found s : DurableState) (issued : List Change) (machine : Machine) (memory : List ℕ)
-    → z ≡ size → s ≡ found → issued ≡ commands_by mode found → memory ≡ machine.memory → RunsOver new shape mode payloads old.content → Begins new shape old.content size found → IsBegun mode size payloads found machine
+pub ran_over : (new : Bool) (shape : Size) (mode : BootMode) (payloads : List (List ℕ)) (turns : ℕ) (old disk : Facts) (left : Option Left) (a : DialogueEnds) (input output : Option (List ℕ)) (heard : Hearing) (ends : List Ending) (size z : Size) (found s : DurableState) (issued : List Change) (machine board : Machine) (memory : List ℕ)
+    → z ≡ size → s ≡ found → issued ≡ commands_by mode found → memory ≡ machine.memory → board ≡ machine → RunsOver new shape mode payloads old.content → Begins new shape old.content size found → IsBegun mode size payloads found machine
     → (console : List (ℕ × Entry)) → IsOfLife z s issued memory console disk
-    → TalksIf s issued left a (dialogue_ends input output (party console heard)) → AreDriven z.harts turns s left ends → RanOver new shape mode payloads turns old disk left a input output heard ends
-ran_over new shape mode payloads turns old disk left a input output heard ends size z found s issued machine memory sized was made left_by allowed begins powered console life talks driven =
+    → TalksIf s issued left a (dialogue_ends input output (party console heard)) → AreDriven z.harts board turns s left ends → RanOver new shape mode payloads turns old disk left a input output heard ends
+ran_over new shape mode payloads turns old disk left a input output heard ends size z found s issued machine board memory sized was made left_by same allowed begins powered console life talks driven =
     record {
       allowed = allowed;
       size = size;
@@ -37,8 +37,9 @@ ran_over new shape mode payloads turns old disk left a input output heard ends s
           subst (λ (x : DurableState). TalksIf x (commands_by mode found) left a (dialogue_ends input output (party console heard))) was
           (subst (λ (x : List Change). TalksIf s x left a (dialogue_ends input output (party console heard))) made talks);
       driven =
-          subst (λ (x : DurableState). AreDriven size.harts turns x left ends) was
-          (subst (λ (x : Size). AreDriven x.harts turns s left ends) sized driven);
+          subst (λ (x : DurableState). AreDriven size.harts machine turns x left ends) was
+          (subst (λ (x : Machine). AreDriven size.harts x turns s left ends) same
+          (subst (λ (x : Size). AreDriven x.harts board turns s left ends) sized driven));
     }
 
 -- what the console did is told with why it left, with what it was given and with what it gave back

@@ -24,7 +24,7 @@ use Rattle.machine.specs.Machine.{Machine}
 use Rattle.receipts.specs.Closed.{AreReceiptsOf}
 use Rattle.shared_store.specs.Noted.{boot_told, entries_in}
 use Rattle.hart_threads.specs.Threads.{ends_life}
-use Rattle.hart_threads.specs.Ends.{Ending, IsEnding}
+use Rattle.hart_threads.specs.Ends.{Ending, AreNumberedFrom, IsEnding}
 use Rattle.hart_threads.specs.declared.closing.AfterConsole.{AfterConsole}
 use Rattle.hart_threads.specs.declared.closing.AfterConsole.TheVariants.{RunOut, Halt}
 use Rattle.shared_store.specs.Heard.{Hearing, heard_nothing}
@@ -137,17 +137,18 @@ harts_after lefts.EndOfInput = RunOut
 harts_after lefts.InputFailed = RunOut
 harts_after lefts.Unwritten = Halt
 
--- Where the console was begun each hart had a loop. It made all the turns that each hart is given, or a hart ended the
--- life by a command that was acknowledged, or the console had left so that the harts are halted.
-abbrev pub AreDriven : ℕ → ℕ → DurableState → Option Left → List Ending → Type 0
-AreDriven harts turns found None ends = Unit {0}
-AreDriven harts turns found (Some left) ends =
-    (length ends ≡ harts) × All (IsEnding turns found false (harts_after left)) ends
+-- Where the console was begun each hart of that board had a loop, and there is an end of each, from hart 0 on. It went from where the power-on left it by just the turns
+-- that its loop made. It made all the turns that each hart is given, or a hart ended the life by a command that was
+-- acknowledged, or the console had left so that the harts are halted.
+abbrev pub AreDriven : ℕ → Machine → ℕ → DurableState → Option Left → List Ending → Type 0
+AreDriven harts machine turns found None ends = Unit {0}
+AreDriven harts machine turns found (Some left) ends =
+    (length ends ≡ harts) × AreNumberedFrom 0 ends × All (IsEnding machine turns found false (harts_after left)) ends
 
 -- The board was on, over a disk that allows it, with the memory and harts that the mode begins. The disk given back is
 -- that of the life that it then began, whose suspension carries what steps of harts made of that memory; and what was read
--- and answered is of that life, with its receipts, and with the refusals and states that the console heard. Its harts were
--- driven, and ended so.
+-- and answered is of that life, with its receipts, and with the refusals and states that the console heard. Its harts are
+-- those of the board that was on, were driven, and ended so.
 pub record RanOver (new : Bool) (shape : Size) (mode : BootMode) (payloads : List (List ℕ)) (turns : ℕ)
     (old disk : Facts) (left : Option Left) (a : DialogueEnds) (input output : Option (List ℕ)) (heard : Hearing)
     (ends : List Ending) : Type 0 where
@@ -160,4 +161,4 @@ pub record RanOver (new : Bool) (shape : Size) (mode : BootMode) (payloads : Lis
   pub console : List (ℕ × Entry)
   pub life : IsOfLife size found (commands_by mode found) machine.memory console disk
   pub talks : TalksIf found (commands_by mode found) left a (dialogue_ends input output (party console heard))
-  pub driven : AreDriven size.harts turns found left ends
+  pub driven : AreDriven size.harts machine turns found left ends

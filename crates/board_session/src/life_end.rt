@@ -7,18 +7,39 @@ ghost use Rattle.store.specs.Views.{size_of_store, found_state, journal_of, life
 ghost use Rattle.shared_store.specs.Noted.{boot_told};
 ghost use Rattle.shared_store.specs.Runs.{IsCarried};
 ghost use Rattle.shared_store.specs.Views.{inside, parts_with};
-ghost use Rattle.hart_threads.specs.Ends.{IsEnding};
+ghost use Rattle.hart_threads.specs.Ends.{AreNumberedFrom, IsEnding};
 ghost use Rattle.board_session.specs.Backs.{AreBack};
 ghost use Rattle.board_session.specs.Sessions.{IsOfLife};
 
 use disk::Disk;
 use hart_threads::{HartEnd, HartLocal, Parted, Rested, Threaded};
 use shared_store::{Part, Unshared};
+use std::sync::Wait;
 use store::Store;
 
-/// How the harts of those loops ended, in the order of their numbers. In the list of loops the highest number comes first.
-/// `parted` holds what their console said of the harts when it left.
-pub(crate) fn ends_of<'c, J: Threaded>(
+/// How the hart of that number ended, of whose loop this is. That a loop is of the hart whose thread it was on no type says, so
+/// it is looked at here: one of another hart would be waited for in vain, which no run comes to.
+fn end_of<'c, R: Wait, J: Threaded>(
+    rt: &R,
+    rested: &Rested<'c, J>,
+    parted: &Parted<'c, J>,
+    number: usize,
+) -> HartEnd
+    ensures number { result.number ≡ number }
+    ensures well { IsEnding J.machine J.turns J.found J.gated parted.now.token.value result }
+{
+    let end = rested.end(parted);
+    if end.hart().index() == number {
+        return end;
+    }
+    for _ in rt.forever() {}
+    unreachable!()
+}
+
+/// How the harts of those loops ended, in the order of their numbers, from 0. In the list of loops the highest number comes
+/// first. `parted` holds what their console said of the harts when it left.
+pub(crate) fn ends_of<'c, R: Wait, J: Threaded>(
+    rt: &R,
     loops: &[Rested<'c, J>],
     parted: &Parted<'c, J>,
     room: Vec<HartEnd>,
@@ -26,11 +47,12 @@ pub(crate) fn ends_of<'c, J: Threaded>(
     requires empty { vec_len room ≡ 0 }
     requires room { length loops.now ≤ vec_capacity room }
     ensures many { vec_len result ≡ length loops.entry.now }
-    ensures well { All (IsEnding J.turns J.found J.gated parted.now.token.value) result.items }
+    ensures numbered { AreNumberedFrom 0 result.items }
+    ensures well { All (IsEnding J.machine J.turns J.found J.gated parted.now.token.value) result.items }
 {
     let (mut ends, many) = (room, loops.len());
     for k in 0..many {
-        ends.push_reserved(loops[many - 1 - k].end(parted));
+        ends.push_reserved(end_of(rt, &loops[many - 1 - k], parted, k));
     }
     ends
 }

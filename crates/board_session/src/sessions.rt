@@ -15,6 +15,7 @@ ghost use Rattle.store.specs.Formats.{WritesHead};
 ghost use Rattle.store.specs.Leaves.{IsIdle, IsKept, LeavesOnly};
 ghost use Rattle.store.specs.Opens.{FormatRefused};
 ghost use Rattle.store.specs.Views.{size_of_store, found_state, journal_of, life_of};
+ghost use Rattle.hart_threads.specs.Begun.{board_of};
 ghost use Rattle.machine.specs.Held.{IsHeld};
 ghost use Rattle.board.specs.Begins.{IsBegun};
 ghost use Rattle.board.specs.Moments.{commands_by};
@@ -160,6 +161,8 @@ fn run_board<
     requires store { (size_of_store booted.parts.store ≡ J.size) × (found_state booted.parts.store ≡ J.found)
         × (journal_of booted.parts.store ≡ J.issued) }
     requires memory { booted.parts.bus.ram ≡ J.memory }
+    requires machine { J.machine ≡ board_of booted.shape J.memory booted.parts.bus.doze booted.parts.harts.items
+        booted.parts.seats }
     requires carried { IsCarried J.memory (life_of booted.parts.store) }
     requires turns { turns ≡ J.turns }
     requires lock { lock.id ≡ J.parting }
@@ -173,7 +176,7 @@ fn run_board<
         (dialogue_ends (I.remaining streams.input) (W.contents streams.out) (party [] heard_nothing))
         (dialogue_ends (I.remaining result.streams.input) (W.contents result.streams.out) (party console result.heard)) }
     ensures ran { result.ran ≡ outcome_of result.console_left }
-    ensures driven { AreDriven J.size.harts J.turns J.found result.console_left result.harts.items }
+    ensures driven { AreDriven J.size.harts J.machine J.turns J.found result.console_left result.harts.items }
     ensures unheard { result.console_left ≡ None → (result.streams ≡ streams) × (result.heard ≡ heard_nothing) }
 {
     let BootedBoard { parts, shape, book } = booted;
@@ -228,7 +231,7 @@ fn run_board<
     );
     let whole = store_lock.into_inner().unshare();
     match driven {
-        Ok((loops, talked)) => after_console(alloc, whole, loops, talked, boot, room),
+        Ok((loops, talked)) => after_console(rt, alloc, whole, loops, talked, boot, room),
         Err(back) => without_console(alloc, whole, back.loops, back.parts, back.side, boot),
     }
 }
@@ -254,7 +257,8 @@ fn hand_out_to_harts<D: Disk + Drop, J: Threaded>(
 }
 
 /// What a session gives back whose console has left, once the loops of all harts have ended. `room` is for how they ended.
-fn after_console<'c, D: Disk + Drop, J: Threaded, I: Read + Drop, W: Write + Drop>(
+fn after_console<'c, R: Wait, D: Disk + Drop, J: Threaded, I: Read + Drop, W: Write + Drop>(
+    rt: &R,
     alloc: Global,
     whole: Unshared<D, J>,
     loops: Vec<Rested<'c, J>>,
@@ -275,10 +279,10 @@ fn after_console<'c, D: Disk + Drop, J: Threaded, I: Read + Drop, W: Write + Dro
     ensures heard { result.heard ≡ talked.entry.side.heard }
     ensures console_left { result.console_left ≡ Some talked.entry.left }
     ensures ran { result.ran ≡ outcome_of (Some talked.entry.left) }
-    ensures driven { AreDriven J.size.harts J.turns J.found (Some talked.entry.left) result.harts.items }
+    ensures driven { AreDriven J.size.harts J.machine J.turns J.found (Some talked.entry.left) result.harts.items }
 {
     let Talked { side, left, parted } = talked;
-    let harts = ends_of(&loops, &parted, room);
+    let harts = ends_of(rt, &loops, &parted, room);
     let ConsoleSide {
         streams,
         part,
@@ -430,8 +434,8 @@ pub fn session<R: Threads + Wait + Sync, D: Disk + Drop + Send, I: Read + Drop, 
     // the board was on over the disk that was given, and the disk given back is that of its life, to which what
     // was read and answered belongs: each command of its journal was acknowledged to the boot, the console or a
     // hart, and no other was; and its suspension carries what steps of harts made of the memory of the board that was on.
-    // Each hart made all its turns, or one of them ended the life, or the console left so that
-    // they were halted. It is then refused by why the console left alone.
+    // Each hart went from where the power-on left it by its own turns: it made all of them, or one of them ended the life,
+    // or the console left so that they were halted. It is then refused by why the console left alone.
     ensures ended { (RefusesSession options.now.new options.now.shape options.now.mode payloads.now (D.facts disk)
         result.ran (D.facts result.disk) × (result.console_left ≡ None))
         ⊎ (RanOver options.now.new options.now.shape options.now.mode payloads.now options.now.turns (D.facts disk)

@@ -4,6 +4,7 @@ ghost use Rattle.std.specs.Prelude.{◌≡◌, ◌+◌, [], true, Some, IfOk};
 ghost use Rattle.board_model.specs.Durable.{formatted as new_state};
 ghost use Rattle.store.specs.Leaves.{IsIdle, LeavesOnly};
 ghost use Rattle.store.specs.Views.{found_state};
+ghost use Rattle.hart_threads.specs.Begun.{board_of};
 ghost use Rattle.machine.specs.Held.{IsHeld};
 ghost use Rattle.receipts.specs.Views.{id_of, parts_of};
 ghost use Rattle.board_tests.specs.Begun.{IsBegun};
@@ -239,6 +240,7 @@ fn driven_as<J: Threaded + Send + Sync, R: Threads + Wait + Clock + Abort + Sync
     requires named { (J.size ≡ shape.now) × (J.found ≡ found_state parts.store) × (J.issued ≡ [])
         × (J.memory ≡ parts.bus.ram) }
     requires book { (id_of book ≡ J.book) × (parts_of book ≡ J.parts) × (J.parts ≡ shape.now.harts + 2) }
+    requires machine { J.machine ≡ board_of shape.now J.memory parts.bus.doze parts.harts.items parts.seats }
     requires driven { (lock.id ≡ J.parting) × (trial.turns ≡ J.turns) × (J.gated ≡ true) }
     ensures { IsIdle (⟦<SimDisk as Disk>⟧.facts result.disk) }
 {

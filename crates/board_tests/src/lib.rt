@@ -28,6 +28,8 @@ mod programs;
 #[cfg(test)]
 mod runs;
 #[cfg(test)]
+mod sessions;
+#[cfg(test)]
 mod stopped;
 #[cfg(test)]
 mod streams;

@@ -1,5 +1,5 @@
 -- Turns one after another.
-use Rattle.std.proofs.Common.{◌≡◌, ◌+◌, ℕ, suc, Bool, List, [], ◌∷◌, Option, Some, None, ap, true, false, arith, refl, sym, ◌∙◌, subst, inl, inr}
+use Rattle.std.proofs.Common.{◌≡◌, ◌+◌, ℕ, zero, suc, Bool, List, [], ◌∷◌, Option, Some, None, ap, true, false, arith, refl, sym, ◌∙◌, subst, inl, inr}
 use Rattle.board_model.specs.Shapes.{Size}
 use Rattle.board_model.specs.declared.durable.Entry.{Entry}
 use Rattle.sbi_abi.specs.declared.call.Call.{Call}
@@ -15,6 +15,7 @@ use Rattle.sbi.specs.declared.words.Word.TheVariants.{Goes, Over}
 use Rattle.sbi_calls.specs.declared.tables.Seats.{Seats}
 use Rattle.sbi_calls.specs.declared.tables.Tables.{Tables}
 use Rattle.hsm.specs.Calls.{Sits}
+use Rattle.hsm_steps.specs.States.{IsBetweenCalls}
 use Rattle.hsm_steps.specs.declared.view.Stage.TheVariants.{Out, Running, Suspended, Quiet}
 use Rattle.sbi_calls.specs.Both.{GivesBack, Acts, AreSeatsOfBoth, views}
 use Rattle.susp.specs.declared.buses.Doze.{Doze}
@@ -27,6 +28,9 @@ use Rattle.sbi_calls.specs.declared.words.Turned.TheVariants.{Made, Durable}
 use Rattle.machine.specs.Held.{RestsBy}
 use Rattle.hart.specs.State.{ArchState}
 use Rattle.sbi_calls.specs.Both.{Known}
+use Rattle.machine.specs.Machine.{Machine}
+use Rattle.hart_threads.specs.Begun.{BeginsAs}
+use Rattle.hart_threads.specs.Ends.{AnyAnswer, AnyWord, HasGone}
 use Rattle.hart_threads.specs.Looks.{Looked}
 use Rattle.hart_threads.specs.Refusals.{RefusedCalls}
 use Rattle.hart_threads.specs.Seated.{StandsAfterTurn, StandsAfter}
@@ -81,6 +85,20 @@ sits_after by s whys.Life doze (inr a) = (Quiet, a.0)
 sits_after by s whys.Closed doze a = rests_sits by s doze a
 sits_after by s whys.Gate doze a = rests_sits by s doze a
 sits_after by s whys.Turns doze a = rests_sits by s doze a
+
+-- in no start of its own
+rests_between : (by : ℕ) (s : Seats) (doze : Option Doze) → RestsBy doze by s → IsBetweenCalls by (views s)
+rests_between by s None (inl a, b) = inl a
+rests_between by s None (inr (inl a), b) = inr (inl a)
+rests_between by s None (inr (inr a), b) = inr (inr (inl a))
+rests_between by s (Some d) (a, b) = inr (inr (inr a))
+
+pub between_after : (by : ℕ) (s : Seats) (why : Why) (doze : Option Doze) → StandsAfter why doze by s → IsBetweenCalls by (views s)
+between_after by s whys.Life doze (inl a) = inr (inl a.0)
+between_after by s whys.Life doze (inr a) = inr (inr (inr a.0))
+between_after by s whys.Closed doze a = rests_between by s doze a
+between_after by s whys.Gate doze a = rests_between by s doze a
+between_after by s whys.Turns doze a = rests_between by s doze a
 
 -- ---- one turn
 -- of a hart that does not doze
@@ -139,3 +157,26 @@ pub kept_part : (size : Size) (begun : List ℕ) (a b : Seated) (word : Word) (t
 kept_part size begun a b word told first now next once on same is =
     let none = turn_none size begun a b word told once on in
     is ∙ (ap (λ (o : Option (ℕ × Entry)). part_after o now) none ∙ same)
+
+-- ---- what is left where nothing is said of the gate
+turns_alone : (size : Size) (begun : List ℕ) (answers : ℕ → Bool → Type 0) (hears : ℕ → Type 0) (n : ℕ) (a b : Seated) → TurnsOn size begun answers hears n a b → TurnsOn size begun AnyAnswer AnyWord n a b
+turns_alone size begun answers hears zero a b none = none
+turns_alone size begun answers hears (suc n) a b (mid, word, many, once, on, said, heard) = (mid, word, turns_alone size begun answers hears n a mid many, once, on, tt, tt)
+
+loop_alone : (size : Size) (begun : List ℕ) (answers : ℕ → Bool → Type 0) (hears : ℕ → Type 0) (turns made : ℕ) (a b : Seated) (why : Why) (told : Option (ℕ × Entry)) → LoopOnce size begun answers hears turns made a b why told → LoopOnce size begun AnyAnswer AnyWord turns made a b why told
+loop_alone size begun answers hears turns made a b whys.Life told (n, mid, word, is, many, once, off, said, heard) = (n, mid, word, is, turns_alone size begun answers hears n a mid many, once, off, tt, tt)
+loop_alone size begun answers hears turns made a b whys.Closed told (many, few, none) = (turns_alone size begun answers hears made a b many, few, none)
+loop_alone size begun answers hears turns made a b whys.Gate told (many, few, none, said) = (turns_alone size begun answers hears made a b many, few, none, tt)
+loop_alone size begun answers hears turns made a b whys.Turns told (many, all, none) = (turns_alone size begun answers hears made a b many, all, none)
+
+-- a loop whose hart is as the boot left it
+pub has_gone : (m : Machine) (size : Size) (begun : List ℕ) (answers : ℕ → Bool → Type 0) (hears : ℕ → Type 0) (turns given made h : ℕ) (a b : Seated) (why : Why) (told : Option (ℕ × Entry)) → m.size ≡ size → m.memory ≡ begun → given ≡ turns → b.hart.id ≡ h → BeginsAs m h a
+    → LoopOnce size begun answers hears given made a b why told → HasGone m turns made b why told
+has_gone m size begun answers hears turns given made h a b why told sized remembered is same begins once =
+    let all = loop_alone size begun answers hears given made a b why told once in (
+      a,
+      subst (λ (k : ℕ). BeginsAs m k a) (sym same) begins,
+      subst (λ (n : ℕ). LoopOnce m.size m.memory AnyAnswer AnyWord n made a b why told) is
+          (subst (λ (z : Size). LoopOnce z m.memory AnyAnswer AnyWord given made a b why told) (sym sized)
+          (subst (λ (l : List ℕ). LoopOnce size l AnyAnswer AnyWord given made a b why told) (sym remembered) all)),
+    )

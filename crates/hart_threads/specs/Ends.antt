@@ -1,12 +1,16 @@
 -- How a hart's loop ended, and where the hart then stood. Source: docs/THREADS.md, "The end of a loop"; SBI specification
 -- 2.0, chapter HSM.
-use Rattle.std.specs.Prelude.{◌≡◌, ◌≤◌, ℕ, Bool, true, Option, Some, None, is_some}
+use Rattle.std.specs.Prelude.{◌≡◌, ◌≤◌, ℕ, suc, Bool, true, List, [], ◌∷◌, Option, Some, None, is_some}
 use Rattle.board_model.specs.Durable.{DurableState}
 use Rattle.board_model.specs.declared.durable.Entry.{Entry}
 use Rattle.hart.specs.State.{ArchState}
+use Rattle.hsm.specs.Calls.{KeepsAll, StandsBy}
 use Rattle.hsm.specs.declared.state.State.{State}
+use Rattle.hsm_steps.specs.Words.{HartView}
+use Rattle.machine.specs.Machine.{Machine}
 use Rattle.susp.specs.declared.buses.Doze.{Doze}
-use Rattle.hart_threads.specs.Threads.{EndsLife}
+use Rattle.hart_threads.specs.Begun.{BeginsAs}
+use Rattle.hart_threads.specs.Threads.{Seated, EndsLife, LoopOnce}
 use Rattle.hart_threads.specs.declared.closing.AfterConsole.{AfterConsole}
 use Rattle.hart_threads.specs.declared.closing.AfterConsole.TheVariants.{Halt}
 use Rattle.hart_threads.specs.declared.ends.ShutBy.{ShutBy}
@@ -59,6 +63,38 @@ EndsBy turns found gated parting made by whys.Closed = IsShutBy found parting by
 EndsBy turns found gated parting made by whys.Gate = gated ≡ true
 EndsBy turns found gated parting made by whys.Turns = made ≡ turns
 
--- and it asked before each turn whether it goes on
-abbrev pub IsEnding : ℕ → DurableState → Bool → AfterConsole → Ending → Type 0
-IsEnding turns found gated parting e = EndsBy turns found gated parting e.made e.by e.why × (e.made ≤ e.asked)
+-- ---- how it came there
+-- nothing is said of its gate
+abbrev pub AnyAnswer : ℕ → Bool → Type 0
+AnyAnswer turn answer = Unit {0}
+
+abbrev pub AnyWord : ℕ → Type 0
+AnyWord turn = Unit {0}
+
+-- A hart of the board went from where the boot left it to where it stands by its own turns, just so many, one after
+-- another; and its loop ended so.
+abbrev pub HasGone : Machine → ℕ → ℕ → Seated → Why → Option (ℕ × Entry) → Type 0
+HasGone m turns made b why told =
+    (a : Seated) × BeginsAs m b.hart.id a × LoopOnce m.size m.memory AnyAnswer AnyWord turns made a b why told
+
+-- the state that one look more tells of the hart, which stands there
+abbrev pub IsStateOf : State → ℕ → List HartView → Type 0
+IsStateOf state h vs = (later : List HartView) × KeepsAll vs later × StandsBy state h later
+
+-- it is told of a hart that has gone so
+abbrev pub IsOfHart : Machine → ℕ → Ending → Type 0
+IsOfHart m turns e =
+    (b : Seated) × (told : Option (ℕ × Entry)) × HasGone m turns e.made b e.why told
+    × IsStateOf e.state b.hart.id b.known.harts
+    × (e ≡ ending b.hart e.state b.doze e.made e.asked e.why e.by)
+
+-- they are of the harts from that number on, one after another
+abbrev pub AreNumberedFrom : ℕ → List Ending → Type 0
+AreNumberedFrom first [] = Unit {0}
+AreNumberedFrom first (e ∷ es) = (e.number ≡ first) × AreNumberedFrom (suc first) es
+
+-- It ended for such a reason, and asked before each turn whether it goes on. What is told is of a hart of that board, which
+-- made just so many turns since the boot left it.
+abbrev pub IsEnding : Machine → ℕ → DurableState → Bool → AfterConsole → Ending → Type 0
+IsEnding m turns found gated parting e =
+    EndsBy turns found gated parting e.made e.by e.why × (e.made ≤ e.asked) × ∥ IsOfHart m turns e ∥₁

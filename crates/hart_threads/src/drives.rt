@@ -2,9 +2,13 @@
 
 ghost use Rattle.std.specs.Prelude.{◌≡◌, ◌≤◌, ◌<◌, ◌+◌, ℕ, [], true, false, Some, All, IfOk, IfErr, vec_len, vec_capacity};
 ghost use Rattle.board_model.specs.declared.refusal.Refusal.TheVariants.{Memory};
-ghost use Rattle.sbi_calls.specs.Both.{AreTablesOf};
+ghost use Rattle.sbi_calls.specs.Both.{AreTablesOf, known};
 ghost use Rattle.machine.specs.Held.{IsHeld};
+ghost use Rattle.hart_threads.specs.Looks.{no_looks};
+ghost use Rattle.hart_threads.specs.Refusals.{none_refused};
 ghost use Rattle.hart_threads.specs.Seated.{IsSeated};
+ghost use Rattle.hart_threads.specs.Threads.{seated};
+ghost use Rattle.hart_threads.specs.Begun.{BeginsAs, IsFromBoot, board_of};
 
 use crate::closing::Closing;
 use crate::ends::{Rested, at_rest};
@@ -60,8 +64,9 @@ fn unbegun<'a, J: Threaded, E: Drop>(
 /// Runs each hart's loop on a thread of its own, and the console on this one; returns once the console and
 /// all threads have ended.
 ///
-/// The harts, seats, tables and bus are those of a board's parts, and `doze` is the doze of that bus, of which its hart
-/// is given a copy: it is read before the bus goes behind its lock. Once a loop ended with the life, each other one
+/// The harts, seats, tables and bus are those of a board's parts, which the life's name has as its machine: each loop that
+/// ended is of a hart of that machine, which went from there by its own turns. `doze` is the doze of that bus, of which its
+/// hart is given a copy: it is read before the bus goes behind its lock. Once a loop ended with the life, each other one
 /// ends before its next turn. The console goes on until it returns by itself, and where it returns first the harts
 /// run out their turns, unless it halts them by the board's `closing`, and as far as the gate lets them.
 ///
@@ -100,6 +105,7 @@ pub fn drive<
     requires parts { vec_len parts ≡ vec_len harts }
     requires fresh { All (λ p. p.told ≡ []) parts.items }
     requires held { IsHeld board.shape.now harts.items board.tables.now (Some seats) doze }
+    requires machine { J.machine ≡ board_of board.shape.now J.memory doze harts.items seats }
     ensures said { IfOk result (λ r. K.post console side r.1) }
     ensures loops { IfOk result (λ r. vec_len r.0 ≡ vec_len harts) }
     ensures refused { IfErr result (λ e. (e.side ≡ side) × (e.refusal ≡ Memory)) }
@@ -141,7 +147,7 @@ pub fn drive<
     }
 }
 
-/// A hart's loop, with all that it runs on.
+/// A hart's loop, with all that it runs on: the hart is as the boot left it.
 #[derive(Drop)]
 struct HartWork<'r, 'g, 'a, 'c, 's, R, G: Gate, D: Disk + Drop, J: Threaded> {
     rt: &'r R,
@@ -151,13 +157,17 @@ struct HartWork<'r, 'g, 'a, 'c, 's, R, G: Gate, D: Disk + Drop, J: Threaded> {
     part: Part<J>,
     turns: u64,
     ghost sized: { board.shape.now ≡ J.size },
+    ghost named: { J.machine.size ≡ board.shape.now },
+    ghost remembered: { J.machine.memory ≡ J.memory },
     ghost tables: { AreTablesOf board.shape.now board.tables.now },
+    ghost begins: { ∥ BeginsAs J.machine acting.hart.id
+        (seated acting.hart (known acting.seats) acting.doze no_looks none_refused) ∥₁ },
     ghost fresh: { part.told ≡ [] },
     ghost given: { turns ≡ J.turns },
     ghost gated: { (h n : ℕ) → G.answers gate.now h n false → J.gated ≡ true },
 }
 
-/// The hart's loop, and the end of the life where that ended it.
+/// The loop of a hart that is as the boot left it, and the end of the life where that ended it.
 fn loop_of<
     'r,
     'g,
@@ -221,10 +231,11 @@ fn works_of<
     room: Vec<HartWork<'r, 'g, 'a, 'c, 's, R, G, D, J>>,
 ) -> (Vec<HartWork<'r, 'g, 'a, 'c, 's, R, G, D, J>>, Vec<Part<J>>)
     requires board { board.shape.now ≡ J.size }
+    requires named { (J.machine.size ≡ board.shape.now) × (J.machine.memory ≡ J.memory) }
     requires turns { turns ≡ J.turns }
     requires gated { (h n : ℕ) → G.answers gate.now h n false → J.gated ≡ true }
     requires tables { AreTablesOf board.shape.now board.tables.now }
-    requires seated { All (λ a. IsSeated board.tables.now a.hart.id a.seats a.doze) all.items }
+    requires begun { All (λ a. IsFromBoot J.machine board.tables.now a.hart a.seats a.doze) all.items }
     requires parts { vec_len parts ≡ vec_len all }
     requires fresh { All (λ p. p.told ≡ []) parts.items }
     requires room { (vec_len room ≡ 0) × (vec_capacity room ≡ vec_len all) }
@@ -237,7 +248,7 @@ fn works_of<
     let (mut works, mut parts) = (room, parts);
     for acting in all {
         let part = next_part(&mut parts);
-        known_seated(&acting, board.tables);
+        known_begun::<J>(&acting, board.tables);
         works.push_reserved(HartWork {
             rt,
             gate,
@@ -250,11 +261,13 @@ fn works_of<
     (works, parts)
 }
 
-/// A hart that is taken out of the list has its seats, as each hart of the list has. The tables are an argument only so that
-/// this can be said of them.
-fn known_seated(acting: &Acting, tables: &Tables)
-    requires { IsSeated tables.now acting.now.hart.id acting.now.seats acting.now.doze }
-    ensures { IsSeated tables.now acting.now.hart.id acting.now.seats acting.now.doze }
+/// A hart that is taken out of the list is as the boot left it, as each hart of the list is. The tables are an argument only so
+/// that this can be said of them.
+fn known_begun<J: Threaded>(acting: &Acting, tables: &Tables)
+    requires { IsFromBoot J.machine tables.now acting.now.hart acting.now.seats acting.now.doze }
+    ensures seated { IsSeated tables.now acting.now.hart.id acting.now.seats acting.now.doze }
+    ensures begins { ∥ BeginsAs J.machine acting.now.hart.id
+        (seated acting.now.hart (known acting.now.seats) acting.now.doze no_looks none_refused) ∥₁ }
 {
     let _ = acting;
     let _ = tables;

@@ -5,10 +5,10 @@ ghost use Rattle.board_model.specs.declared.durable.Entry.{Entry};
 ghost use Rattle.hart.specs.Csrs.{csr_number, csr_read};
 ghost use Rattle.hart.specs.declared.csr.Csr.{Csr};
 ghost use Rattle.hsm.specs.Calls.{StandsBy};
-ghost use Rattle.sbi_calls.specs.Both.{AreSeatsOfBoth, harts_of_both, views};
-ghost use Rattle.hart_threads.specs.Ends.{Ending, IsEnding, IsShutBy, ending};
+ghost use Rattle.sbi_calls.specs.Both.{AreSeatsOfBoth, Known, harts_of_both, known, views};
+ghost use Rattle.hart_threads.specs.Ends.{Ending, HasGone, IsEnding, IsShutBy, IsStateOf, ending};
 ghost use Rattle.hart_threads.specs.Seated.{StandsAfter};
-ghost use Rattle.hart_threads.specs.Threads.{EndsLife, ends_life};
+ghost use Rattle.hart_threads.specs.Threads.{EndsLife, ends_life, seated};
 
 use crate::closing::{Parted, Shut, agree};
 use crate::loops::{Ended, Why};
@@ -31,11 +31,15 @@ pub enum ShutBy {
     Console,
 }
 
-/// A loop that ended, and the state of its hart then.
+/// A loop that ended, and the state of its hart then. Its hart is one of the life's board, and went from where the boot left it
+/// to where it stands by just the turns that it made.
 #[derive(Drop)]
 pub struct Rested<'a, J: Threaded> {
     pub ended: Ended<'a, J>,
     state: State,
+    pub ghost gone: { ∥ ((k : Known) × HasGone J.machine J.turns ended.made
+        (seated ended.hart k ended.local.doze ended.looks ended.local.refused) ended.why ended.told
+        × IsStateOf state ended.hart.id k.harts) ∥₁ },
 }
 
 /// How a hart's loop ended and where the hart then stood, as plain data that does not name the life. Only such a loop makes one.
@@ -149,6 +153,8 @@ pub(crate) fn at_rest<'a, J: Threaded>(ended: Ended<'a, J>, tables: &Tables) -> 
     requires seats { AreSeatsOfBoth tables.now ended.local.seats }
     requires hart { ended.hart.id < harts_of_both tables.now }
     requires stands { StandsAfter ended.why ended.local.doze ended.hart.id ended.local.seats }
+    requires gone { ∥ HasGone J.machine J.turns ended.made
+        (seated ended.hart (known ended.local.seats) ended.local.doze ended.looks ended.local.refused) ended.why ended.told ∥₁ }
     ensures state { StandsBy result.state ended.entry.hart.id (views result.ended.local.seats) }
     ensures hart { result.ended.hart ≡ ended.entry.hart }
     ensures doze { result.ended.local.doze ≡ ended.entry.local.doze }
@@ -232,7 +238,7 @@ impl<'a, J: Threaded> Rested<'a, J> {
     pub fn end(&self, parted: &Parted<'a, J>) -> HartEnd
         ensures told { result ≡ ending self.now.ended.hart self.now.state self.now.ended.local.doze self.now.ended.made
             self.now.ended.asked self.now.ended.why result.by }
-        ensures well { IsEnding J.turns J.found J.gated parted.now.token.value result }
+        ensures well { IsEnding J.machine J.turns J.found J.gated parted.now.token.value result }
     {
         let ended = &self.ended;
         known_told(&ended.told);

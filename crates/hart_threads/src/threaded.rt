@@ -1,19 +1,23 @@
 //! The name of a life on threads.
 
 ghost use Rattle.std.specs.Prelude.{ℕ, Bool, false};
+ghost use Rattle.machine.specs.Machine.{Machine, resting};
+ghost use Rattle.receipts.specs.Books.{one_page};
 
 use shared_store::Journal;
 use std::marker::Brand;
 
 /// The name of the life of a board on threads, beside that of its journal: how many turns each hart is given, the lock
-/// in which the console says once what the harts do when it has left, and whether the gate may end a loop. A type
-/// that has it stands for that life alone.
+/// in which the console says once what the harts do when it has left, whether the gate may end a loop, and the board as
+/// the boot left it, with its memory, its harts and its tables. A type that has it stands for that life alone.
 pub trait Threaded: Journal {
     ghost turns: { ℕ };
 
     ghost parting: { ℕ };
 
     ghost gated: { Bool };
+
+    ghost machine: { Machine };
 }
 
 impl Threaded for Brand {
@@ -22,4 +26,6 @@ impl Threaded for Brand {
     ghost parting = { 0 };
 
     ghost gated = { false };
+
+    ghost machine = { resting one_page 0 };
 }

@@ -31,7 +31,7 @@ IsSession size s mode payloads disk left a input output heard =
 -- and how its harts ended
 abbrev pub IsDriven : Size → DurableState → BootMode → List (List ℕ) → ℕ → Facts → Option Left → DialogueEnds → Option (List ℕ) → Option (List ℕ) → Hearing → List Ending → Type 0
 IsDriven size s mode payloads turns disk left a input output heard ends =
-    IsSession size s mode payloads disk left a input output heard × AreDriven size.harts turns s left ends
+    (session : IsSession size s mode payloads disk left a input output heard) × AreDriven size.harts session.0 turns s left ends
 
 module _ (one : OneStanding) (new : Bool) (shape : Size) (mode : BootMode) (payloads : List (List ℕ)) (turns : ℕ) (old disk : Facts) (left : Option Left) (a : DialogueEnds) (input output : Option (List ℕ)) (heard : Hearing) (ends : List Ending) where
   pub over : RanOver new shape mode payloads turns old disk left a input output heard ends → (size : Size) (s : DurableState) → new ≡ false → StandsFor old.content size s → IsDriven size s mode payloads turns disk left a input output heard ends

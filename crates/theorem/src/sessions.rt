@@ -34,8 +34,11 @@ use store::{Store, one_standing};
 /// acknowledged to the console and to harts, each at the place of its receipt, and no other. A crash leaves what they make
 /// of s, or with a command in doubt that or the state after it (`IsOfLife`). Its suspension, if it has one, carries a memory
 /// that steps of harts made of that of the board which its power-on made (`IsBegun`). What was read and answered is of that
-/// journal (`TalksIf`). Each hart made all turns that it was given, or a hart ended the life by a command that was acknowledged, or
-/// the console halted the harts when it left (`AreDriven`).
+/// journal (`TalksIf`). Each hart is one of that board, and went by its own turns, one after another, from where the power-on
+/// left it to where its end says that it stands; it made all turns that it was given, or a hart ended the life by a command
+/// that was acknowledged, or the console halted the harts when it left (`AreDriven`). So a session by `resume` begins with the
+/// image's memory and one hart that is STARTED, at the image's address, with its number and opaque value; every other hart is
+/// STOPPED and never ran (`woken`).
 pub fn a_session<R: Threads + Wait + Sync, D: Disk + Drop + Send, I: Read + Drop, W: Write + Drop>(
     rt: &R,
     alloc: Global,
@@ -52,7 +55,7 @@ pub fn a_session<R: Threads + Wait + Sync, D: Disk + Drop + Send, I: Read + Drop
         × TalksIf s (commands_by options.now.mode s) result.console_left
         (dialogue_ends (I.remaining streams.input) (W.contents streams.out) (party [] heard_nothing))
         (dialogue_ends (I.remaining result.streams.input) (W.contents result.streams.out) (party console result.heard))
-        × AreDriven size.harts options.now.turns s result.console_left result.harts.items }
+        × AreDriven size.harts machine options.now.turns s result.console_left result.harts.items }
 {
     one_standing();
     session(rt, alloc, options, disk, payloads, streams)

@@ -1,8 +1,9 @@
 use Rattle.std.proofs.Common.{◌≡◌, All, vec_len, vec_capacity}
-use Rattle.hart_threads.specs.Ends.{IsEnding}
+use Rattle.hart_threads.specs.Ends.{AreNumberedFrom, IsEnding}
 use Rattle.board_session.proofs.life_end.ends_of.Given as goal
 
 abbrev pub invariant-loop-k : goal.invariant-loop-k
 invariant-loop-k g l =
     (vec_len l.ends ≡ l.k) × (vec_capacity l.ends ≡ vec_capacity l.fn.room)
-    × All (IsEnding g.J.Threaded.turns g.J.Journal.found g.J.Threaded.gated l.parted.token.value) l.ends.items
+    × AreNumberedFrom 0 l.ends.items
+    × All (IsEnding g.J.Threaded.machine g.J.Threaded.turns g.J.Journal.found g.J.Threaded.gated l.parted.token.value) l.ends.items

@@ -1,6 +1,7 @@
 use Rattle.std.proofs.Common.{false}
 use Rattle.store.specs.Views.{found_state, journal_of, size_of_store}
 use Rattle.receipts.specs.Views.{id_of, parts_of}
+use Rattle.hart_threads.specs.Begun.{board_of}
 use Rattle.board_session.proofs.sessions.session.Given as goal
 
 -- the life that the board has just begun
@@ -9,4 +10,4 @@ ghosts-run_board-J-Journal g a = record { found = found_state a.booted.parts.sto
 
 -- and its harts, which no gate may end
 abbrev pub ghosts-run_board-J-Threaded : goal.ghosts-run_board-J-Threaded
-ghosts-run_board-J-Threaded g a = record { turns = a.turns; parting = a.lock.id; gated = false }
+ghosts-run_board-J-Threaded g a = record { turns = a.turns; parting = a.lock.id; gated = false; machine = board_of a.booted.shape a.booted.parts.bus.ram a.booted.parts.bus.doze a.booted.parts.harts.items a.booted.parts.seats }

@@ -11,5 +11,5 @@ loop-acting-preserved g c =
       search rules,
       c.next_part-part.ensures.fresh,
       subst (λ ws. All (λ w. IsSeated w.board.tables.now w.acting.hart.id w.acting.seats w.acting.doze) ws) (sym c.push_reserved.ensures.items)
-          (All-push (λ w. IsSeated w.board.tables.now w.acting.hart.id w.acting.seats w.acting.doze) c.loop-acting.works.items _ i.4 c.known_seated.ensures),
+          (All-push (λ w. IsSeated w.board.tables.now w.acting.hart.id w.acting.seats w.acting.doze) c.loop-acting.works.items _ i.4 c.known_begun.ensures.seated),
     )
