@@ -416,22 +416,27 @@ impl<D: Disk + Drop> Store<D> {
 
     /// What an open store keeps, from one call to the next: a crash leaves the state now, or with a command
     /// in doubt one of two. The table of commands refuses neither such a command nor, each in the state that
-    /// those before it made, one of the journal. It does nothing.
+    /// those before it made, one of the journal. Where a command is in doubt the disk has failed since the open. It does
+    /// nothing.
     pub fn stands(&self)
         ensures up { (s : DurableState) → Stands self.now s → LeavesOnly (disk_of self.now) (size_of_store self.now) s }
         ensures down { (s t : DurableState) → Doubts self.now s t
             → LeavesEither (disk_of self.now) (size_of_store self.now) s t }
         ensures allowed { (c : Change) → doubt_of self.now ≡ Some c → refusal_of (now_state self.now) c ≡ None }
         ensures journal { are_taken (found_state self.now) (journal_of self.now) ≡ true }
+        ensures failed { (c : Change) → doubt_of self.now ≡ Some c
+            → Failed (failures_at_open self.now) (disk_of self.now).failures }
     {}
 
     /// Ends the life, and gives back the disk that the store held, as it is: a crash leaves the state now, or
-    /// with a command in doubt one of two.
+    /// with a command in doubt one of two. Then the disk has failed since the open.
     pub fn into_disk(self) -> D
         ensures disk { result ≡ device_of self }
         ensures up { (s : DurableState) → Stands self s → LeavesOnly (D.facts result) (size_of_store self) s }
         ensures down { (s t : DurableState) → Doubts self s t → LeavesEither (D.facts result) (size_of_store self) s t }
         ensures allowed { (c : Change) → doubt_of self ≡ Some c → refusal_of (now_state self) c ≡ None }
+        ensures failed { (c : Change) → doubt_of self ≡ Some c
+            → Failed (failures_at_open self) (D.facts result).failures }
         ensures none_out { IsIdle (D.facts result) }
         ensures facts { Unchanged (disk_of self) (D.facts result) }
         ensures content { (D.facts result).content ≡ (disk_of self).content }
