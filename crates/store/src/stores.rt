@@ -208,8 +208,8 @@ impl<D: Disk + Drop> Store<D> {
     ///
     /// Refused `Down`, `Over` and `JournalFull` as other commands; then `BadShape` for a memory of another
     /// size, or a hart or an address that the board has not; then `SerialsSpent` where no serial is left;
-    /// `Memory`; `Device` where the disk failed before the gate was written, and `Down` where it failed at
-    /// the gate. After each refusal but `Down` a crash leaves the state before, its image with all its bytes,
+    /// `Memory`, before any call of the disk; `Device` where it failed before the gate was written, and `Down`
+    /// where it failed at the gate. After each refusal but `Down` a crash leaves the state before, its image with all its bytes,
     /// also one that is then in the way of nothing but a later suspension.
     pub fn suspend<C: Crew>(
         &mut self,
@@ -220,6 +220,7 @@ impl<D: Disk + Drop> Store<D> {
         ensures asked { Asked (Suspended (FitsBoard (size_of_store self.old) ram.now at.hart at.address)) self.old
             (Suspend at.hart at.address at.opaque ram.now) result self.new }
         ensures calls { OnOk result ((disk_of self.new).calls ≡ counted (disk_of self.old).calls 5) }
+        ensures early { IsErrOf result Refusal.Memory → (disk_of self.new).calls ≡ (disk_of self.old).calls }
     {
         let entry = Entry::Suspend(at.hart, at.address, at.opaque);
         let durable = self.may_suspend(ram, at)?;
@@ -416,27 +417,26 @@ impl<D: Disk + Drop> Store<D> {
 
     /// What an open store keeps, from one call to the next: a crash leaves the state now, or with a command
     /// in doubt one of two. The table of commands refuses neither such a command nor, each in the state that
-    /// those before it made, one of the journal. Where a command is in doubt the disk has failed since the open. It does
-    /// nothing.
+    /// those before it made, one of the journal; and a command is in doubt only where the disk has failed since
+    /// the open. It does nothing.
     pub fn stands(&self)
         ensures up { (s : DurableState) → Stands self.now s → LeavesOnly (disk_of self.now) (size_of_store self.now) s }
         ensures down { (s t : DurableState) → Doubts self.now s t
             → LeavesEither (disk_of self.now) (size_of_store self.now) s t }
         ensures allowed { (c : Change) → doubt_of self.now ≡ Some c → refusal_of (now_state self.now) c ≡ None }
-        ensures journal { are_taken (found_state self.now) (journal_of self.now) ≡ true }
         ensures failed { (c : Change) → doubt_of self.now ≡ Some c
             → Failed (failures_at_open self.now) (disk_of self.now).failures }
+        ensures journal { are_taken (found_state self.now) (journal_of self.now) ≡ true }
     {}
 
     /// Ends the life, and gives back the disk that the store held, as it is: a crash leaves the state now, or
-    /// with a command in doubt one of two. Then the disk has failed since the open.
+    /// with a command in doubt one of two. One is in doubt only where the disk has failed since the open.
     pub fn into_disk(self) -> D
         ensures disk { result ≡ device_of self }
         ensures up { (s : DurableState) → Stands self s → LeavesOnly (D.facts result) (size_of_store self) s }
         ensures down { (s t : DurableState) → Doubts self s t → LeavesEither (D.facts result) (size_of_store self) s t }
         ensures allowed { (c : Change) → doubt_of self ≡ Some c → refusal_of (now_state self) c ≡ None }
-        ensures failed { (c : Change) → doubt_of self ≡ Some c
-            → Failed (failures_at_open self) (D.facts result).failures }
+        ensures failed { (c : Change) → doubt_of self ≡ Some c → Failed (failures_at_open self) (D.facts result).failures }
         ensures none_out { IsIdle (D.facts result) }
         ensures facts { Unchanged (disk_of self) (D.facts result) }
         ensures content { (D.facts result).content ≡ (disk_of self).content }
