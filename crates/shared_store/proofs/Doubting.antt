@@ -78,6 +78,14 @@ suspended_turns : (Fits : Type 0) (old new : Life) (c : Change) (r : Result ℕ 
 suspended_turns Fits old new c (Ok n) up did = applied_turns (record old { found = new.found }) new c (Ok n) up did.told.1
 suspended_turns Fits old new c (Err e) up did = suspend_turns Fits (record old { found = new.found }) new c e up did.told
 
+-- the doubt stays; or there was none, and a call of a hart asks for the command that is in doubt
+abbrev pub HartTurns : Size → Option Change → Option Change → Type 0
+HartTurns size old new = (new ≡ old) ⊎ ((old ≡ None) × ((c : Change) × (new ≡ Some c) × HartAsksFor size (entry_of c)))
+
+by_hart : (size : Size) (c : Change) (r : Result ℕ Refusal) (old new : Option Change) → HartAsksFor size (entry_of c) → Turns c r old new → HartTurns size old new
+by_hart size c r old new asks (inl same) = inl same
+by_hart size c r old new asks (inr newly) = inr (newly.0, (c, newly.1, asks))
+
 -- ---- stores
 module _ {D L : Type 0} {g : Ghosts D L} {l : Lanes L} where
   pub asked_turns : (old new : Store D L g l) (c : Change) (r : Result ℕ Refusal) (x : Option Change) → doubt_of old ≡ x → Asked Applied old c r new → Turns c r (doubt_of old) (doubt_of new)
@@ -89,10 +97,6 @@ module _ {D L : Type 0} {g : Ghosts D L} {l : Lanes L} where
   slept_turns old new Fits c r (Some d) e asked = inl (ap (λ (s : Store D L g l). doubt_of s) (asked.down d e).1)
 
   -- ---- a durable call
-  -- the doubt stays; or there was none, and a call of a hart asks for the command that is in doubt
-  abbrev pub HartTurns : Size → Option Change → Option Change → Type 0
-  HartTurns size old new = (new ≡ old) ⊎ ((old ≡ None) × ((c : Change) × (new ≡ Some c) × HartAsksFor size (entry_of c)))
-
   pub record Held (size : Size) (old new : Store D L g l) : Type 0 where
     pub turns : HartTurns size (doubt_of old) (doubt_of new)
     pub opened : failures_at_open new ≡ failures_at_open old
@@ -102,10 +106,6 @@ module _ {D L : Type 0} {g : Ghosts D L} {l : Lanes L} where
     turns = inl (ap (λ (s : Store D L g l). doubt_of s) same);
     opened = ap (λ (s : Store D L g l). failures_at_open s) same;
   }
-
-  by_hart : (size : Size) (c : Change) (r : Result ℕ Refusal) (old new : Option Change) → HartAsksFor size (entry_of c) → Turns c r old new → HartTurns size old new
-  by_hart size c r old new asks (inl same) = inl same
-  by_hart size c r old new asks (inr newly) = inr (newly.0, (c, newly.1, asks))
 
   reset_held : (size : Size) (kind number by : ℕ) (asked : Result (ResetType × Reason) SbiError) (s t : ArchState) (old new : Store D L g l) (word : Word) → reset_of kind number ≡ asked → MakesReset asked s t old new word → Held size old new
   reset_held size kind number by (Err e) s t old new word asks p = same_held size old new p.1
@@ -157,6 +157,11 @@ newly_refused c r old new (inl same) is =
     let n : ⊥ = cc in absurd n
 newly_refused c r old new (inr newly) is = newly.2
 
+-- one that was acknowledged is not in doubt
+pub ok_stays : (c : Change) (n : ℕ) (old new : Option Change) → Turns c (Ok n) old new → new ≡ old
+ok_stays c n old new (inl same) = same
+ok_stays c n old new (inr newly) = let at = newly.2 in let no : ⊥ = cc (at) in absurd no
+
 -- a command of the console
 pub told_on : (command : Command) (r : Result ℕ Refusal) (old new : Option Change) (was now : List Entry) → Turns (change_of command) r old new → was ≡ entries_in (option_to_list old)
     → now ≡ noted_if (newly_down old new) (entries.Command command) was → now ≡ entries_in (option_to_list new)
@@ -166,6 +171,10 @@ told_on command r old new was now (inl same) before is =
 told_on command r old new was now (inr newly) before is =
     let yes : newly_down old new ≡ true = ap (λ (o : Option Change). newly_down o new) newly.0 ∙ ap (λ (o : Option Change). newly_down None o) newly.1 in
     is ∙ ap (λ (b : Bool). noted_if b (entries.Command command) was) yes ∙ ap (λ (e : Entry). e ∷ []) (sym (entry_of_command command)) ∙ sym (ap (λ (o : Option Change). entries_in (option_to_list o)) newly.1)
+
+-- the book stays
+pub still_noted : (old new : Option Change) (noted : List Entry) → new ≡ old → noted ≡ entries_in (option_to_list old) → noted ≡ entries_in (option_to_list new)
+still_noted old new noted same was = was ∙ sym (ap (λ (o : Option Change). entries_in (option_to_list o)) same)
 
 -- what a store says of its doubt
 abbrev pub Says : Option Entry → Option Change → Type 0

@@ -103,7 +103,9 @@ impl<J: Journal> Doubts<J> {
             unreachable!()
         };
         let part = self.book.recall(&mut self.keeper, part);
-        let part = self.book.note(&mut self.keeper, part, Entry::Command(command));
+        let part = self
+            .book
+            .note(&mut self.keeper, part, Entry::Command(command));
         heard.part = Some(part);
         heard.doubt = Some(command);
     }

@@ -156,11 +156,9 @@ impl<D: Disk + Drop, J: Journal> SharedStore<D, J> {
     {
         let was_up = is_up(&self.store);
         let (seats, word) = bus.call(saving, hart, seats, tables, &mut self.store);
+        self.doubts.note(was_up, self.store.in_doubt());
         match word {
-            Word::Goes(_) => {
-                self.doubts.note(was_up, self.store.in_doubt());
-                (seats, word, None, part)
-            }
+            Word::Goes(_) => (seats, word, None, part),
             Word::Over(_) => {
                 self.count += 1;
                 let Some(entry) = last_entry(&self.store, self.count) else {
