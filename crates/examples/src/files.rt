@@ -3,7 +3,6 @@
 ghost use Rattle.std.specs.Prelude.{None};
 
 use payload_files::PayloadFiles;
-use std::fs::File;
 use std::io;
 use std::path::Path;
 
@@ -15,12 +14,10 @@ pub struct Folder<'a> {
 }
 
 impl PayloadFiles for Folder<'_> {
-    type Opened = File;
-
     ghost bytes_at = { λ folder path. None };
 
-    fn open(&self, path: &str) -> io::Result<File> {
+    fn read(&self, path: &str, most: u64) -> io::Result<Vec<u8>> {
         let path = Path::new(self.path).join(self.rt.alloc(), path)?;
-        PayloadFiles::open(self.rt, path.as_str())
+        PayloadFiles::read(self.rt, path.as_str(), most)
     }
 }

@@ -1,11 +1,9 @@
 -- The line that tells how a hart ended. Source: docs/CONSOLE.md, "The harts"; SBI specification 2.0, chapter HSM.
-use Rattle.std.specs.Prelude.{ℕ, Bool, true, false, List, [], ◌∷◌, ◌++◌, Option, Some, None}
+use Rattle.std.specs.Prelude.{ℕ, Bool, true, false, List, [], ◌++◌, Option, Some, None}
 use Rattle.std.specs.Fmt.{decimal}
-use Rattle.std.specs.List.{flat_map}
 use Rattle.hsm.specs.declared.state.State.{State}
 use Rattle.hsm.specs.declared.state.State.TheVariants as states
 use Rattle.machine_lines.specs.Texts.{hex_text}
-use Rattle.hart_threads.specs.Ends.{Ending}
 use Rattle.hart_threads.specs.declared.ends.ShutBy.{ShutBy}
 use Rattle.hart_threads.specs.declared.ends.ShutBy.TheVariants.{Life, Console}
 use Rattle.hart_threads.specs.declared.loops.Why.{Why}
@@ -50,13 +48,3 @@ trap_text pc scause sepc stval =
 -- how many turns it made, and why its loop ended
 abbrev pub loop_text : ℕ → Why → Option ShutBy → List ℕ
 loop_text made why by = codes "turns " ++ decimal made ++ codes " ended " ++ reason_text why by
-
--- a hart whose loop has ended, in a line with its line feed
-abbrev pub line_text : Ending → List ℕ
-line_text e =
-    codes "sbiboard: " ++ place_text e.number e.state e.dozing ++ codes " " ++ trap_text e.pc e.scause e.sepc e.stval
-    ++ codes " " ++ loop_text e.made e.why e.by ++ 10 ∷ []
-
--- the lines of such harts, in their order
-abbrev pub lines_text : List Ending → List ℕ
-lines_text ends = flat_map line_text ends

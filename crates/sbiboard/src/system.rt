@@ -19,12 +19,10 @@ use std::os::unix::fs::FileExt;
 pub struct SystemFiles<'a>(pub &'a HostRuntime);
 
 impl<'a> PayloadFiles for SystemFiles<'a> {
-    type Opened = File;
-
     ghost bytes_at = { λ files path. None };
 
-    fn open(&self, path: &str) -> io::Result<File> {
-        PayloadFiles::open(self.0, path)
+    fn read(&self, path: &str, most: u64) -> io::Result<Vec<u8>> {
+        self.0.read(path, most)
     }
 }
 
