@@ -38,20 +38,21 @@ pub record Party : Type 0 where
 abbrev pub party : List (ℕ × Entry) → Hearing → Party
 party told heard = record { told = told; heard = heard }
 
--- the same once a command was answered: it has its receipt, or it was refused
-abbrev pub party_after : Command → Result ℕ Refusal → Party → Party
-party_after command (Ok n) p = record { told = (n, entries.Command command) ∷ p.told; heard = p.heard }
-party_after command (Err e) p = record { told = p.told; heard = after_refusal command e p.heard }
+-- the same once a command was answered: it has its receipt, or it was refused, which newly put it in doubt or did not
+abbrev pub party_after : Bool → Command → Result ℕ Refusal → Party → Party
+party_after newly command (Ok n) p = record { told = (n, entries.Command command) ∷ p.told; heard = p.heard }
+party_after newly command (Err e) p = record { told = p.told; heard = after_refusal newly command e p.heard }
 
 -- what `wake` may be answered: what a call of the wake-up device came to
 abbrev pub IsWakeAnswer : Reply → Type 0
 IsWakeAnswer answer = (r : Result (Unit {0}) Refusal) × MayWake r × (answer ≡ answers.Wake r)
 
--- What a line with a command may be answered, and what the console was told before it and then.
+-- What a line with a command may be answered, and what the console was told before it and then. Only a command that is
+-- answered 6 is in doubt.
 abbrev pub IsCommandAnswer : DurableState → ConsoleCommand → Reply → Party → Party → Type 0
 IsCommandAnswer found command answer old new =
     (r : Result ℕ Refusal) × MayAnswer found (console_change command) r × (answer ≡ command_answer command r)
-    × (new ≡ party_after (command_of command) r old)
+    × ((newly : Bool) × (new ≡ party_after newly (command_of command) r old))
 
 -- What a line may be answered in a life that began in that state and of which the boot issued those commands: as some
 -- commands explain it that the table takes, one after another from there. What the console was told before it, and then:

@@ -15,7 +15,7 @@ use shared_store::{Heard, Journal, Part, SharedBus, SharedStore};
 fn issue<D: Disk + Drop, J: Journal>(
     store: &mut SharedStore<D, J>,
     part: Part<J>,
-    heard: &mut Heard,
+    heard: &mut Heard<J>,
     command: ConsoleCommand,
 ) -> (Part<J>, Reply)
     ensures asks { AnswersCommand command (store_in store.old) (store_in store.new) result.1 }
@@ -37,7 +37,7 @@ fn issue<D: Disk + Drop, J: Journal>(
 pub fn obey<D: Disk + Drop, J: Journal>(
     store: &mut SharedStore<D, J>,
     part: Part<J>,
-    heard: &mut Heard,
+    heard: &mut Heard<J>,
     said: Said,
 ) -> (Part<J>, Reply)
     requires { asks_store said ≡ true }

@@ -119,7 +119,7 @@ fn answer_to<R: Wait, D: Disk + Drop, J: Journal>(
     rt: &R,
     locks: &mut Locks<'_, D, J>,
     part: Part<J>,
-    heard: &mut Heard,
+    heard: &mut Heard<J>,
     said: Said,
 ) -> (Part<J>, Reply)
     requires free { locks.old ≡ no_locks }
@@ -152,7 +152,7 @@ pub fn console<R: Wait, D: Disk + Drop, J: Journal, I: Read, W: Write>(
     rt: &R,
     locks: &mut Locks<'_, D, J>,
     part: Part<J>,
-    heard: &mut Heard,
+    heard: &mut Heard<J>,
     input: &mut I,
     out: &mut W,
 ) -> (Part<J>, Left)

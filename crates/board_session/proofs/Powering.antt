@@ -7,13 +7,14 @@ use Rattle.board_model.specs.Durable.{DurableState, Change, Attempt, Consume, Di
 use Rattle.board_model.specs.declared.durable.Command.TheVariants as commands
 use Rattle.board_model.specs.Shapes.{Size}
 use Rattle.board_model.specs.declared.boot_mode.BootMode.{BootMode}
+use Rattle.board_model.specs.declared.durable.Command.{Command}
 use Rattle.board_model.specs.declared.durable.Durable.{Durable}
 use Rattle.board_model.specs.declared.durable.Trial.{Trial}
 use Rattle.board_model.specs.declared.durable.Entry.{Entry}
 use Rattle.board_model.specs.declared.refusal.Refusal.{Refusal}
 use Rattle.board_model.specs.Views.{number_of_refusal}
 use Rattle.board_model.specs.declared.refusal.Refusal.TheVariants.{Device, Down, Memory}
-use Rattle.disk.specs.Facts.{Content, Facts, Passes, Stays}
+use Rattle.disk.specs.Facts.{Content, Facts, Failed, Passes, Stays}
 use Rattle.store.specs.Leaves.{IsBlank, IsKept, IsMarked, LeavesEither, LeavesOnly, LeftAsBefore, NoMore}
 use Rattle.store.specs.Answers.{StoreView}
 use Rattle.store.specs.Opens.{OpenRefused, FormatRefused}
@@ -61,8 +62,8 @@ pub kept_reads : (disk : Facts) (size : Size) → IsKept disk size → disk.may_
 unfolding IsKept
 kept_reads disk size kept may_keep = kept disk.content may_keep
 
-pub of_life_kept : (size : Size) (found : DurableState) (issued : List Change) (begins : List ℕ) (told : List (ℕ × Entry)) (disk : Facts) → IsOfLife size found issued begins told disk → (z : Size) × IsKept disk z
-of_life_kept size found issued begins told disk is = (size, life_kept is.doubt disk size (fold found is.journal) is.leaves)
+pub of_life_kept : (size : Size) (found : DurableState) (issued : List Change) (begins : List ℕ) (failures : ℕ) (told : List (ℕ × Entry)) (doubtful : Option Command) (disk : Facts) → IsOfLife size found issued begins failures told doubtful disk → (z : Size) × IsKept disk z
+of_life_kept size found issued begins failures told doubtful disk is = (size, life_kept is.doubt disk size (fold found is.journal) is.leaves)
 
 -- ---- of a board that is not on
 -- The formatted state has no image: a mode that issues a command is refused 8 there, and nothing is in doubt.
@@ -98,30 +99,33 @@ module _ (mid left : Facts) (goes_on : GoesOn mid left) (mode : BootMode) (paylo
   unpowered_kept None (Some n) e why size kept = absurd why
   unpowered_kept (Some f) None e why size kept = absurd why
 
-  by_open : (e : Refusal) → (e ≡ Device) ⊎ (e ≡ Memory) → (Boot : Type 0) → (e ≡ Device) ⊎ (e ≡ Memory) ⊎ Boot
-  by_open e (inl device) Boot = inl device
-  by_open e (inr memory) Boot = inr (inl memory)
+  device_failed : (e : Refusal) → e ≡ Device → OpenRefused mid e left → Failed mid.failures left.failures
+  device_failed e is why = subst (λ (x : Refusal). OpenRefused mid x left) is why
 
-  pub refuses_new : (shape : Size) (found now : Option Durable) (e : Refusal) → (OpenRefused mid e left → (e ≡ Device) ⊎ (e ≡ Memory)) → LeavesOnly mid shape formatted → IsUnpowered mode payloads found now mid e left
-      → RefusesNew shape mode payloads e left
-  refuses_new shape None None e opens only why =
+  by_open : (old : Facts) (e : Refusal) → mid.failures ≡ old.failures → OpenRefused mid e left → (e ≡ Device) ⊎ (e ≡ Memory) → (Boot : Type 0) → ((e ≡ Device) × Failed old.failures left.failures) ⊎ (e ≡ Memory) ⊎ Boot
+  by_open old e counts why (inl device) Boot = inl (device, subst (λ (n : ℕ). Failed n left.failures) counts (device_failed e device why))
+  by_open old e counts why (inr memory) Boot = inr (inl memory)
+
+  pub refuses_new : (old : Facts) (shape : Size) (found now : Option Durable) (e : Refusal) → mid.failures ≡ old.failures → (OpenRefused mid e left → (e ≡ Device) ⊎ (e ≡ Memory)) → LeavesOnly mid shape formatted → IsUnpowered mode payloads found now mid e left
+      → RefusesNew shape mode payloads old e left
+  refuses_new old shape None None e counts opens only why =
       let more = goes_on why.any_moment.now in
-      (by_open e (opens why.why) (RefusesBoot mode shape payloads formatted e), record { kept = more.1 shape only.kept; only = λ z t leaves. only.only z t (more.2 z t leaves) })
-  refuses_new shape (Some f) (Some n) e opens only why =
+      (by_open old e counts why.why (opens why.why) (RefusesBoot mode shape payloads formatted e), record { kept = more.1 shape only.kept; only = λ z t leaves. only.only z t (more.2 z t leaves) })
+  refuses_new old shape (Some f) (Some n) e counts opens only why =
       let is = only.only why.size why.state why.earlier in
       let refused : RefusesBoot mode shape payloads formatted e = subst₂ (λ (z : Size) (s : DurableState). RefusesBoot mode z payloads s e) is.0 is.1 why.why in
       let few = subst (λ (s : DurableState). length (commands_by mode s) ≤ 1) (sym is.1) (formatted_few mode) in
       let at = left_at mode e why.state why.life left why.size few why.stopped why.left in
       (inr (inr refused), formatted_left mode shape payloads e left refused (subst₂ (λ (z : Size) (s : DurableState). LeavesLife (doubt_by e (commands_by mode s)) left z s) is.0 is.1 at))
-  refuses_new shape None (Some n) e opens only why = absurd why
-  refuses_new shape (Some f) None e opens only why = absurd why
+  refuses_new old shape None (Some n) e counts opens only why = absurd why
+  refuses_new old shape (Some f) None e counts opens only why = absurd why
 
   -- by whether a new disk was asked for
   module _ (old : Facts) (shape : Size) (found now : Option Durable) (e : Refusal) (why : IsUnpowered mode payloads found now mid e left) where
-    pub refuses_disk : (new : Bool) → (new ≡ true → TakesFormat shape old.content) → (new ≡ true → LeavesOnly mid shape formatted) → (new ≡ false → IsUnpowered mode payloads found now old e left)
+    pub refuses_disk : (new : Bool) → mid.failures ≡ old.failures → (new ≡ true → TakesFormat shape old.content) → (new ≡ true → LeavesOnly mid shape formatted) → (new ≡ false → IsUnpowered mode payloads found now old e left)
         → ((size : Size) → IsKept mid size → OpenRefused mid e left → (e ≡ Device) ⊎ (e ≡ Memory)) → RefusesDisk new shape mode payloads old e left
-    refuses_disk true takes only was opens = inr (takes refl, refuses_new shape found now e (opens shape (only refl).kept) (only refl) why)
-    refuses_disk false takes only was opens = (found, now, was refl)
+    refuses_disk true counts takes only was opens = inr (takes refl, refuses_new old shape found now e counts (opens shape (only refl).kept) (only refl) why)
+    refuses_disk false counts takes only was opens = (found, now, was refl)
 
     pub kept_off : (new : Bool) → (new ≡ true → LeavesOnly mid shape formatted) → (new ≡ false → (size : Size) → IsKept old size → IsKept mid size) → (size : Size) → IsKept old size → (z : Size) × IsKept left z
     kept_off true only same size kept = unpowered_kept found now e why shape (only refl).kept
@@ -183,6 +187,10 @@ commands_carried begins modes.Resume s = more_carry begins Consume [] (change_ca
 
 pub life_carried : (mode : BootMode) (life : Life) → life ≡ life_after mode life.found → (begins : List ℕ) → IsCarried begins life
 life_carried mode life is begins = subst (λ (x : Life). IsCarried begins x) (sym is) (record { journal = commands_carried begins mode life.found; doubt = λ c e. let no : ⊥ = cc in absurd no })
+
+-- of which none is in doubt
+pub life_up : (mode : BootMode) (life : Life) → life ≡ life_after mode life.found → life.doubt ≡ None
+life_up mode life is = ap (λ (x : Life). x.doubt) is
 
 -- what the boot's commands make a journal begin with
 pub begins_so : (issued journal : List Change) → BeginsWith issued journal → (later : List Change) × (journal ≡ issued ++ later)

@@ -16,11 +16,11 @@ use Rattle.hart_threads.specs.Ends.{Ending}
 use Rattle.board_session.specs.Sessions.{RunsOver, Begins, IsOfLife, TalksIf, AreDriven, RanOver}
 
 -- what is of the life of the store that the board gave up is of the one that it had
-pub ran_over : (new : Bool) (shape : Size) (mode : BootMode) (payloads : List (List ℕ)) (turns : ℕ) (old disk : Facts) (left : Option Left) (a : DialogueEnds) (input output : Option (List ℕ)) (heard : Hearing) (ends : List Ending) (size z : Size) (found s : DurableState) (issued : List Change) (machine board : Machine) (memory : List ℕ)
-    → z ≡ size → s ≡ found → issued ≡ commands_by mode found → memory ≡ machine.memory → board ≡ machine → RunsOver new shape mode payloads old.content → Begins new shape old.content size found → IsBegun mode size payloads found machine
-    → (console : List (ℕ × Entry)) → IsOfLife z s issued memory console disk
+pub ran_over : (new : Bool) (shape : Size) (mode : BootMode) (payloads : List (List ℕ)) (turns : ℕ) (old disk : Facts) (left : Option Left) (a : DialogueEnds) (input output : Option (List ℕ)) (heard : Hearing) (ends : List Ending) (size z : Size) (found s : DurableState) (issued : List Change) (machine board : Machine) (memory : List ℕ) (failures : ℕ)
+    → z ≡ size → s ≡ found → issued ≡ commands_by mode found → memory ≡ machine.memory → board ≡ machine → failures ≡ old.failures → RunsOver new shape mode payloads old.content → Begins new shape old.content size found → IsBegun mode size payloads found machine
+    → (console : List (ℕ × Entry)) → IsOfLife z s issued memory failures console heard.doubt disk
     → TalksIf s issued left a (dialogue_ends input output (party console heard)) → AreDriven z.harts board turns s left ends → RanOver new shape mode payloads turns old disk left a input output heard ends
-ran_over new shape mode payloads turns old disk left a input output heard ends size z found s issued machine board memory sized was made left_by same allowed begins powered console life talks driven =
+ran_over new shape mode payloads turns old disk left a input output heard ends size z found s issued machine board memory failures sized was made left_by same opened allowed begins powered console life talks driven =
     record {
       allowed = allowed;
       size = size;
@@ -30,9 +30,11 @@ ran_over new shape mode payloads turns old disk left a input output heard ends s
       powered = powered;
       console = console;
       life =
-          subst (λ (x : Size). IsOfLife x found (commands_by mode found) machine.memory console disk) sized
-          (subst (λ (x : DurableState). IsOfLife z x (commands_by mode found) machine.memory console disk) was
-          (subst (λ (x : List Change). IsOfLife z s x machine.memory console disk) made (subst (λ (x : List ℕ). IsOfLife z s issued x console disk) left_by life)));
+          subst (λ (x : Size). IsOfLife x found (commands_by mode found) machine.memory old.failures console heard.doubt disk) sized
+          (subst (λ (x : DurableState). IsOfLife z x (commands_by mode found) machine.memory old.failures console heard.doubt disk) was
+          (subst (λ (x : List Change). IsOfLife z s x machine.memory old.failures console heard.doubt disk) made
+          (subst (λ (x : List ℕ). IsOfLife z s issued x old.failures console heard.doubt disk) left_by
+          (subst (λ (x : ℕ). IsOfLife z s issued memory x console heard.doubt disk) opened life))));
       talks =
           subst (λ (x : DurableState). TalksIf x (commands_by mode found) left a (dialogue_ends input output (party console heard))) was
           (subst (λ (x : List Change). TalksIf s x left a (dialogue_ends input output (party console heard))) made talks);

@@ -5,11 +5,12 @@ use Rattle.std.specs.Option.{option_to_list}
 use Rattle.board_model.specs.Durable.{DurableState, Change, formatted, fold, refusal_of}
 use Rattle.board_model.specs.Shapes.{Size, sectors_of}
 use Rattle.board_model.specs.declared.boot_mode.BootMode.{BootMode}
+use Rattle.board_model.specs.declared.durable.Command.{Command}
 use Rattle.board_model.specs.declared.durable.Durable.{Durable}
 use Rattle.board_model.specs.declared.durable.Entry.{Entry}
 use Rattle.board_model.specs.declared.refusal.Refusal.{Refusal}
 use Rattle.board_model.specs.declared.refusal.Refusal.TheVariants.{Device, Memory, Output}
-use Rattle.disk.specs.Facts.{Content, Facts}
+use Rattle.disk.specs.Facts.{Content, Facts, Failed}
 use Rattle.store.specs.Formats.{WritesHead}
 use Rattle.store.specs.Leaves.{IsMarked, LeavesOnly}
 use Rattle.store.specs.Opens.{FormatRefused}
@@ -27,7 +28,8 @@ use Rattle.hart_threads.specs.Threads.{ends_life}
 use Rattle.hart_threads.specs.Ends.{Ending, AreNumberedFrom, IsEnding}
 use Rattle.hart_threads.specs.declared.closing.AfterConsole.{AfterConsole}
 use Rattle.hart_threads.specs.declared.closing.AfterConsole.TheVariants.{RunOut, Halt}
-use Rattle.shared_store.specs.Heard.{Hearing, heard_nothing}
+use Rattle.shared_store.specs.Doubts.{IsDoubtOf}
+use Rattle.shared_store.specs.Heard.{Hearing}
 use Rattle.shared_store.specs.Runs.{CarriesSteps, AllCarrySteps}
 use Rattle.board_console.specs.Commands.{party}
 use Rattle.board_console.specs.Dialogues.{DialogueEnds, Talks, dialogue_ends}
@@ -51,17 +53,18 @@ RunsOver false shape mode payloads c =
     (size : Size) × (s : DurableState) × StandsFor c size s × Allows size s mode payloads
 
 -- ---- why none runs
--- A new disk was formatted, and then refused by the open, by 5 or 11, or by the boot. A crash leaves what the
--- format made: where a boot of the formatted state is refused, no command went to the disk.
-abbrev pub RefusesNew : Size → BootMode → List (List ℕ) → Refusal → Facts → Type 0
-RefusesNew shape mode payloads e new =
-    ((e ≡ Device) ⊎ (e ≡ Memory) ⊎ RefusesBoot mode shape payloads formatted e) × LeavesOnly new shape formatted
+-- A new disk was formatted, and then refused by the open, by 5 where the disk failed or by 11, or by the boot. A crash
+-- leaves what the format made: where a boot of the formatted state is refused, no command went to the disk.
+abbrev pub RefusesNew : Size → BootMode → List (List ℕ) → Facts → Refusal → Facts → Type 0
+RefusesNew shape mode payloads old e new =
+    (((e ≡ Device) × Failed old.failures new.failures) ⊎ (e ≡ Memory) ⊎ RefusesBoot mode shape payloads formatted e)
+    × LeavesOnly new shape formatted
 
 -- The first refusal of the disk, in the order format, open, boot; and the disk then.
 abbrev pub RefusesDisk : Bool → Size → BootMode → List (List ℕ) → Facts → Refusal → Facts → Type 0
 RefusesDisk true shape mode payloads old e new =
     (FormatRefused old shape e new × WritesHead old new)
-    ⊎ (TakesFormat shape old.content × RefusesNew shape mode payloads e new)
+    ⊎ (TakesFormat shape old.content × RefusesNew shape mode payloads old e new)
 RefusesDisk false shape mode payloads old e new =
     (found now : Option Durable) × IsUnpowered mode payloads found now old e new
 
@@ -91,14 +94,15 @@ pub record IsAcknowledged (size : Size) (issued journal : List Change) (console 
   pub each : All (λ told. ends_life told ≡ true) harts
   pub receipts : AreReceiptsOf (entries_in journal) (boot_told issued ++ (console ++ hart_receipts harts))
 
--- The disk of a life that began in that state and has ended, of which the console was told those receipts. Its
--- journal begins with what the boot issued, and is of commands that the table takes, one after another from there:
--- just those that were acknowledged, in the order of their receipts. A crash leaves the state that they make of it, or
--- with a command in doubt, which the table does not refuse, that state or the one after it; and a read gives one of
--- them. Each suspension of the life, also one in doubt, carries a memory that steps of harts made of the one that the boot
--- left.
-pub record IsOfLife (size : Size) (found : DurableState) (issued : List Change) (begins : List ℕ)
-    (console : List (ℕ × Entry)) (disk : Facts) : Type 0 where
+-- The disk of a life that began in that state and has ended, of which the console was told those receipts, and that so
+-- many failures had before the session. Its journal begins with what the boot issued, and is of commands that the table
+-- takes, one after another from there: just those that were acknowledged, in the order of their receipts. A crash leaves the
+-- state that they make of it, or with a command in doubt, which the table does not refuse, that state or the one after it;
+-- and a read gives one of them. A command is in doubt only where the disk failed in the session. It is the one that the
+-- console has in doubt, which was answered 6; or where the console has none, one that a durable call of a hart asks for.
+-- Each suspension of the life, also one in doubt, carries a memory that steps of harts made of the one that the boot left.
+pub record IsOfLife (size : Size) (found : DurableState) (issued : List Change) (begins : List ℕ) (failures : ℕ)
+    (console : List (ℕ × Entry)) (doubtful : Option Command) (disk : Facts) : Type 0 where
   pub journal : List Change
   pub acknowledged : IsAcknowledged size issued journal console
   pub begun : (later : List Change) × (journal ≡ issued ++ later)
@@ -109,17 +113,14 @@ pub record IsOfLife (size : Size) (found : DurableState) (issued : List Change) 
   pub reads : (s : DurableState) × StandsFor disk.content size s
   pub carried : AllCarrySteps begins journal
   pub doubted : (c : Change) → doubt ≡ Some c → CarriesSteps begins c
+  pub failed : (c : Change) → doubt ≡ Some c → Failed failures disk.failures
+  pub asked : IsDoubtOf size doubt doubtful
 
 -- what was read and answered in a life that began in that state, by why the console left: nothing where it was not
 -- begun
 abbrev pub TalksIf : DurableState → List Change → Option Left → DialogueEnds → DialogueEnds → Type 0
 TalksIf found issued None a b = b ≡ a
 TalksIf found issued (Some left) a b = Talks found issued left a b
-
--- what the console heard beside its receipts: nothing where it was not begun
-abbrev pub heard_if : Option Hearing → Hearing
-heard_if None = heard_nothing
-heard_if (Some h) = h
 
 -- whether the session was refused: where no thread could be started, and where an answer could not be written
 abbrev pub outcome_of : Option Left → Result (Unit {0}) Refusal
@@ -159,6 +160,6 @@ pub record RanOver (new : Bool) (shape : Size) (mode : BootMode) (payloads : Lis
   pub machine : Machine
   pub powered : IsBegun mode size payloads found machine
   pub console : List (ℕ × Entry)
-  pub life : IsOfLife size found (commands_by mode found) machine.memory console disk
+  pub life : IsOfLife size found (commands_by mode found) machine.memory old.failures console heard.doubt disk
   pub talks : TalksIf found (commands_by mode found) left a (dialogue_ends input output (party console heard))
   pub driven : AreDriven size.harts machine turns found left ends

@@ -2,21 +2,25 @@
 
 ghost use Rattle.std.specs.Prelude.{◌≡◌};
 ghost use Rattle.shared_store.specs.Heard.{Hearing, heard_nothing};
-ghost use Rattle.board_session.specs.Sessions.{heard_if};
 
-use shared_store::Heard;
+use board_model::{Command, Durable, Refusal};
+use shared_store::{Heard, Journal};
 use std::marker::Model;
 
 /// What the console of a session heard of the store beside its receipts: nothing where it was not begun.
 #[derive(Drop)]
 pub struct ConsoleHeard {
-    heard: Option<Heard>,
+    refused: u64,
+    refusal: Option<(Command, Refusal)>,
+    doubt: Option<Command>,
+    shown: u64,
+    state: Option<Durable>,
 }
 
 impl Model for ConsoleHeard {
     ghost Value = { Hearing };
 
-    ghost view = { λ c. heard_if c.heard };
+    ghost view = { λ h. record { refused = h.refused; refusal = h.refusal; doubt = h.doubt; shown = h.shown; state = h.state } };
 }
 
 impl ConsoleHeard {
@@ -24,33 +28,46 @@ impl ConsoleHeard {
     pub(crate) fn nothing() -> ConsoleHeard
         ensures { result ≡ heard_nothing }
     {
-        ConsoleHeard { heard: None }
+        ConsoleHeard {
+            refused: 0,
+            refusal: None,
+            doubt: None,
+            shown: 0,
+            state: None,
+        }
     }
 
     /// A console has left, which heard that.
-    pub(crate) fn of(heard: Heard) -> ConsoleHeard
-        ensures { result ≡ heard }
+    pub(crate) fn of<J: Journal>(heard: &Heard<J>) -> ConsoleHeard
+        ensures { result ≡ heard.now }
     {
-        ConsoleHeard { heard: Some(heard) }
+        ConsoleHeard {
+            refused: heard.refused(),
+            refusal: heard.refusal(),
+            doubt: heard.in_doubt(),
+            shown: heard.shown(),
+            state: heard.state(),
+        }
     }
 
     /// How many commands were refused. The count begins anew at 2^64.
     pub fn refused(&self) -> u64
         ensures { result ≡ self.now.refused }
     {
-        match &self.heard {
-            Some(heard) => heard.refused(),
-            None => 0,
-        }
+        self.refused
+    }
+
+    /// The command of the console that is in doubt, if one is: it was answered with refusal 6.
+    pub fn in_doubt(&self) -> Option<Command>
+        ensures { result ≡ self.now.doubt }
+    {
+        self.doubt
     }
 
     /// How often the state was shown. The count begins anew at 2^64.
     pub fn shown(&self) -> u64
         ensures { result ≡ self.now.shown }
     {
-        match &self.heard {
-            Some(heard) => heard.shown(),
-            None => 0,
-        }
+        self.shown
     }
 }

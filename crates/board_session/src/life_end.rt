@@ -1,9 +1,9 @@
 //! The end of a life: the receipts that were told, and the disk.
 
-ghost use Rattle.std.specs.Prelude.{◌≡◌, ◌≤◌, ◌+◌, ℕ, List, [], ◌∷◌, true, All, length, vec_len, vec_capacity};
+ghost use Rattle.std.specs.Prelude.{◌≡◌, ◌≤◌, ◌+◌, ℕ, List, [], ◌∷◌, true, None, All, length, vec_len, vec_capacity};
 ghost use Rattle.store.specs.Leaves.{IsIdle};
 ghost use Rattle.store.specs.Taken.{are_taken};
-ghost use Rattle.store.specs.Views.{size_of_store, found_state, journal_of, life_of};
+ghost use Rattle.store.specs.Views.{size_of_store, found_state, journal_of, life_of, doubt_of, failures_at_open};
 ghost use Rattle.shared_store.specs.Noted.{boot_told};
 ghost use Rattle.shared_store.specs.Runs.{IsCarried};
 ghost use Rattle.shared_store.specs.Views.{inside, parts_with};
@@ -13,7 +13,7 @@ ghost use Rattle.board_session.specs.Sessions.{IsOfLife};
 
 use disk::Disk;
 use hart_threads::{HartEnd, HartLocal, Parted, Rested, Threaded};
-use shared_store::{Part, Unshared};
+use shared_store::{Heard, Part, Unshared};
 use std::sync::Wait;
 use store::Store;
 
@@ -103,12 +103,14 @@ fn gather_last<D: Disk + Drop, J: Threaded>(
     whole.gather(boot);
 }
 
-/// The disk of a store whose life ends here, once the harts' parts, the console's and the boot's are back.
+/// The disk of a store whose life ends here, once the harts' parts, the console's and the boot's are back, and what the
+/// console heard.
 pub(crate) fn disk_of<D: Disk + Drop, J: Threaded>(
     whole: Unshared<D, J>,
     loops: Vec<Rested<'_, J>>,
     parts: Vec<Part<J>>,
     console: Part<J>,
+    heard: Heard<J>,
     boot: Part<J>,
 ) -> D
     requires back { AreBack (parts_with whole) }
@@ -117,13 +119,13 @@ pub(crate) fn disk_of<D: Disk + Drop, J: Threaded>(
     requires boot { boot.told ≡ boot_told J.issued }
     requires all { J.parts ≡ J.size.harts + 2 }
     ensures none_out { IsIdle (D.facts result) }
-    ensures life { IsOfLife J.size J.found J.issued J.memory console.told (D.facts result) }
+    ensures life { IsOfLife J.size J.found J.issued J.memory J.failures console.told heard.doubt (D.facts result) }
 {
     let mut whole = whole;
     gather_loops(&mut whole, loops);
     gather_parts(&mut whole, parts);
     gather_last(&mut whole, console, boot);
-    whole.close().into_disk()
+    whole.close(heard).into_disk()
 }
 
 /// The disk of a store whose life ends as the boot left it, before any part of the receipts was handed out.
@@ -131,9 +133,11 @@ pub(crate) fn disk_at_once<D: Disk + Drop>(store: Store<D>) -> D
     requires taken { are_taken (found_state store) (journal_of store) ≡ true }
     requires few { length (journal_of store) ≤ 2 }
     requires carried { (begins : List ℕ) → IsCarried begins (life_of store) }
+    requires up { doubt_of store ≡ None }
     ensures none_out { IsIdle (D.facts result) }
     ensures life { (begins : List ℕ)
-        → IsOfLife (size_of_store store) (found_state store) (journal_of store) begins [] (D.facts result) }
+        → IsOfLife (size_of_store store) (found_state store) (journal_of store) begins (failures_at_open store) [] None
+        (D.facts result) }
 {
     store.into_disk()
 }

@@ -14,7 +14,7 @@ ghost use Rattle.shared_store.specs.Views.{parts_with};
 ghost use Rattle.store.specs.Formats.{WritesHead};
 ghost use Rattle.store.specs.Leaves.{IsIdle, IsKept, LeavesOnly};
 ghost use Rattle.store.specs.Opens.{FormatRefused};
-ghost use Rattle.store.specs.Views.{size_of_store, found_state, journal_of, life_of};
+ghost use Rattle.store.specs.Views.{size_of_store, found_state, journal_of, life_of, doubt_of, failures_at_open};
 ghost use Rattle.hart_threads.specs.Begun.{board_of};
 ghost use Rattle.machine.specs.Held.{IsHeld};
 ghost use Rattle.board.specs.Begins.{IsBegun};
@@ -67,12 +67,13 @@ pub struct SessionEnd<D: Disk + Drop, I: Read + Drop, W: Write + Drop> {
     pub harts: Vec<HartEnd>,
 }
 
-/// A board that is on, its shape, and the book of its receipts.
+/// A board that is on, its shape, the book of its receipts, and that of what is in doubt.
 #[derive(Drop)]
 struct BootedBoard<D: Disk + Drop> {
     parts: Parts<D>,
     shape: Shape,
     book: NewBook,
+    doubts: NewBook,
 }
 
 /// The streams of a console, its part of the receipts, and what it heard beside them.
@@ -80,7 +81,7 @@ struct BootedBoard<D: Disk + Drop> {
 struct ConsoleSide<J: Journal, I: Read + Drop, W: Write + Drop> {
     streams: Streams<I, W>,
     part: Part<J>,
-    heard: Heard,
+    heard: Heard<J>,
 }
 
 /// A console that has left, and what it said of the harts.
@@ -170,8 +171,12 @@ fn run_board<
     requires taken { (are_taken J.found J.issued ≡ true) × (length J.issued ≤ 2) }
     requires book { (id_of booted.book ≡ J.book) × (parts_of booted.book ≡ J.parts)
         × (J.parts ≡ J.size.harts + 2) }
+    requires doubts { (id_of booted.doubts ≡ J.doubts) × (parts_of booted.doubts ≡ 2) }
+    requires up { doubt_of booted.parts.store ≡ None }
+    requires opened { failures_at_open booted.parts.store ≡ J.failures }
     ensures none_out { IsIdle (D.facts result.disk) }
-    ensures life { (console : List (ℕ × Entry)) × IsOfLife J.size J.found J.issued J.memory console (D.facts result.disk)
+    ensures life { (console : List (ℕ × Entry))
+        × IsOfLife J.size J.found J.issued J.memory J.failures console result.heard.doubt (D.facts result.disk)
         × TalksIf J.found J.issued result.console_left
         (dialogue_ends (I.remaining streams.input) (W.contents streams.out) (party [] heard_nothing))
         (dialogue_ends (I.remaining result.streams.input) (W.contents result.streams.out) (party console result.heard)) }
@@ -179,7 +184,12 @@ fn run_board<
     ensures driven { AreDriven J.size.harts J.machine J.turns J.found result.console_left result.harts.items }
     ensures unheard { result.console_left ≡ None → (result.streams ≡ streams) × (result.heard ≡ heard_nothing) }
 {
-    let BootedBoard { parts, shape, book } = booted;
+    let BootedBoard {
+        parts,
+        shape,
+        book,
+        doubts,
+    } = booted;
     let Parts {
         harts,
         seats,
@@ -187,12 +197,12 @@ fn run_board<
         bus,
         store,
     } = parts;
-    let (mut whole, boot) = Unshared::<D, J>::new(store, book);
+    let (mut whole, boot, heard) = Unshared::<D, J>::new(store, book, doubts);
     let part = whole.hand_out();
     let side = ConsoleSide {
         streams,
         part,
-        heard: whole.listener(),
+        heard,
     };
     let Ok((given, room)) = hand_out_to_harts(alloc, &mut whole, harts.len()) else {
         return without_console(alloc, whole, Vec::new(alloc), Vec::new(alloc), side, boot);
@@ -274,7 +284,8 @@ fn after_console<'c, R: Wait, D: Disk + Drop, J: Threaded, I: Read + Drop, W: Wr
     requires empty { vec_len room ≡ 0 }
     requires room { vec_len loops ≤ vec_capacity room }
     ensures none_out { IsIdle (D.facts result.disk) }
-    ensures life { IsOfLife J.size J.found J.issued J.memory talked.entry.side.part.told (D.facts result.disk) }
+    ensures life { IsOfLife J.size J.found J.issued J.memory J.failures talked.entry.side.part.told
+        talked.entry.side.heard.doubt (D.facts result.disk) }
     ensures streams { result.streams ≡ talked.entry.side.streams }
     ensures heard { result.heard ≡ talked.entry.side.heard }
     ensures console_left { result.console_left ≡ Some talked.entry.left }
@@ -288,13 +299,14 @@ fn after_console<'c, R: Wait, D: Disk + Drop, J: Threaded, I: Read + Drop, W: Wr
         part,
         heard,
     } = side;
-    let disk = disk_of(whole, loops, Vec::new(alloc), part, boot);
+    let told = ConsoleHeard::of(&heard);
+    let disk = disk_of(whole, loops, Vec::new(alloc), part, heard, boot);
     SessionEnd {
         disk,
         ran: outcome(left),
         streams,
         console_left: Some(left),
-        heard: ConsoleHeard::of(heard),
+        heard: told,
         harts,
     }
 }
@@ -313,8 +325,9 @@ fn without_console<D: Disk + Drop, J: Threaded, I: Read + Drop, W: Write + Drop>
     requires harts { length (parts_with whole) + vec_len loops + vec_len parts ≡ J.size.harts }
     requires boot { boot.told ≡ boot_told J.issued }
     requires all { J.parts ≡ J.size.harts + 2 }
+    requires unheard { side.heard ≡ heard_nothing }
     ensures none_out { IsIdle (D.facts result.disk) }
-    ensures life { IsOfLife J.size J.found J.issued J.memory side.part.told (D.facts result.disk) }
+    ensures life { IsOfLife J.size J.found J.issued J.memory J.failures side.part.told None (D.facts result.disk) }
     ensures streams { result.streams ≡ side.streams }
     ensures heard { result.heard ≡ heard_nothing }
     ensures console_left { result.console_left ≡ None }
@@ -323,9 +336,9 @@ fn without_console<D: Disk + Drop, J: Threaded, I: Read + Drop, W: Write + Drop>
     let ConsoleSide {
         streams,
         part,
-        heard: _,
+        heard,
     } = side;
-    let disk = disk_of(whole, loops, parts, part, boot);
+    let disk = disk_of(whole, loops, parts, part, heard, boot);
     unbegun(alloc, disk, Refusal::Memory, streams)
 }
 
@@ -360,6 +373,7 @@ fn prepared<D: Disk + Drop>(options: &Options, disk: D) -> Result<D, (D, Refusal
     ensures new { OnOk result (options.now.new ≡ true → TakesFormat options.now.shape (D.facts disk).content) }
     ensures formatted { IfOk result (λ d. options.now.new ≡ true → LeavesOnly (D.facts d) options.now.shape formatted) }
     ensures old { IfOk result (λ d. options.now.new ≡ false → d ≡ disk) }
+    ensures failures { IfOk result (λ d. (D.facts d).failures ≡ (D.facts disk).failures) }
     ensures refused { IfErr result (λ e. (options.now.new ≡ true)
         × FormatRefused (D.facts disk) options.now.shape e.1 (D.facts e.0) × WritesHead (D.facts disk) (D.facts e.0)) }
     ensures kept { IfErr result (λ e. (size : Size) → IsKept (D.facts disk) size → IsKept (D.facts e.0) size) }
@@ -396,6 +410,8 @@ fn powered<D: Disk + Drop>(
     ensures taken { IfOk result (λ b. (are_taken (found_state (store_of b)) (journal_of (store_of b)) ≡ true)
         × (length (journal_of (store_of b)) ≤ 2)) }
     ensures carried { IfOk result (λ b. (begins : List ℕ) → IsCarried begins (life_of (store_of b))) }
+    ensures up { IfOk result (λ b. doubt_of (store_of b) ≡ None) }
+    ensures opened { IfOk result (λ b. failures_at_open (store_of b) ≡ (D.facts disk).failures) }
     ensures refused { IfErr result (λ e. RefusesDisk options.now.new options.now.shape options.now.mode payloads.now
         (D.facts disk) e.1 (D.facts e.0)) }
     ensures kept { IfErr result (λ e. (size : Size) → IsKept (D.facts disk) size → (z : Size) × IsKept (D.facts e.0) z) }
@@ -410,6 +426,16 @@ fn powered<D: Disk + Drop>(
         Ok(board) => Ok(board),
         Err(unpowered) => Err((unpowered.disk, unpowered.refusal)),
     }
+}
+
+/// The book of a board's receipts, with a part for each hart, one for the console and one for the boot; and the book of what
+/// is in doubt, with one for the console and one for the harts.
+fn new_books(alloc: Global, shape: &Shape) -> Result<(NewBook, NewBook), AllocError>
+    ensures { IfOk result (λ b. (parts_of b.0 ≡ shape.now.harts + 2) × (parts_of b.1 ≡ 2)) }
+{
+    let book = NewBook::new(alloc, shape.harts() + 2)?;
+    let doubts = NewBook::new(alloc, 2)?;
+    Ok((book, doubts))
 }
 
 /// What the program does between the reading of its files and the writing of the disk's: formats the disk
@@ -433,7 +459,8 @@ pub fn session<R: Threads + Wait + Sync, D: Disk + Drop + Send, I: Read + Drop, 
     // A refusal is the first of the format's, the open's and the boot's, before any line is read or answered; or
     // the board was on over the disk that was given, and the disk given back is that of its life, to which what
     // was read and answered belongs: each command of its journal was acknowledged to the boot, the console or a
-    // hart, and no other was; and its suspension carries what steps of harts made of the memory of the board that was on.
+    // hart, and no other was; and its suspension carries what steps of harts made of the memory of the board that was on. A
+    // command is in doubt only where the disk failed, and it was asked for by the console, which was answered 6, or by a hart.
     // Each hart went from where the power-on left it by its own turns: it made all of them, or one of them ended the life,
     // or the console left so that they were halted. It is then refused by why the console left alone.
     ensures ended { (RefusesSession options.now.new options.now.shape options.now.mode payloads.now (D.facts disk)
@@ -453,9 +480,14 @@ pub fn session<R: Threads + Wait + Sync, D: Disk + Drop + Send, I: Read + Drop, 
     };
     let shape = board.shape();
     let parts = board.into_parts();
-    match NewBook::new(alloc, shape.harts() + 2) {
-        Ok(book) => {
-            let booted = BootedBoard { parts, shape, book };
+    match new_books(alloc, &shape) {
+        Ok((book, doubts)) => {
+            let booted = BootedBoard {
+                parts,
+                shape,
+                book,
+                doubts,
+            };
             let lock = OnceLock::new();
             let turns = options.turns;
             run_board::<D, Brand, R, I, W>(rt, alloc, booted, turns, lock, streams)

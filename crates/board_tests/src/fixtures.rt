@@ -3,7 +3,7 @@
 ghost use Rattle.std.specs.Prelude.{◌≡◌, ◌+◌, [], true, Some, IfOk};
 ghost use Rattle.board_model.specs.Durable.{formatted as new_state};
 ghost use Rattle.store.specs.Leaves.{IsIdle, LeavesOnly};
-ghost use Rattle.store.specs.Views.{found_state};
+ghost use Rattle.store.specs.Views.{found_state, failures_at_open};
 ghost use Rattle.hart_threads.specs.Begun.{board_of};
 ghost use Rattle.machine.specs.Held.{IsHeld};
 ghost use Rattle.receipts.specs.Views.{id_of, parts_of};
@@ -152,30 +152,30 @@ fn end_of<J: Threaded>(loops: &[Rested<'_, J>]) -> Option<End> {
     })
 }
 
-/// Issues these commands, whatever they are answered.
+/// Issues these commands, whatever they are answered, for the console that is to be.
 fn issue<J: Journal>(
     store: &mut SharedStore<SimDisk, J>,
     part: Part<J>,
-    heard: Heard,
+    heard: &mut Heard<J>,
     commands: &[Command],
 ) {
-    let (mut part, mut heard) = (part, heard);
+    let mut part = part;
     for command in commands {
-        let (told, _answered) = store.apply(part, &mut heard, *command);
+        let (told, _answered) = store.apply(part, heard, *command);
         part = told;
     }
 }
 
-/// What the console of a trial writes.
+/// What the console of a trial writes, and what it heard.
 fn talk<J: Journal, R: Wait + Clock>(
     rt: &R,
     alloc: Global,
     bus: &Mutex<SharedBus<J>>,
     store: &Mutex<SharedStore<SimDisk, J>>,
     part: Part<J>,
-    heard: Heard,
+    heard: Heard<J>,
     trial: Trial<'_>,
-) -> Vec<u8> {
+) -> (Vec<u8>, Heard<J>) {
     let mut out = Vec::new(alloc);
     let (mut input, mut heard) = (trial.input, heard);
     let mut locks = Locks::new(bus, store);
@@ -186,7 +186,7 @@ fn talk<J: Journal, R: Wait + Clock>(
     if let Some(gate) = trial.until {
         gate.tell();
     }
-    out
+    (out, heard)
 }
 
 /// Runs the harts of a board that was powered on fresh under that gate, with its console.
@@ -209,8 +209,12 @@ pub fn driven<R: Threads + Wait + Clock + Abort + Sync>(
     let Ok(book) = NewBook::new(alloc, shape.harts() + 2) else {
         rt.panic("no memory")
     };
+    let Ok(doubts) = NewBook::new(alloc, 2) else {
+        rt.panic("no memory")
+    };
+    let books = (book, doubts);
     let lock = OnceLock::new();
-    driven_as::<Brand, R>(rt, alloc, gate, trial, parts, book, lock, &shape)
+    driven_as::<Brand, R>(rt, alloc, gate, trial, parts, books, lock, &shape)
 }
 
 /// How the loop of such a board's first hart ends, and what its console writes.
@@ -231,7 +235,7 @@ fn driven_as<J: Threaded + Send + Sync, R: Threads + Wait + Clock + Abort + Sync
     gate: &(dyn Gate + Sync),
     trial: Trial<'_>,
     parts: Parts<SimDisk>,
-    book: NewBook,
+    books: (NewBook, NewBook),
     lock: OnceLock<AfterConsole>,
     shape: &Shape,
 ) -> Ran
@@ -239,7 +243,9 @@ fn driven_as<J: Threaded + Send + Sync, R: Threads + Wait + Clock + Abort + Sync
     requires begun { IsBegun shape.now parts.store }
     requires named { (J.size ≡ shape.now) × (J.found ≡ found_state parts.store) × (J.issued ≡ [])
         × (J.memory ≡ parts.bus.ram) }
-    requires book { (id_of book ≡ J.book) × (parts_of book ≡ J.parts) × (J.parts ≡ shape.now.harts + 2) }
+    requires book { (id_of books.0 ≡ J.book) × (parts_of books.0 ≡ J.parts) × (J.parts ≡ shape.now.harts + 2) }
+    requires doubts { (id_of books.1 ≡ J.doubts) × (parts_of books.1 ≡ 2) }
+    requires opened { failures_at_open parts.store ≡ J.failures }
     requires machine { J.machine ≡ board_of shape.now J.memory parts.bus.doze parts.harts.items parts.seats }
     requires driven { (lock.id ≡ J.parting) × (trial.turns ≡ J.turns) × (J.gated ≡ true) }
     ensures { IsIdle (⟦<SimDisk as Disk>⟧.facts result.disk) }
@@ -251,16 +257,16 @@ fn driven_as<J: Threaded + Send + Sync, R: Threads + Wait + Clock + Abort + Sync
         bus,
         store,
     } = parts;
-    let (mut whole, boot) = Unshared::<SimDisk, J>::new(store, book);
+    let (book, doubts) = books;
+    let (mut whole, boot, mut heard) = Unshared::<SimDisk, J>::new(store, book, doubts);
     let part = whole.hand_out();
     let Ok(given) = whole.hand_out_all(alloc, harts.len()) else {
         rt.panic("no memory")
     };
     let doze = bus.doze;
-    let (first, heard) = (whole.listener(), whole.listener());
     let bus: Mutex<SharedBus<J>> = Mutex::new(SharedBus::new(bus));
     let mut shared = whole.share();
-    issue(&mut shared, boot, first, trial.commands);
+    issue(&mut shared, boot, &mut heard, trial.commands);
     let store = Mutex::new(shared);
     let closing = Closing::new(lock);
     let crew = crew::Threads::new(rt);
@@ -285,10 +291,10 @@ fn driven_as<J: Threaded + Send + Sync, R: Threads + Wait + Clock + Abort + Sync
         part,
         move |part| talk(rt, alloc, rung, told, part, heard, trial),
     );
-    let Ok((loops, said)) = done else {
+    let Ok((loops, (said, heard))) = done else {
         rt.panic("a thread was not had")
     };
     let end = end_of(&loops);
-    let disk = store.into_inner().unshare().close().into_disk();
+    let disk = store.into_inner().unshare().close(heard).into_disk();
     Ran { end, said, disk }
 }

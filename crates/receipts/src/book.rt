@@ -90,8 +90,17 @@ pub struct NewBook {
 pub struct Book<J: Journal> {
     table: Table<(), BookView, u32, Journaled, Global>,
     of: PhantomData<J>,
-    ghost one: { 0 < table.shared.table_id.words },
-    ghost same: { table.shared.table_id ≡ J.book },
+}
+
+impl<J: Journal> Model for Book<J> {
+    ghost use Rattle.std.specs.Prelude.{◌≡◌, ◌<◌};
+    ghost use Rattle.atomic_table.specs.Seated.{TableId};
+
+    ghost Value = { TableId };
+
+    ghost view = { λ b. b.table.shared.table_id };
+
+    ghost invariant = { λ b. (0 < b.table.shared.table_id.words) × (b.table.shared.table_id ≡ J.book) };
 }
 
 /// What knows the whole journal: each entry, and which part added it. It stands beside the store under the

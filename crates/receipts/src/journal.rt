@@ -8,9 +8,10 @@ ghost use Rattle.receipts.specs.Books.{no_book, one_page};
 
 use std::marker::Brand;
 
-/// The name of the journal of one life: what the store's open found, the board's size, the commands that the
-/// boot issued, the memory that it left, the book of its receipts, and how many parts that has. A type that has it
-/// stands for that life alone; the call that begins to share a store picks it.
+/// The name of the journal of one life: what the store's open found, how often its disk had failed by then, the board's
+/// size, the commands that the boot issued, the memory that it left, the book of its receipts, how many parts that has, and
+/// the book of what is in doubt. A type that has it stands for that life alone; the call that begins to share a store picks
+/// it.
 pub trait Journal {
     ghost found: { DurableState };
 
@@ -23,6 +24,10 @@ pub trait Journal {
     ghost book: { TableId };
 
     ghost parts: { ℕ };
+
+    ghost failures: { ℕ };
+
+    ghost doubts: { TableId };
 }
 
 impl Journal for Brand {
@@ -37,4 +42,8 @@ impl Journal for Brand {
     ghost book = { no_book };
 
     ghost parts = { 0 };
+
+    ghost failures = { 0 };
+
+    ghost doubts = { no_book };
 }

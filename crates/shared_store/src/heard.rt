@@ -1,45 +1,56 @@
 //! What a holder of a shared store heard that is no receipt.
 
-ghost use Rattle.std.specs.Prelude.{◌≡◌, Some};
+ghost use Rattle.std.specs.Prelude.{◌≡◌, [], false};
+ghost use Rattle.shared_store.specs.Doubts.{HoldsDoubt};
 ghost use Rattle.shared_store.specs.Heard.{Hearing, after_look, after_refusal, heard_nothing};
 
+use crate::doubts::OfDoubts;
 use board_model::{Command, Durable, Refusal};
+use receipts::{Journal, Part};
 use std::marker::Model;
 
-/// How many of a holder's commands were refused, and the last of these with its refusal; how often the holder was
-/// shown the state, and which it was last. Only a shared store adds to it: so one that has more of them asked a store. Only a
-/// store that is not shared yet gives one (`Unshared::listener`): so its holder hears of each refusal there. A count begins
-/// anew at 2^64.
+/// How many commands of the console were refused, the last of these with its refusal, and the one of them that is in doubt;
+/// how often the console was shown the state, and which it was last. Only a shared store adds to it: so one that has more of
+/// them asked a store. A life has one, which comes with its store before that is shared (`Unshared::new`) and goes back once
+/// the life has ended. A count begins anew at 2^64.
 #[derive(Drop)]
-pub struct Heard {
+pub struct Heard<J: Journal> {
     refused: u64,
     refusal: Option<(Command, Refusal)>,
+    pub(crate) doubt: Option<Command>,
     shown: u64,
     state: Option<Durable>,
+    // Its part of the book of what is in doubt, which stays here but for the moment in which that book notes a command.
+    pub(crate) part: Option<Part<OfDoubts<J>>>,
 }
 
-impl Model for Heard {
+impl<J: Journal> Model for Heard<J> {
     ghost Value = { Hearing };
 
-    ghost view = { λ h. record { refused = h.refused; refusal = h.refusal; shown = h.shown; state = h.state } };
+    ghost view = { λ h. record { refused = h.refused; refusal = h.refusal; doubt = h.doubt; shown = h.shown; state = h.state } };
+
+    ghost invariant = { λ h. HoldsDoubt h.part h.doubt };
 }
 
-impl Heard {
+impl<J: Journal> Heard<J> {
     /// Nothing yet.
-    pub(crate) fn nothing() -> Heard
+    pub(crate) fn nothing(part: Part<OfDoubts<J>>) -> Heard<J>
+        requires { part.told ≡ [] }
         ensures { result ≡ heard_nothing }
     {
         Heard {
             refused: 0,
             refusal: None,
+            doubt: None,
             shown: 0,
             state: None,
+            part: Some(part),
         }
     }
 
-    /// A command was refused.
+    /// A command was refused, which did not put it in doubt.
     pub(crate) fn refuse(&mut self, command: Command, refusal: Refusal)
-        ensures { self.new ≡ after_refusal command refusal self.old }
+        ensures { self.new ≡ after_refusal false command refusal self.old }
     {
         self.refused = self.refused.wrapping_add(1);
         self.refusal = Some((command, refusal));
@@ -60,10 +71,31 @@ impl Heard {
         self.refused
     }
 
+    /// The last of them, and why.
+    pub fn refusal(&self) -> Option<(Command, Refusal)>
+        ensures { result ≡ self.now.refusal }
+    {
+        self.refusal
+    }
+
+    /// The one of them that is in doubt: it was refused 6, and no command of the life was in doubt before it.
+    pub fn in_doubt(&self) -> Option<Command>
+        ensures { result ≡ self.now.doubt }
+    {
+        self.doubt
+    }
+
     /// How often the state was shown.
     pub fn shown(&self) -> u64
         ensures { result ≡ self.now.shown }
     {
         self.shown
+    }
+
+    /// The state that was shown last.
+    pub fn state(&self) -> Option<Durable>
+        ensures { result ≡ self.now.state }
+    {
+        self.state
     }
 }

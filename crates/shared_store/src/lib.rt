@@ -5,6 +5,7 @@
 #![tactic(auto)]
 
 mod buses;
+mod doubts;
 mod heard;
 mod locks;
 mod shared;
@@ -12,6 +13,7 @@ mod told;
 mod unshared;
 
 pub use buses::SharedBus;
+pub use doubts::OfDoubts;
 pub use heard::Heard;
 pub use locks::{Apart, BusLock, Locks};
 pub use receipts::{Journal, NewBook, Part};

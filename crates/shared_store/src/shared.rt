@@ -1,11 +1,12 @@
 //! A store that knows of which life its journal is.
 
-ghost use Rattle.std.specs.Prelude.{◌≡◌, ◌≤◌, ◌<◌, length, None, IfOk, IfSome};
+ghost use Rattle.std.specs.Prelude.{◌≡◌, ◌≤◌, ◌<◌, length, true, None, Err, IfOk, IfSome};
 ghost use Rattle.board_model.specs.Durable.{DurableState, Change, fold, refusal_of};
 ghost use Rattle.board_model.specs.Shapes.{Size};
 ghost use Rattle.board_model.specs.Views.{change_of, durable_of};
 ghost use Rattle.store.specs.Lives.{Applied};
-ghost use Rattle.store.specs.Views.{size_of_store, found_state, journal_of, life_of, now_state, receipts};
+ghost use Rattle.std.specs.Option.{option_to_list};
+ghost use Rattle.store.specs.Views.{size_of_store, found_state, journal_of, life_of, now_state, receipts, doubt_of, failures_at_open};
 ghost use Rattle.store.specs.Asked.{Asked};
 ghost use Rattle.hsm_steps.specs.declared.view.Stage.TheVariants.{Running};
 ghost use Rattle.sbi_abi.specs.Calls.{call_of};
@@ -13,6 +14,7 @@ ghost use Rattle.sbi_calls.specs.Both.{AreSeatsOfBoth, GivesBack, Acts, harts_of
 ghost use Rattle.sbi.specs.Helds.{MakesHeld};
 ghost use Rattle.sbi.specs.Words.{stage_told};
 ghost use Rattle.receipts.specs.Books.{entries_of};
+ghost use Rattle.shared_store.specs.Doubts.{newly_down};
 ghost use Rattle.shared_store.specs.Noted.{entries_in, part_after, part_by};
 ghost use Rattle.shared_store.specs.Heard.{after_look, heard_by};
 ghost use Rattle.shared_store.specs.Called.{IsToldBy, IsLastOf};
@@ -20,6 +22,7 @@ ghost use Rattle.shared_store.specs.Legal.{BeginsWith, IsNamed, MayAnswer, MaySh
 ghost use Rattle.shared_store.specs.Runs.{IsCarried};
 
 use crate::buses::SharedBus;
+use crate::doubts::{Doubts, is_up, newly_down};
 use crate::heard::Heard;
 use crate::told::Told;
 use crate::unshared::Unshared;
@@ -45,6 +48,7 @@ pub struct SharedStore<D: Disk + Drop, J: Journal> {
     pub(crate) count: u32,
     pub(crate) book: Book<J>,
     pub(crate) keeper: Keeper<J>,
+    pub(crate) doubts: Doubts<J>,
     ghost named: { IsNamed J.found J.size store },
     ghost issued: { BeginsWith J.issued (journal_of store) },
     ghost carried: { IsCarried J.memory (life_of store) },
@@ -52,6 +56,8 @@ pub struct SharedStore<D: Disk + Drop, J: Journal> {
     ghost few: { count ≤ 4096 },
     ghost tied: { entries_in (journal_of store) ≡ entries_of keeper.log },
     ghost none: { length keeper.parts ≡ 0 },
+    ghost opened: { failures_at_open store ≡ J.failures },
+    ghost doubted: { doubts ≡ entries_in (option_to_list (doubt_of store)) },
 }
 
 impl<D: Disk + Drop, J: Journal> SharedStore<D, J> {
@@ -73,7 +79,7 @@ impl<D: Disk + Drop, J: Journal> SharedStore<D, J> {
 
     /// The durable state now, for the holder of that part, which hears of it: the part's own receipts stand in the
     /// journal that made it.
-    pub fn now(&mut self, part: Part<J>, heard: &mut Heard) -> (Part<J>, Durable)
+    pub fn now(&mut self, part: Part<J>, heard: &mut Heard<J>) -> (Part<J>, Durable)
         ensures now { result.1 ≡ durable_of (now_state (store_in self.old)) }
         ensures same { store_in self.new ≡ store_in self.old }
         ensures part { result.0 ≡ part }
@@ -90,7 +96,7 @@ impl<D: Disk + Drop, J: Journal> SharedStore<D, J> {
     pub fn apply(
         &mut self,
         part: Part<J>,
-        heard: &mut Heard,
+        heard: &mut Heard<J>,
         command: Command,
     ) -> (Part<J>, Result<Told<J>, Refusal>)
         ensures asked { Asked Applied (store_in self.old) (change_of command) (number_told result.1)
@@ -98,8 +104,12 @@ impl<D: Disk + Drop, J: Journal> SharedStore<D, J> {
         ensures may { MayAnswer J.found (change_of command) (number_told result.1) }
         ensures told { IfOk result.1 (λ t. t.1 ≡ Entry.Command command) }
         ensures noted { result.0 ≡ part_by result.1 part }
-        ensures heard { heard.new ≡ heard_by command result.1 heard.old }
+        ensures heard { heard.new ≡ heard_by (newly_down (doubt_of (store_in self.old)) (doubt_of (store_in self.new)))
+            command result.1 heard.old }
+        ensures down { newly_down (doubt_of (store_in self.old)) (doubt_of (store_in self.new)) ≡ true
+            → result.1 ≡ Err Refusal.Down }
     {
+        let was_up = is_up(&self.store);
         match self.store.apply(command) {
             Ok(receipt) => {
                 self.count = receipt.number();
@@ -111,7 +121,8 @@ impl<D: Disk + Drop, J: Journal> SharedStore<D, J> {
                 )
             }
             Err(refusal) => {
-                heard.refuse(command, refusal);
+                let newly = newly_down(was_up, &self.store);
+                self.doubts.tell(heard, command, refusal, newly);
                 (part, Err(refusal))
             }
         }
@@ -143,7 +154,9 @@ impl<D: Disk + Drop, J: Journal> SharedStore<D, J> {
         ensures told { IsToldBy J.size (call_of hart.old) hart.old.id result.1 result.2 }
         ensures noted { result.3 ≡ part_after result.2 part }
     {
+        let was_up = is_up(&self.store);
         let (seats, word) = bus.call(saving, hart, seats, tables, &mut self.store);
+        self.doubts.note(was_up, self.store.in_doubt());
         match word {
             Word::Goes(_) => (seats, word, None, part),
             Word::Over(_) => {
@@ -169,12 +182,14 @@ impl<D: Disk + Drop, J: Journal> SharedStore<D, J> {
             count,
             book,
             keeper,
+            doubts,
         } = self;
         Unshared {
             store,
             count,
             book,
             keeper,
+            doubts,
         }
     }
 }

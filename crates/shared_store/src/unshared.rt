@@ -1,16 +1,19 @@
 //! A store with its book, before it is shared and after.
 
-ghost use Rattle.std.specs.Prelude.{◌≡◌, ◌≤◌, ◌<◌, ◌+◌, [], ◌∷◌, true, length, All, IfOk, IfErr, vec_len};
-ghost use Rattle.store.specs.Views.{size_of_store, found_state, journal_of, life_of, receipts};
+ghost use Rattle.std.specs.Prelude.{◌≡◌, ◌≤◌, ◌<◌, ◌+◌, [], ◌∷◌, true, None, length, All, IfOk, IfErr, vec_len};
+ghost use Rattle.std.specs.Option.{option_to_list};
+ghost use Rattle.store.specs.Views.{size_of_store, found_state, journal_of, life_of, receipts, doubt_of, failures_at_open};
 ghost use Rattle.receipts.specs.Books.{entries_of};
 ghost use Rattle.receipts.specs.Closed.{AreStanding, AreReceiptsOf, told_in};
 ghost use Rattle.receipts.specs.Views.{id_of, parts_of};
 ghost use Rattle.store.specs.Taken.{are_taken};
+ghost use Rattle.shared_store.specs.Doubts.{IsDoubtOf};
 ghost use Rattle.shared_store.specs.Heard.{heard_nothing};
 ghost use Rattle.shared_store.specs.Legal.{BeginsWith, IsNamed};
 ghost use Rattle.shared_store.specs.Noted.{boot_told, entries_in};
 ghost use Rattle.shared_store.specs.Runs.{IsCarried};
 
+use crate::doubts::Doubts;
 use crate::heard::Heard;
 use crate::shared::SharedStore;
 use disk::Disk;
@@ -26,20 +29,28 @@ pub struct Unshared<D: Disk + Drop, J: Journal> {
     pub(crate) count: u32,
     pub(crate) book: Book<J>,
     pub(crate) keeper: Keeper<J>,
+    pub(crate) doubts: Doubts<J>,
     pub ghost named: { IsNamed J.found J.size store },
     pub ghost issued: { BeginsWith J.issued (journal_of store) },
     pub ghost carried: { IsCarried J.memory (life_of store) },
     pub ghost counted: { count ≡ receipts store },
     pub ghost few: { count ≤ 4096 },
     pub ghost tied: { entries_in (journal_of store) ≡ entries_of keeper.log },
+    pub ghost opened: { failures_at_open store ≡ J.failures },
+    pub ghost doubted: { doubts ≡ entries_in (option_to_list (doubt_of store)) },
 }
 
 impl<D: Disk + Drop, J: Journal> Unshared<D, J> {
     ghost use Rattle.shared_store.specs.Views.{store_in, inside, parts_with};
 
-    /// The store of a life that has just begun, with a new book: its journal has what the boot issued, and the
-    /// boot's part, which goes off first, is told the receipt of each.
-    pub fn new(store: Store<D>, book: NewBook) -> (Unshared<D, J>, Part<J>)
+    /// The store of a life that has just begun, with two new books: its journal has what the boot issued, and the
+    /// boot's part, which goes off first, is told the receipt of each. The second book is for what is in doubt: nothing is
+    /// yet. What the life's console will hear comes with them.
+    pub fn new(
+        store: Store<D>,
+        book: NewBook,
+        doubts: NewBook,
+    ) -> (Unshared<D, J>, Part<J>, Heard<J>)
         requires board { size_of_store store ≡ J.size }
         requires found { found_state store ≡ J.found }
         requires issued { journal_of store ≡ J.issued }
@@ -49,21 +60,28 @@ impl<D: Disk + Drop, J: Journal> Unshared<D, J> {
         requires book { id_of book ≡ J.book }
         requires parts { parts_of book ≡ J.parts }
         requires some { 0 < J.parts }
+        requires up { doubt_of store ≡ None }
+        requires opened { failures_at_open store ≡ J.failures }
+        requires doubts { id_of doubts ≡ J.doubts }
+        requires two { parts_of doubts ≡ 2 }
         ensures store { inside result.0 ≡ store }
         ensures rest { length (parts_with result.0) + 1 ≡ J.parts }
         ensures fresh { All (λ d. d.told ≡ []) (parts_with result.0) }
         ensures boot { result.1.told ≡ boot_told J.issued }
+        ensures heard { result.2 ≡ heard_nothing }
     {
         let (book, mut keeper) = book.named::<J>();
         let part = book.hand_out(&mut keeper);
         let (part, count) = note_journal(&store, &book, &mut keeper, part);
+        let (doubts, heard) = Doubts::new(doubts);
         let whole = Unshared {
             store,
             count,
             book,
             keeper,
+            doubts,
         };
-        (whole, part)
+        (whole, part, heard)
     }
 
     /// The next part goes off, which was told nothing.
@@ -97,14 +115,6 @@ impl<D: Disk + Drop, J: Journal> Unshared<D, J> {
         Ok(parts)
     }
 
-    /// For a holder to be: it heard nothing yet.
-    pub fn listener(&self) -> Heard
-        ensures { result ≡ heard_nothing }
-    {
-        let _ = &self.store;
-        Heard::nothing()
-    }
-
     /// The store, to be shared: all parts are handed out.
     pub fn share(self) -> SharedStore<D, J>
         requires none { length (parts_with self) ≡ 0 }
@@ -115,12 +125,14 @@ impl<D: Disk + Drop, J: Journal> Unshared<D, J> {
             count,
             book,
             keeper,
+            doubts,
         } = self;
         SharedStore {
             store,
             count,
             book,
             keeper,
+            doubts,
         }
     }
 
@@ -134,8 +146,9 @@ impl<D: Disk + Drop, J: Journal> Unshared<D, J> {
 
     /// The store, whose life ends here. What the parts that are back were told stands in its journal, each
     /// command at the place of its receipt; and where all parts are back, their receipts are those of the journal's
-    /// commands, one for each.
-    pub fn close(self) -> Store<D>
+    /// commands, one for each. What its console heard is back too: where a command is in doubt, it was the console's, which
+    /// was told 6 for it, or a durable call of a hart asks for it.
+    pub fn close(self, heard: Heard<J>) -> Store<D>
         ensures named { IsNamed J.found J.size result }
         ensures issued { BeginsWith J.issued (journal_of result) }
         ensures carried { IsCarried J.memory (life_of result) }
@@ -143,14 +156,18 @@ impl<D: Disk + Drop, J: Journal> Unshared<D, J> {
         ensures told { AreStanding (entries_in (journal_of result)) (told_in (parts_with self)) }
         ensures all { length (parts_with self) ≡ J.parts
             → AreReceiptsOf (entries_in (journal_of result)) (told_in (parts_with self)) }
+        ensures opened { failures_at_open result ≡ J.failures }
+        ensures doubt { IsDoubtOf J.size (doubt_of result) heard.doubt }
     {
         let Unshared {
             store,
             count: _,
             book,
             keeper,
+            doubts,
         } = self;
         book.close(keeper);
+        doubts.close(heard);
         store
     }
 }

@@ -1,11 +1,11 @@
 -- What a session promises over a disk that stands for one state, and what an open then finds.
-use Rattle.std.proofs.Common.{◌≡◌, ◌≢◌, ◌⊎◌, ◌∙◌, ℕ, List, [], Bool, true, false, Option, Some, None, Result, inl, inr, refl, subst}
+use Rattle.std.proofs.Common.{◌≡◌, ◌≢◌, ◌⊎◌, ◌∙◌, ℕ, List, [], Bool, true, false, Option, Some, None, Result, inl, inr, refl, sym, subst}
 use Rattle.board_model.specs.Durable.{DurableState, Change, after, fold, refusal_of}
 use Rattle.board_model.specs.Shapes.{Size}
 use Rattle.board_model.specs.declared.boot_mode.BootMode.{BootMode}
 use Rattle.board_model.specs.declared.durable.Entry.{Entry}
 use Rattle.board_model.specs.declared.refusal.Refusal.{Refusal}
-use Rattle.disk.specs.Facts.{Facts, IsLeft}
+use Rattle.disk.specs.Facts.{Facts, IsLeft, Failed}
 use Rattle.store.specs.Leaves.{Leaves, LeavesOnly, LeavesEither}
 use Rattle.store.specs.Standing.{StandsFor}
 use Rattle.board.specs.Begins.{IsBegun}
@@ -13,6 +13,7 @@ use Rattle.board.specs.Moments.{commands_by}
 use Rattle.machine.specs.Machine.{Machine}
 use Rattle.shared_store.specs.Runs.{CarriesSteps}
 use Rattle.board.specs.Unbooted.{LeavesLife}
+use Rattle.shared_store.specs.Doubts.{IsDoubtOf}
 use Rattle.shared_store.specs.Heard.{Hearing}
 use Rattle.board_console.specs.Commands.{party}
 use Rattle.board_console.specs.Dialogues.{DialogueEnds, dialogue_ends}
@@ -23,26 +24,26 @@ use Rattle.theorem.specs.Sessions.{FindsSession}
 use Rattle.theorem.proofs.PowerLost.{OneStanding}
 
 -- of a life that began in s, with that board: its disk, and what was read and answered
-abbrev pub IsSession : Size → DurableState → BootMode → List (List ℕ) → Facts → Option Left → DialogueEnds → Option (List ℕ) → Option (List ℕ) → Hearing → Type 0
-IsSession size s mode payloads disk left a input output heard =
-    (machine : Machine) × IsBegun mode size payloads s machine × (console : List (ℕ × Entry)) × IsOfLife size s (commands_by mode s) machine.memory console disk
+abbrev pub IsSession : Size → DurableState → BootMode → List (List ℕ) → ℕ → Facts → Option Left → DialogueEnds → Option (List ℕ) → Option (List ℕ) → Hearing → Type 0
+IsSession size s mode payloads failures disk left a input output heard =
+    (machine : Machine) × IsBegun mode size payloads s machine × (console : List (ℕ × Entry)) × IsOfLife size s (commands_by mode s) machine.memory failures console heard.doubt disk
     × TalksIf s (commands_by mode s) left a (dialogue_ends input output (party console heard))
 
 -- and how its harts ended
-abbrev pub IsDriven : Size → DurableState → BootMode → List (List ℕ) → ℕ → Facts → Option Left → DialogueEnds → Option (List ℕ) → Option (List ℕ) → Hearing → List Ending → Type 0
-IsDriven size s mode payloads turns disk left a input output heard ends =
-    (session : IsSession size s mode payloads disk left a input output heard) × AreDriven size.harts session.0 turns s left ends
+abbrev pub IsDriven : Size → DurableState → BootMode → List (List ℕ) → ℕ → ℕ → Facts → Option Left → DialogueEnds → Option (List ℕ) → Option (List ℕ) → Hearing → List Ending → Type 0
+IsDriven size s mode payloads turns failures disk left a input output heard ends =
+    (session : IsSession size s mode payloads failures disk left a input output heard) × AreDriven size.harts session.0 turns s left ends
 
 module _ (one : OneStanding) (new : Bool) (shape : Size) (mode : BootMode) (payloads : List (List ℕ)) (turns : ℕ) (old disk : Facts) (left : Option Left) (a : DialogueEnds) (input output : Option (List ℕ)) (heard : Hearing) (ends : List Ending) where
-  pub over : RanOver new shape mode payloads turns old disk left a input output heard ends → (size : Size) (s : DurableState) → new ≡ false → StandsFor old.content size s → IsDriven size s mode payloads turns disk left a input output heard ends
+  pub over : RanOver new shape mode payloads turns old disk left a input output heard ends → (size : Size) (s : DurableState) → new ≡ false → StandsFor old.content size s → IsDriven size s mode payloads turns old.failures disk left a input output heard ends
   over ran size s is stands =
       let begins : Begins false shape old.content ran.size ran.found = subst (λ (n : Bool). Begins n shape old.content ran.size ran.found) is ran.begins in
       let same = one old.content ran.size size ran.found s begins stands in
-      let P : Size → DurableState → Type 0 = λ z t. IsDriven z t mode payloads turns disk left a input output heard ends in
+      let P : Size → DurableState → Type 0 = λ z t. IsDriven z t mode payloads turns old.failures disk left a input output heard ends in
       subst (λ (t : DurableState). P size t) same.1 (subst (λ (z : Size). P z ran.found) same.0 ((ran.machine, ran.powered, ran.console, ran.life, ran.talks), ran.driven))
 
   pub begun : (R S : Type 0) → (R × (left ≡ None)) ⊎ (RanOver new shape mode payloads turns old disk left a input output heard ends × S) → (left ≡ None → ⊥) → (size : Size) (s : DurableState) → new ≡ false → StandsFor old.content size s
-      → IsDriven size s mode payloads turns disk left a input output heard ends
+      → IsDriven size s mode payloads turns old.failures disk left a input output heard ends
   begun R S (inl refused) some size s is stands = absurd (some refused.1)
   begun R S (inr ran) some size s is stands = over ran.0 size s is stands
 
@@ -57,9 +58,9 @@ read_after (Some c) disk given size z t found only gone reads =
       | inr is ↦ inr (c, refl, is)
     ]
 
-pub finds : (size z : Size) (s found : DurableState) (mode : BootMode) (payloads : List (List ℕ)) (disk given : Facts) (left : Option Left) (a : DialogueEnds) (input output : Option (List ℕ)) (heard : Hearing) → IsSession size s mode payloads disk left a input output heard
-    → IsLeft disk given → StandsFor given.content z found → FindsSession size s mode payloads left a input output heard found
-finds size z s found mode payloads disk given left a input output heard session gone reads =
+pub finds : (size z : Size) (s found : DurableState) (mode : BootMode) (payloads : List (List ℕ)) (before next : ℕ) (disk given : Facts) (left : Option Left) (a : DialogueEnds) (input output : Option (List ℕ)) (heard : Hearing) → IsSession size s mode payloads before disk left a input output heard
+    → IsLeft disk given → StandsFor given.content z found → next ≡ given.failures → FindsSession size s mode payloads before next left a input output heard found
+finds size z s found mode payloads before next disk given left a input output heard session gone reads counts =
     let life = session.3 in record {
       machine = session.0;
       powered = session.1;
@@ -73,6 +74,13 @@ finds size z s found mode payloads disk given left a input output heard session 
     }
   where
     by : (found ≡ fold s session.3.journal) ⊎ ((c : Change) × (session.3.doubt ≡ Some c) × (found ≡ after (fold s session.3.journal) c))
-        → (found ≡ fold s session.3.journal) ⊎ ((c : Change) × (refusal_of (fold s session.3.journal) c ≡ None) × CarriesSteps session.0.memory c × (found ≡ after (fold s session.3.journal) c))
+        → (found ≡ fold s session.3.journal) ⊎ ((c : Change) × (refusal_of (fold s session.3.journal) c ≡ None) × CarriesSteps session.0.memory c × Failed before next × IsDoubtOf size (Some c) heard.doubt × (found ≡ after (fold s session.3.journal) c))
     by (inl is) = inl is
-    by (inr (c, doubt, is)) = inr (c, session.3.allowed c doubt, session.3.doubted c doubt, is)
+    by (inr (c, doubt, is)) = inr (
+      c,
+      session.3.allowed c doubt,
+      session.3.doubted c doubt,
+      subst (λ (n : ℕ). Failed before n) (sym (counts ∙ gone.failures)) (session.3.failed c doubt),
+      subst (λ (o : Option Change). IsDoubtOf size o heard.doubt) doubt session.3.asked,
+      is,
+    )

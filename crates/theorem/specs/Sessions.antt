@@ -1,5 +1,5 @@
 -- A session over a disk, in the words of the headline. Source: docs/CONSOLE.md.
-use Rattle.std.specs.Prelude.{◌≡◌, ◌⊎◌, ℕ, true, List, Option, None}
+use Rattle.std.specs.Prelude.{◌≡◌, ◌⊎◌, ℕ, true, List, Option, None, Some}
 use Rattle.board_model.specs.Durable.{DurableState, Change, after, fold, refusal_of}
 use Rattle.board_model.specs.Shapes.{Size}
 use Rattle.board_model.specs.declared.durable.Entry.{Entry}
@@ -7,7 +7,9 @@ use Rattle.store.specs.Taken.{are_taken}
 use Rattle.board.specs.Begins.{IsBegun}
 use Rattle.board.specs.Moments.{commands_by}
 use Rattle.board_model.specs.declared.boot_mode.BootMode.{BootMode}
+use Rattle.disk.specs.Facts.{Failed}
 use Rattle.machine.specs.Machine.{Machine}
+use Rattle.shared_store.specs.Doubts.{IsDoubtOf}
 use Rattle.shared_store.specs.Heard.{Hearing}
 use Rattle.shared_store.specs.Runs.{CarriesSteps, AllCarrySteps}
 use Rattle.board_console.specs.Commands.{party}
@@ -16,12 +18,13 @@ use Rattle.board_console.specs.declared.talks.Left.{Left}
 use Rattle.board_session.specs.Sessions.{IsAcknowledged, TalksIf}
 
 -- What an open finds after a session that began in the state s by that mode: what the commands of a journal make of s,
--- just those that were acknowledged to the boot, the console and the harts; or these and the one in doubt. A suspension of
--- them carries a memory that steps of harts made of the one that the boot left. What was read and answered is of that
--- journal.
+-- just those that were acknowledged to the boot, the console and the harts; or these and the one in doubt. There is one
+-- only where the disk failed, by how often it had failed before the session and after it. It is the console's, which was
+-- answered 6, or one that a durable call of a hart asks for. A suspension of them carries a memory that steps of harts made
+-- of the one that the boot left. What was read and answered is of that journal.
 pub record FindsSession (size : Size) (s : DurableState) (mode : BootMode) (payloads : List (List ℕ))
-    (left : Option Left) (a : DialogueEnds) (input output : Option (List ℕ)) (heard : Hearing) (found : DurableState)
-    : Type 0 where
+    (before after_it : ℕ) (left : Option Left) (a : DialogueEnds) (input output : Option (List ℕ)) (heard : Hearing)
+    (found : DurableState) : Type 0 where
   pub machine : Machine
   pub powered : IsBegun mode size payloads s machine
   pub journal : List Change
@@ -32,4 +35,4 @@ pub record FindsSession (size : Size) (s : DurableState) (mode : BootMode) (payl
   pub talks : TalksIf s (commands_by mode s) left a (dialogue_ends input output (party console heard))
   pub is : (found ≡ fold s journal)
       ⊎ ((c : Change) × (refusal_of (fold s journal) c ≡ None) × CarriesSteps machine.memory c
-      × (found ≡ after (fold s journal) c))
+      × Failed before after_it × IsDoubtOf size (Some c) heard.doubt × (found ≡ after (fold s journal) c))

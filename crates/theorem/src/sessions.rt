@@ -12,7 +12,7 @@ ghost use Rattle.machine.specs.Machine.{Machine};
 ghost use Rattle.shared_store.specs.Heard.{heard_nothing};
 ghost use Rattle.store.specs.Leaves.{IsIdle};
 ghost use Rattle.store.specs.Standing.{StandsFor};
-ghost use Rattle.store.specs.Views.{found_state};
+ghost use Rattle.store.specs.Views.{disk_of, found_state};
 ghost use Rattle.theorem.specs.Sessions.{FindsSession};
 
 use board::Payloads;
@@ -32,7 +32,9 @@ use store::{Store, one_standing};
 /// *Whatever order harts, console and savers run in.* A session whose console was begun, over a disk whose bytes stand
 /// for the state s. It has one journal, whatever the order was: what its boot issued, and then the commands that were
 /// acknowledged to the console and to harts, each at the place of its receipt, and no other. A crash leaves what they make
-/// of s, or with a command in doubt that or the state after it (`IsOfLife`). Its suspension, if it has one, carries a memory
+/// of s, or with a command in doubt that or the state after it (`IsOfLife`). A command is in doubt only where the disk failed in
+/// the session. It is the one that the console has in doubt, which was answered 6; or, where the console has none, a reset or a
+/// suspension that a call of a hart asks for (`IsDoubtOf`). The session's suspension, if it has one, carries a memory
 /// that steps of harts made of that of the board which its power-on made (`IsBegun`). What was read and answered is of that
 /// journal (`TalksIf`). Each hart is one of that board, and went by its own turns, one after another, from where the power-on
 /// left it to where its end says that it stands; it made all turns that it was given, or a hart ended the life by a command
@@ -51,7 +53,8 @@ pub fn a_session<R: Threads + Wait + Sync, D: Disk + Drop + Send, I: Read + Drop
     ensures { (size : Size) (s : DurableState) → options.now.new ≡ false → StandsFor (D.facts disk).content size s
         → (result.console_left ≡ None → ⊥) → (machine : Machine) × IsBegun options.now.mode size payloads.now s machine
         × (console : List (ℕ × Entry))
-        × IsOfLife size s (commands_by options.now.mode s) machine.memory console (D.facts result.disk)
+        × IsOfLife size s (commands_by options.now.mode s) machine.memory (D.facts disk).failures console
+        result.heard.doubt (D.facts result.disk)
         × TalksIf s (commands_by options.now.mode s) result.console_left
         (dialogue_ends (I.remaining streams.input) (W.contents streams.out) (party [] heard_nothing))
         (dialogue_ends (I.remaining result.streams.input) (W.contents result.streams.out) (party console result.heard))
@@ -77,7 +80,7 @@ pub struct Said<I: Read + Drop, W: Write + Drop> {
 }
 
 /// The same as one run of a disk in memory: a session has ended, power fails, and the next cold boot finds what the
-/// acknowledged commands make of s, or these and the one in doubt.
+/// acknowledged commands make of s, or these and the one in doubt, where the disk failed.
 pub fn power_lost_between_sessions<R: Threads + Wait + Sync, I: Read + Drop, W: Write + Drop>(
     rt: &R,
     alloc: Global,
@@ -90,7 +93,8 @@ pub fn power_lost_between_sessions<R: Threads + Wait + Sync, I: Read + Drop, W: 
     requires { IsIdle (⟦<SimDisk as Disk>⟧.facts disk) }
     ensures { (size : Size) (s : DurableState) → options.now.new ≡ false
         → StandsFor (⟦<SimDisk as Disk>⟧.facts disk).content size s → (result.0.console_left ≡ None → ⊥)
-        → IfOk result.1 (λ next. FindsSession size s options.now.mode payloads.now result.0.console_left
+        → IfOk result.1 (λ next. FindsSession size s options.now.mode payloads.now
+        (⟦<SimDisk as Disk>⟧.facts disk).failures (disk_of next).failures result.0.console_left
         (dialogue_ends (I.remaining streams.input) (W.contents streams.out) (party [] heard_nothing))
         (I.remaining result.0.streams.input) (W.contents result.0.streams.out) result.0.heard (found_state next)) }
 {

@@ -1,4 +1,6 @@
-use Rattle.std.proofs.Common.{[], refl}
+use Rattle.std.proofs.Common.{[], Option, None, refl, sym, subst}
+use Rattle.board_model.specs.Durable.{Change}
+use Rattle.shared_store.specs.Doubts.{IsDoubtOf}
 use Rattle.store.specs.Views.{size_of_store, now_state, journal_of, doubt_of}
 use Rattle.board_session.proofs.Backing.{at_once, none_later}
 use Rattle.board_session.proofs.Powering.{kept_reads, life_kept, life_leaves}
@@ -22,4 +24,6 @@ returns-clause-life g c = λ begins.
       reads = kept_reads disk size (life_kept (doubt_of store) disk size (now_state store) left) (g.met.D.Disk.may_keep c.into_disk.result);
       carried = (c.requires.carried begins).journal;
       doubted = (c.requires.carried begins).doubt;
+      failed = o.failed;
+      asked = subst (λ (x : Option Change). IsDoubtOf size x None) (sym c.requires.up) tt;
     }

@@ -1,7 +1,8 @@
-use Rattle.std.proofs.Common.{◌≡◌, List, None, length, refl, ap, subst, arith}
+use Rattle.std.proofs.Common.{◌≡◌, ℕ, List, None, length, refl, ap, subst, arith}
 use Rattle.board_model.specs.Durable.{DurableState, fold, refusal_of}
 use Rattle.board_model.specs.Shapes.{Size}
 use Rattle.board.specs.Unbooted.{LeavesLife}
+use Rattle.disk.specs.Facts.{Failed}
 use Rattle.receipts.specs.Closed.{AreReceiptsOf, told_in}
 use Rattle.receipts.specs.declared.views.PartView.{PartView}
 use Rattle.shared_store.specs.Noted.{entries_in}
@@ -42,4 +43,6 @@ returns-clause-life g c =
       reads = kept_reads disk size (life_kept (doubt_of store) disk size now left') (g.met.D.Disk.may_keep c.into_disk.result);
       carried = c.close.ensures.carried.journal;
       doubted = c.close.ensures.carried.doubt;
+      failed = λ x is. subst (λ (n : ℕ). Failed n disk.failures) c.close.ensures.opened (o.failed x is);
+      asked = c.close.ensures.doubt;
     }

@@ -1,9 +1,9 @@
-use Rattle.std.proofs.Common.{ap, sym, subst}
+use Rattle.std.proofs.Common.{◌∙◌, ap, sym, subst}
 use Rattle.store.specs.Leaves.{IsKept}
 use Rattle.store.specs.Views.{view_of, life_of}
 use Rattle.board.specs.Views.{store_of, machine_of}
 use Rattle.board.specs.PowersOn.{IsUnpowered}
-use Rattle.board_session.proofs.Powering.{begins, life_carried, life_few, life_issued, life_taken, format_refuses, kept_off, refuses_disk, runs_over}
+use Rattle.board_session.proofs.Powering.{begins, life_carried, life_few, life_issued, life_taken, life_up, format_refuses, kept_off, refuses_disk, runs_over}
 use Rattle.board_session.proofs.sessions.powered.Goals as goal
 
 pub returns-in-Err-clause-refused : goal.returns-in-Err-clause-refused
@@ -31,7 +31,7 @@ returns-in-Err-power_on-clause-refused g c =
     let mid = c.in-Ok.disk in
     let off = c.in-Err-power_on.unpowered in
     let why = c.in-Err-power_on.ensures.off in
-    refuses_disk (g.D.Disk.facts mid) (g.D.Disk.facts off.disk) (k.goes_on mid off.disk) o.mode c.args.payloads.now (g.D.Disk.facts c.args.disk) o.shape off.found off.now off.refusal why o.new made.new made.formatted
+    refuses_disk (g.D.Disk.facts mid) (g.D.Disk.facts off.disk) (k.goes_on mid off.disk) o.mode c.args.payloads.now (g.D.Disk.facts c.args.disk) o.shape off.found off.now off.refusal why o.new made.failures made.new made.formatted
     (λ is. subst (λ d. IsUnpowered o.mode c.args.payloads.now off.found off.now (g.D.Disk.facts d) off.refusal (g.D.Disk.facts off.disk)) (made.old is) why)
     (λ size kept refused. k.opens mid off.disk size off.refusal kept refused)
 
@@ -66,3 +66,10 @@ returns-in-Ok-power_on-clause-issued g c =
 pub returns-in-Ok-power_on-clause-carried : goal.returns-in-Ok-power_on-clause-carried
 returns-in-Ok-power_on-clause-carried g c =
     life_carried c.args.options.now.mode (life_of (store_of c.in-Ok-power_on.board)) c.in-Ok-power_on.ensures.on.life
+
+pub returns-in-Ok-power_on-clause-up : goal.returns-in-Ok-power_on-clause-up
+returns-in-Ok-power_on-clause-up g c =
+    life_up c.args.options.now.mode (life_of (store_of c.in-Ok-power_on.board)) c.in-Ok-power_on.ensures.on.life
+
+pub returns-in-Ok-power_on-clause-opened : goal.returns-in-Ok-power_on-clause-opened
+returns-in-Ok-power_on-clause-opened g c = c.in-Ok-power_on.ensures.on.opened ∙ c.in-Ok.ensures.failures

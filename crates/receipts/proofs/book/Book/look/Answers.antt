@@ -9,9 +9,9 @@ use Rattle.receipts.proofs.book.Book.look.Goals as goal
 
 pub load-requires : goal.load-requires
 load-requires g c =
-    let t = c.args.self.now in
+    let t = c.self in
     let k = c.keeper.inside.seat in
-    (c.keeper.invariant.0 ∙ sym t.same, t.one, looks t.table.shared.table_id.slots k.id k.me (step t.table.shared.table_id.slots 0 0 0 none))
+    (c.keeper.invariant.0 ∙ sym t.invariant.1, t.invariant.0, looks t.inside.table.shared.table_id.slots k.id k.me (step t.inside.table.shared.table_id.slots 0 0 0 none))
 
 pub returns-clause-of : goal.returns-clause-of
 returns-clause-of g c =

@@ -1,9 +1,12 @@
-use Rattle.std.proofs.Common.{◌∙◌, ℕ, Ok, Err, List, ap, length, arith, refl, sym}
+use Rattle.std.proofs.Common.{◌≡◌, ◌∙◌, ◌&&◌, ℕ, Bool, true, Ok, Err, List, ap, length, arith, refl, sym}
 use Rattle.board_model.specs.Durable.{Change}
 use Rattle.board_model.specs.Views.{change_of}
 use Rattle.store.specs.Lives.{Applied}
 use Rattle.store.specs.Views.{doubt_of, journal_of}
 use Rattle.store.specs.Asked.{Asked}
+use Rattle.std.specs.Prelude.{is_some}
+use Rattle.shared_store.specs.Doubts.{noted_if, newly_down}
+use Rattle.shared_store.proofs.Doubting.{asked_turns, newly_none, newly_refused, ok_stays, still_noted, told_on}
 use Rattle.shared_store.proofs.Naming.{asked_named, asked_may, begins_on, begins_still}
 use Rattle.board_model.specs.declared.durable.Entry.{Entry}
 use Rattle.board_model.specs.declared.durable.Entry.TheVariants as entries
@@ -25,16 +28,17 @@ invariant_of-self g c =
     let asked : Asked Applied old.store (change_of c.args.command) (Ok n) new = e.asked in
     let did = asked_named g.J.Journal.found g.J.Journal.size old.store new (change_of c.args.command) (Ok n) (doubt_of old.store) refl old.named asked in
     let longer = one_longer (journal_of old.store) (journal_of new) (change_of c.args.command) did.1.0 in
+    let same = ok_stays (change_of c.args.command) n (doubt_of old.store) (doubt_of new) (asked_turns old.store new (change_of c.args.command) (Ok n) (doubt_of old.store) refl asked) in
     let is = c.number-self.ensures in
     let a = did.1.1 in
     let b = did.1.2 in
     let note = c.note-part.ensures in
     let tied = tied_on (journal_of old.store) (journal_of new) old.keeper.log (change_of c.args.command) (entries.Command c.args.command) c.args.part.who old.tied (entry_of_command c.args.command) did.1.0
     ∙ sym (ap (λ (v : BookView). entries_of v.log) note.keeper) in
-    record { named = did.0; issued = begins_on g.J.Journal.issued (journal_of old.store) (journal_of new) (change_of c.args.command) old.issued did.1.0; carried = asked_carried g.J.Journal.memory old.store new c.args.command (Ok n) old.carried asked; counted = omega (arith, is, a, longer); few = omega (arith, is, a, b); tied = tied; none = ap (λ (v : BookView). length v.parts) note.keeper ∙ old.none }
+    record { named = did.0; issued = begins_on g.J.Journal.issued (journal_of old.store) (journal_of new) (change_of c.args.command) old.issued did.1.0; carried = asked_carried g.J.Journal.memory old.store new c.args.command (Ok n) old.carried asked; counted = omega (arith, is, a, longer); few = omega (arith, is, a, b); tied = tied; none = ap (λ (v : BookView). length v.parts) note.keeper ∙ old.none; opened = asked.stays.opened ∙ old.opened; doubted = still_noted (doubt_of old.store) (doubt_of new) old.doubts same old.doubted }
 
-pub invariant_of-self-in-Err-1 : goal.invariant_of-self-in-Err-1
-invariant_of-self-in-Err-1 g c =
+pub invariant_of-self-in-Err : goal.invariant_of-self-in-Err
+invariant_of-self-in-Err g c =
     let old = c.args.self.now in
     let new = c.apply.new.self in
     let e = c.in-Err.ensures in
@@ -42,8 +46,11 @@ invariant_of-self-in-Err-1 g c =
     let asked : Asked Applied old.store (change_of c.args.command) (Err r) new = e.asked in
     let did = asked_named g.J.Journal.found g.J.Journal.size old.store new (change_of c.args.command) (Err r) (doubt_of old.store) refl old.named asked in
     let same = ap (λ (cs : List Change). length cs) did.1 in
+    let turns = asked_turns old.store new (change_of c.args.command) (Err r) (doubt_of old.store) refl asked in
+    let newly = c.newly_down-newly.ensures ∙ ap (λ (b : Bool). b && is_some (doubt_of new)) c.is_up-was_up.ensures in
+    let noted = c.tell.ensures.noted ∙ ap (λ (b : Bool). noted_if b (entries.Command c.args.command) old.doubts) newly in
     let is = old.counted in
-    record { named = did.0; issued = begins_still g.J.Journal.issued (journal_of old.store) (journal_of new) old.issued did.1; carried = asked_carried g.J.Journal.memory old.store new c.args.command (Err r) old.carried asked; counted = omega (arith, is, same); few = old.few; tied = ap entries_in did.1 ∙ old.tied; none = old.none }
+    record { named = did.0; issued = begins_still g.J.Journal.issued (journal_of old.store) (journal_of new) old.issued did.1; carried = asked_carried g.J.Journal.memory old.store new c.args.command (Err r) old.carried asked; counted = omega (arith, is, same); few = old.few; tied = ap entries_in did.1 ∙ old.tied; none = old.none; opened = asked.stays.opened ∙ old.opened; doubted = told_on c.args.command (Err r) (doubt_of old.store) (doubt_of new) old.doubts c.tell.new.self turns old.doubted noted }
 
 pub returns-in-Err-clause-may : goal.returns-in-Err-clause-may
 returns-in-Err-clause-may g c =
