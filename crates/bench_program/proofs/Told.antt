@@ -1,5 +1,5 @@
 -- Which faults a work may have.
-use Rattle.std.proofs.Common.{◌≡◌, ◌∙◌, ◌⊎◌, inl, inr, ℕ, suc, List, [], ◌∷◌, length, ap, Option, None, Some, Result, Ok, Err, IfErr, refl, sym, subst}
+use Rattle.std.proofs.Common.{◌≡◌, ◌∙◌, ◌⊎◌, inl, inr, ℕ, suc, List, [], ◌∷◌, length, ap, Option, None, Some, Result, Ok, Err, IfErr, IsSome, get_or, refl, sym, subst}
 use Rattle.board_model.specs.declared.refusal.Refusal.{Refusal}
 use Rattle.board_model.specs.declared.refusal.Refusal.TheVariants.{Memory, Output}
 use Rattle.script_lang.specs.Scripts.{script_of}
@@ -7,7 +7,9 @@ use Rattle.bench_program.specs.Written.{IsNotTaken, MayTellWrong, IsFaultIn, IsF
 use Rattle.command_line.specs.declared.NoWork.{NoWork}
 use Rattle.command_line.specs.declared.NoWork.TheVariants as whys
 use Rattle.payload_files.specs.Named.{AreFilesOf}
-use Rattle.bench_program.specs.Faults.{without_work}
+use Rattle.command_line.specs.declared.fault.ProgramFault.{ProgramFault}
+use Rattle.command_line.specs.declared.fault.ProgramFault.TheVariants as causes
+use Rattle.bench_program.specs.Faults.{unread_by, without_work}
 use Rattle.bench_program.specs.Usage.{IsNamedBy}
 use Rattle.bench_program.specs.declared.fault.BenchFault.{BenchFault}
 use Rattle.bench_program.specs.declared.fault.BenchFault.TheVariants.{Input, Refused, Closed, Usage, Wrong}
@@ -30,6 +32,12 @@ pub unread : (work : Work) (input : Option (List ℕ)) (fault : BenchFault) → 
 unread work input fault (inl is) = inl is
 unread work None fault (inr is) = let P : BenchFault → Type 0 = λ f. IsFaultOf work None f in subst P (sym is) (inr ([], tt, inl refl))
 unread work (Some bytes) fault (inr is) = let P : BenchFault → Type 0 = λ f. IsFaultOf work (Some bytes) f in subst P (sym is) (inr (bytes, refl, inl refl))
+
+-- a payload file was not read
+pub unread_named : (options : Options) (why : ProgramFault) (fault : BenchFault) → fault ≡ unread_by why → (why ≡ causes.File) ⊎ (why ≡ causes.Refused Memory)
+    → (slot : ℕ) × IsSome (get_or options.payloads slot None) → IsUnread options fault ⊎ (fault ≡ Refused Memory)
+unread_named options why fault e (inl is) some = inl (e ∙ ap unread_by is, some)
+unread_named options why fault e (inr is) some = inr (e ∙ ap unread_by is)
 
 -- a fault of options that the words name
 pub of_options : (words : List (List ℕ)) (input : Option (List ℕ)) (fault : BenchFault) (options : Options) → IsNamedBy words options → IsUnread options fault ⊎ (fault ≡ Refused Memory) ⊎ IsFaultOf options.work input fault → IsFault words input fault

@@ -8,6 +8,8 @@ use Rattle.bench_program.specs.declared.fault.BenchFault.{BenchFault}
 use Rattle.bench_program.specs.declared.fault.BenchFault.TheVariants.{Usage, Input, File, Refused, Closed, Wrong}
 use Rattle.command_line.specs.declared.NoWork.{NoWork}
 use Rattle.command_line.specs.declared.NoWork.TheVariants as why
+use Rattle.command_line.specs.declared.fault.ProgramFault.{ProgramFault}
+use Rattle.command_line.specs.declared.fault.ProgramFault.TheVariants as of
 use lib.Chars.{codes}
 
 -- the number of a refusal, and of a malformed script the line too
@@ -15,13 +17,20 @@ abbrev pub refusal_text : Refusal → List ℕ
 refusal_text (BadScript line) = decimal (number_of_refusal (BadScript line)) ++ codes " line " ++ decimal line
 refusal_text e = decimal (number_of_refusal e)
 
+-- of a fault that was told before, nothing
 abbrev pub fault_text : BenchFault → List ℕ
 fault_text Input = codes "sbibench: input\n"
-fault_text File = codes "sbibench: file\n"
 fault_text (Refused e) = codes "sbibench: refusal " ++ refusal_text e ++ codes "\n"
 fault_text Usage = []
+fault_text File = []
 fault_text Closed = []
 fault_text Wrong = []
+
+-- the fault of a payload file that could not be read: a refusal where it was memory that was refused
+abbrev pub unread_by : ProgramFault → BenchFault
+unread_by (of.Refused e) = Refused e
+unread_by of.File = File
+unread_by of.Usage = Usage
 
 -- the status with which the program ends
 abbrev pub status_after : {A : Type 0} → Result A BenchFault → ℕ

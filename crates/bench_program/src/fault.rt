@@ -13,7 +13,7 @@ pub enum BenchFault {
     Usage,
     /// The standard input failed.
     Input,
-    /// A payload file could not be read.
+    /// A payload file could not be read. Which and why was told already.
     File,
     /// The script was refused, or its report could not be written.
     Refused(Refusal),
@@ -45,12 +45,11 @@ impl fmt::Display for BenchFault {
     fn fmt<W: fmt::Write>(&self, f: &mut fmt::Formatter<W>) -> fmt::Result {
         match *self {
             BenchFault::Input => f.write_str("sbibench: input\n"),
-            BenchFault::File => f.write_str("sbibench: file\n"),
             BenchFault::Refused(refusal) => {
                 let text = RefusalText(refusal);
                 writeln!(f, "sbibench: refusal {text}")
             }
-            BenchFault::Usage | BenchFault::Closed | BenchFault::Wrong => Ok(()),
+            BenchFault::Usage | BenchFault::File | BenchFault::Closed | BenchFault::Wrong => Ok(()),
         }
     }
 }

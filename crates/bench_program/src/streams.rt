@@ -3,13 +3,13 @@
 ghost use Rattle.std.specs.Prelude.{◌≡◌, ◌⊎◌, ◌≤◌, [], map, Err, Result, OnOk, IfOk, IfErr, IfSome};
 ghost use Rattle.board_model.specs.declared.refusal.Refusal.TheVariants.{Memory};
 ghost use Rattle.std.specs.Io.Buffered.{writer_buffer, writer_contents};
-ghost use Rattle.bench_program.specs.Faults.{status_after, without_work};
+ghost use Rattle.bench_program.specs.Faults.{status_after, unread_by, without_work};
 ghost use Rattle.command_line.specs.Pipes.{pipe_contents};
 ghost use Rattle.payload_files.specs.Named.{AreFilesOf};
 ghost use Rattle.bench_program.specs.Usage.{payload_files, IsBounded, NamesNoWork};
 ghost use Rattle.bench_program.specs.Written.{AreDone, AreWrong, IsDone, IsFault, IsFaultIn, IsFaultOf, IsReadOf, IsReported, IsUnread, IsWorked, IsWritten, IsWrong, IsWrongOver, TellsWrong};
 ghost use Rattle.bench_program.specs.declared.fault.BenchFault.{BenchFault};
-ghost use Rattle.bench_program.specs.declared.fault.BenchFault.TheVariants.{Closed, File, Input, Refused, Wrong};
+ghost use Rattle.bench_program.specs.declared.fault.BenchFault.TheVariants.{Closed, Input, Refused, Wrong};
 ghost use Rattle.bench_program.specs.declared.usage.Savers.{Savers};
 ghost use Rattle.bench_program.specs.declared.usage.Work.TheVariants.{Compare, Judge, Report, Show};
 ghost use Rattle.script_lang.specs.Scripts.{script_of};
@@ -19,12 +19,12 @@ use crate::usage::{Bench, Drawn, Options, Savers, Work, options_of};
 use crate::{read_script, write_bench, write_report, write_schedule, write_schedules};
 use board::Payloads;
 use board_model::Refusal;
-use command_line::{NoWork, Pipe, show_on};
+use command_line::{FileFault, NoWork, Pipe, ProgramFault, explain_fault, show_on, tell_fault};
 use crew::{Crew, Sequential};
-use payload_files::{PayloadFault, PayloadFiles, payloads_of};
+use payload_files::{PayloadFiles, read_payloads};
 use std::alloc::Global;
 use std::convert::AsStr;
-use std::io::{BufReader, BufWriter, ErrorKind, Read, Write};
+use std::io::{BufReader, BufWriter, IsTerminal, Read, Write};
 use std::thread::Threads;
 
 /// How many bytes of a script are read at once.
@@ -172,29 +172,34 @@ pub fn without_work(why: NoWork) -> Result<(), BenchFault>
     }
 }
 
-/// The fault of a payload file that could not be read. Where memory was refused, it is that refusal.
-fn unread(fault: &PayloadFault) -> BenchFault
-    ensures { (result ≡ File) ⊎ (result ≡ Refused Memory) }
+/// The fault of a payload file that could not be read, which is told here: which file, and why. Where memory was refused,
+/// it is that refusal, which is told at the end.
+fn unread<F: Write>(fault: &FileFault, faults: &mut F) -> BenchFault
+    ensures { result ≡ unread_by fault.now.fault }
 {
-    if fault.error.kind() == ErrorKind::OutOfMemory {
-        BenchFault::Refused(Refusal::Memory)
-    } else {
-        BenchFault::File
+    match fault.fault {
+        ProgramFault::Usage => BenchFault::Usage,
+        ProgramFault::Refused(refusal) => BenchFault::Refused(refusal),
+        ProgramFault::File => {
+            tell_fault(faults, "sbibench", fault);
+            BenchFault::File
+        }
     }
 }
 
-/// The payloads, from the files that the command line names.
-fn named_payloads<P: PayloadFiles>(
+/// The payloads, from the files that the command line names. The first that cannot be read is told.
+fn named_payloads<P: PayloadFiles, F: Write>(
     alloc: Global,
     files: &P,
     options: &Options,
+    faults: &mut F,
 ) -> Result<Payloads, BenchFault>
     ensures read { IfOk result (AreFilesOf (P.bytes_at files.now) (payload_files options.now)) }
     ensures failed { IfErr result (λ fault. IsUnread options.now fault ⊎ (fault ≡ Refused Memory)) }
 {
-    match payloads_of(alloc, files, &options.payloads) {
+    match read_payloads(alloc, files, &options.payloads) {
         Ok(payloads) => Ok(payloads),
-        Err(fault) => Err(unread(&fault)),
+        Err(fault) => Err(unread(&fault, faults)),
     }
 }
 
@@ -229,13 +234,14 @@ fn run_work<R: Threads + Sync, I: Read + Drop, O: Write + Drop>(
 }
 
 /// Does what the options ask for. The payload files are read before the input.
-fn run_options<R: Threads + Sync, P: PayloadFiles, I: Read + Drop, O: Write + Drop>(
+fn run_options<R: Threads + Sync, P: PayloadFiles, I: Read + Drop, O: Write + Drop, F: Write>(
     alloc: Global,
     threads: &R,
     files: &P,
     options: &Options,
     input: I,
     out: &mut BufWriter<Pipe<O>>,
+    faults: &mut F,
 ) -> Result<(), BenchFault>
     requires most { IsBounded options.now.work }
     ensures done { OnOk result (AreDone options.now (P.bytes_at files.now) (I.remaining input)
@@ -247,7 +253,7 @@ fn run_options<R: Threads + Sync, P: PayloadFiles, I: Read + Drop, O: Write + Dr
     ensures faults { IfErr result (λ fault. IsUnread options.now fault ⊎ (fault ≡ Refused Memory)
         ⊎ IsFaultOf options.now.work (I.remaining input) fault) }
 {
-    let payloads = named_payloads(alloc, files, options)?;
+    let payloads = named_payloads(alloc, files, options, faults)?;
     run_work(alloc, threads, options.work, payloads, input, out)
 }
 
@@ -278,17 +284,27 @@ fn run_words<
     ensures faults { IfErr result (λ fault. IsFault (map S.text words.now) (I.remaining input) fault) }
 {
     match options_of(alloc, words) {
-        Ok(options) => run_options(alloc, threads, files, &options, input, out),
+        Ok(options) => run_options(alloc, threads, files, &options, input, out, faults),
         Err(text) => without_work(show_on(out, faults, &text)),
     }
 }
 
+/// Tells a fault that was not told yet, and on a terminal also what the number of a refusal means.
+fn tell<F: Write + IsTerminal>(fault: BenchFault, faults: &mut F) {
+    let _told = write!(faults, "{fault}");
+    if let BenchFault::Refused(refusal) = fault {
+        if faults.is_terminal() {
+            explain_fault(faults, "sbibench", &FileFault::refused(refusal));
+        }
+    }
+}
+
 /// Tells the fault, where there is one, and answers the status. That nobody reads the fault changes nothing.
-pub fn end<F: Write>(done: &Result<(), BenchFault>, faults: &mut F) -> u8
+pub fn end<F: Write + IsTerminal>(done: &Result<(), BenchFault>, faults: &mut F) -> u8
     ensures { result ≡ status_after done.now }
 {
     if let Err(fault) = done {
-        let _told = write!(faults, "{fault}");
+        tell(*fault, faults);
     }
     status_of(done)
 }
@@ -303,7 +319,7 @@ pub fn run_on<
     S: AsStr,
     I: Read + Drop,
     O: Write + Drop,
-    F: Write,
+    F: Write + IsTerminal,
 >(
     alloc: Global,
     threads: &R,

@@ -1,5 +1,5 @@
-//! A guest in C on two harts (crates/examples/data/guest/counters.c), from its boot to the image that it leaves, which
-//! stands until the console drops it.
+//! Guests in C on two harts (crates/examples/data/guest): `counters.c`, from its boot to the image that it leaves, which stands
+//! until the console drops it; and `first_interrupt.c`.
 
 use crate::runs::{PLAIN, Run, all_come};
 use std::test::*;
@@ -22,6 +22,18 @@ b75855539b8808357300000067800000970200009382421f83b0020003b1820003b4020183b48201
 9305000013060000130830009308070073000000f327401493f72700e38007fe737041148337830013051000930500009387\
 17002334f300130600001308000093080e00730000009b86f6ffe39406fcb75848001305000093050000130810009388d834\
 73000000";
+
+const FIRST_INTERRUPT: &[u8] = b"\
+17110000130101006f00c0121300000013000000130000001300000013000000130000001300000013000000130000001300\
+0000130000001300000013000000000000000000000000000000000000000000000000000000000000000000000000000000\
+0000000000000000000000000000000000000000000000000000000000000000000000000000000000000000000000000000\
+0000000000000000000000000000000000000000000000000000000000000000000017110000130181f49302004013030500\
+63080300330151401303f3ff6ff05fff6f004000170700001307471183370700e39eb7fef327401493f7270063900702b758\
+525313050000930510001306000013080000938848357300000073704114b758480013050000930500001306000013081000\
+9388d83473000000b7574800375e730037430f00170f0000130f8ff793061000970e0000938e4e0a9387d734130e9e041303\
+13241305100093050f0013860600130800009388070073000000130510009305000013060000130820009388070073000000\
+e39405fe13051000930510001308000093080e007300000023b0de0013051000930500001306000013082000938807007300\
+000013071000e392e5fe93861600e39866f8b7585253130500009305000013080000938848357300000067800000";
 
 /// A shutdown for a failure of the system: a0 and a6 are set to 0, a1 to 1, a7 to 0x53525354 by LUI and ADDI,
 /// then ECALL, the sixth instruction.
@@ -85,4 +97,29 @@ fn a_guest_is_suspended_and_resumed_and_its_image_outlives_a_reset(
     rt: HostRuntime,
 ) -> Result<(), Fail> {
     all_come(&rt, rt.alloc(), b"", &SESSIONS)
+}
+
+/// So many turns are some hundred starts of hart 1. Where an interrupt is lost, the guest ends its board for a failure.
+static STARTS: [Run; 2] = [
+    Run {
+        payloads: [FIRST_INTERRUPT, b"", b"", b""],
+        words: &[
+            "sbiboard", "--disk", "D", "--mode", "fresh", "--new", "--harts", "2", "--p0", "p0",
+            "--turns", "20000",
+        ],
+        ..PLAIN
+    },
+    Run {
+        words: &["sbiboard", "--disk", "D", "--mode", "keep", "--turns", "1"],
+        lines: b"state\n",
+        told: b"state slot 0 reason 0 image none next 0\n",
+        ..PLAIN
+    },
+];
+
+#[test]
+fn an_interrupt_stays_that_is_sent_to_a_hart_which_reads_started(
+    rt: HostRuntime,
+) -> Result<(), Fail> {
+    all_come(&rt, rt.alloc(), b"", &STARTS)
 }

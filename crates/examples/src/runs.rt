@@ -52,12 +52,14 @@ struct Streams {
 const ALL: Room = Room {
     bytes: usize::MAX,
     fault: ErrorKind::StorageFull,
+    is_terminal: false,
 };
 
 /// A stream of which the reader is gone.
 const CLOSED: Room = Room {
     bytes: 0,
     fault: ErrorKind::BrokenPipe,
+    is_terminal: false,
 };
 
 /// Streams of which none fails.
@@ -94,6 +96,15 @@ fn streams_of(text: &str) -> Option<Streams> {
     if text == "error closed" {
         return Some(Streams {
             faults: CLOSED,
+            ..WHOLE
+        });
+    }
+    if text == "error a terminal" {
+        return Some(Streams {
+            faults: Room {
+                is_terminal: true,
+                ..ALL
+            },
             ..WHOLE
         });
     }

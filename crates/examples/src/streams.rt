@@ -2,7 +2,7 @@
 //! that takes so many bytes and no more.
 
 use std::alloc::Global;
-use std::io::{self, ErrorKind, Read, Write};
+use std::io::{self, ErrorKind, IsTerminal, Read, Write};
 
 /// An input of these bytes.
 #[derive(Drop)]
@@ -27,11 +27,12 @@ impl Read for Input<'_> {
     }
 }
 
-/// How much an output takes, and why it takes no more.
+/// How much an output takes, why it takes no more, and whether it is a terminal.
 #[derive(Clone, Copy, Drop)]
 pub struct Room {
     pub bytes: usize,
     pub fault: ErrorKind,
+    pub is_terminal: bool,
 }
 
 /// An output that keeps what it takes.
@@ -69,5 +70,11 @@ impl Write for Output {
 
     fn flush(&mut self) -> io::Result<()> {
         Ok(())
+    }
+}
+
+impl IsTerminal for Output {
+    fn is_terminal(&self) -> bool {
+        self.room.is_terminal
     }
 }

@@ -5,4 +5,4 @@ mod files;
 mod payloads;
 
 pub use files::PayloadFiles;
-pub use payloads::{PayloadFault, payloads_of, read_payloads};
+pub use payloads::read_payloads;

@@ -16,15 +16,6 @@ use std::io;
 /// One byte more than the largest RAM has. No more of a file is read, since a longer one is refused in the same way.
 const MOST_BYTES: u64 = 1_048_577;
 
-/// A payload file that could not be read.
-#[derive(Drop)]
-pub struct PayloadFault {
-    /// Whose payload it is.
-    pub slot: Slot,
-    /// Why it could not be read; `OutOfMemory` where memory was refused.
-    pub error: io::Error,
-}
-
 /// The payload of a slot: the bytes of the file that is named for it. Without a file it is empty.
 fn read_named<F: PayloadFiles>(
     alloc: Global,
@@ -41,51 +32,38 @@ fn read_named<F: PayloadFiles>(
 }
 
 /// Reads the payload of one slot into its place.
+#[tactic(auto, using(crate::proofs::FaultKinds::file_fault))]
 fn read_slot<F: PayloadFiles>(
     alloc: Global,
     files: &F,
     paths: &[Option<String>; 4],
     number: u32,
     payloads: &mut Payloads,
-) -> Result<(), PayloadFault>
+) -> Result<(), FileFault>
     requires { number < 4 }
     ensures read { OnOk result ((payload : List ℕ) × (payloads.new ≡ slice_set payloads.old number payload)
         × IsFileOf (F.bytes_at files.now) (option_map string_bytes (get_or paths.now number None)) payload) }
-    ensures failed { IfErr result (λ e. (e.slot ≡ number) × IsSome (get_or paths.now number None)) }
+    ensures failed { IfErr result (λ e. (e.fault ≡ File) ⊎ (e.fault ≡ Refused Memory)) }
+    ensures named { IfErr result (λ e. IsSome (get_or paths.now number None)) }
 {
     let slot = Slot::new(number).unwrap();
-    match read_named(alloc, files, &paths[number as usize]) {
+    let path = &paths[number as usize];
+    match read_named(alloc, files, path) {
         Ok(payload) => {
             payloads.set(slot, payload);
             Ok(())
         }
-        Err(error) => Err(PayloadFault { slot, error }),
+        Err(error) => {
+            let path = path.as_ref().map_or("", String::as_str);
+            Err(FileFault::new(alloc, path, error))
+        }
     }
 }
 
 /// Reads the payloads of the four boot slots, each from the file that is named for it, in the order of the slots. Without a
 /// file a payload is empty. A file that is longer than any RAM is cut to one byte more than the largest has.
 ///
-/// The fault is the first file that could not be read. Those after it are not read.
-pub fn payloads_of<F: PayloadFiles>(
-    alloc: Global,
-    files: &F,
-    paths: &[Option<String>; 4],
-) -> Result<Payloads, PayloadFault>
-    ensures read { IfOk result (AreFilesOf (F.bytes_at files.now) (map (option_map string_bytes) paths.now)) }
-    // Where no file is named none is at fault.
-    ensures failed { IfErr result (λ e. IsSome (get_or paths.now e.slot None)) }
-{
-    let mut payloads = Payloads::new(alloc);
-    read_slot(alloc, files, paths, 0, &mut payloads)?;
-    read_slot(alloc, files, paths, 1, &mut payloads)?;
-    read_slot(alloc, files, paths, 2, &mut payloads)?;
-    read_slot(alloc, files, paths, 3, &mut payloads)?;
-    Ok(payloads)
-}
-
-/// The payloads, as [`payloads_of`] reads them, for a program that tells its user which file could not be read, and why.
-#[tactic(auto, using(crate::proofs::FaultKinds::file_fault))]
+/// The fault is that of the first file that could not be read, and says which file and why. Those after it are not read.
 pub fn read_payloads<F: PayloadFiles>(
     alloc: Global,
     files: &F,
@@ -94,14 +72,13 @@ pub fn read_payloads<F: PayloadFiles>(
     ensures read { IfOk result (AreFilesOf (F.bytes_at files.now) (map (option_map string_bytes) paths.now)) }
     ensures four { IfOk result (λ payloads. length payloads ≡ 4) }
     ensures failed { IfErr result (λ e. (e.fault ≡ File) ⊎ (e.fault ≡ Refused Memory)) }
+    // Where no file is named none is at fault.
+    ensures named { IfErr result (λ e. (slot : ℕ) × IsSome (get_or paths.now slot None)) }
 {
-    match payloads_of(alloc, files, paths) {
-        Ok(payloads) => Ok(payloads),
-        Err(fault) => {
-            let path = paths[fault.slot.index()]
-                .as_ref()
-                .map_or("", String::as_str);
-            Err(FileFault::new(alloc, path, fault.error))
-        }
-    }
+    let mut payloads = Payloads::new(alloc);
+    read_slot(alloc, files, paths, 0, &mut payloads)?;
+    read_slot(alloc, files, paths, 1, &mut payloads)?;
+    read_slot(alloc, files, paths, 2, &mut payloads)?;
+    read_slot(alloc, files, paths, 3, &mut payloads)?;
+    Ok(payloads)
 }
