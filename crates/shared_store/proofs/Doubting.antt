@@ -1,6 +1,6 @@
 -- What is in doubt of a life: a command puts itself there, where none was, and is then refused 6.
-use Rattle.std.proofs.Common.{◌≡◌, ◌∙◌, ◌⊎◌, ⊎_elim, inl, inr, ◌&&◌, ℕ, zero, suc, Bool, true, false, List, [], ◌∷◌, ◌++◌, Option, Some, None, Result, Ok, Err, length, refl, sym, ap, subst, arith}
-use Rattle.std.specs.Prelude.{MatchOption, IfSome, is_none, is_some, slice_get}
+use Rattle.std.proofs.Common.{◌≡◌, ◌∙◌, ◌⊎◌, ⊎_elim, inl, inr, ℕ, zero, suc, Bool, true, false, List, [], ◌∷◌, ◌++◌, Option, Some, None, Result, Ok, Err, length, refl, sym, ap, subst, arith}
+use Rattle.std.specs.Prelude.{MatchOption, IfSome, is_none, slice_get}
 use Rattle.std.specs.Option.{option_to_list}
 use Rattle.board_model.specs.Durable.{Change, Slot, Reset, Suspend, Consume, Discard, Tries, Good, Attempt}
 use Rattle.board_model.specs.Shapes.{Size}
@@ -138,24 +138,6 @@ module _ {D L : Type 0} {g : Ghosts D L} {l : Lanes L} where
 not_both : (o : Option Change) → newly_down o o ≡ false
 not_both None = refl
 not_both (Some c) = refl
-
--- none was in doubt, where one is newly so
-pub was_none : (o : Option Change) → is_none o ≡ true → entries_in (option_to_list o) ≡ []
-was_none None e = refl
-was_none (Some c) e = let no : ⊥ = cc in absurd no
-
-both_true : (a b : Bool) → a && b ≡ true → a ≡ true
-both_true true b e = refl
-both_true false b e = e
-
-pub newly_none : (old new : Option Change) (noted : List Entry) → noted ≡ entries_in (option_to_list old) → newly_down old new ≡ true → noted ≡ []
-newly_none old new noted was is = was ∙ was_none old (both_true (is_none old) (is_some new) is)
-
-pub newly_refused : (c : Change) (r : Result ℕ Refusal) (old new : Option Change) → Turns c r old new → newly_down old new ≡ true → r ≡ Err Down
-newly_refused c r old new (inl same) is =
-    let no : newly_down old new ≡ false = ap (λ (o : Option Change). newly_down old o) same ∙ not_both old in
-    let n : ⊥ = cc in absurd n
-newly_refused c r old new (inr newly) is = newly.2
 
 -- one that was acknowledged is not in doubt
 pub ok_stays : (c : Change) (n : ℕ) (old new : Option Change) → Turns c (Ok n) old new → new ≡ old
