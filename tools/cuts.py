@@ -4,8 +4,8 @@ import subprocess
 import scripts
 
 LOOKS = ("mem", "reg", "csr", "pc", "pending", "inspect")
-REFUSED = ("cut", "cutat", "cutlane", "failat", "faillane", "poke")  # 17, in a script and in a recovery
-LEFT_OUT = ("board", "format")  # no lines of a recovery
+REFUSED = ("cut", "cutat", "cutlane", "failat", "faillane", "poke", "format")  # 17, in a recovery
+NO_LINE = ("board",)  # 14
 FILLS = ("00", "ff", "alt", "old", "new")
 
 
@@ -42,7 +42,7 @@ def recovery_of(text):
         word = line.split(" ")[0]
         if word in REFUSED:
             raise Fault(f"refusal 17: line {number} of the recovery is a {word}")
-        if word in LEFT_OUT:
+        if word in NO_LINE:
             raise Fault(f"refusal 14: line {number} of the recovery is a {word}")
     return lines
 
