@@ -7,12 +7,12 @@ use Rattle.script_lang.specs.declared.line.Line.TheVariants as lines
 use Rattle.script_lang.specs.Lines.{turns_in}
 use Rattle.bench_orders.specs.Orders.{other_count, IsTurn, named, more_turns, seen_by, AreOrderOf}
 
-no_more : (those : List Line) → more_turns 0 those ≡ those
+pub no_more : (those : List Line) → more_turns 0 those ≡ those
 no_more [] = refl
 no_more (lines.Turn by n ∷ others) = ap (λ k. lines.Turn by k ∷ others) (omega arith)
 no_more (line ∷ others) = refl
 
-more_twice : (a b : ℕ) (those : List Line) → more_turns a (more_turns b those) ≡ more_turns (a + b) those
+pub more_twice : (a b : ℕ) (those : List Line) → more_turns a (more_turns b those) ≡ more_turns (a + b) those
 more_twice a b [] = refl
 more_twice a b (lines.Turn by n ∷ others) = ap (λ k. lines.Turn by k ∷ others) (omega arith)
 more_twice a b (line ∷ others) = refl

@@ -1,2 +1,3 @@
 pub mod Deals
 pub mod Orders
+pub mod Preempted

@@ -5,11 +5,13 @@ mod copies;
 mod deal;
 mod draws;
 mod laws;
+mod preempted;
 mod quotas;
 mod rows;
 mod schedules;
 
-pub use laws::{orders_keep_lines, rows_may_change};
+pub use laws::{orders_keep_lines, preemptions_are_orders, rows_may_change};
+pub use preempted::parted;
 pub use quotas::{Front, harts, total};
 pub use rows::is_turn;
 pub use schedules::{generator, schedule};

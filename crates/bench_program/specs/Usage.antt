@@ -17,7 +17,7 @@ use Rattle.command_line.specs.declared.NoWork.{NoWork}
 use Rattle.bench_program.specs.declared.usage.Bench.TheVariants.{Sweep, Faults}
 use Rattle.bench_program.specs.declared.usage.Options.{Options}
 use Rattle.bench_program.specs.declared.usage.Work.{Work}
-use Rattle.bench_program.specs.declared.usage.Work.TheVariants.{Report, Judge, Compare, Show}
+use Rattle.bench_program.specs.declared.usage.Work.TheVariants.{Report, Judge, Compare, Show, Preempt}
 use Rattle.bench_program.specs.declared.usage.Savers.{Savers}
 use Rattle.bench_program.specs.declared.usage.Savers.TheVariants.{Turns, Threads}
 use lib.Chars.{codes}
@@ -41,11 +41,15 @@ abbrev pub with_schedules : App → App
 with_schedules app =
     with_rule (with_rule (with_rule app (count_rule (codes "schedules"))) (option_rule (codes "seed"))) (count_rule (codes "show"))
 
+abbrev pub with_preemptions : App → App
+with_preemptions app = with_rule (with_rule app (count_rule (codes "preemptions"))) (flag_rule (codes "first"))
+
 abbrev pub sbibench : ValueParser → App
 sbibench crews =
     with_payloads
+    (with_preemptions
     (with_schedules
-    (with_rule (with_rule (with_rule (named_app (codes "sbibench")) (crew_rule crews)) (flag_rule (codes "sweep"))) (flag_rule (codes "faults"))))
+    (with_rule (with_rule (with_rule (named_app (codes "sbibench")) (crew_rule crews)) (flag_rule (codes "sweep"))) (flag_rule (codes "faults")))))
 
 -- the payload files, by their paths
 abbrev pub payload_files : Options → List (Option (List ℕ))
@@ -114,10 +118,34 @@ abbrev pub work_named : Bool → Bool → Option (List ℕ) → Option (List ℕ
 work_named sweep faults None seed show savers = without_schedules seed show (work_of_flags sweep faults savers)
 work_named sweep faults (Some runs) seed show savers = without_benches sweep faults (schedules_named runs seed show)
 
-abbrev pub work_asked : Found → Bool → Bool → Option Work
-work_asked f sweep faults =
+abbrev pub work_without : Found → Bool → Bool → Option Work
+work_without f sweep faults =
     work_named sweep faults (first_value f (codes "schedules")) (first_value f (codes "seed")) (first_value f (codes "show"))
     (savers_of (first_value f (codes "crew")))
+
+-- what is to be done with orders that have few preemptions, by the word of `--preemptions` and by `--first`: so many is 1
+abbrev pub preemptions_by : Option ℕ → Bool → Option Work
+preemptions_by None first = None
+preemptions_by (Some k) first = Some (Preempt first)
+
+abbrev pub preemptions_named : List ℕ → Bool → Option Work
+preemptions_named word first = preemptions_by (number_up_to 1 (number_of word)) first
+
+-- no option of schedules stands beside it
+abbrev pub without_options : Option (List ℕ) → Option (List ℕ) → Option (List ℕ) → Option Work → Option Work
+without_options None seed show work = without_schedules seed show work
+without_options (Some runs) seed show work = None
+
+-- what is to be done, by the word of `--preemptions`, and without it by the other words; `--first` goes with it alone
+abbrev pub work_by : Option (List ℕ) → Found → Bool → Bool → Bool → Option Work
+work_by None f sweep faults true = None
+work_by None f sweep faults false = work_without f sweep faults
+work_by (Some word) f sweep faults first =
+    without_benches sweep faults
+    (without_options (first_value f (codes "schedules")) (first_value f (codes "seed")) (first_value f (codes "show")) (preemptions_named word first))
+
+abbrev pub work_asked : Found → Bool → Bool → Bool → Option Work
+work_asked f sweep faults first = work_by (first_value f (codes "preemptions")) f sweep faults first
 
 -- the bench of schedules runs at most so many
 abbrev pub IsBounded : Work → Type 0
@@ -126,10 +154,10 @@ IsBounded work = ⊤
 
 -- what the words of a command line name, as the command's parser reads them: one work
 abbrev pub IsNamedBy : List (List ℕ) → Options → Type 0
-IsNamedBy words options = (crews : ValueParser) × (f : Found) × (sweep faults : Bool)
+IsNamedBy words options = (crews : ValueParser) × (f : Found) × (sweep faults first : Bool)
     × AreParsed (sbibench crews) words f
-    × IsFlag f (codes "sweep") sweep × IsFlag f (codes "faults") faults
-    × (work_asked f sweep faults ≡ Some options.work)
+    × IsFlag f (codes "sweep") sweep × IsFlag f (codes "faults") faults × IsFlag f (codes "first") first
+    × (work_asked f sweep faults first ≡ Some options.work)
     × (payload_files options ≡ payload_paths f)
 
 -- The words name no work, for that reason: the command's parser refuses them, by an error that shows what they ask to be shown
@@ -140,7 +168,7 @@ NamesNoWork words why =
 
 -- or they name no one work: two, or an option of schedules without them, or out of its range
 abbrev pub NamesConflict : List (List ℕ) → Type 0
-NamesConflict words = (crews : ValueParser) × (f : Found) × (sweep faults : Bool)
+NamesConflict words = (crews : ValueParser) × (f : Found) × (sweep faults first : Bool)
     × AreParsed (sbibench crews) words f
-    × IsFlag f (codes "sweep") sweep × IsFlag f (codes "faults") faults
-    × (work_asked f sweep faults ≡ None)
+    × IsFlag f (codes "sweep") sweep × IsFlag f (codes "faults") faults × IsFlag f (codes "first") first
+    × (work_asked f sweep faults first ≡ None)

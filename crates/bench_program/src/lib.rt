@@ -17,13 +17,14 @@ ghost use Rattle.bench_program.specs.declared.fault.BenchFault.TheVariants.{Inpu
 ghost use Rattle.script_lang.specs.Scripts.{script_of, Script as Said};
 ghost use Rattle.bench_sweep.specs.Swept.{IsBenchOf, IsNotPlain, NoBenchRuns};
 ghost use Rattle.bench_program.specs.Benches.{judged};
-ghost use Rattle.bench_program.specs.Written.{IsCompared, IsReadOf, IsReported, IsShown};
+ghost use Rattle.bench_program.specs.Written.{IsCompared, IsPreempted, IsReadOf, IsReported, IsShown};
 
 pub use crate::fault::BenchFault;
 pub use crate::streams::run_on;
 use crate::streams::{end, without_work};
 use crate::usage::USAGE;
 pub use crate::usage::{Bench, Drawn, Options, Savers, Work, options_of};
+use bench_preemptions::{Preempted, preemptions};
 use bench_report::run_with;
 use bench_schedules::{Compared, schedules, show};
 use bench_sweep::{Bench as Swept, Sweep, run_bench};
@@ -207,6 +208,35 @@ pub fn write_schedule<R: Threads + Sync, W: Write + Drop>(
     show::<R, BufWriter<W>>(alloc, script, payloads, drawn.seed, drawn.number, out)?;
     match out.flush() {
         Ok(()) => Ok(()),
+        Err(_) => Err(Refusal::Output),
+    }
+}
+
+/// Runs all orders of the script with one preemption, with these payloads in the slots, and writes which differ, to the end.
+///
+/// Refused as `bench_preemptions::preemptions` is, and `Output` also where what the writer held back could not be written.
+pub fn write_preemptions<R: Threads + Sync, W: Write + Drop>(
+    alloc: Global,
+    script: &[u8],
+    first: bool,
+    payloads: &Payloads,
+    out: &mut BufWriter<W>,
+) -> Result<Preempted, Refusal>
+    // The script was run, and its orders with one preemption. Where none differs, each of them answers as the script does.
+    ensures wrote { IfOk result (λ count. IsPreempted first payloads.now script.now
+        (writer_contents W.contents out.old) (writer_contents W.contents out.new) count.differ) }
+    // Nothing of it is held back.
+    ensures flushed { OnOk result (writer_buffer out.new ≡ []) }
+    // A refusal is the script's fault, or out of memory, or the writer's.
+    ensures refused { IfErr result (λ e. (e ≡ Refusal.Memory) ⊎ (e ≡ Refusal.Output) ⊎ (script_of script.now ≡ Err e)) }
+    // A script with a fault writes nothing.
+    ensures nothing { (e : Refusal) → script_of script.now ≡ Err e
+        → (writer_contents W.contents out.new ≡ writer_contents W.contents out.old)
+        × ((result ≡ Err e) ⊎ (result ≡ Err Refusal.Memory)) }
+{
+    let count = preemptions::<R, BufWriter<W>>(alloc, script, payloads, first, out)?;
+    match out.flush() {
+        Ok(()) => Ok(count),
         Err(_) => Err(Refusal::Output),
     }
 }

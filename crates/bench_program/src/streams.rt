@@ -11,12 +11,14 @@ ghost use Rattle.bench_program.specs.Written.{AreDone, AreWrong, IsDone, IsFault
 ghost use Rattle.bench_program.specs.declared.fault.BenchFault.{BenchFault};
 ghost use Rattle.bench_program.specs.declared.fault.BenchFault.TheVariants.{Closed, Input, Refused, Wrong};
 ghost use Rattle.bench_program.specs.declared.usage.Savers.{Savers};
-ghost use Rattle.bench_program.specs.declared.usage.Work.TheVariants.{Compare, Judge, Report, Show};
+ghost use Rattle.bench_program.specs.declared.usage.Work.TheVariants.{Compare, Judge, Report, Show, Preempt};
 ghost use Rattle.script_lang.specs.Scripts.{script_of};
 
 use crate::fault::{BenchFault, status_of};
 use crate::usage::{Bench, Drawn, Options, Savers, Work, options_of};
-use crate::{read_script, write_bench, write_report, write_schedule, write_schedules};
+use crate::{
+    read_script, write_bench, write_preemptions, write_report, write_schedule, write_schedules,
+};
 use board::Payloads;
 use board_model::Refusal;
 use command_line::{FileFault, NoWork, Pipe, ProgramFault, explain_fault, show_on, tell_fault};
@@ -161,6 +163,29 @@ fn show_schedule<R: Threads + Sync, O: Write + Drop>(
     }
 }
 
+/// Runs all orders of the script with one preemption, and writes which differ. Each line is handed on as it is made.
+fn preempt<R: Threads + Sync, O: Write + Drop>(
+    alloc: Global,
+    first: bool,
+    script: &[u8],
+    payloads: &Payloads,
+    out: &mut BufWriter<Pipe<O>>,
+) -> Result<(), BenchFault>
+    ensures written { OnOk result (IsWritten (Preempt first) payloads.now script.now
+        (writer_contents (pipe_contents O.contents) out.old) (writer_contents (pipe_contents O.contents) out.new)) }
+    ensures flushed { OnOk result (writer_buffer out.new ≡ []) }
+    ensures wrong { result ≡ Err Wrong → TellsWrong (Preempt first) payloads.now script.now
+        (writer_contents (pipe_contents O.contents) out.old) (writer_contents (pipe_contents O.contents) out.new) }
+    ensures told { result ≡ Err Wrong → writer_buffer out.new ≡ [] }
+    ensures faults { IfErr result (λ fault. IsFaultIn (Preempt first) script.now fault) }
+{
+    match write_preemptions::<R, Pipe<O>>(alloc, script, first, payloads, out) {
+        Ok(count) if count.differ == 0 => Ok(()),
+        Ok(_) => Err(BenchFault::Wrong),
+        Err(e) => Err(fault_of(e, out)),
+    }
+}
+
 /// How the program ends where the command line asks for no work.
 pub fn without_work(why: NoWork) -> Result<(), BenchFault>
     ensures { result ≡ without_work why }
@@ -230,6 +255,7 @@ fn run_work<R: Threads + Sync, I: Read + Drop, O: Write + Drop>(
         Work::Judge(bench) => judge::<R, O>(alloc, bench, &script, payloads, out),
         Work::Compare(drawn) => compare::<R, O>(alloc, drawn, &script, &payloads, out),
         Work::Show(drawn) => show_schedule::<R, O>(alloc, drawn, &script, &payloads, out),
+        Work::Preempt(first) => preempt::<R, O>(alloc, first, &script, &payloads, out),
     }
 }
 

@@ -7,7 +7,7 @@ ghost use Rattle.clap.specs.Words.{app_of, first_value, found_of, kind_of, rule_
 ghost use Rattle.clap.specs.declared.builder.value_parser.ValueParser.{ValueParser};
 ghost use Rattle.command_line.specs.Kinds.{no_work};
 ghost use Rattle.command_line.specs.Parses.{AreParsed};
-ghost use Rattle.bench_program.specs.Usage.{number_up_to, count_rule, crew_rule, work_of_flags, schedules_named, savers_of, sbibench, seed_of, IsBounded, compare_or_show, without_benches, with_schedules, work_asked, IsFlag, IsNamedBy, NamesConflict, NamesNoWork};
+ghost use Rattle.bench_program.specs.Usage.{number_up_to, count_rule, crew_rule, work_of_flags, schedules_named, preemptions_named, without_options, savers_of, sbibench, seed_of, IsBounded, compare_or_show, without_benches, with_preemptions, with_schedules, work_asked, work_without, IsFlag, IsNamedBy, NamesConflict, NamesNoWork};
 
 use board_model::refusal_lines;
 use clap::builder::ValueParser;
@@ -32,6 +32,8 @@ each run a power-on that must find what the disk was told to keep.
 With --schedules the script runs N times more, each time with the turns of its
 harts in another order, and the first line that each run reports otherwise is
 told. --show writes the script of one of those orders, to be run again.
+With --preemptions it runs in every order in which one row of turns is parted
+before a turn that does something, and its rest is put off.
 
 A payload too long for a line of the script comes from a file, by --p0 to --p3:
 its slot boots it until a line 'payload' says otherwise.";
@@ -49,8 +51,8 @@ Status:
      for failed input 'sbibench: input', for a payload file that could not be
      read 'sbibench: file', and nothing where no one reads the report
   2  a fault of the command line
-  3  a bench found something wrong, or a schedule another report: its last line
-     counts how often
+  3  a bench found something wrong, or a schedule or an order another report:
+     its last line counts how often
 
 Refusals, on standard error and in reports:
 ",
@@ -99,6 +101,15 @@ const SEED: &str = "seed";
 /// The option that shows one of them.
 const SHOW: &str = "show";
 
+/// The option that says how many preemptions an order has at most.
+const PREEMPTIONS: &str = "preemptions";
+
+/// The flag by which the first order that differs is the last.
+const FIRST: &str = "first";
+
+/// The most preemptions of an order.
+const MOST_PREEMPTIONS: u64 = 1;
+
 /// The most schedules of one run of the bench.
 const MOST_SCHEDULES: u64 = 1_000_000;
 
@@ -113,6 +124,9 @@ pub enum Work {
     Compare(Drawn),
     /// One schedule, written as a script. `number` is which.
     Show(Drawn),
+    /// All orders of the script with one preemption, each compared with the script's own run; or as many as there are up to the
+    /// first that differs.
+    Preempt(bool),
 }
 
 /// Schedules are drawn from a seed, and have numbers from 1 on.
@@ -183,6 +197,18 @@ fn with_schedules<'a>(alloc: Global, command: Command<'a>) -> Result<Command<'a>
         .arg(count(alloc, SHOW, "K", show))
 }
 
+/// The command with the options of orders that have few preemptions.
+fn with_preemptions<'a>(alloc: Global, command: Command<'a>) -> Result<Command<'a>, AllocError>
+    ensures { IfOk result (λ c. app_of c ≡ with_preemptions (app_of command.entry)) }
+{
+    let preemptions =
+        "Runs all orders with at most K preemptions, K being 1, and tells which report otherwise";
+    let first = "Ends at the first order that reports otherwise";
+    command
+        .arg(count(alloc, PREEMPTIONS, "K", preemptions))?
+        .arg(flag(alloc, FIRST, first))
+}
+
 fn command<'a>(alloc: Global) -> Result<Command<'a>, AllocError>
     ensures { IfOk result (λ c. (crews : ValueParser) × (app_of c ≡ sbibench crews)) }
 {
@@ -193,6 +219,7 @@ fn command<'a>(alloc: Global) -> Result<Command<'a>, AllocError>
         .arg(flag(alloc, SWEEP, sweep))?
         .arg(flag(alloc, FAULTS, faults))?;
     let command = with_schedules(alloc, command)?;
+    let command = with_preemptions(alloc, command)?;
     with_payloads(alloc, command)
 }
 
@@ -285,15 +312,39 @@ fn schedules_alone(
     schedules_named(runs, seed, show)
 }
 
-/// The one work that is asked for. None where there are two, or where `--seed` or `--show` stands without `--schedules`.
-fn work_asked(matches: &ArgMatches<'_>) -> Option<Work>
-    ensures value { (sweep faults : Bool) × IsFlag (found_of matches.now) (codes "sweep") sweep
-        × IsFlag (found_of matches.now) (codes "faults") faults
-        × (result ≡ work_asked (found_of matches.now) sweep faults) }
+/// The work over orders with few preemptions, by the word that says how many. None where that is out of its range.
+fn preemptions_named(word: &str, first: bool) -> Option<Work>
+    ensures value { result ≡ preemptions_named word.now first }
     ensures most { IfSome result (λ work. IsBounded work) }
 {
-    let sweep = matches.get_flag(SWEEP);
-    let faults = matches.get_flag(FAULTS);
+    number_up_to(MOST_PREEMPTIONS, word)?;
+    Some(Work::Preempt(first))
+}
+
+/// That work, beside which no option of schedules may stand. None where one does.
+fn without_options(
+    runs: Option<&str>,
+    seed: Option<&str>,
+    show: Option<&str>,
+    word: &str,
+    first: bool,
+) -> Option<Work>
+    ensures value { result ≡ without_options (option_map (λ s. s.now) runs.entry) (option_map (λ s. s.now) seed.entry)
+        (option_map (λ s. s.now) show.entry) (preemptions_named word.now first) }
+    ensures most { IfSome result (λ work. IsBounded work) }
+{
+    if runs.is_some() || seed.is_some() || show.is_some() {
+        return None;
+    }
+    preemptions_named(word, first)
+}
+
+/// The one work that is asked for without preemptions. None where there are two, or where `--seed` or `--show` stands without
+/// `--schedules`.
+fn work_without(matches: &ArgMatches<'_>, sweep: bool, faults: bool) -> Option<Work>
+    ensures value { result ≡ work_without (found_of matches.now) sweep faults }
+    ensures most { IfSome result (λ work. IsBounded work) }
+{
     let seed = matches.get_str(SEED);
     let show = matches.get_str(SHOW);
     match matches.get_str(SCHEDULES) {
@@ -307,8 +358,43 @@ fn work_asked(matches: &ArgMatches<'_>) -> Option<Work>
     }
 }
 
+/// The one work that is asked for. None where there are two, or where an option stands without the one that it goes with.
+fn work_asked(matches: &ArgMatches<'_>) -> Option<Work>
+    ensures value { (sweep faults first : Bool) × IsFlag (found_of matches.now) (codes "sweep") sweep
+        × IsFlag (found_of matches.now) (codes "faults") faults × IsFlag (found_of matches.now) (codes "first") first
+        × (result ≡ work_asked (found_of matches.now) sweep faults first) }
+    ensures most { IfSome result (λ work. IsBounded work) }
+{
+    let sweep = matches.get_flag(SWEEP);
+    let faults = matches.get_flag(FAULTS);
+    let first = matches.get_flag(FIRST);
+    match matches.get_str(PREEMPTIONS) {
+        None => {
+            if first {
+                return None;
+            }
+            work_without(matches, sweep, faults)
+        }
+        Some(word) => {
+            if sweep || faults {
+                return None;
+            }
+            let runs = matches.get_str(SCHEDULES);
+            let seed = matches.get_str(SEED);
+            let show = matches.get_str(SHOW);
+            without_options(runs, seed, show, word, first)
+        }
+    }
+}
+
 /// The text that says why the words name no one work.
 fn conflict(matches: &ArgMatches<'_>) -> &'static str {
+    if matches.get_str(PREEMPTIONS).is_some() {
+        return "--preemptions takes 1, and goes with --first alone";
+    }
+    if matches.get_flag(FIRST) {
+        return "--first goes with --preemptions";
+    }
     if matches.get_str(SCHEDULES).is_none() {
         if matches.get_str(SEED).is_none() && matches.get_str(SHOW).is_none() {
             return "--sweep cannot be used with --faults";
@@ -333,14 +419,14 @@ fn parsed<'a, S: AsStr>(alloc: Global, words: &'a [S]) -> Result<ArgMatches<'a>,
 
 /// The one work that is asked for. Words that name no one work are a fault.
 fn one_work<'a>(alloc: Global, matches: &ArgMatches<'a>) -> Result<Work, Error>
-    ensures named { IfOk result (λ work. (sweep faults : Bool) × IsFlag (found_of matches.now) (codes "sweep") sweep
-        × IsFlag (found_of matches.now) (codes "faults") faults
-        × (work_asked (found_of matches.now) sweep faults ≡ Some work)) }
+    ensures named { IfOk result (λ work. (sweep faults first : Bool) × IsFlag (found_of matches.now) (codes "sweep") sweep
+        × IsFlag (found_of matches.now) (codes "faults") faults × IsFlag (found_of matches.now) (codes "first") first
+        × (work_asked (found_of matches.now) sweep faults first ≡ Some work)) }
     ensures most { IfOk result (λ work. IsBounded work) }
     ensures conflict { IfErr result (λ e. (kind_of e ≡ ErrorKind.OutOfMemory) ⊎ ((kind_of e ≡ ErrorKind.ArgumentConflict)
-        × (sweep faults : Bool) × IsFlag (found_of matches.now) (codes "sweep") sweep
-        × IsFlag (found_of matches.now) (codes "faults") faults
-        × (work_asked (found_of matches.now) sweep faults ≡ None))) }
+        × (sweep faults first : Bool) × IsFlag (found_of matches.now) (codes "sweep") sweep
+        × IsFlag (found_of matches.now) (codes "faults") faults × IsFlag (found_of matches.now) (codes "first") first
+        × (work_asked (found_of matches.now) sweep faults first ≡ None))) }
 {
     match work_asked(matches) {
         Some(work) => Ok(work),

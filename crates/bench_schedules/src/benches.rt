@@ -14,7 +14,7 @@ ghost use Rattle.bench_schedules.specs.Schedules.{Ran, RanOwn, RunText, Shown, W
 ghost use Rattle.std.specs.Prelude.{List, ◌∷◌, []};
 
 use crate::lines_fit::fits;
-use crate::numbers::{number_at, number_of_other, numbers};
+use crate::numbers::{line_numbers, number_at, number_of_other};
 use crate::own_runs::{OwnRun, run_own};
 use crate::runs::{Difference, run_confirmed, run_until};
 use crate::scripts::write_script;
@@ -180,7 +180,7 @@ fn shape_in_range(shape: &Shape)
 
 /// The script's own run. It is made twice: where the second one answers otherwise, memory was refused in one of them, and so
 /// is the bench. Refused `Memory` alone.
-fn confirmed_own_run<C: Crew>(
+pub fn confirmed_own_run<C: Crew>(
     setting: &Setting<'_, C>,
     payloads: &Payloads,
     lines: &[Line],
@@ -317,7 +317,7 @@ pub fn schedules<R: Threads + Sync, W: Write>(
         → (W.contents out.new ≡ W.contents out.old) × ((result ≡ Err e) ⊎ (result ≡ Err Memory)) }
 {
     let read = parse_script(alloc, script)?;
-    let numbers = numbers(alloc, script)?;
+    let numbers = line_numbers(alloc, script)?;
     let differ = compare_script::<R, W>(alloc, &read, payloads, &numbers, n, seed, out)?;
     Ok(Compared { runs: n, differ })
 }

@@ -13,5 +13,10 @@ mod stretches;
 mod told;
 mod written;
 
-pub use benches::{Compared, schedules, show};
-pub use runs::Difference;
+pub use benches::{Compared, confirmed_own_run, schedules, show};
+pub use line_runs::{end_run, run_line};
+pub use numbers::{line_numbers, number_at, number_of_other};
+pub use own_runs::OwnRun;
+pub use runs::{Difference, run_confirmed};
+pub use stretches::Stretches;
+pub use told::{Apart, ToldLine, first_apart};

@@ -37,7 +37,7 @@ fn numbers_in(alloc: Global, lines: &[&[u8]]) -> Result<Vec<u64>, AllocError>
 }
 
 /// The numbers of the lines of a script that are not passed over, counted from 1: first that of the board line.
-pub fn numbers(alloc: Global, script: &[u8]) -> Result<Vec<u64>, AllocError>
+pub fn line_numbers(alloc: Global, script: &[u8]) -> Result<Vec<u64>, AllocError>
     ensures { IfOk result (λ v. v.items ≡ numbers_of script.now) }
 {
     let parts = parts(alloc, script)?;

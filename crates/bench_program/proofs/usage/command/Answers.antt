@@ -2,7 +2,7 @@ use Rattle.std.proofs.Common.{◌∙◌, ap, ap₂}
 use Rattle.std.proofs.lemmas.Result.{IfOk-weaker}
 use Rattle.clap.specs.Words.{with_rule}
 use Rattle.command_line.specs.Options.{with_payloads}
-use Rattle.bench_program.specs.Usage.{with_schedules}
+use Rattle.bench_program.specs.Usage.{with_preemptions, with_schedules}
 use Rattle.bench_program.proofs.usage.command.Goals as goal
 
 pub returns : goal.returns
@@ -12,4 +12,5 @@ returns c =
     let two = c.in_ok-arg-2.ensures.shape c.flag.ensures.local ∙ ap₂ with_rule one c.flag.ensures.rule in
     let three = c.in_ok-command.ensures.shape c.flag-2.ensures.local ∙ ap₂ with_rule two c.flag-2.ensures.rule in
     let four = c.in_ok-command-2.ensures ∙ ap with_schedules three in
-    IfOk-weaker c.with_payloads.result _ _ (λ r h. (crews, h ∙ ap with_payloads four)) c.with_payloads.ensures
+    let five = c.in_ok-command-3.ensures ∙ ap with_preemptions four in
+    IfOk-weaker c.with_payloads.result _ _ (λ r h. (crews, h ∙ ap with_payloads five)) c.with_payloads.ensures

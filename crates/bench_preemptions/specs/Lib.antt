@@ -1,0 +1,3 @@
+pub mod Stepped
+pub mod Preemptions
+pub mod SoFar
