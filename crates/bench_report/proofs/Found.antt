@@ -48,13 +48,14 @@ use Rattle.bench_report.specs.Turns.{refused, AnswersError, HartCommand, Resets,
 use Rattle.bench_report.specs.PowerOns.{life_begun, IsBooted, BootsFrom, Begins, Boots, Opens, IsOpenRefusal}
 use Rattle.bench_report.specs.Steps.{console_reported, CallReported, GuestCall, OnStep, ConsoleStep, TurnStep, CallStep, DeedStep, Run}
 use Rattle.bench_report.specs.Reports.{AreByFirmware, IsReportWith}
-use Rattle.bench_report.specs.Prefix.{AskedLine, Boot, Command, Guest, Nothing, Keeps, Hides, TellsLine, may_hide, asked_of, asked_by, LineImplies, ShowsIts, is_format_ok}
+use Rattle.bench_report.specs.Prefix.{AskedLine, Boot, Command, Guest, Nothing, Keeps, Hides, TellsLine, may_hide, asked_of, asked_by, line_asks, LineImplies, ShowsAt, is_format_ok}
 use Rattle.bench_report.specs.AllFound.{LineMakes, ShownMakes, AreAllFound, FindAll, FindsAll}
 use Rattle.bench_report.proofs.Issues.{is_up, takes_more, GoesOn, IsSound}
 use Rattle.board.proofs.Few.{few_commands}
 use Rattle.bench_report.proofs.Rows.{commands_taken, all_or_failed}
 use Rattle.bench_report.proofs.Determined.{CalmDisk, IsCalm, DiskHasFailed, fails, kept_as}
 use Rattle.bench_report.proofs.Single.{moves_fair, run_fair, struck_fails}
+use Rattle.bench_report.proofs.Asks.{line_asks-asked_by, firmware_alone}
 use Rattle.bench_report.proofs.Prefixed.{Tell, steps, IsFresh, moves_format, either}
 
 -- ---- a board that is on stays on where its line says that it goes on
@@ -277,14 +278,19 @@ module _ (s t : DurableState) (up now : Bool) where
   makes_boot : (mode : BootMode) (x : Printed) → IsQuiet (Boot mode) x now → (IsRefusedLine x → t ≡ s) → LineImplies (Boot mode) x s up t now → LineMakes (Boot mode) x s t
   makes_boot mode (printed.On m) q same h = (h.0, h.2, h.4)
   makes_boot mode (printed.OnRefused n) q same h = same tt
+  makes_boot mode (printed.Acknowledged word k) q same h = absurd h
+  makes_boot mode (printed.CommandRefused word n) q same h = absurd h
+  makes_boot mode printed.Formatted q same h = absurd h
   makes_boot mode printed.PowerLost q same h = absurd q
   makes_boot mode x q same h = h.0
 
   makes_command : (c : Change) (x : Printed) → IsQuiet (Command c) x now → LineImplies (Command c) x s up t now → LineMakes (Command c) x s t
   makes_command c (printed.Acknowledged word k) q h = h.1
-  makes_command c (printed.CommandRefused word n) q (inl h) = h.1
-  makes_command c (printed.CommandRefused word n) q (inr h) = not_now now q h.1
+  makes_command c (printed.CommandRefused word n) q (inl h, same) = h.1
+  makes_command c (printed.CommandRefused word n) q (inr h, same) = not_now now q h.1
   makes_command c (printed.On m) q h = absurd h
+  makes_command c (printed.OnRefused n) q h = absurd h
+  makes_command c printed.Formatted q h = absurd h
   makes_command c printed.PowerLost q h = absurd q
   makes_command c x q h = h.0
 
@@ -304,11 +310,19 @@ module _ (s t : DurableState) (up now : Bool) where
   makes_guest : (x : Printed) → IsQuiet Guest x now → LineImplies Guest x s up t now → LineMakes Guest x s t
   makes_guest (printed.Shown line) q h = makes_shown line q h
   makes_guest (printed.On m) q h = absurd h
+  makes_guest (printed.OnRefused n) q h = absurd h
+  makes_guest (printed.Acknowledged word k) q h = absurd h
+  makes_guest (printed.CommandRefused word n) q h = absurd h
+  makes_guest printed.Formatted q h = absurd h
   makes_guest printed.PowerLost q h = absurd q
   makes_guest x q h = h.0
 
   makes_nothing : (x : Printed) → LineImplies Nothing x s up t now → LineMakes Nothing x s t
   makes_nothing (printed.On m) h = absurd h
+  makes_nothing (printed.OnRefused n) h = absurd h
+  makes_nothing (printed.Acknowledged word k) h = absurd h
+  makes_nothing (printed.CommandRefused word n) h = absurd h
+  makes_nothing printed.Formatted h = absurd h
   makes_nothing x h = h.0
 
   makes : (asked : AskedLine) (x : Printed) → IsQuiet asked x now → (IsRefusedBoot asked x → t ≡ s) → LineImplies asked x s up t now → LineMakes asked x s t
@@ -323,12 +337,12 @@ alone k s calm (changes, inl e, is) = is ∙ ap found_of e
 alone k s calm (changes, inr e, is) = let P : Option Change → Type 0 = λ d. TakesIn d k.changes changes in absurd (subst P calm e)
 
 line_found : (asked : AskedLine) (b : Bench) (a : Answer) (new : Bench) → b.kept.doubt ≡ None → Tell asked b a new → IsQuiet asked a.line (is_up new.power) → (IsRefusedBoot asked a.line → IsStill b new)
-    → ShowsIts a.found (found_of b.kept.changes) × LineMakes asked a.line (found_of b.kept.changes) (found_of new.kept.changes)
+    → ShowsAt a (found_of b.kept.changes) × LineMakes asked a.line (found_of b.kept.changes) (found_of new.kept.changes)
 line_found asked b a new calm tell q stays =
     let t : DurableState = found_of new.kept.changes in
     let was = tell.1 t (new.kept.changes, inl refl, refl) in
     let same : was.0 ≡ found_of b.kept.changes = alone b.kept was.0 calm was.1 in
-    let P : DurableState → Type 0 = λ s. ShowsIts a.found s × LineMakes asked a.line s t in
+    let P : DurableState → Type 0 = λ s. ShowsAt a s × LineMakes asked a.line s t in
     subst P same (was.2.0, makes was.0 t (is_up b.power) (is_up new.power) asked a.line q (λ refused. ap found_of (stays refused) ∙ sym same) was.2.1)
 
 abbrev pub IsWell : Bench → Type 0
@@ -338,9 +352,9 @@ run_found : (size : Size) (ls : List Line) (b : Bench) (answers : List Answer) (
 run_found size [] b [] end by sound calm well run = tt
 run_found size (l ∷ ls) b (a ∷ answers) end by sound calm well (new, inr (would, mid, x, struck, e, is), run) =
     let P : Bench → Type 0 = DiskHasFailed in
-    absurd (well ((run_fair size ls new answers end by.1 run).2 (subst P (sym is) (struck_fails size (deed_of l) b would mid by.0 calm x struck))))
+    absurd (well ((run_fair size ls new answers end by.1 run).2 (subst P (sym is) (struck_fails size (deed_of l) b would mid (firmware_alone l by.0) calm x struck))))
 run_found size (l ∷ ls) b (a ∷ answers) end by sound calm well (new, inl (x, unstruck), run) =
-    by_calm ((moves_fair size (deed_of l) b a new by.0 (inl (x, unstruck))).1 calm) (λ sound c. run_found size ls new answers end by.1 sound c well run)
+    by_calm ((moves_fair size (deed_of l) b a new (firmware_alone l by.0) (inl (x, unstruck))).1 calm) (λ sound c. run_found size ls new answers end by.1 sound c well run)
   where
     well_now : IsWell new
     well_now s = well ((run_fair size ls new answers end by.1 run).2 s)
@@ -348,12 +362,13 @@ run_found size (l ∷ ls) b (a ∷ answers) end by sound calm well (new, inl (x,
     by_calm : DiskHasFailed new ⊎ IsCalm new → (IsSound new → IsCalm new → AreAllFound (found_of new.kept.changes) ls answers) → AreAllFound (found_of b.kept.changes) (l ∷ ls) (a ∷ answers)
     by_calm (inl s) more = absurd (well_now s)
     by_calm (inr c) more =
-        let tell : Tell (asked_by l) b a new = steps size (deed_of l) b a new by.0 sound x in
+        let tell : Tell (asked_by l) b a new = steps size (deed_of l) b a new (firmware_alone l by.0) sound x in
         let now_calm : new.kept.doubt ≡ None = subst (λ m. CalmDisk m new.kept.doubt) tell.0.0 c.0 in
         let was_calm : b.kept.doubt ≡ None = subst (λ m. CalmDisk m b.kept.doubt) sound.0 calm.0 in
         let q = step_quiet size (deed_of l) b a new sound (λ on. up_now new.kept new.power tell.0.1 now_calm on) x in
         let one = line_found (asked_by l) b a new was_calm tell q (λ refused. step_still size (deed_of l) b a new calm well_now x refused) in
-        (one.0, found_of new.kept.changes, one.1, more tell.0 c)
+        let M : AskedLine → Type 0 = λ asked. LineMakes asked a.line (found_of b.kept.changes) (found_of new.kept.changes) in
+        (one.0, found_of new.kept.changes, subst M (sym (line_asks-asked_by l)) one.1, more tell.0 c)
 run_found size [] b (a ∷ answers) end by sound calm well run = absurd run
 run_found size (l ∷ ls) b [] end by sound calm well run = absurd run
 
@@ -365,7 +380,7 @@ anew_found size ls b answers end by (disk_state, kept, on) calm well run =
 from_format : (size : Size) (ls : List Line) (b : Bench) (answers : List Answer) (end : Bench) → AreByFirmware ls → IsCalm b → IsWell end → Run size b ls answers end → FindAll ls answers
 from_format size [] b answers end by calm well run = tt
 from_format size (l ∷ ls) b [] end by calm well run = absurd run
-from_format size (l ∷ ls) b (a ∷ answers) end by calm well run = by_calm ((moves_fair size (deed_of l) b a run.0 by.0 run.1).1 calm) (λ c. from_format size ls run.0 answers end by.1 c well run.2)
+from_format size (l ∷ ls) b (a ∷ answers) end by calm well run = by_calm ((moves_fair size (deed_of l) b a run.0 (firmware_alone l by.0) run.1).1 calm) (λ c. from_format size ls run.0 answers end by.1 c well run.2)
   where
     by_calm : DiskHasFailed run.0 ⊎ IsCalm run.0 → (IsCalm run.0 → FindAll ls answers) → FindAll (l ∷ ls) (a ∷ answers)
     by_calm (inl s) more = absurd (well ((run_fair size ls run.0 answers end by.1 run.2).2 s))

@@ -14,6 +14,7 @@ pub mod Ended
 pub mod Told
 pub mod Determined
 pub mod Rows
+pub mod Asks
 pub mod Beside
 pub mod Questions
 pub mod FailureFree
@@ -31,6 +32,7 @@ pub mod Prefixed
 pub mod Issues
 pub mod Allowed
 pub mod Started
+pub mod Opened
 pub mod Came
 pub mod Lines
 pub mod RunLines

@@ -36,13 +36,18 @@ lost_boot mode (printed.On m) s t up now h = all_some (commands_of mode s) s t h
 lost_boot mode (printed.OnRefused n) s t up now (a, b, inl e) = none_some (commands_of mode s) s t e
 lost_boot mode (printed.OnRefused n) s t up now (a, b, inr (inl h)) = fewer_some (commands_of mode s) s t h
 lost_boot mode (printed.OnRefused n) s t up now (a, b, inr (inr h)) = h.1
+lost_boot mode (printed.Acknowledged word k) s t up now h = absurd h
+lost_boot mode (printed.CommandRefused word n) s t up now h = absurd h
+lost_boot mode printed.Formatted s t up now h = absurd h
 lost_boot mode printed.PowerLost s t up now h = h.0
 lost_boot mode x s t up now h = none_some (commands_of mode s) s t h.0
 
 lost_command : (c : Change) (x : Printed) (s t : DurableState) (up now : Bool) → LineImplies (Command c) x s up t now → (t ≡ s) ⊎ ((up ≡ true) × TakesSome (c ∷ []) s t)
 lost_command c (printed.Acknowledged word k) s t up now h = inr (h.0, all_some (c ∷ []) s t h.1)
-lost_command c (printed.CommandRefused word n) s t up now h = lost_refused n c s t up now h
+lost_command c (printed.CommandRefused word n) s t up now h = lost_refused n c s t up now h.0
 lost_command c (printed.On m) s t up now h = absurd h
+lost_command c (printed.OnRefused n) s t up now h = absurd h
+lost_command c printed.Formatted s t up now h = absurd h
 lost_command c printed.PowerLost s t up now h = h.0
 lost_command c x s t up now h = inl h.0
 
@@ -75,11 +80,20 @@ lost_line line s t up now x = inl x.0
 lost_guest : (x : Printed) (s t : DurableState) (up now : Bool) → LineImplies Guest x s up t now → LostGuest s up t
 lost_guest (printed.Shown line) s t up now h = lost_line line s t up now h
 lost_guest (printed.On m) s t up now h = absurd h
+lost_guest (printed.OnRefused n) s t up now h = absurd h
+lost_guest (printed.Acknowledged word k) s t up now h = absurd h
+lost_guest (printed.CommandRefused word n) s t up now h = absurd h
+lost_guest printed.Formatted s t up now h = absurd h
 lost_guest printed.PowerLost s t up now h = h.0
 lost_guest x s t up now h = inl h.0
 
 lost_nothing : (x : Printed) (s t : DurableState) (up now : Bool) → LineImplies Nothing x s up t now → t ≡ s
 lost_nothing (printed.On m) s t up now h = absurd h
+lost_nothing (printed.OnRefused n) s t up now h = absurd h
+lost_nothing (printed.Acknowledged word k) s t up now h = absurd h
+lost_nothing (printed.CommandRefused word n) s t up now h = absurd h
+lost_nothing printed.Formatted s t up now h = absurd h
+lost_nothing printed.PowerLost s t up now h = h.0
 lost_nothing x s t up now h = h.0
 
 pub lost : (asked : AskedLine) (x : Printed) (s t : DurableState) (up now : Bool) → LineImplies asked x s up t now → Lost asked s up t

@@ -1,8 +1,9 @@
 -- The prefix law, one induction over the lines, backwards: the state before a line comes of the one after it,
 -- so that the fate of a command in doubt is reported by the open that settles it.
 use Rattle.board_model.specs.declared.call_words.CallWords.{CallWords}
-use Rattle.std.proofs.Common.{◌≡◌, ◌⊎◌, ℕ, ◌-◌, ◌^◌, ◌==◌, inl, inr, List, [], ◌∷◌, Option, None, Some, Result, Ok, Err, refl, sym, ◌∙◌, ap, subst, Bool, true, false, MatchBool}
+use Rattle.std.proofs.Common.{◌≡◌, ◌≢◌, ◌⊎◌, ℕ, ◌-◌, ◌^◌, ◌==◌, inl, inr, List, [], ◌∷◌, Option, None, Some, Result, Ok, Err, refl, sym, ◌∙◌, ap, subst, Bool, true, false, MatchBool}
 use Rattle.std.specs.Bool.{⊤}
+use Rattle.std.proofs.lemmas.List.Elements.{All-cons, All-nil}
 use Rattle.board_model.specs.Durable.{DurableState, Change, formatted}
 use Rattle.board_model.specs.Kept.{Kept, nothing_kept, found_of, MayKeep, MayFind}
 use Rattle.board_model.specs.Shapes.{Size}
@@ -36,13 +37,14 @@ use Rattle.bench_report.specs.Happens.{says, shows, out_of_memory, failed, on_wi
 use Rattle.bench_report.specs.PowerOns.{life_begun, commands_of, IsBooted, BootsFrom, Resumes, Begins, Boots, Opens, ShowsFound, IsOpenRefusal, PowersOn, FormatsOn}
 use Rattle.bench_report.specs.Steps.{console_reported, FormatStep, OnStep, ConsoleStep, CallReported, GuestCall, TurnStep, CallStep, DeedStep, Moves, Run}
 use Rattle.bench_report.specs.Reports.{IsByFirmware, AreByFirmware, IsReportWith}
-use Rattle.bench_report.specs.Prefix.{AskedLine, Boot, Command, Guest, Nothing, Keeps, Hides, TellsTurns, TellsLine, asked_of, asked_by, RefusedChange, Lost, LineImplies, ShowsIts, IsPrefixedTo, resumes, RisesFrom, AreLoaded, is_format_ok, IsFoundByPrefix, KeepsPrefixLawTo, KeepsPrefixLaw, MayEndIn}
+use Rattle.bench_report.specs.Prefix.{AskedLine, Boot, Command, Guest, Nothing, Keeps, Hides, TellsTurns, TellsLine, asked_of, asked_by, line_asks, RefusedChange, Lost, LineImplies, ShowsIts, ShowsBy, ShowsAt, IsPrefixedTo, resumes, RisesFrom, AreLoaded, is_format_ok, IsFoundByPrefix, KeepsPrefixLawTo, KeepsPrefixLaw, MayEndIn}
 use Rattle.bench_report.proofs.Determined.{found_as}
 use Rattle.bench_report.proofs.Refused.{WasRefused, one_life}
 use Rattle.bench_report.proofs.Unsaid.{Hidden, TellsDid, TellsOne, GoesBy, TurnsGoBy, comes_back, turns_back}
 use Rattle.bench_report.proofs.Lost.{lost}
 use Rattle.bench_report.proofs.Serials.{serials_rise}
-use Rattle.bench_report.proofs.Wholes.{IsKeptWhole, all_loaded}
+use Rattle.bench_report.proofs.Wholes.{IsKeptWhole, LoadsWhole, BootsLoad, all_loaded}
+use Rattle.bench_report.proofs.Asks.{line_asks-asked_by, firmware_alone}
 use Rattle.bench_report.proofs.Allowed.{all_issued}
 use Rattle.bench_report.proofs.Issues.{takes_more, is_up, GoesOn, IsSound, Back, joined, said, Went, Does, issued_back, AllWent, all_back}
 use Rattle.bench_report.specs.Asides.{Effect, Stays, SetsPayloads, Arms, CutsPower, WakesBoard, WritesPast, aside, affected}
@@ -51,7 +53,7 @@ use Rattle.bench_report.proofs.Questions.{IsAsked, is_asked}
 
 -- ---- a line that leaves what the disk stands for
 abbrev pub LineReports : AskedLine → Answer → Bool → Bool → DurableState → DurableState → Type 0
-LineReports asked a up now s t = ShowsIts a.found s × LineImplies asked a.line s up t now
+LineReports asked a up now s t = ShowsAt a s × LineImplies asked a.line s up t now
 
 abbrev pub Tell : AskedLine → Bench → Answer → Bench → Type 0
 Tell asked b a new = Back b new (λ s t. LineReports asked a (is_up b.power) (is_up new.power) s t)
@@ -62,6 +64,14 @@ by_eqs asked b a x new n e f h =
     let Q : Bench → Type 0 = λ m. Tell asked b x m in
     subst P (sym e) (subst Q (sym f) h)
 
+-- a line by which a board takes commands as before does not say that it is on
+unshown : (asked : AskedLine) (x : Printed) (s : DurableState) (up : Bool) → LineImplies asked x s up s up → ShowsBy x None s
+unshown (Boot mode) (printed.On m) s up h = let e : true ≡ false = sym h.3 ∙ h.1 in absurd (let no : ⊥ = cc in no)
+unshown (Command c) (printed.On m) s up h = absurd h
+unshown Guest (printed.On m) s up h = absurd h
+unshown Nothing (printed.On m) s up h = absurd h
+unshown asked x s up h = tt
+
 -- it says a word that tells of no command, and the bench is as it was to an open
 same : (asked : AskedLine) (b : Bench) (a : Answer) (x : Printed) (new n : Bench) → a ≡ says x → new ≡ n → n.kept ≡ b.kept → n.disk_state ≡ b.disk_state → is_up n.power ≡ is_up b.power → GoesOn n.kept n.power → IsSound b
     → ((s t : DurableState) → t ≡ s → LineImplies asked x s (is_up b.power) t (is_up b.power)) → Tell asked b a new
@@ -69,17 +79,18 @@ same asked b a x new n e f kept disk_state up goes sound tells =
     let P : Kept → DurableState → Type 0 = λ k t. MayFind k t in
     let Q : Bool → DurableState → Type 0 = λ now s. LineImplies asked x s (is_up b.power) s now in
     by_eqs asked b a (says x) new n e f
-    ((disk_state ∙ sound.0, goes), λ t found. (t, (let R : Kept → Type 0 = λ k. MayFind k t in subst R kept found), (tt, (let S : Bool → Type 0 = λ now. LineImplies asked x t (is_up b.power) t now in subst S (sym up) (tells t t refl)))))
+    ((disk_state ∙ sound.0, goes), λ t found. (t, (let R : Kept → Type 0 = λ k. MayFind k t in subst R kept found), (unshown asked x t (is_up b.power) (tells t t refl), (let S : Bool → Type 0 = λ now. LineImplies asked x t (is_up b.power) t now in subst S (sym up) (tells t t refl)))))
 
 stays : (asked : AskedLine) (b : Bench) (a : Answer) (x : Printed) (new : Bench) → a ≡ says x → new ≡ b → IsSound b → ((s t : DurableState) → t ≡ s → LineImplies asked x s (is_up b.power) t (is_up b.power)) → Tell asked b a new
 stays asked b a x new e f sound tells = same asked b a x new b e f refl refl refl sound.1 sound tells
 
 -- ---- power on
-by_parts : (mode : BootMode) (a : Answer) (f : Option Durable) (x : Printed) (up now : Bool) (s t : DurableState) → a.found ≡ f → a.line ≡ x → ShowsIts f s → LineImplies (Boot mode) x s up t now → LineReports (Boot mode) a up now s t
+by_parts : (mode : BootMode) (a : Answer) (f : Option Durable) (x : Printed) (up now : Bool) (s t : DurableState) → a.found ≡ f → a.line ≡ x → ShowsBy x f s → LineImplies (Boot mode) x s up t now → LineReports (Boot mode) a up now s t
 by_parts mode a f x up now s t e g shows tells =
-    let P : Option Durable → Type 0 = λ o. ShowsIts o s in
+    let P : Option Durable → Type 0 = λ o. ShowsBy x o s in
+    let R : Printed → Type 0 = λ y. ShowsBy y a.found s in
     let Q : Printed → Type 0 = λ y. LineImplies (Boot mode) y s up t now in
-    (subst P (sym e) shows, subst Q (sym g) tells)
+    (subst R (sym g) (subst P (sym e) shows), subst Q (sym g) tells)
 
 -- an open: what is found stands
 module _ (b : Bench) (changes : List Change) (may : MayKeep b.kept changes) (disk_state : b.disk_state ≡ Formatted) (on : b.power ≡ None) where
@@ -122,7 +133,7 @@ module _ (b : Bench) (changes : List Change) (may : MayKeep b.kept changes) (dis
             let s = back.1 t f in (
               s.0,
               s.1,
-              by_parts mode a _ (printed.On mode) (is_up b.power) (takes_more life.doubt) s.0 t found line (shown s.0 s.2.0) (refl, off_now, s.2.1.0, sym (ap is_up at) ∙ s.2.1.1, ap (λ (u : DurableState). boot_refusal u mode) s.2.0 ∙ allowed),
+              by_parts mode a _ (printed.On mode) (is_up b.power) (takes_more life.doubt) s.0 t found line (ap Some (shown s.0 s.2.0)) (refl, off_now, s.2.1.0, sym (ap is_up at) ∙ s.2.1.1, ap (λ (u : DurableState). boot_refusal u mode) s.2.0 ∙ allowed),
             )
             ),
       )
@@ -185,9 +196,9 @@ powers size mode b a new sound on (inr (inr (inr h))) = same (Boot mode) b a (pr
 -- ---- the other lines
 console_says : (c : ConsoleCommand) (o : Result ℕ ℕ) (b : Bench) (a : Answer) (new : Bench) → Does (console_change c) (is_up b.power) b o new → a ≡ console_reported c o → Tell (Command (console_change c)) b a new
 console_says c (Ok k) b a new one e =
-    by_eqs (Command (console_change c)) b a _ new new e refl (said b new (Went (Ok k) (console_change c) (is_up b.power) (is_up new.power)) (λ s t. LineReports (Command (console_change c)) (says (printed.Acknowledged c k)) (is_up b.power) (is_up new.power) s t) one (λ s t w. (tt, (w.0, (w.1, w.2), w.3))))
+    by_eqs (Command (console_change c)) b a _ new new e refl (said b new (Went (Ok k) (console_change c) (is_up b.power) (is_up new.power)) (λ s t. LineReports (Command (console_change c)) (says (printed.Acknowledged c k)) (is_up b.power) (is_up new.power) s t) one (λ s t w. (tt, (w.0, (w.1, w.2), w.3, refl))))
 console_says c (Err k) b a new one e =
-    by_eqs (Command (console_change c)) b a _ new new e refl (said b new (Went (Err k) (console_change c) (is_up b.power) (is_up new.power)) (λ s t. LineReports (Command (console_change c)) (says (printed.CommandRefused c k)) (is_up b.power) (is_up new.power) s t) one (λ s t w. (tt, down s t w)))
+    by_eqs (Command (console_change c)) b a _ new new e refl (said b new (Went (Err k) (console_change c) (is_up b.power) (is_up new.power)) (λ s t. LineReports (Command (console_change c)) (says (printed.CommandRefused c k)) (is_up b.power) (is_up new.power) s t) one (λ s t w. (tt, (down s t w, refl))))
   where
     down : (s t : DurableState) → Went (Err k) (console_change c) (is_up b.power) (is_up new.power) s t → RefusedChange k (console_change c) s (is_up b.power) t (is_up new.power)
     down s t (inl w) = inl w
@@ -299,9 +310,9 @@ lost_tells Guest s t up h = (h, refl)
 lost_tells Nothing s t up h = (h, refl)
 
 moves : (size : Size) (line : Line) (b : Bench) (a : Answer) (new : Bench) → IsByFirmware line → IsSound b → Moves size line b a new → Tell (asked_by line) b a new
-moves size line b a new by sound (inl h) = steps size (deed_of line) b a new by sound h.0
+moves size line b a new by sound (inl h) = steps size (deed_of line) b a new (firmware_alone line by) sound h.0
 moves size line b a new by sound (inr (would, mid, step, struck, e, is)) =
-    let reported : Tell (asked_by line) b would mid = steps size (deed_of line) b would mid by sound step in
+    let reported : Tell (asked_by line) b would mid = steps size (deed_of line) b would mid (firmware_alone line by) sound step in
     by_eqs (asked_by line) b a _ new (unpowered mid) e is
     ((reported.0.0, tt), λ t f. (let s = reported.1 t f in (s.0, s.1, (tt, lost_tells (asked_by line) s.0 t (is_up b.power) (lost (asked_by line) would.line s.0 t (is_up b.power) (is_up mid.power) s.2.1)))))
 
@@ -312,7 +323,8 @@ prefixed Ends size [] b [] end last may ends by sound run =
     let P : Bench → Type 0 = λ e. e.disk_state ≡ Formatted → MayFind e.kept last in
     (last, subst P run may sound.0, ends)
 prefixed Ends size (l ∷ ls) b (a ∷ answers) end last may ends by sound run =
-    let reported : Tell (asked_by l) b a run.0 = moves size l b a run.0 by.0 sound run.1 in
+    let T : AskedLine → Type 0 = λ asked. Tell asked b a run.0 in
+    let reported : T (line_asks l) = subst T (sym (line_asks-asked_by l)) (moves size l b a run.0 by.0 sound run.1) in
     let rest = prefixed Ends size ls run.0 answers end last may ends by.1 reported.0 run.2 in
     let s = reported.1 rest.0 rest.1 in
     (s.0, s.1, (s.2.0, rest.0, is_up run.0.power, s.2.1, rest.2))
@@ -421,9 +433,27 @@ pub moves_format : (size : Size) (line : Line) (b : Bench) (a : Answer) (new : B
 moves_format size line b a new (inl h) ok = step_formats size (deed_of line) b a new h.0 ok
 moves_format size line b a new (inr h) ok = other a _ h.4 refl ok
 
+-- no line but one that boots says that a boot was refused
+not_thirteen : (asked : AskedLine) (a : Answer) (s t : DurableState) (up now : Bool) → LineImplies asked a.line s up t now → LoadsWhole asked a → a.line ≢ printed.OnRefused 13
+not_thirteen (Boot mode) a s t up now h whole = whole
+not_thirteen (Command c) a s t up now h whole = λ is. (let P : Printed → Type 0 = λ x. LineImplies (Command c) x s up t now in subst P is h)
+not_thirteen Guest a s t up now h whole = λ is. (let P : Printed → Type 0 = λ x. LineImplies Guest x s up t now in subst P is h)
+not_thirteen Nothing a s t up now h whole = λ is. (let P : Printed → Type 0 = λ x. LineImplies Nothing x s up t now in subst P is h)
+
+abbrev IsLoaded : Answer → Type 0
+IsLoaded a = a.line ≢ printed.OnRefused 13
+
+are_loaded : (Ends : DurableState → Type 0) (ls : List Line) (answers : List Answer) (s : DurableState) (up : Bool) → IsPrefixedTo Ends s up ls answers → BootsLoad ls answers → AreLoaded answers
+are_loaded Ends [] [] s up h load = All-nil IsLoaded
+are_loaded Ends (l ∷ ls) (a ∷ answers) s up h load =
+    let L : AskedLine → Type 0 = λ asked. LoadsWhole asked a in
+    All-cons IsLoaded a answers (not_thirteen (line_asks l) a s h.1 up h.2 h.3 (subst L (sym (line_asks-asked_by l)) load.0)) (are_loaded Ends ls answers h.1 h.2 h.4 load.1)
+are_loaded Ends [] (a ∷ answers) s up h load = absurd h
+are_loaded Ends (l ∷ ls) [] s up h load = absurd h
+
 -- what is found on a disk that was just formatted
 anew : (Ends : DurableState → Type 0) (size : Size) (ls : List Line) (b : Bench) (answers : List Answer) (end : Bench) (last : DurableState) → (end.disk_state ≡ Formatted → MayFind end.kept last) → Ends last
-    → AreByFirmware ls → IsFresh b → Run size b ls answers end → IsPrefixedTo Ends formatted false ls answers × RisesFrom 0 (resumes answers) × AreLoaded ls answers
+    → AreByFirmware ls → IsFresh b → Run size b ls answers end → IsPrefixedTo Ends formatted false ls answers × RisesFrom 0 (resumes answers) × AreLoaded answers
 anew Ends size ls b answers end last may ends by (disk_state, kept, on) run =
     let F : Option BenchLife → Type 0 = λ p. GoesOn b.kept p in
     let reported = prefixed Ends size ls b answers end last may ends by (disk_state, subst F (sym on) tt) run in
@@ -431,7 +461,7 @@ anew Ends size ls b answers end last may ends by (disk_state, kept, on) run =
     let Q : Bool → Type 0 = λ up. IsPrefixedTo Ends formatted up ls answers in
     let R : Kept → Type 0 = λ k. MayFind k reported.0 in
     let law = subst Q (ap is_up on) (subst P (first reported.0 (subst R kept reported.1)) reported.2) in
-    (law, serials_rise Ends ls answers law, all_loaded size ls b answers end by (whole_anew b.kept b.power kept on) run)
+    (law, serials_rise Ends ls answers law, are_loaded Ends ls answers formatted false law (all_loaded size ls b answers end by (whole_anew b.kept b.power kept on) run))
   where
     whole_anew : (k : Kept) (p : Option BenchLife) → k ≡ nothing_kept → p ≡ None → IsKeptWhole size (record b { kept = k; power = p })
     whole_anew k p e f =
@@ -452,7 +482,7 @@ by_prefix : (Ends : DurableState → Type 0) (size : Size) (ls : List Line) (b :
 by_prefix Ends size [] b answers end last may ends by run = tt
 by_prefix Ends size (l ∷ ls) b [] end last may ends by run = absurd run
 by_prefix Ends size (l ∷ ls) b (a ∷ answers) end last may ends by run =
-    either (is_format_ok a.line) (IsPrefixedTo Ends formatted false ls answers × RisesFrom 0 (resumes answers) × AreLoaded ls answers) (IsFoundByPrefix Ends ls answers)
+    either (is_format_ok a.line) (IsPrefixedTo Ends formatted false ls answers × RisesFrom 0 (resumes answers) × AreLoaded answers) (IsFoundByPrefix Ends ls answers)
     (λ ok. anew Ends size ls run.0 answers end last may ends by.1 (moves_format size l b a run.0 run.1 ok) run.2) (by_prefix Ends size ls run.0 answers end last may ends by.1 run.2)
 
 pub ends_law : (payloads : List (List ℕ)) (Ends : DurableState → Type 0) (script : Script) (answers : List Answer) (end : Bench) (last : DurableState) → (end.disk_state ≡ Formatted → MayFind end.kept last) → Ends last

@@ -13,7 +13,7 @@ use Rattle.report_lines.specs.declared.printed.Printed.{Printed}
 use Rattle.report_lines.specs.declared.printed.Printed.TheVariants as printed
 use Rattle.bench_report.specs.PowerOns.{commands_of}
 use Rattle.bench_report.specs.Taken.{TakesAll, TakesSome}
-use Rattle.bench_report.specs.Prefix.{AskedLine, Boot, Command, Guest, Nothing, asked_by, Lost, LineImplies, ShowsIts, IsPrefixedTo, serial_then, resumed, resumes, RisesFrom}
+use Rattle.bench_report.specs.Prefix.{AskedLine, Boot, Command, Guest, Nothing, line_asks, Lost, LineImplies, ShowsIts, ShowsBy, IsPrefixedTo, serial_then, resumed, resumes, RisesFrom}
 use Rattle.bench_report.proofs.Lost.{lost}
 use Rattle.bench_report.proofs.Allowed.{all_issued}
 
@@ -69,10 +69,15 @@ line_rises (Some d) (printed.On modes.Keep) asked up now n s t rest shows h a mo
 line_rises (Some d) (printed.On modes.Discard) asked up now n s t rest shows h a more = goes_on asked (printed.On modes.Discard) up now n s t rest h a more
 line_rises (Some d) said asked up now n s t rest shows h a more = goes_on asked said up now n s t rest h a more
 
+-- what is shown is the state before the line
+shows_its : (said : Printed) (found : Option Durable) (s : DurableState) → ShowsBy said found s → ShowsIts found s
+shows_its (printed.On mode) found s is = subst (λ (o : Option Durable). ShowsIts o s) (sym is) refl
+shows_its said found s is = is
+
 rises : (Ends : DurableState → Type 0) (ls : List Line) (answers : List Answer) (n : ℕ) (s : DurableState) (up : Bool) → IsPrefixedTo Ends s up ls answers → Above n s → RisesFrom n (resumes answers)
 rises Ends [] [] n s up h a = tt
 rises Ends (l ∷ ls) (x ∷ answers) n s up h a =
-    line_rises x.found x.line (asked_by l) up h.2 n s h.1 (resumes answers) h.0 h.3 a (λ k above. rises Ends ls answers k h.1 h.2 h.4 above)
+    line_rises x.found x.line (line_asks l) up h.2 n s h.1 (resumes answers) (shows_its x.line x.found s h.0) h.3 a (λ k above. rises Ends ls answers k h.1 h.2 h.4 above)
 rises Ends [] (x ∷ answers) n s up h a = absurd h
 rises Ends (l ∷ ls) [] n s up h a = absurd h
 

@@ -23,6 +23,7 @@ use Rattle.bench_report.specs.Deeds.{Question, OfBoard, OfDisk, Deed, deed_of, I
 use Rattle.bench_report.specs.Happens.{shows, unpowered, on_with, has_machine}
 use Rattle.bench_report.specs.Steps.{console_reported, FormatStep, OnStep, ConsoleStep, CallReported, GuestCall, TurnStep, CallStep, ReadStep, QuestionStep, DeedStep, DeedMoves, Run}
 use Rattle.bench_report.specs.Reports.{AreByFirmware, IsReportWith}
+use Rattle.bench_report.proofs.Asks.{firmware_alone}
 use Rattle.bench_report.proofs.Inspected.{ContentLaws, inspect_at}
 use Rattle.bench_report.proofs.Guests.{IsOneTurn, Row, row, comes_fair, comes_one, truth, turns_fair, turns_one}
 use Rattle.bench_report.proofs.Determined.{some_inj, HasFailed, DiskHasFailed, IsCalm, Fair, fair_to, fair_then, unmoved, spoils, fails, starved, issued_fair, Agree, same, issued, formats_fair, formats, powers_fair, powers}
@@ -111,7 +112,7 @@ spoilt_as x y e s = let P : Bench → Type 0 = HasFailed in subst P (sym e) s
 
 pub run_fair : (size : Size) (ls : List Line) (b : Bench) (answers : List Answer) (end : Bench) → AreByFirmware ls → Run size b ls answers end → Fair b end
 run_fair size [] b [] end by run = unmoved b end run
-run_fair size (l ∷ ls) b (a ∷ answers) end by run = fair_then b run.0 end (moves_fair size (deed_of l) b a run.0 by.0 run.1) (run_fair size ls run.0 answers end by.1 run.2)
+run_fair size (l ∷ ls) b (a ∷ answers) end by run = fair_then b run.0 end (moves_fair size (deed_of l) b a run.0 (firmware_alone l by.0) run.1) (run_fair size ls run.0 answers end by.1 run.2)
 run_fair size [] b (a ∷ answers) end by run = absurd run
 run_fair size (l ∷ ls) b [] end by run = absurd run
 
@@ -229,7 +230,7 @@ runs : ContentLaws → IsOneTurn → IsOneCall → IsOneCsr → (size : Size) (l
     → (answers ≡ others) × (end ≡ last)
 runs laws turns call csr size [] b [] [] end last by calm u v x y = (refl, x ∙ sym y)
 runs laws turns call csr size (l ∷ ls) b (a ∷ answers) (z ∷ others) end last by calm u v x y =
-    go (moves laws turns call csr size (deed_of l) b a z x.0 y.0 calm x.1 y.1) ((moves_fair size (deed_of l) b a x.0 by.0 x.1).1 calm)
+    go (moves laws turns call csr size (deed_of l) b a z x.0 y.0 calm x.1 y.1) ((moves_fair size (deed_of l) b a x.0 (firmware_alone l by.0) x.1).1 calm)
     (λ calm e. (let M : Bench → Type 0 = λ m. Run size m ls others last in runs laws turns call csr size ls x.0 answers others end last by.1 calm u v x.2 (subst M (sym e) y.2)))
   where
     go : Agree a z x.0 y.0 → DiskHasFailed x.0 ⊎ IsCalm x.0 → (IsCalm x.0 → x.0 ≡ y.0 → (answers ≡ others) × (end ≡ last)) → ((a ∷ answers) ≡ (z ∷ others)) × (end ≡ last)

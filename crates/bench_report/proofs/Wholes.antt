@@ -35,7 +35,7 @@ use Rattle.report_lines.specs.declared.printed.Printed.TheVariants as printed
 use Rattle.bench_report.specs.Bench.{DiskState, Blank, Unknown, Formatted, BenchLife, Bench}
 use Rattle.bench_report.specs.Deeds as deeds
 use Rattle.bench_report.specs.Deeds.{Deed, deed_of, IsByFirmwareAlone}
-use Rattle.bench_report.specs.Prefix.{asked_of, LoadsWhole, AreLoaded}
+use Rattle.bench_report.specs.Prefix.{AskedLine, Boot, asked_of, asked_by}
 use Rattle.bench_report.specs.Reports.{IsByFirmware, AreByFirmware}
 use Rattle.bench_report.specs.Happens.{out_of_memory, failed, off, on_with, unpowered, armed_with, settled, has_machine, acknowledged, in_doubt}
 use Rattle.bench_report.specs.Commands.{Writes, IssuedBy, Issued, IssuesAll}
@@ -54,6 +54,18 @@ use Rattle.bench_report.specs.Asides.{Effect, Stays, SetsPayloads, Arms, CutsPow
 use Rattle.board.proofs.Issued.{fold_more}
 use Rattle.bench_report.proofs.Beside.{OfFirmware, FitsPower, is_aside}
 use Rattle.bench_report.proofs.Questions.{IsAsked, is_asked}
+use Rattle.bench_report.proofs.Asks.{firmware_alone}
+
+-- a power-on was not refused 13
+abbrev pub LoadsWhole : AskedLine → Answer → Type 0
+LoadsWhole (Boot mode) a = a.line ≢ printed.OnRefused 13
+LoadsWhole asked a = ⊤
+
+abbrev pub BootsLoad : List Line → List Answer → Type 0
+BootsLoad [] [] = ⊤
+BootsLoad (line ∷ more) (a ∷ answers) = LoadsWhole (asked_by line) a × BootsLoad more answers
+BootsLoad [] (a ∷ answers) = ⊥
+BootsLoad (line ∷ more) [] = ⊥
 
 -- ---- the states that an open may find
 abbrev DoubtWhole : Size → Option Change → Type 0
@@ -272,8 +284,8 @@ module _ (size : Size) where
   step (deeds.Beside act) b a new by k h = let is = is_aside act b.power b.payloads in aside_line (aside act b.power b.payloads).1 b new (is.firmware by) is.fits k h.1
 
   moves : (line : Line) (b : Bench) (a : Answer) (new : Bench) → IsByFirmware line → IsKeptWhole size b → Moves size line b a new → IsKeptWhole size new
-  moves line b a new by k (inl h) = step (deed_of line) b a new by k h.0
-  moves line b a new by k (inr (would, mid, h, struck, e, is)) = let at = step (deed_of line) b would mid by k h in same_as (unpowered mid) new is (at.0, at.1, at.2, tt)
+  moves line b a new by k (inl h) = step (deed_of line) b a new (firmware_alone line by) k h.0
+  moves line b a new by k (inr (would, mid, h, struck, e, is)) = let at = step (deed_of line) b would mid (firmware_alone line by) k h in same_as (unpowered mid) new is (at.0, at.1, at.2, tt)
 
   -- ---- no power-on is refused 13
   abbrev NotThirteen : Printed → Type 0
@@ -349,7 +361,7 @@ module _ (size : Size) where
   loaded (deeds.PowerOn mode) b a new k h = loaded_on mode b a new k h
   loaded deed b a new k h = tt
 
-  pub all_loaded : (ls : List Line) (b : Bench) (answers : List Answer) (end : Bench) → AreByFirmware ls → IsKeptWhole size b → Run size b ls answers end → AreLoaded ls answers
+  pub all_loaded : (ls : List Line) (b : Bench) (answers : List Answer) (end : Bench) → AreByFirmware ls → IsKeptWhole size b → Run size b ls answers end → BootsLoad ls answers
   all_loaded [] b [] end by k run = tt
   all_loaded (l ∷ ls) b (a ∷ answers) end by k run = (loaded (deed_of l) b a run.0 k run.1, all_loaded ls run.0 answers end by.1 (moves l b a run.0 by.0 k run.1) run.2)
   all_loaded [] b (a ∷ answers) end by k run = absurd run

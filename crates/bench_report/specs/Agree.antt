@@ -24,7 +24,7 @@ use Rattle.bench_report.specs.Bench.{DiskState, Blank, Unknown, Formatted, Bench
 use Rattle.bench_report.specs.Sides.{SidesAre}
 use Rattle.bench_report.specs.Armings.{fault_of, newest_fill}
 use Rattle.bench_report.specs.Steps.{Step}
-use Rattle.bench_report.specs.Examined.{AnswersOf}
+use Rattle.bench_report.specs.Examined.{AnswersOf, OpensOf}
 use Rattle.bench_report.specs.Happens.{says}
 use Rattle.report_lines.specs.declared.printed.Answer.{Answer}
 use Rattle.report_lines.specs.declared.printed.Printed.TheVariants as printed
@@ -143,8 +143,14 @@ abbrev pub Inspects : Power → Answer → Type 0
 Inspects (Off off) answer = AnswersOf (facts off.disk).content answer
 Inspects (On board) answer = ⊤
 
--- what a line says that examines the disk
+-- the same of a power-on
+abbrev pub OpensAt : Power → Answer → Type 0
+OpensAt (Off off) answer = OpensOf (facts off.disk).content answer
+OpensAt (On board) answer = ⊤
+
+-- what a line says of the disk's content that examines it or opens it
 abbrev pub InspectsIts : Line → Power → Result Answer Refusal → Type 0
+InspectsIts (lines.On mode) before did = IfOk did (OpensAt before)
 InspectsIts lines.Inspect before did = IfOk did (Inspects before)
 InspectsIts line before did = ⊤
 

@@ -14,7 +14,7 @@ use Rattle.report_lines.specs.declared.printed.Printed.{Printed}
 use Rattle.report_lines.specs.declared.printed.Printed.TheVariants as printed
 use Rattle.bench_report.specs.PowerOns.{commands_of}
 use Rattle.bench_report.specs.Taken.{TakesAll}
-use Rattle.bench_report.specs.Prefix.{AskedLine, Boot, Command, Guest, Nothing, asked_by, IsEndBy, ShowsIts, is_format_ok}
+use Rattle.bench_report.specs.Prefix.{AskedLine, Boot, Command, Guest, Nothing, line_asks, IsEndBy, ShowsAt, is_format_ok}
 
 -- a hart's command of this kind was acknowledged
 abbrev pub Acknowledges : (Change → Type 0) → DurableState → DurableState → Type 0
@@ -44,7 +44,7 @@ LineMakes asked said s t = t ≡ s
 abbrev pub AreAllFound : DurableState → List Line → List Answer → Type 0
 AreAllFound s [] [] = ⊤
 AreAllFound s (line ∷ more) (answer ∷ answers) =
-    ShowsIts answer.found s × (t : DurableState) × LineMakes (asked_by line) answer.line s t × AreAllFound t more answers
+    ShowsAt answer s × (t : DurableState) × LineMakes (line_asks line) answer.line s t × AreAllFound t more answers
 AreAllFound s [] (answer ∷ answers) = ⊥
 AreAllFound s (line ∷ more) [] = ⊥
 

@@ -1,9 +1,11 @@
 -- What a line that examines the disk answers: a function of the disk's content, which the bench knows as far as
 -- a read may give it. Source: docs/SCRIPT.md, "The report"; docs/STORE.md, "Examining".
-use Rattle.std.specs.Prelude.{◌≡◌, ◌≢◌, ◌⊎◌, ⊤, ℕ, ◌%◌, true, nat_lt, List, [], ◌∷◌, None, Option, Some, length}
+use Rattle.std.specs.Prelude.{IfSome, ◌≡◌, ◌≢◌, ◌⊎◌, ⊤, ℕ, ◌%◌, true, nat_lt, List, [], ◌∷◌, None, Option, Some, length}
 use Rattle.board_model.specs.Durable.{DurableState, Image, Change}
 use Rattle.board_model.specs.Kept.{Kept, MayFind, found_of}
 use Rattle.board_model.specs.Shapes.{Size, sectors_of}
+use Rattle.board_model.specs.Views.{durable_of, number_of_refusal}
+use Rattle.board_model.specs.declared.refusal.Refusal.{Refusal}
 use Rattle.board_model.specs.declared.refusal.Refusal.TheVariants.{NotFormatted, BadShape}
 use Rattle.disk.specs.Facts.{Content}
 use Rattle.store.specs.Leaves.{IsMarked}
@@ -83,3 +85,10 @@ AnswersOf c answer =
     ((line : Printed) × Tells c line × (answer ≡ says line))
     ⊎ (answer ≡ says (printed.InspectRefused 5))
     ⊎ (HasImage c × (answer ≡ says (printed.InspectRefused 11)))
+
+-- What a power-on says of a content, whatever is known of the disk: a state that is shown is the one that the content stands
+-- for (law `one_standing` of `store`), and one that stands for none is refused so, or 5.
+pub record OpensOf (c : Content) (answer : Answer) : Type 0 where
+  pub shows : IfSome answer.found (λ d. (size : Size) × (s : DurableState) × StandsFor c size s × (d ≡ durable_of s))
+  pub refuses : (e : Refusal) → ReadsAs c e
+      → (answer ≡ says (printed.OnRefused (number_of_refusal e))) ⊎ (answer ≡ says (printed.OnRefused 5))

@@ -1,9 +1,10 @@
 -- The prefix law over whole runs, in the words of the report alone. There is one state before each line, the
--- formatted one after the first `format ok`. A found line shows the state before its line. A line turns it
+-- formatted one after the first `format ok`. A found line shows the state before its line, and each `on` that
+-- turns the board on has one. A line turns it
 -- into the state after those of its commands that took effect, the first of them first: all, where it says
 -- so; where it was refused, some but not all; where it was refused 6 or lost power, some first of them. A
 -- life takes commands from its power-on to its first command in doubt, its end or a cut.
-use Rattle.std.specs.Prelude.{◌≡◌, ◌≢◌, ◌⊎◌, ℕ, zero, suc, ◌+◌, ◌-◌, ◌^◌, ◌==◌, ◌≤◌, Bool, true, false, List, [], ◌∷◌, Option, Some, None, MatchBool, ⊤}
+use Rattle.std.specs.Prelude.{All, ◌≡◌, ◌≢◌, ◌⊎◌, ℕ, zero, suc, ◌+◌, ◌-◌, ◌^◌, ◌==◌, ◌≤◌, Bool, true, false, List, [], ◌∷◌, Option, Some, None, MatchBool, ⊤}
 use Rattle.board_model.specs.Durable.{DurableState, Change, Reset, Suspend, formatted}
 use Rattle.bench_report.specs.Taken.{TakesAll, TakesSome, TakesFewer}
 use Rattle.board_model.specs.Views.{durable_of}
@@ -23,6 +24,7 @@ use Rattle.sbi.specs.declared.words.LifeEnd.TheVariants as life_ends
 use Rattle.machine_lines.specs.declared.line.MachineLine.{MachineLine}
 use Rattle.machine_lines.specs.declared.line.MachineLine.TheVariants as shown
 use Rattle.script_lang.specs.declared.line.Line.{Line}
+use Rattle.script_lang.specs.declared.line.Line.TheVariants as lines
 use Rattle.bench_report.specs.Deeds as deeds
 use Rattle.bench_report.specs.Deeds.{Deed, deed_of}
 use Rattle.report_lines.specs.declared.printed.Answer.{Answer}
@@ -38,6 +40,15 @@ pub data AskedLine : Type 0 where
   Guest : AskedLine
   Nothing : AskedLine
 
+-- the table of the lines that ask something
+abbrev pub line_asks : Line → AskedLine
+line_asks (lines.On mode) = Boot mode
+line_asks (lines.Command c) = Command (console_change c)
+line_asks (lines.Turn hart turns) = Guest
+line_asks (lines.Call hart words) = Guest
+line_asks line = Nothing
+
+-- the same by what the line has the bench do
 abbrev pub asked_of : Deed → AskedLine
 asked_of (deeds.PowerOn mode) = Boot mode
 asked_of (deeds.Issue c) = Command (console_change c)
@@ -116,35 +127,49 @@ Lost (Command c) s up t = (t ≡ s) ⊎ ((up ≡ true) × TakesSome (c ∷ []) s
 Lost Guest s up t = (t ≡ s) ⊎ ((up ≡ true) × (c : Change) × IsOfHarts c × TakesSome (c ∷ []) s t)
 Lost Nothing s up t = t ≡ s
 
--- The state s before a line and t after it, and whether a board that is on takes commands before and after,
--- by what the line asked and what it says.
+-- The state s before a line and t after it, and whether a board that is on takes commands before and after: by what the line
+-- says, and of a boot, a command or harts by what it asked. A boot, a command or a suspension that was cut says `power lost`.
+-- No second format answers Ok.
 abbrev pub LineImplies : AskedLine → Printed → DurableState → Bool → DurableState → Bool → Type 0
 LineImplies (Boot asked) (printed.On mode) s up t now =
     (mode ≡ asked) × (up ≡ false) × TakesAll (commands_of asked s) s t × (now ≡ true) × (boot_refusal s asked ≡ None)
+LineImplies asked (printed.On mode) s up t now = ⊥
 LineImplies (Boot mode) (printed.OnRefused n) s up t now =
     (up ≡ false) × (now ≡ false)
     × ((t ≡ s) ⊎ TakesFewer (commands_of mode s) s t ⊎ ((n ≡ 6) × TakesSome (commands_of mode s) s t))
-LineImplies (Command c) (printed.Acknowledged word k) s up t now = (up ≡ true) × TakesAll (c ∷ []) s t × (now ≡ true)
-LineImplies (Command c) (printed.CommandRefused word n) s up t now = RefusedChange n c s up t now
+LineImplies asked (printed.OnRefused n) s up t now = ⊥
+LineImplies (Command c) (printed.Acknowledged word k) s up t now =
+    (up ≡ true) × TakesAll (c ∷ []) s t × (now ≡ true) × (console_change word ≡ c)
+LineImplies asked (printed.Acknowledged word k) s up t now = ⊥
+LineImplies (Command c) (printed.CommandRefused word n) s up t now =
+    RefusedChange n c s up t now × (console_change word ≡ c)
+LineImplies asked (printed.CommandRefused word n) s up t now = ⊥
 LineImplies Guest (printed.Shown line) s up t now = TellsLine line s up t now
-LineImplies Nothing (printed.On mode) s up t now = ⊥
-LineImplies Guest (printed.On mode) s up t now = ⊥
-LineImplies (Command c) (printed.On mode) s up t now = ⊥
+LineImplies asked (printed.Shown line) s up t now = Keeps s up t now
 LineImplies asked printed.Cut s up t now = (t ≡ s) × (now ≡ false)
 LineImplies asked printed.PowerLost s up t now = Lost asked s up t × (now ≡ false)
+LineImplies asked printed.Formatted s up t now = ⊥
 LineImplies asked said s up t now = Keeps s up t now
 
 abbrev pub ShowsIts : Option Durable → DurableState → Type 0
 ShowsIts None s = ⊤
 ShowsIts (Some d) s = d ≡ durable_of s
 
+-- A line shows the state before it: one that says that the board is on always, another where it shows one.
+abbrev pub ShowsBy : Printed → Option Durable → DurableState → Type 0
+ShowsBy (printed.On mode) found s = found ≡ Some (durable_of s)
+ShowsBy said found s = ShowsIts found s
+
+abbrev pub ShowsAt : Answer → DurableState → Type 0
+ShowsAt answer s = ShowsBy answer.line answer.found s
+
 -- The lines that are left, where the disk stands for s, and the board takes commands or not. After the last of
 -- them it stands for a state that is so.
 abbrev pub IsPrefixedTo : (DurableState → Type 0) → DurableState → Bool → List Line → List Answer → Type 0
 IsPrefixedTo Ends s up [] [] = Ends s
 IsPrefixedTo Ends s up (line ∷ more) (answer ∷ answers) =
-    ShowsIts answer.found s × (t : DurableState) × (now : Bool)
-    × LineImplies (asked_by line) answer.line s up t now × IsPrefixedTo Ends t now more answers
+    ShowsAt answer s × (t : DurableState) × (now : Bool)
+    × LineImplies (line_asks line) answer.line s up t now × IsPrefixedTo Ends t now more answers
 IsPrefixedTo Ends s up [] (answer ∷ answers) = ⊥
 IsPrefixedTo Ends s up (line ∷ more) [] = ⊥
 
@@ -166,16 +191,9 @@ abbrev pub RisesFrom : ℕ → List ℕ → Type 0
 RisesFrom n [] = ⊤
 RisesFrom n (x ∷ xs) = (n ≤ x) × RisesFrom (x + 1) xs
 
--- a power-on was not refused 13: each image that stands has the memory of its board
-abbrev pub LoadsWhole : AskedLine → Answer → Type 0
-LoadsWhole (Boot mode) a = a.line ≢ printed.OnRefused 13
-LoadsWhole asked a = ⊤
-
-abbrev pub AreLoaded : List Line → List Answer → Type 0
-AreLoaded [] [] = ⊤
-AreLoaded (line ∷ more) (a ∷ answers) = LoadsWhole (asked_by line) a × AreLoaded more answers
-AreLoaded [] (a ∷ answers) = ⊥
-AreLoaded (line ∷ more) [] = ⊥
+-- no power-on was refused 13: each image that stands has the memory of its board
+abbrev pub AreLoaded : List Answer → Type 0
+AreLoaded answers = All (λ (a : Answer). a.line ≢ printed.OnRefused 13) answers
 
 abbrev pub is_format_ok : Printed → Bool
 is_format_ok printed.Formatted = true
@@ -187,7 +205,7 @@ IsFoundByPrefix Ends [] answers = ⊤
 IsFoundByPrefix Ends (line ∷ more) [] = ⊥
 IsFoundByPrefix Ends (line ∷ more) (answer ∷ answers) =
     MatchBool (is_format_ok answer.line)
-    (IsPrefixedTo Ends formatted false more answers × RisesFrom 0 (resumes answers) × AreLoaded more answers)
+    (IsPrefixedTo Ends formatted false more answers × RisesFrom 0 (resumes answers) × AreLoaded answers)
     (IsFoundByPrefix Ends more answers)
 
 -- a report, whose first answer is the board line's; after it, where a format answered Ok, the disk stands for a

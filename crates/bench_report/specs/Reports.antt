@@ -3,10 +3,10 @@ use Rattle.std.specs.Prelude.{◌≡◌, ℕ, List, [], ◌∷◌, take, ⊤}
 use Rattle.board_model.specs.Shapes.{Size, sectors_of}
 use Rattle.script_lang.specs.Scripts.{Script}
 use Rattle.script_lang.specs.declared.line.Line.{Line}
+use Rattle.script_lang.specs.declared.line.Line.TheVariants as lines
 use Rattle.report_lines.specs.declared.printed.Printed.TheVariants as printed
 use Rattle.report_lines.specs.declared.printed.Answer.{Answer}
 use Rattle.bench_report.specs.Bench.{Bench, bench_with, no_payloads}
-use Rattle.bench_report.specs.Deeds.{deed_of, IsByFirmwareAlone}
 use Rattle.bench_report.specs.Happens.{says}
 use Rattle.bench_report.specs.Steps.{Run}
 
@@ -16,7 +16,8 @@ board_answer size = says (printed.Board size.harts size.pages size.lanes (sector
 
 -- a line that does not write the disk past the firmware
 abbrev pub IsByFirmware : Line → Type 0
-IsByFirmware line = IsByFirmwareAlone (deed_of line)
+IsByFirmware (lines.Poke sector offset bytes) = ⊥
+IsByFirmware line = ⊤
 
 -- nobody but the firmware writes the disk
 abbrev pub AreByFirmware : List Line → Type 0

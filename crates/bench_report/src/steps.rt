@@ -8,12 +8,12 @@ ghost use Rattle.bench_report.specs.Views.{arms, disk_in, store_in, machine_in, 
 ghost use Rattle.bench_report.specs.Bench.{Bench, BenchLife};
 ghost use Rattle.bench_report.specs.Happens.{armed_with, off, unpowered, says, shows};
 ghost use Rattle.bench_report.specs.PowerOns.{FormatsOn, PowersOn, TellsNow};
-ghost use Rattle.bench_report.specs.Examined.{InspectsOn, InspectStep, AnswersOf};
+ghost use Rattle.bench_report.specs.Examined.{InspectsOn, InspectStep, AnswersOf, OpensOf};
 ghost use Rattle.bench_report.specs.Asides.{AsideStep};
 ghost use Rattle.bench_report.specs.Deeds.{SetSlot, CallWake, WritePast};
 ghost use Rattle.bench_report.specs.Steps.{FormatStep, OnStep, ConsoleStep, TurnStep, CallStep, ArmStep, Step, Moves};
 ghost use Rattle.simdisk.specs.declared.SimDisk.{SimDisk};
-ghost use Rattle.bench_report.specs.Agree.{HasDisk, IsCutBy, IsArmed, ArmsIts, CutsIts, Pokes, PokesIts, Inspects, InspectsIts, InspectsOrLost, fill_after, EndsBy, Agrees, OffIs, OnIs, BoardAfter, IsBench, IsUnstruck, Matches, StepsTo};
+ghost use Rattle.bench_report.specs.Agree.{HasDisk, IsCutBy, IsArmed, ArmsIts, CutsIts, Pokes, PokesIts, Inspects, OpensAt, InspectsIts, InspectsOrLost, fill_after, EndsBy, Agrees, OffIs, OnIs, BoardAfter, IsBench, IsUnstruck, Matches, StepsTo};
 ghost use Rattle.board_model.specs.declared.refusal.Refusal.TheVariants.{Memory};
 
 use crate::armings::{fault_of, newest_fill};
@@ -58,16 +58,18 @@ fn format_disk(shape: &Shape, off: OffDisk) -> (Power, Answer)
 }
 
 /// Powers a board on that is off: the board, what the line says, and where the open found a state the one then,
-/// without a command in doubt.
+/// without a command in doubt. The state that is shown is the one that the disk's content stands for, also of a disk that was
+/// written past the firmware.
 pub fn power_on(
     alloc: Global,
     mode: BootMode,
     off: OffDisk,
     payloads: &Payloads,
 ) -> (Power, Answer, Option<Durable>)
-    ensures { (size : Size) (b : Bench) → OffIs size b off.disk → payloads.now ≡ b.payloads
+    ensures reported { (size : Size) (b : Bench) → OffIs size b off.disk → payloads.now ≡ b.payloads
         → StepsTo size b result.0
         (λ new. PowersOn size mode b result.1 new × TellsNow result.1.found result.2 new) }
+    ensures exact { OpensOf (facts off.disk).content result.1 }
 {
     kept_disks::<SimDisk>();
     blank_disks::<SimDisk>();
@@ -234,8 +236,9 @@ fn inspect_line(alloc: Global, power: Power) -> (Power, Answer)
 }
 
 fn on_line(alloc: Global, mode: BootMode, power: Power, payloads: &Payloads) -> (Power, Answer)
-    ensures { (size : Size) (b : Bench) → IsBench size b power payloads.now
+    ensures reported { (size : Size) (b : Bench) → IsBench size b power payloads.now
         → StepsTo size b result.0 (OnStep size b.power mode b result.1) }
+    ensures exact { OpensAt power result.1 }
 {
     match power {
         Power::Off(disk) => {

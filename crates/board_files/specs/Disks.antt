@@ -1,5 +1,5 @@
 -- The disk of a file. Source: docs/STORE.md, "Superblock"; docs/CONSOLE.md, "Statuses and faults".
-use Rattle.std.specs.Prelude.{◌≡◌, ◌≢◌, ◌⊎◌, ◌≤◌, ◌*◌, ◌%◌, ◌/◌, ◌++◌, ℕ, Bool, true, false, List, Option, IfSome, length, take, drop}
+use Rattle.std.specs.Prelude.{◌≡◌, ◌≢◌, ◌⊎◌, ◌≤◌, ◌*◌, ◌%◌, ◌/◌, ◌++◌, ℕ, Bool, true, false, List, Option, Some, IfSome, length, take, drop}
 use Rattle.std.specs.List.{concat}
 use Rattle.std.specs.Simd.{first_chunks}
 use Rattle.board_model.specs.Shapes.{Size, sectors_of}
@@ -46,3 +46,7 @@ IsLookedAt n bytes = (length bytes % 512 ≡ 0)
 abbrev pub HoldsDisk : Bool → Content → Option (List ℕ) → List ℕ → Type 0
 HoldsDisk true sectors old now = now ≡ concat sectors
 HoldsDisk false sectors old now = IfSome old (λ bytes. now ≡ concat sectors ++ drop (512 * length sectors) bytes)
+
+-- after a fault: it is as it was, or as it was to become
+abbrev pub KeepsOrHolds : Bool → Content → Option (List ℕ) → List ℕ → Type 0
+KeepsOrHolds is_new sectors old now = (old ≡ Some now) ⊎ HoldsDisk is_new sectors old now

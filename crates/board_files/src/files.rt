@@ -30,8 +30,8 @@ pub trait DiskFile {
 
 /// The file of a disk that a session has taken. No other session can take it meanwhile.
 pub trait HeldFile: DiskFile {
-    ghost use Rattle.std.specs.Prelude.{IfErr, IfSome, OnOk};
-    ghost use Rattle.board_files.specs.Disks.{HoldsDisk};
+    ghost use Rattle.std.specs.Prelude.{IfErr, IfSome, OnErr, OnOk};
+    ghost use Rattle.board_files.specs.Disks.{HoldsDisk, KeepsOrHolds};
     ghost use Rattle.board_files.specs.Faults.{IsFileFault};
 
     /// Writes the disk of these sectors into the file. Of a new disk the file then holds the sectors and nothing else. Of a
@@ -40,6 +40,8 @@ pub trait HeldFile: DiskFile {
     fn write(&mut self, sectors: &[Sector], is_new: bool) -> Result<(), FileFault>
         ensures written { OnOk result (IfSome (Self.bytes self.new)
             (HoldsDisk is_new sectors.now (Self.bytes self.old))) }
+        ensures kept { OnErr result (IfSome (Self.bytes self.new)
+            (KeepsOrHolds is_new sectors.now (Self.bytes self.old))) }
         ensures failed { IfErr result (λ e. IsFileFault e.fault) };
 }
 

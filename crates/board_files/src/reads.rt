@@ -1,6 +1,7 @@
 //! The disk that a file holds, for a session and for an examiner.
 
 ghost use Rattle.std.specs.Prelude.{◌≡◌, ◌≢◌, ◌⊎◌, ◌≤◌, ◌*◌, ℕ, ◌%◌, ◌/◌, IfOk, IfErr, IfSome, MatchResult, length, take};
+ghost use Rattle.disk.specs.FaultState.{no_fault};
 ghost use Rattle.disk.specs.Facts.{IsFresh};
 ghost use Rattle.board_model.specs.Shapes.{Size, sectors_of};
 ghost use Rattle.layout.specs.Superblocks.{HasMagic, IsSuperblock};
@@ -73,11 +74,12 @@ pub fn shape_in<F: DiskFile>(file: &F) -> Result<Shape, FileFault>
     }
 }
 
-/// A disk of the first sectors of the file.
+/// A disk of the first sectors of the file, with no fault armed.
 #[tactic(auto, using(crate::proofs::FileSectors::is_fresh))]
 fn sectors_in<F: DiskFile>(alloc: Global, file: &F, sectors: usize) -> Result<SimDisk, FileFault>
     requires { sectors ≤ 18440 }
     ensures none_out { IfOk result (λ d. (⟦<SimDisk as Disk>⟧.facts d).lent.lanes ≡ 0) }
+    ensures unarmed { IfOk result (λ d. ⟦<SimDisk as Disk>⟧.fault_state d ≡ no_fault) }
     ensures disk { IfOk result (λ d. IfSome (F.bytes file.now)
         (λ all. IsFresh (first_sectors sectors all) (⟦<SimDisk as Disk>⟧.facts d))) }
     ensures failed { IfErr result (λ e. IsFileFault e.fault) }
@@ -92,9 +94,11 @@ fn sectors_in<F: DiskFile>(alloc: Global, file: &F, sectors: usize) -> Result<Si
     }
 }
 
-/// The disk of a board of that shape, from its file. The bytes after its sectors are no part of it, and are not read.
+/// The disk of a board of that shape, from its file. No fault of it is armed. The bytes after its sectors are no part of it,
+/// and are not read.
 pub fn disk_in<F: DiskFile>(alloc: Global, file: &F, shape: &Shape) -> Result<SimDisk, FileFault>
     ensures none_out { IfOk result (λ d. (⟦<SimDisk as Disk>⟧.facts d).lent.lanes ≡ 0) }
+    ensures unarmed { IfOk result (λ d. ⟦<SimDisk as Disk>⟧.fault_state d ≡ no_fault) }
     ensures disk { IfOk result (λ d. IfSome (F.bytes file.now)
         (λ all. IsFresh (first_sectors (sectors_of shape.now) all) (⟦<SimDisk as Disk>⟧.facts d))) }
     ensures failed { IfErr result (λ e. IsFileFault e.fault) }
@@ -125,11 +129,12 @@ fn sectors_to_examine<F: DiskFile>(file: &F) -> Result<usize, FileFault>
     }
 }
 
-/// The disk of a file, as far as an examiner looks at it. The bytes after the board's sectors are not read. Of a file that is
-/// no board's, only the first sector is read.
+/// The disk of a file, as far as an examiner looks at it. No fault of it is armed. The bytes after the board's sectors are not
+/// read. Of a file that is no board's, only the first sector is read.
 #[tactic(auto, using(crate::proofs::FileSectors::is_seen))]
 pub fn seen_in<F: DiskFile>(alloc: Global, file: &F) -> Result<SimDisk, FileFault>
     ensures none_out { IfOk result (λ d. (⟦<SimDisk as Disk>⟧.facts d).lent.lanes ≡ 0) }
+    ensures unarmed { IfOk result (λ d. ⟦<SimDisk as Disk>⟧.fault_state d ≡ no_fault) }
     ensures disk { IfOk result (λ d. IfSome (F.bytes file.now) (λ all. (n : ℕ) × IsLookedAt n all
         × IsFresh (first_sectors n all) (⟦<SimDisk as Disk>⟧.facts d))) }
     ensures refused { IfErr result (λ e. IsFileFault e.fault ⊎ ((e.fault ≡ Refused Refusal.BadShape)

@@ -16,7 +16,7 @@ use Rattle.command_line.specs.Told.{fault_of}
 use Rattle.command_line.specs.declared.NoWork.{NoWork}
 use Rattle.command_line.specs.declared.files.FileFault.{FileFault}
 use Rattle.disk.specs.Facts.{Content, Facts, IsFresh}
-use Rattle.disk_program.specs.Examined.{IfLookedAt, IsFaultOf, IsFaultOver, IsWorked, RefusesBytes, RefusesLines, RefusesMemory, WritesMemory, WritesSeen, WritesWork}
+use Rattle.disk_program.specs.Examined.{IfLookedAt, IsFaultOf, IsFaultOver, IsWorked, RefusesBytes, RefusesLines, RefusesMemory, WritesMemory, WritesNothing, WritesSeen, WritesWork}
 use Rattle.disk_program.specs.Texts.{seen_text}
 use Rattle.disk_program.specs.Usage.{AskForNone, sbidisk}
 use Rattle.disk_program.specs.declared.usage.Work.{Work}
@@ -98,25 +98,30 @@ memory_refused bytes at disk new fault e is same shows refuses = over_disk Refus
     by e x = absurd x
 
 -- ---- the status
-if_err : (Is : ProgramFault → Type 0) (r : Result (Unit {0}) FileFault) → IfErr r (λ e. Is e.fault) → IfErr (fault_of r) Is
-if_err Is (Ok done) is = tt
-if_err Is (Err e) is = is
-
 on_ok : (P Q : Type 0) (r : Result (Unit {0}) FileFault) → OnOk r P → OnOk r Q → OnOk (fault_of r) (P × Q)
 on_ok P Q (Ok done) p q = (p, q)
 on_ok P Q (Err e) p q = tt
 
+both_err : (P Q : ProgramFault → Type 0) (r : Result (Unit {0}) FileFault) → IfErr r (λ e. P e.fault) → IfErr r (λ e. Q e.fault) → IfErr (fault_of r) (λ fault. P fault × Q fault)
+both_err P Q (Ok done) p q = tt
+both_err P Q (Err e) p q = (p, q)
+
+-- where the output failed anything may stand in it
+pub output_failed : (fault : ProgramFault) (e : Refusal) (old now : Option (List ℕ)) → fault ≡ Refused e → e ≡ Output → WritesNothing fault old now
+output_failed fault e old now is output = λ other. let P : Refusal → Type 0 = λ x. fault ≡ Refused x in absurd (other (subst P output is))
+
 pub ends_closed : (disk_at : List ℕ → Option (List ℕ)) (work : Work) (old now : Option (List ℕ)) (held : List ℕ) (closed : Bool)
     (r : Result (Unit {0}) FileFault) → closed ≡ true → OnOk r (WritesWork disk_at work old now) → OnOk r (held ≡ [])
-    → IfErr r (λ e. IsFaultOf disk_at work e.fault) → IsWorked disk_at work old now held closed 1
-ends_closed disk_at work old now held closed r is did whole failed = (fault_of r, rw is refl, on_ok _ _ r did whole, if_err _ r failed)
+    → IfErr r (λ e. IsFaultOf disk_at work e.fault) → IfErr r (λ e. WritesNothing e.fault old now) → IsWorked disk_at work old now held closed 1
+ends_closed disk_at work old now held closed r is did whole failed spared =
+    (fault_of r, rw is refl, on_ok _ _ r did whole, both_err (IsFaultOf disk_at work) (λ fault. WritesNothing fault old now) r failed spared)
 
 pub ends_open : (disk_at : List ℕ → Option (List ℕ)) (work : Work) (old now : Option (List ℕ)) (held : List ℕ) (closed : Bool) (status : ℕ)
     (r : Result (Unit {0}) FileFault) → closed ≡ false → status ≡ status_after (fault_of r)
     → OnOk r (WritesWork disk_at work old now) → OnOk r (held ≡ []) → IfErr r (λ e. IsFaultOf disk_at work e.fault)
-    → IsWorked disk_at work old now held closed status
-ends_open disk_at work old now held closed status r shut is did whole failed =
-    (fault_of r, rw shut is, on_ok _ _ r did whole, if_err _ r failed)
+    → IfErr r (λ e. WritesNothing e.fault old now) → IsWorked disk_at work old now held closed status
+ends_open disk_at work old now held closed status r shut is did whole failed spared =
+    (fault_of r, rw shut is, on_ok _ _ r did whole, both_err (IsFaultOf disk_at work) (λ fault. WritesNothing fault old now) r failed spared)
 
 -- the words of a command line whose own text has an error of that kind ask for none
 pub asks_for_none : (words : List (List ℕ)) (kind : ErrorKind) (why : NoWork) → why ≡ no_work kind

@@ -79,11 +79,16 @@ abbrev pub status_by : Bool → Result (Unit {0}) ProgramFault → ℕ
 status_by true done = 1
 status_by false done = status_after done
 
--- the status is the one of the work, which was done whole where it has no fault, or of a fault that it may have; `held` is what
--- the writer holds back
+-- nothing was written, where the fault is no failure of the output
+abbrev pub WritesNothing : ProgramFault → Option (List ℕ) → Option (List ℕ) → Type 0
+WritesNothing fault old now = (fault ≡ Refused Output → ⊥) → now ≡ old
+
+-- The status is the one of the work, which was done whole where it has no fault, or of a fault that it may have: then nothing
+-- was written, unless the output failed. `held` is what the writer holds back.
 abbrev pub IsWorked : (List ℕ → Option (List ℕ)) → Work → Option (List ℕ) → Option (List ℕ) → List ℕ → Bool → ℕ → Type 0
 IsWorked disk_at work old now held closed status = (done : Result (Unit {0}) ProgramFault) × (status ≡ status_by closed done)
-    × OnOk done (WritesWork disk_at work old now × (held ≡ [])) × IfErr done (λ fault. IsFaultOf disk_at work fault)
+    × OnOk done (WritesWork disk_at work old now × (held ≡ []))
+    × IfErr done (λ fault. IsFaultOf disk_at work fault × WritesNothing fault old now)
 
 -- What comes of the words: the work that they name was done, or has a fault; or they ask for none.
 abbrev pub IsExamined : (List ℕ → Option (List ℕ)) → List (List ℕ) → Option (List ℕ) → Option (List ℕ) → List ℕ → Bool → ℕ → Type 0

@@ -4,7 +4,7 @@ ghost use Rattle.std.specs.Prelude.{◌≡◌, ◌≤◌, [], map, IfErr, OnOk};
 ghost use Rattle.std.specs.Io.Buffered.{writer_buffer, writer_contents, writer_inner};
 ghost use Rattle.command_line.specs.Faults.{status_after, without_work};
 ghost use Rattle.command_line.specs.Pipes.{is_closed_pipe, pipe_contents};
-ghost use Rattle.disk_program.specs.Examined.{IsExamined, IsFaultOf, IsFaultOver, IsWorked, RefusesLines, RefusesMemory, WritesMemory, WritesSeen, WritesWork};
+ghost use Rattle.disk_program.specs.Examined.{IsExamined, IsFaultOf, IsFaultOver, IsWorked, RefusesLines, RefusesMemory, WritesMemory, WritesNothing, WritesSeen, WritesWork};
 
 use crate::shows::write_seen;
 use crate::usage::{Work, work_of};
@@ -19,7 +19,7 @@ use std::io::{BufWriter, IsTerminal, Write};
 type Out<W> = BufWriter<Pipe<W>>;
 
 /// Writes the lines that tell what the file holds.
-#[tactic(auto, using(crate::proofs::FileSeen::writes_seen, crate::proofs::FileSeen::unread, crate::proofs::FileSeen::not_whole, crate::proofs::FileSeen::lines_refused, crate::proofs::FileSeen::unwritten))]
+#[tactic(auto, using(crate::proofs::FileSeen::writes_seen, crate::proofs::FileSeen::unread, crate::proofs::FileSeen::not_whole, crate::proofs::FileSeen::lines_refused, crate::proofs::FileSeen::unwritten, crate::proofs::FileSeen::output_failed))]
 fn look<D: DiskFiles, W: Write + Drop>(
     alloc: Global,
     files: &D,
@@ -30,6 +30,8 @@ fn look<D: DiskFiles, W: Write + Drop>(
         (writer_contents (pipe_contents W.contents) out.old) (writer_contents (pipe_contents W.contents) out.new)) }
     ensures flushed { OnOk result (writer_buffer out.new ≡ []) }
     ensures failed { IfErr result (λ e. IsFaultOver RefusesLines (D.disk_at files.now path.now) e.fault) }
+    ensures untouched { IfErr result (λ e. WritesNothing e.fault
+        (writer_contents (pipe_contents W.contents) out.old) (writer_contents (pipe_contents W.contents) out.new)) }
 {
     let file = files.open(path)?;
     let disk = seen_in(alloc, &file)?;
@@ -45,7 +47,7 @@ fn look<D: DiskFiles, W: Write + Drop>(
 }
 
 /// Writes the memory of the image that the file holds.
-#[tactic(auto, using(crate::proofs::FileSeen::writes_memory, crate::proofs::FileSeen::unread, crate::proofs::FileSeen::not_whole, crate::proofs::FileSeen::memory_refused, crate::proofs::FileSeen::unwritten))]
+#[tactic(auto, using(crate::proofs::FileSeen::writes_memory, crate::proofs::FileSeen::unread, crate::proofs::FileSeen::not_whole, crate::proofs::FileSeen::memory_refused, crate::proofs::FileSeen::unwritten, crate::proofs::FileSeen::output_failed))]
 fn recall<D: DiskFiles, W: Write + Drop>(
     alloc: Global,
     files: &D,
@@ -56,6 +58,8 @@ fn recall<D: DiskFiles, W: Write + Drop>(
         (writer_contents (pipe_contents W.contents) out.old) (writer_contents (pipe_contents W.contents) out.new)) }
     ensures flushed { OnOk result (writer_buffer out.new ≡ []) }
     ensures failed { IfErr result (λ e. IsFaultOver RefusesMemory (D.disk_at files.now path.now) e.fault) }
+    ensures untouched { IfErr result (λ e. WritesNothing e.fault
+        (writer_contents (pipe_contents W.contents) out.old) (writer_contents (pipe_contents W.contents) out.new)) }
 {
     let file = files.open(path)?;
     let disk = seen_in(alloc, &file)?;
@@ -81,6 +85,8 @@ fn do_work<D: DiskFiles, W: Write + Drop>(
         (writer_contents (pipe_contents W.contents) out.old) (writer_contents (pipe_contents W.contents) out.new)) }
     ensures flushed { OnOk result (writer_buffer out.new ≡ []) }
     ensures failed { IfErr result (λ e. IsFaultOf (D.disk_at files.now) work.entry e.fault) }
+    ensures untouched { IfErr result (λ e. WritesNothing e.fault
+        (writer_contents (pipe_contents W.contents) out.old) (writer_contents (pipe_contents W.contents) out.new)) }
 {
     match work {
         Work::Lines(path) => look(alloc, files, path, out),
@@ -137,7 +143,7 @@ pub fn examine_on<D: DiskFiles, S: AsStr, W: Write + Drop, F: Write + IsTerminal
     // The status is the one of the work that the words name, or 1 where nobody reads the output any more. It is 0 only where
     // the lines or the memory of the file that they name were written whole, and nothing else, and nothing of them is held
     // back, or where the words ask for the help or the version. A work that fails has a fault that it may have over that
-    // file, so 2 is the status of words alone that name none.
+    // file, so 2 is the status of words alone that name none; and it wrote nothing, unless the output failed.
     ensures status { IsExamined (D.disk_at files.now) (map S.text words.now)
         (writer_contents (pipe_contents W.contents) out.old) (writer_contents (pipe_contents W.contents) out.new)
         (writer_buffer out.new) (is_closed_pipe (writer_inner out.new)) result }

@@ -4,8 +4,7 @@
 //! makes of it (board_model). `StandsFor c size s`: these bytes, as the content of a disk, are the state s, with
 //! the memory of its image (store). Of the facts of a disk, `may_leave` has each content that may be there where
 //! power fails now, and `since` each that might have been there where it failed at a moment since (disk).
-ghost use Rattle.std.specs.Prelude.{◌+◌, ◌++◌, ◌≤◌, ◌≡◌, ◌⊎◌, ◌∷◌, [], ℕ, List, Some, None, Ok, Err, IfOk, IfErr, OnOk, IsErrOf, IsErr, length, map, take};
-ghost use Rattle.std.specs.Io.KnownBytes.{Appends};
+ghost use Rattle.std.specs.Prelude.{◌+◌, ◌++◌, ◌≤◌, ◌≡◌, ◌⊎◌, ◌∷◌, ℕ, Some, None, IfOk, IfErr, OnOk, MatchResult, length, map, take};
 ghost use Rattle.board_model.specs.Durable.{DurableState, Image, Change, Suspend, Consume, formatted, after, fold};
 ghost use Rattle.board_model.specs.Kept.{MayFind, found_of};
 ghost use Rattle.board_model.specs.Shapes.{Size};
@@ -19,35 +18,26 @@ ghost use Rattle.store.specs.Asked.{Asked};
 ghost use Rattle.store.specs.Leaves.{IsIdle, Leaves, LeavesOnly, LeavesEither, StandsForEither};
 ghost use Rattle.store.specs.Lives.{Applied};
 ghost use Rattle.store.specs.Standing.{StandsFor};
-ghost use Rattle.store.specs.Views.{disk_of, size_of_store, found_state, now_state, doubt_of, journal_of};
+ghost use Rattle.store.specs.Views.{disk_of, fault_state_of, size_of_store, found_state, now_state, doubt_of, journal_of};
 ghost use Rattle.board.specs.Views.{store_of, machine_of};
 ghost use Rattle.machine.specs.Machine.{woken};
-ghost use Rattle.lives.specs.Events.{Event, World, new_world, Runs, Rises};
-ghost use Rattle.script_lang.specs.Scripts.{script_of, Script as Said};
-ghost use Rattle.report_lines.specs.Texts.{report_text};
-ghost use Rattle.bench_report.specs.Reports.{AreByFirmware, IsReportWith};
-ghost use Rattle.bench_report.specs.Prefix.{KeepsPrefixLaw, MayEndIn};
-ghost use Rattle.bench_report.specs.Laws.{KeepsLaws};
-ghost use Rattle.bench_report.specs.Bench.{Bench, Formatted};
-ghost use Rattle.report_lines.specs.declared.printed.Answer.{Answer};
 ghost use Rattle.theorem.specs.Prefixes.{IsAfterFirst};
 
-use bench_report::{Report, Stopped, prefix_law, run_left};
-use board::{Board, Payloads, Unpowered};
+use board::{Board, Parts, Payloads, Unpowered};
 use board_model::{BootMode, Command, Refusal, Shape};
 use crew::Crew;
 use disk::{ArmedFault, Disk};
-use lives::lives;
 use ram::Ram;
 use simdisk::{Fill, SimDisk};
 use std::alloc::Global;
-use std::io::Write;
 use store::{Receipt, Resumption, Saving, Store, format, one_standing};
+use susp::Bus;
 
 /// *Wherever power fails, a cold boot finds the durable state after a prefix of the commands that holds every
 /// acknowledged one.* Of one command, as a run of a disk in memory: a cut or a failure is armed for any call of the
 /// disk or of a lane, the command is made, power fails, and the next cold boot finds the state before the command or
-/// the one after it; and the one after it, where it was acknowledged.
+/// the one after it; and the one after it, where it was acknowledged. Just that fault was armed since the disk was given
+/// (`armed`).
 pub fn power_lost_in_a_command(
     alloc: Global,
     mut store: Store<SimDisk>,
@@ -63,6 +53,7 @@ pub fn power_lost_in_a_command(
         ⊎ (found_state next ≡ after (now_state store) (change_of command))) }
     ensures acknowledged { OnOk result.0 (IfOk result.1 (λ next.
         found_state next ≡ after (now_state store) (change_of command))) }
+    ensures armed { IfOk result.1 (λ next. (fault_state_of next).armings ≡ fault ∷ (fault_state_of store).armings) }
 {
     one_standing();
     store.arm(fault);
@@ -192,57 +183,32 @@ pub fn a_board_is_resumed<D: Disk + Drop>(
 }
 
 /// *An image whose consumption was acknowledged is never resumed again.* The two as one run of a disk in memory,
-/// whatever fault it is armed with: a board is resumed, power fails, and no next power-on resumes a board.
+/// whatever fault it is armed with: a board is resumed from an image that a crash could have left, power fails, and no next
+/// power-on resumes a board: no image stands (8), or the disk failed, or memory was refused. Answers the memory that was
+/// resumed, byte for byte the image's, and what came of that power-on.
 pub fn never_resumed_again(
     alloc: Global,
     disk: SimDisk,
     payloads: &Payloads,
     fill: Fill,
-) -> Result<Result<Board<SimDisk>, Unpowered<SimDisk>>, Unpowered<SimDisk>>
+) -> Result<(Ram, Result<Board<SimDisk>, Unpowered<SimDisk>>), Unpowered<SimDisk>>
     requires { IsIdle (⟦<SimDisk as Disk>⟧.facts disk) }
-    ensures { IfOk result (λ again. IsErr again) }
+    ensures { IfOk result (λ run. (size : Size) × (s : DurableState) × (i : Image)
+        × Leaves (⟦<SimDisk as Disk>⟧.facts disk) size s × (s.image ≡ Some i) × (run.0 ≡ i.memory)
+        × MatchResult run.1 (λ board. ⊥) (λ e. (e.refusal ≡ Refusal.NoImage) ⊎ (e.refusal ≡ Refusal.Device)
+        ⊎ (e.refusal ≡ Refusal.Memory))) }
 {
     one_standing();
     let first = Board::power_on(alloc, disk, BootMode::Resume, payloads)?;
-    let left = first.into_disk().after_cut(fill);
-    Ok(Board::power_on(alloc, left, BootMode::Resume, payloads))
-}
-
-/// *After a prefix of the commands, .. never resumed again.* Over all lives of a disk, whatever happens to it: the
-/// state is what the kept commands make of the formatted one, and the serials of the images that were resumed rise
-/// strictly.
-pub fn many_lives()
-    ensures prefix { (events : List Event) (w : World) → Runs new_world events w → w.state ≡ fold formatted w.kept }
-    ensures never_again { (events : List Event) (w : World) → Runs new_world events w → Rises w.resumed }
-{
-    lives();
-}
-
-/// *From the bytes of a script to those of its report.* What was written is the text of answers to the script's
-/// lines. Where no line writes the disk past the firmware, these answers keep the prefix law (`prefix`). The disk
-/// that is left is the one that they tell of: each state that a crash may leave of it ends a history that they tell
-/// (`ends`). Where it counted no failure, each power-on found what all acknowledged commands make (`all`).
-pub fn a_script<C: Crew, W: Write>(
-    alloc: Global,
-    script: &[u8],
-    crew: &C,
-    out: &mut W,
-) -> Result<(Report, SimDisk), Stopped>
-    ensures { IfOk result (λ left. (said : Said) × (answers : List Answer) × (script_of script.now ≡ Ok said)
-        × Appends (W.contents out.old) (W.contents out.new) (report_text answers)
-        × KeepsLaws said answers (⟦<SimDisk as Disk>⟧.facts left.1)) }
-{
-    run_left(alloc, script, crew, out)
-}
-
-/// The same of each report that a script may have, with whatever payloads it begins: the prefix law, and that each
-/// state which an open may find after its last line ends such a history.
-pub fn reports_of_scripts()
-    ensures law { (payloads : List (List ℕ)) (said : Said) (answers : List Answer) (end : Bench)
-        → AreByFirmware said.lines → IsReportWith payloads said answers end → KeepsPrefixLaw said.lines answers }
-    ensures ends { (payloads : List (List ℕ)) (said : Said) (answers : List Answer) (end : Bench)
-        → AreByFirmware said.lines → IsReportWith payloads said answers end → (t : DurableState)
-        → (end.disk_state ≡ Formatted → MayFind end.kept t) → MayEndIn t said.lines answers }
-{
-    prefix_law();
+    let Parts {
+        harts: _,
+        seats: _,
+        tables: _,
+        bus,
+        store,
+    } = first.into_parts();
+    let Bus { ram, doze: _ } = bus;
+    let left = store.into_disk().after_cut(fill);
+    let again = Board::power_on(alloc, left, BootMode::Resume, payloads);
+    Ok((ram, again))
 }

@@ -10,7 +10,7 @@ returns-in-Format-clause-reported g c = λ b h.
 
 pub returns-in-On-clause-reported : goal.returns-in-On-clause-reported
 returns-in-On-clause-reported g c = λ b h.
-    row_reported c.args.setting.now.shape.now _ _ b _ _ _ _ _ c.in-On.is c.answered-in-On.ensures.answer c.answered-in-On.ensures.power h.1 (c.on_line.ensures c.args.setting.now.shape.now b h)
+    row_reported c.args.setting.now.shape.now _ _ b _ _ _ _ _ c.in-On.is c.answered-in-On.ensures.answer c.answered-in-On.ensures.power h.1 (c.on_line.ensures.reported c.args.setting.now.shape.now b h)
 
 pub returns-in-Command-clause-reported : goal.returns-in-Command-clause-reported
 returns-in-Command-clause-reported g c = λ b h.

@@ -1,0 +1,74 @@
+//! The promises over many lives of one disk.
+ghost use Rattle.std.specs.Prelude.{◌≡◌, ℕ, List, None, Some, Ok, Result};
+ghost use Rattle.board_model.specs.Durable.{DurableState, Image, Change, Suspend, Consume, formatted, after, fold};
+ghost use Rattle.board_model.specs.Shapes.{Size};
+ghost use Rattle.board_model.specs.declared.refusal.Refusal.{Refusal};
+ghost use Rattle.disk.specs.Facts.{Content, LeavesSince};
+ghost use Rattle.hart.specs.State.{ArchState as HartState};
+ghost use Rattle.susp.specs.Wakes.{IsWoken};
+ghost use Rattle.store.specs.Follows.{FitsBoard};
+ghost use Rattle.store.specs.Leaves.{Leaves, LeavesOnly, LeavesEither, StandsForEither};
+ghost use Rattle.store.specs.Lives.{Life, now_of, begun, Reaches, Applied, Suspended};
+ghost use Rattle.store.specs.Standing.{StandsFor};
+ghost use Rattle.lives.specs.Events.{Event, WasOpened, WasAcknowledged, WasDoubtful, WasResumed, World, new_world, Finds, Happens, Runs, Rises, event_of, IsLived, Leads};
+
+use disk::Disk;
+use lives::{
+    commands_are_events, lives, opens_are_events, opens_find_what_stands, wakes_are_events,
+};
+
+/// *After a prefix of the commands, .. never resumed again.* Over all lives of a disk, whatever happens to it: the
+/// state is what the kept commands make of the formatted one, and the serials of the images that were resumed rise
+/// strictly. What the calls of a store tell are such events: [`opens_are_such_events`], [`commands_are_such_events`] and
+/// [`wakes_are_such_events`].
+pub fn many_lives()
+    ensures prefix { (events : List Event) (w : World) → Runs new_world events w → w.state ≡ fold formatted w.kept }
+    ensures never_again { (events : List Event) (w : World) → Runs new_world events w → Rises w.resumed }
+{
+    lives();
+}
+
+/// Whatever a crash leaves of a life in which no command is in doubt (`up`), of one in which one is (`down`), or of one in
+/// whose command power failed (`under_way`), an open finds what the events let it find. By that a life begins (`begins`).
+pub fn opens_are_such_events<D: Disk>()
+    ensures up { (w : World) (life : Life) (disk : D) (size z : Size) (s : DurableState) → IsLived w life
+        → life.doubt ≡ None → LeavesOnly (D.facts disk) size (now_of life)
+        → Leaves (D.facts disk) z s → (kept : List Change) × Finds w s kept }
+    ensures down { (w : World) (life : Life) (c : Change) (disk : D) (size z : Size) (s : DurableState) → IsLived w life
+        → life.doubt ≡ Some c → LeavesEither (D.facts disk) size (now_of life) (after (now_of life) c)
+        → Leaves (D.facts disk) z s → (kept : List Change) × Finds w s kept }
+    ensures under_way { (w : World) (life : Life) (c : Change) (old new : D) (left : Content) (size z : Size)
+        (s : DurableState) → IsLived w life → life.doubt ≡ None → Reaches life c
+        → LeavesSince (D.facts old) (D.facts new) (StandsForEither size (now_of life) (after (now_of life) c))
+        → (D.facts new).since (D.facts old).moment left → StandsFor left z s
+        → (v : World) × Happens w (WasDoubtful c) v × ((kept : List Change) × Finds v s kept) }
+    ensures begins { (w : World) (s : DurableState) (kept : List Change) → Finds w s kept
+        → Leads w (WasOpened s) (begun s) }
+{
+    opens_find_what_stands::<D>();
+    opens_are_events();
+}
+
+/// What a store answers to a command (`Applied`) or a suspension (`Suspended`), where none is in doubt, is the event of that
+/// answer.
+pub fn commands_are_such_events()
+    ensures applied { (w : World) (old new : Life) (c : Change) (result : Result ℕ Refusal) → IsLived w old
+        → old.doubt ≡ None → Applied old c result new → Leads w (event_of c result) new }
+    ensures suspended { (w : World) (old new : Life) (size : Size) (hart address opaque : ℕ) (memory : List ℕ)
+        (result : Result ℕ Refusal) → IsLived w old → old.doubt ≡ None
+        → Suspended (FitsBoard size memory hart address) old (Suspend hart address opaque memory) result new
+        → Leads w (event_of (Suspend hart address opaque memory) result) new }
+{
+    commands_are_events();
+}
+
+/// A wake from an image is two events: its Consume was acknowledged, which drops the image, and then its hart is resumed. So
+/// no board is resumed but behind an acknowledged Consume of its own image.
+pub fn wakes_are_such_events()
+    ensures { (w : World) (old new : Life) (n : ℕ) (memory : List ℕ) (hart : HartState) → IsLived w old
+        → old.doubt ≡ None → IsWoken (now_of old) memory hart → Applied old Consume (Ok n) new
+        → (i : Image) × ((now_of old).image ≡ Some i) × (hart.id ≡ i.hart) × (u v : World)
+        × Happens w (WasAcknowledged Consume) u × Happens u (WasResumed i.serial) v × IsLived v new }
+{
+    wakes_are_events();
+}
