@@ -178,7 +178,7 @@ pub fn arm_disk(off: OffDisk, fault: ArmedFault) -> OffDisk
     OffDisk { disk }
 }
 
-/// The same, with the board on or off.
+/// Arms a cut or a failure of a board's disk, with the board on or off.
 fn arm(power: Power, fault: ArmedFault) -> (Power, Answer)
     ensures reported { (size : Size) (b : Bench) → Agrees size b power
         → StepsTo size b result.0 (ArmStep fault b result.1) }
@@ -434,7 +434,7 @@ fn answered(did: (Power, Answer)) -> (Power, Result<Answer, Refusal>)
     (after, Ok(answer))
 }
 
-/// The same of a line that speaks of memory and harts.
+/// A line that shows memory or harts, which is never refused.
 fn shown(did: (Power, MachineLine)) -> (Power, Result<Answer, Refusal>)
     ensures power { result.0 ≡ did.0 }
     ensures answer { result.1 ≡ Ok (shows did.1) }

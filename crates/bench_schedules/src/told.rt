@@ -56,7 +56,7 @@ impl fmt::Display for ToldLine {
     }
 }
 
-/// The same line of what is told of two answers.
+/// What is told of two answers, at one and the same line of both.
 #[derive(Clone, Copy, Drop)]
 pub struct Apart {
     /// Of the script's own run.

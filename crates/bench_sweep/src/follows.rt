@@ -273,7 +273,7 @@ fn record_power_on(
     }
 }
 
-/// The same, where enough memory shows in what the power-on said. Refused `Memory` also where it does not.
+/// Keeps what a power-on said, where enough memory shows in it. Refused `Memory` also where it does not.
 pub fn record_powered(
     ledger: &mut Ledger,
     alloc: Global,
@@ -337,7 +337,7 @@ fn record_line(
     }
 }
 
-/// The same, where the line was refused no memory. Refused `Memory` also where it was.
+/// Keeps what a line said, where it was refused no memory. Refused `Memory` also where it was.
 pub fn record_answered(
     ledger: &mut Ledger,
     alloc: Global,

@@ -57,7 +57,7 @@ fn a_disk_with_an_image_is_shown(rt: HostRuntime) -> Result<(), Fail> {
     all_come(&rt, rt.alloc(), b"", &SHOWN)
 }
 
-/// The same of the largest board.
+/// A disk of the largest board, with an image, is shown.
 static LARGEST: [Run; 3] = [
     Run {
         words: &[

@@ -132,7 +132,7 @@ fn last_halt_in<C: Crew>(
     Ok(found)
 }
 
-/// The same of a line of a history, which it runs.
+/// Runs a line of a history: the last of its turns before which something halts.
 fn last_halt_of<C: Crew>(
     setting: &Setting<'_, C>,
     stops: &Stops,

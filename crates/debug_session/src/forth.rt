@@ -146,7 +146,7 @@ fn halt_behind(
     }
 }
 
-/// The same, where what is watched has changed.
+/// Why a turn halts, where what is watched may have changed.
 fn halt_seen(halt: Option<Halt>, changed: Option<u64>) -> Option<Halt>
     ensures { result ≡ halt_seen halt changed }
 {

@@ -13,7 +13,7 @@ use std::io::{self, ErrorKind};
 pub enum FileFate {
     /// That call fails, and the later ones don't.
     Fails,
-    /// The same, and if it is a sync, what was written since the last one is lost, as Linux loses it.
+    /// That call fails, the later ones don't; and if it is a sync, what was written since the last one is lost, as Linux loses it.
     Loses,
     /// The process is killed at that call. What the file held then is kept apart.
     Killed,

@@ -144,7 +144,7 @@ fn run_window<R: Threads + Sync, T: Task, S: Sink<T::Row>>(
     hand_on(task, first, slots, sink)
 }
 
-/// The same of so many of the slots, from the first on.
+/// Makes the rows of so many of the slots, from the first on, and hands them on.
 fn run_front<R: Threads + Sync, T: Task, S: Sink<T::Row>>(
     rt: &R,
     task: &T,

@@ -281,7 +281,7 @@ impl Machine {
         }
     }
 
-    /// The same of a hart in whose doze the board is not.
+    /// Turns in a row of a hart in whose doze the board is not.
     fn own_row(&mut self, id: HartId, most: u32) -> (u32, Turned)
         requires hart { id < length self.old.harts }
         requires awake { doze_of id self.old.doze ≡ None }
@@ -319,7 +319,7 @@ impl Machine {
         }
     }
 
-    /// The same of a hart in whose doze the board is not.
+    /// An SBI call in the place of a hart in whose doze the board is not.
     fn own_call(&mut self, id: HartId, call: CallWords) -> Option<Turned>
         requires hart { id < length self.old.harts }
         requires awake { doze_of id self.old.doze ≡ None }

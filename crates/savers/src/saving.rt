@@ -116,7 +116,7 @@ fn run_jobs<C: Crew, L: Lane + Send>(
     run_each(crew, ticket, savers, snapshot);
 }
 
-/// The same, over a slice.
+/// Runs the job of each saver of a slice by the crew.
 fn run_each<C: Crew, L: Lane + Send>(
     crew: &C,
     ticket: &Ticket,

@@ -115,7 +115,7 @@ impl SimDisk {
         }
     }
 
-    /// The same, as a disk of its own: this one stays as it is.
+    /// What a crash now leaves by that fill, as a disk of its own: this one stays as it is.
     pub fn left(&self, fill: Fill) -> Result<SimDisk, AllocError>
         ensures left { IfOk result (λ disk. IsLeft (⟦<SimDisk as Disk>⟧.facts self.now) (⟦<SimDisk as Disk>⟧.facts disk)) }
         ensures exact { IfOk result (λ disk. (⟦<SimDisk as Disk>⟧.facts disk).content

@@ -74,7 +74,7 @@ impl History {
         self.written = next;
     }
 
-    /// The same, where that is lent: it stays written.
+    /// Notes a sync of content that is lent in part: that part stays written.
     pub(crate) fn end_epoch(
         &mut self,
         alloc: Global,

@@ -65,7 +65,7 @@ pub fn migrated<D: Disk>(disk: &mut D, found: Found) -> Result<Found, Refusal>
     }
 }
 
-/// The same record in version 2.
+/// That record in version 2.
 fn in_version_two(r: &Record) -> Record
     ensures { result ≡ renewed_record r.now }
 {

@@ -69,7 +69,7 @@ fn issue<D: Disk + Drop>(store: &mut Store<D>, command: &Command) -> Result<Rece
     store.apply(*command)
 }
 
-/// The same of a row of commands of one life, up to the
+/// *After a prefix of the commands that holds every acknowledged one.* Of a row of commands of one life, up to the
 /// first that is not acknowledged: a crash at any moment of it leaves what could have been left at its start, or
 /// what some first of the commands make of the state before it, and so for each moment from which one looks on; a
 /// crash at its end leaves what the acknowledged ones make, or these and the next one. Answers how many were
@@ -111,7 +111,7 @@ pub fn a_format<D: Disk>(disk: &mut D, shape: &Shape) -> Result<(), Refusal>
     format(disk, shape)
 }
 
-/// The same of any disk, at each moment. Of one command: at each
+/// *Of one command, at each moment.* On any disk: at each
 /// moment since its start, within a call of the disk too, a crash leaves the state before it or the state after
 /// it; once it was acknowledged the one after it alone, and after a refusal that leaves no doubt (any but 6) the
 /// one before it alone.
@@ -127,7 +127,7 @@ pub fn a_command<D: Disk + Drop>(store: &mut Store<D>, command: Command) -> Resu
     store.apply(command)
 }
 
-/// The same of a suspension, whose image has this memory, byte for byte, and this hart, address and opaque value.
+/// *Of a suspension, at each moment.* What `a_command` says, of a suspension whose image has this memory, byte for byte, and this hart, address and opaque value.
 pub fn a_suspension<D: Disk + Drop, C: Crew>(
     store: &mut Store<D>,
     saving: Saving<'_, C>,

@@ -79,7 +79,7 @@ pub struct Said<I: Read + Drop, W: Write + Drop> {
     pub harts: Vec<HartEnd>,
 }
 
-/// The same as one run of a disk in memory: a session has ended, power fails, and the next cold boot finds what the
+/// *A session as one run of a disk in memory.* A session has ended, power fails, and the next cold boot finds what the
 /// acknowledged commands make of s, or these and the one in doubt, where the disk failed.
 pub fn power_lost_between_sessions<R: Threads + Wait + Sync, I: Read + Drop, W: Write + Drop>(
     rt: &R,

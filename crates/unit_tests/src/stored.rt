@@ -38,13 +38,13 @@ fn two_commands<D: Disk + Drop>(alloc: Global, disk: D, call: u64) -> Result<(An
     Ok(((first, second, failures), disk))
 }
 
-/// The same of a cache, and the slot that stands in its device once power is cut.
+/// What two commands are answered over a cache, and the slot that stands in its device once power is cut.
 fn cached(alloc: Global, call: u64) -> Result<(Answers, u32), Refusal> {
     let (answers, disk) = two_commands(alloc, blank(alloc, 26)?, call)?;
     Ok((answers, slot_of(alloc, cut(disk))?))
 }
 
-/// The same of a disk that keeps nothing back.
+/// What two commands are answered over a disk that keeps nothing back, and the slot that stands in its device.
 fn logged(alloc: Global, call: u64) -> Result<(Answers, u32), Refusal> {
     let disk = LoggedDisk::new(SimDisk::blank(alloc, 26)?);
     let (answers, disk) = two_commands(alloc, disk, call)?;
@@ -52,7 +52,7 @@ fn logged(alloc: Global, call: u64) -> Result<(Answers, u32), Refusal> {
     Ok((answers, slot_of(alloc, device)?))
 }
 
-/// The same of a disk of one's own, which is opened once more.
+/// What two commands are answered over a disk of one's own, and the slot that one more open finds.
 fn own(alloc: Global, call: u64) -> Result<(Answers, u32), Refusal> {
     let disk = Mine::new(SimDisk::blank(alloc, 26)?);
     let (answers, disk) = two_commands(alloc, disk, call)?;
