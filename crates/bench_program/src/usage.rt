@@ -7,7 +7,7 @@ ghost use Rattle.clap.specs.Words.{app_of, first_value, found_of, kind_of, rule_
 ghost use Rattle.clap.specs.declared.builder.value_parser.ValueParser.{ValueParser};
 ghost use Rattle.command_line.specs.Kinds.{no_work};
 ghost use Rattle.command_line.specs.Parses.{AreParsed};
-ghost use Rattle.bench_program.specs.Usage.{number_up_to, count_rule, crew_rule, work_of_flags, schedules_named, preemptions_named, without_options, savers_of, sbibench, seed_of, IsBounded, compare_or_show, without_benches, with_preemptions, with_schedules, work_asked, work_without, IsFlag, IsNamedBy, NamesConflict, NamesNoWork};
+ghost use Rattle.bench_program.specs.Usage.{number_up_to, count_rule, crew_rule, work_of_flags, schedules_named, preemptions_named, without_options, savers_of, sbibench, seed_of, IsBounded, compare_or_show, without_benches, with_preemptions, with_schedules, work_asked, work_by, work_without, IsFlag, IsNamedBy, NamesConflict, NamesNoWork};
 
 use board_model::refusal_lines;
 use clap::builder::ValueParser;
@@ -358,6 +358,29 @@ fn work_without(matches: &ArgMatches<'_>, sweep: bool, faults: bool) -> Option<W
     }
 }
 
+/// That work, without `--preemptions`. None where `--first` stands, which goes with that alone.
+fn without_first(matches: &ArgMatches<'_>, sweep: bool, faults: bool, first: bool) -> Option<Work>
+    ensures value { result ≡ work_by None (found_of matches.now) sweep faults first }
+    ensures most { IfSome result (λ work. IsBounded work) }
+{
+    if first {
+        return None;
+    }
+    work_without(matches, sweep, faults)
+}
+
+/// A work that goes with no bench. None where one stands beside it.
+fn without_benches(sweep: bool, faults: bool, work: Option<Work>) -> Option<Work>
+    requires most { IfSome work (λ w. IsBounded w) }
+    ensures value { result ≡ without_benches sweep faults work }
+    ensures most { IfSome result (λ w. IsBounded w) }
+{
+    if sweep || faults {
+        return None;
+    }
+    work
+}
+
 /// The one work that is asked for. None where there are two, or where an option stands without the one that it goes with.
 fn work_asked(matches: &ArgMatches<'_>) -> Option<Work>
     ensures value { (sweep faults first : Bool) × IsFlag (found_of matches.now) (codes "sweep") sweep
@@ -368,21 +391,14 @@ fn work_asked(matches: &ArgMatches<'_>) -> Option<Work>
     let sweep = matches.get_flag(SWEEP);
     let faults = matches.get_flag(FAULTS);
     let first = matches.get_flag(FIRST);
+    let runs = matches.get_str(SCHEDULES);
+    let seed = matches.get_str(SEED);
+    let show = matches.get_str(SHOW);
     match matches.get_str(PREEMPTIONS) {
-        None => {
-            if first {
-                return None;
-            }
-            work_without(matches, sweep, faults)
-        }
+        None => without_first(matches, sweep, faults, first),
         Some(word) => {
-            if sweep || faults {
-                return None;
-            }
-            let runs = matches.get_str(SCHEDULES);
-            let seed = matches.get_str(SEED);
-            let show = matches.get_str(SHOW);
-            without_options(runs, seed, show, word, first)
+            let work = without_options(runs, seed, show, word, first);
+            without_benches(sweep, faults, work)
         }
     }
 }
