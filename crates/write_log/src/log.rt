@@ -24,8 +24,10 @@ impl Model for Log {
     ghost also_owns = { λ _. ftrue };
 }
 
-// It holds no data, so it may go to any thread.
+// It holds no data, so it may go to any thread, and any threads may share it.
 unsafe impl Send for Log {}
+
+unsafe impl Sync for Log {}
 
 impl Log {
     /// One write more, of these sectors from that one on.
