@@ -1,9 +1,10 @@
 -- The line that tells how a hart ended. Source: docs/CONSOLE.md, "The harts"; SBI specification 2.0, chapter HSM.
-use Rattle.std.specs.Prelude.{ℕ, Bool, true, false, List, [], ◌++◌, Option, Some, None}
+use Rattle.std.specs.Prelude.{ℕ, Bool, true, false, List, [], ◌∷◌, ◌++◌, flat_map, Option, Some, None}
 use Rattle.std.specs.Fmt.{decimal}
 use Rattle.hsm.specs.declared.state.State.{State}
 use Rattle.hsm.specs.declared.state.State.TheVariants as states
 use Rattle.machine_lines.specs.Texts.{hex_text}
+use Rattle.hart_threads.specs.Ends.{Ending}
 use Rattle.hart_threads.specs.declared.ends.ShutBy.{ShutBy}
 use Rattle.hart_threads.specs.declared.ends.ShutBy.TheVariants.{Life, Console}
 use Rattle.hart_threads.specs.declared.loops.Why.{Why}
@@ -48,3 +49,15 @@ trap_text pc scause sepc stval =
 -- how many turns it made, and why its loop ended
 abbrev pub loop_text : ℕ → Why → Option ShutBy → List ℕ
 loop_text made why by = codes "turns " ++ decimal made ++ codes " ended " ++ reason_text why by
+
+-- a line of these three, with its line feed
+abbrev pub line_of : List ℕ → List ℕ → List ℕ → List ℕ
+line_of place trap end = codes "sbiboard: " ++ (place ++ (codes " " ++ (trap ++ (codes " " ++ (end ++ 10 ∷ [])))))
+
+-- a hart whose loop has ended, in a line
+abbrev pub line_text : Ending → List ℕ
+line_text e = line_of (place_text e.number e.state e.dozing) (trap_text e.pc e.scause e.sepc e.stval) (loop_text e.made e.why e.by)
+
+-- their lines, in order
+abbrev pub lines_text : List Ending → List ℕ
+lines_text ends = flat_map line_text ends

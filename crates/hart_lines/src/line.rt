@@ -1,7 +1,7 @@
 //! A line for each hart.
 
-ghost use Rattle.std.specs.Prelude.{◌≡◌, None, Some};
-ghost use Rattle.hart_lines.specs.Texts.{doze_text, loop_text, place_text, reason_text, state_text, trap_text};
+ghost use Rattle.std.specs.Prelude.{◌≡◌, Some};
+ghost use Rattle.hart_lines.specs.Texts.{doze_text, line_text, lines_text, loop_text, place_text, reason_text, state_text, trap_text};
 
 use hart_threads::{HartEnd, ShutBy, Why};
 use hsm::State;
@@ -163,7 +163,7 @@ fn loop_end_of(end: &HartEnd) -> LoopEnd
 pub struct HartLine<'a>(pub &'a HartEnd);
 
 impl<'a> fmt::Display for HartLine<'a> {
-    ghost output = { λ l. None };
+    ghost output = { λ l. Some (line_text l.0.now) };
 
     fn fmt<W: fmt::Write>(&self, f: &mut fmt::Formatter<W>) -> fmt::Result {
         let (place, trap) = (place_of(self.0), trap_of(self.0));
@@ -177,7 +177,7 @@ impl<'a> fmt::Display for HartLine<'a> {
 pub struct HartLines<'a>(pub &'a [HartEnd]);
 
 impl<'a> fmt::Display for HartLines<'a> {
-    ghost output = { λ l. None };
+    ghost output = { λ l. Some (lines_text l.0.now) };
 
     fn fmt<W: fmt::Write>(&self, f: &mut fmt::Formatter<W>) -> fmt::Result {
         for end in self.0 {
