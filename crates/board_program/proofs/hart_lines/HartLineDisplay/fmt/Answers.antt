@@ -1,4 +1,4 @@
-use Rattle.hart_lines.proofs.line.HartLineDisplay.fmt.Goals as goal
+use Rattle.board_program.proofs.hart_lines.HartLineDisplay.fmt.Goals as goal
 
 pub returns-clause-writes : goal.returns-clause-writes
 returns-clause-writes g c =

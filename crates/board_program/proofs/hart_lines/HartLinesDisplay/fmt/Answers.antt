@@ -4,8 +4,8 @@ use Rattle.std.proofs.lemmas.List.{append-nil, take_more}
 use Rattle.std.specs.Fmt.{HasWritten, IsPlainFormatter}
 use Rattle.std.specs.List.{flat_map}
 use Rattle.hart_threads.specs.Ends.{Ending}
-use Rattle.hart_lines.specs.Texts.{line_text}
-use Rattle.hart_lines.proofs.line.HartLinesDisplay.fmt.Goals as goal
+use Rattle.board_program.specs.HartTexts.{line_text}
+use Rattle.board_program.proofs.hart_lines.HartLinesDisplay.fmt.Goals as goal
 
 -- the lines of one hart more
 one_more : (f : Ending → List ℕ) (es : List Ending) (i : ℕ) (e : Ending) → i < length es → e ≡ get_or es i e → flat_map f (take i es) ++ f e ≡ flat_map f (take (i + 1) es)

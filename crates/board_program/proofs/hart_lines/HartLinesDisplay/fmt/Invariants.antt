@@ -1,7 +1,7 @@
 use Rattle.std.proofs.Common.{take}
 use Rattle.std.specs.Fmt.{HasWritten, IsPlainFormatter}
-use Rattle.hart_lines.specs.Texts.{lines_text}
-use Rattle.hart_lines.proofs.line.HartLinesDisplay.fmt.Given as goal
+use Rattle.board_program.specs.HartTexts.{lines_text}
+use Rattle.board_program.proofs.hart_lines.HartLinesDisplay.fmt.Given as goal
 
 abbrev pub invariant-loop-end : goal.invariant-loop-end
 invariant-loop-end g l =

@@ -1,7 +1,7 @@
-//! A line for each hart.
+//! The lines that tell how the harts of a session ended (docs/CONSOLE.md, "The harts").
 
 ghost use Rattle.std.specs.Prelude.{◌≡◌, Some};
-ghost use Rattle.hart_lines.specs.Texts.{doze_text, line_text, lines_text, loop_text, place_text, reason_text, state_text, trap_text};
+ghost use Rattle.board_program.specs.HartTexts.{doze_text, line_text, lines_text, loop_text, place_text, reason_text, state_text, trap_text};
 
 use hart_threads::{HartEnd, ShutBy, Why};
 use hsm::State;
