@@ -2,7 +2,7 @@
 -- Source: docs/DURABLE.md, "What an open finds"; SBI specification 2.0, chapter 13.
 use Rattle.std.specs.Prelude.{◌≡◌, ℕ, true, List, [], ◌∷◌, ◌++◌, Some, ⊤}
 use Rattle.board_model.specs.Durable.{Image, Consume, ends_life}
-use Rattle.lives.specs.Events.{Event, WasOpened, WasAcknowledged, WasDoubtful, WasCut, WasResumed, World, new_world, Runs}
+use Rattle.theorem.specs.Events.{Event, WasOpened, WasAcknowledged, WasDoubtful, WasCut, WasResumed, World, new_world, Runs}
 
 -- an event that ends no life and answers no hart
 abbrev pub IsBeforeAnswer : Event → Type 0

@@ -3,7 +3,7 @@ use Rattle.std.proofs.Common.{◌≡◌, ◌∙◌, ⊎_elim, ℕ, ◌+◌, ◌<
 use Rattle.std.specs.Bool.{⊤}
 use Rattle.board_model.specs.Durable.{DurableState, Image, Change, Consume, formatted, after, fold}
 use Rattle.board_model.proofs.Steps.{by_image, image_after}
-use Rattle.lives.specs.Events.{Event, WasOpened, WasAcknowledged, WasRefused, WasDoubtful, WasCut, WasResumed, World, new_world, Finds, serial_of, dropped_by, Happens, Runs, AreBelow, IsAbove, Rises}
+use Rattle.theorem.specs.Events.{Event, WasOpened, WasAcknowledged, WasRefused, WasDoubtful, WasCut, WasResumed, World, new_world, Finds, serial_of, dropped_by, Happens, Runs, AreBelow, IsAbove, Rises}
 
 -- the image's serial was given out, and no hart with it or a later one was answered
 abbrev pub Fresh : List ℕ → ℕ → Option Image → Type 0

@@ -7,8 +7,8 @@ use Rattle.board_model.specs.declared.refusal.Refusal.TheVariants.{BadShape, Dev
 use Rattle.hart.specs.State.{ArchState as HartState}
 use Rattle.susp.specs.Wakes.{IsWoken}
 use Rattle.store.specs.Lives.{Life, now_of, begun, Reaches, Refused, Applied, SuspendRefused, SuspendApplied, Suspended}
-use Rattle.lives.proofs.Worlds.{fold_more}
-use Rattle.lives.specs.Events.{World, WasOpened, WasAcknowledged, WasDoubtful, WasResumed, Finds, Goes, Happens, serial_of, dropped_by, goes_on, goes_with, event_of, IsLived, Leads}
+use Rattle.theorem.proofs.Worlds.{fold_more}
+use Rattle.theorem.specs.Events.{World, WasOpened, WasAcknowledged, WasDoubtful, WasResumed, Finds, Goes, Happens, serial_of, dropped_by, goes_on, goes_with, event_of, IsLived, Leads}
 
 pub opened : (w : World) (s : DurableState) (kept : List Change) → Finds w s kept → Leads w (WasOpened s) (begun s)
 opened w s kept finds = (

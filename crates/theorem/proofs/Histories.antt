@@ -2,8 +2,8 @@
 use Rattle.std.proofs.Common.{◌≡◌, ◌∙◌, ◌⊎◌, ⊎_elim, ℕ, List, [], ◌∷◌, ◌++◌, Option, Some, None, false, refl, sym, ap, subst, append_assoc}
 use Rattle.std.proofs.lemmas.List.{append-nil}
 use Rattle.board_model.specs.Durable.{Image, Change, Consume, refusal_of}
-use Rattle.lives.specs.Events.{Event, WasOpened, WasAcknowledged, WasRefused, WasDoubtful, WasCut, WasResumed, World, new_world, serial_of, goes_on, Happens, Runs}
-use Rattle.lives.specs.Histories.{IsBeforeAnswer, AreBeforeAnswer, AnswersOnce, EndsCommands, HaveNoOpen, HaveNoCommand}
+use Rattle.theorem.specs.Events.{Event, WasOpened, WasAcknowledged, WasRefused, WasDoubtful, WasCut, WasResumed, World, new_world, serial_of, goes_on, Happens, Runs}
+use Rattle.theorem.specs.Histories.{IsBeforeAnswer, AreBeforeAnswer, AnswersOnce, EndsCommands, HaveNoOpen, HaveNoCommand}
 
 runs_push : (w : World) (events : List Event) (u : World) (e : Event) (v : World) → Runs w events u → Happens u e v → Runs w (events ++ e ∷ []) v
 runs_push w [] u e v run did = (v, subst (λ (x : World). Happens x e v) run did, refl)

@@ -1,7 +1,7 @@
 use Rattle.board_model.specs.Durable.{Suspend}
 use Rattle.store.specs.Follows.{FitsBoard}
-use Rattle.lives.proofs.Calls.{applied, suspended}
-use Rattle.lives.proofs.laws.commands_are_events.Goals as goal
+use Rattle.theorem.proofs.Calls.{applied, suspended}
+use Rattle.theorem.proofs.events.commands_are_such_events.Goals as goal
 
 pub returns-clause-applied : goal.returns-clause-applied
 returns-clause-applied c = applied

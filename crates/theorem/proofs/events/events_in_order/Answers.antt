@@ -1,5 +1,5 @@
-use Rattle.lives.proofs.Histories.{answered, taken, ended}
-use Rattle.lives.proofs.laws.events_in_order.Goals as goal
+use Rattle.theorem.proofs.Histories.{answered, taken, ended}
+use Rattle.theorem.proofs.events.events_in_order.Goals as goal
 
 pub returns-clause-answers : goal.returns-clause-answers
 returns-clause-answers c = answered
