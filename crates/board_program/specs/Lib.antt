@@ -1,2 +1,3 @@
 pub mod Ran
 pub mod Operated
+pub mod HartTexts

@@ -4,6 +4,7 @@
 
 mod answers;
 mod disks;
+mod hart_lines;
 mod notices;
 mod operates;
 mod runs;

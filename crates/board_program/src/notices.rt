@@ -1,9 +1,9 @@
 //! Notices on standard error, which are no faults (docs/CONSOLE.md, "The harts").
 
+use crate::hart_lines::HartLines;
 use board::Payloads;
 use board_model::{SLOTS, Shape, Slot};
 use board_options::Options;
-use hart_lines::HartLines;
 use hart_threads::HartEnd;
 use std::io::{IsTerminal, Write};
 

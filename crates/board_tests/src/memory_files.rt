@@ -11,7 +11,7 @@ use disk::Sector;
 use file_disk::{FileFate, MemoryFile};
 use payload_files::PayloadFiles;
 use std::alloc::Global;
-use std::io::{self, ErrorKind, IsTerminal, Write};
+use std::io::{self, Cursor, ErrorKind, IsTerminal, Read, Write};
 
 /// What fails of the files.
 #[derive(Clone, Copy, Drop)]
@@ -36,13 +36,26 @@ pub struct MemoryFiles {
     pub broken: Broken,
 }
 
+/// A payload file that is open.
+#[derive(Drop)]
+pub struct PayloadFile(Cursor<Vec<u8>>);
+
+impl Read for PayloadFile {
+    fn read(&mut self, buf: &mut [u8]) -> io::Result<usize> {
+        self.0.read(buf)
+    }
+}
+
 impl PayloadFiles for MemoryFiles {
+    type Opened = PayloadFile;
+
     ghost bytes_at = { λ files path. None };
 
-    fn read(&self, path: &str, _most: u64) -> io::Result<Vec<u8>> {
+    fn open(&self, path: &str) -> io::Result<PayloadFile> {
         for (slot, digit) in b"0123".iter().enumerate() {
             if path.as_bytes().get(1) == Some(digit) && self.is_there(*digit) {
-                return decoded(self.alloc, self.payloads[slot]);
+                let bytes = decoded(self.alloc, self.payloads[slot])?;
+                return Ok(PayloadFile(Cursor::new(bytes)));
             }
         }
         Err(io::Error::other("it is not there"))

@@ -3,6 +3,7 @@
 ghost use Rattle.std.specs.Prelude.{None};
 
 use payload_files::PayloadFiles;
+use std::fs::File;
 use std::io;
 use std::path::Path;
 
@@ -14,10 +15,12 @@ pub struct Folder<'a> {
 }
 
 impl PayloadFiles for Folder<'_> {
+    type Opened = File;
+
     ghost bytes_at = { λ folder path. None };
 
-    fn read(&self, path: &str, most: u64) -> io::Result<Vec<u8>> {
+    fn open(&self, path: &str) -> io::Result<File> {
         let path = Path::new(self.path).join(self.rt.alloc(), path)?;
-        PayloadFiles::read(self.rt, path.as_str(), most)
+        PayloadFiles::open(self.rt, path.as_str())
     }
 }

@@ -9,7 +9,7 @@ ghost use Rattle.payload_files.specs.Named.{AreFilesOf, IsFileOf};
 use crate::files::PayloadFiles;
 use board::Payloads;
 use board_model::Slot;
-use command_line::FileFault;
+use command_line::{FileFault, read_at_most};
 use std::alloc::Global;
 use std::io;
 
@@ -27,7 +27,7 @@ fn read_named<F: PayloadFiles>(
 {
     match path {
         None => Ok(Vec::new(alloc)),
-        Some(path) => files.read(path, MOST_BYTES),
+        Some(path) => read_at_most(alloc, files.open(path)?, MOST_BYTES),
     }
 }
 

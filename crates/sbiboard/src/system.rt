@@ -20,10 +20,12 @@ use std::os::unix::fs::FileExt;
 pub struct SystemFiles<'a>(pub &'a HostRuntime);
 
 impl<'a> PayloadFiles for SystemFiles<'a> {
+    type Opened = File;
+
     ghost bytes_at = { λ files path. None };
 
-    fn read(&self, path: &str, most: u64) -> io::Result<Vec<u8>> {
-        self.0.read(path, most)
+    fn open(&self, path: &str) -> io::Result<File> {
+        PayloadFiles::open(self.0, path)
     }
 }
 

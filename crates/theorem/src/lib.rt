@@ -14,7 +14,7 @@ mod scripts;
 mod sessions;
 
 pub use events::{
-    commands_are_such_events, many_lives, opens_are_such_events, wakes_are_such_events,
+    commands_are_such_events, events_in_order, lives, opens_are_such_events, wakes_are_such_events,
 };
 pub use files::{commands_kept_in_a_file, the_next_open_finds_them};
 pub use headline::{
