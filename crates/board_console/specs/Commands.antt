@@ -16,7 +16,7 @@ use Rattle.store.specs.Lives.{Applied}
 use Rattle.store.specs.Views.{now_state}
 use Rattle.store.specs.declared.stores.Store.{Store}
 use Rattle.store.specs.Asked.{Asked}
-use Rattle.shared_store.specs.Heard.{Hearing, after_look, after_refusal}
+use Rattle.shared_store.specs.Heard.{Hearing, after_look, after_refusal, after_waking}
 use Rattle.shared_store.specs.Legal.{MayAnswer, MayShow}
 use Rattle.susp.specs.declared.buses.Bus.{Bus}
 use Rattle.board_console.specs.Wakes.{Wakes, MayWake}
@@ -43,9 +43,10 @@ abbrev pub party_after : Bool → Command → Result ℕ Refusal → Party → P
 party_after newly command (Ok n) p = record { told = (n, entries.Command command) ∷ p.told; heard = p.heard }
 party_after newly command (Err e) p = record { told = p.told; heard = after_refusal newly command e p.heard }
 
--- what `wake` may be answered: what a call of the wake-up device came to
-abbrev pub IsWakeAnswer : Reply → Type 0
-IsWakeAnswer answer = (r : Result (Unit {0}) Refusal) × MayWake r × (answer ≡ answers.Wake r)
+-- what `wake` may be answered: what a call of the wake-up device came to, as the console heard it
+abbrev pub IsWakeAnswer : Reply → Hearing → Hearing → Type 0
+IsWakeAnswer answer old new =
+    (r : Result (Unit {0}) Refusal) × MayWake r × (answer ≡ answers.Wake r) × (new ≡ after_waking r old)
 
 -- What a line with a command may be answered, and what the console was told before it and then. Only a command that is
 -- answered 6 is in doubt.
@@ -56,14 +57,15 @@ IsCommandAnswer found command answer old new =
 
 -- What a line may be answered in a life that began in that state and of which the boot issued those commands: as some
 -- commands explain it that the table takes, one after another from there. What the console was told before it, and then:
--- a receipt is answered where it is told, with just that command, and a refusal or a state where it is heard; nothing else
--- is told.
+-- a receipt is answered where it is told, with just that command, and a refusal, a state or a wake where it is heard; nothing
+-- else is told or heard, so no other line wakes the board.
 abbrev pub IsAnswerTo : DurableState → List Change → Said → Reply → Party → Party → Type 0
 IsAnswerTo found issued (saids.Command command) answer old new = IsCommandAnswer found command answer old new
 IsAnswerTo found issued saids.State answer old new =
     (d : Durable) × MayShow found issued old.told d × (answer ≡ answers.State d)
     × (new ≡ party old.told (after_look d old.heard))
-IsAnswerTo found issued saids.Wake answer old new = IsWakeAnswer answer × (new ≡ old)
+IsAnswerTo found issued saids.Wake answer old new =
+    (heard : Hearing) × IsWakeAnswer answer old.heard heard × (new ≡ party old.told heard)
 IsAnswerTo found issued saids.Quit answer old new = (answer ≡ answers.Quit) × (new ≡ old)
 IsAnswerTo found issued saids.Other answer old new = (answer ≡ answers.Unknown) × (new ≡ old)
 

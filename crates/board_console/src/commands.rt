@@ -56,10 +56,10 @@ pub fn obey<D: Disk + Drop, J: Journal>(
 }
 
 /// Does what the line `wake` says, with the bus that it is lent for this one moment: on a board of threads, under the bus's lock.
-/// It calls the wake-up device once.
-pub fn rouse<J: Journal>(bus: &mut SharedBus<J>) -> Reply
+/// It calls the wake-up device once, and the console hears of it.
+pub fn rouse<J: Journal>(bus: &mut SharedBus<J>, heard: &mut Heard<J>) -> Reply
     ensures wakes { AnswersWake (bus_in bus.old) (bus_in bus.new) result }
-    ensures fits { IsWakeAnswer result }
+    ensures fits { IsWakeAnswer result heard.old heard.new }
 {
-    Reply::Wake(Waking::call(bus))
+    Reply::Wake(Waking::call(bus, heard))
 }

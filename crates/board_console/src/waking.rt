@@ -2,11 +2,12 @@
 
 ghost use Rattle.std.specs.Prelude.{◌≡◌, Result};
 ghost use Rattle.board_model.specs.declared.refusal.Refusal.{Refusal};
+ghost use Rattle.shared_store.specs.Heard.{after_waking};
 ghost use Rattle.shared_store.specs.Views.{bus_in};
 ghost use Rattle.board_console.specs.Wakes.{Wakes, MayWake};
 
 use board_model::Refusal;
-use shared_store::{Journal, SharedBus};
+use shared_store::{Heard, Journal, SharedBus};
 use std::marker::Model;
 
 /// What a call of the wake-up device came to. Nothing but a call makes one, so the console answers `wake` only after one.
@@ -24,13 +25,14 @@ impl Model for Waking {
 }
 
 impl Waking {
-    /// Calls the wake-up device, as `SharedBus::wake`: a board that dozes is woken, once. Refused `NotDozing` where none
-    /// dozes or it was woken already; then nothing changes.
-    pub fn call<J: Journal>(bus: &mut SharedBus<J>) -> Waking
+    /// Calls the wake-up device, as `SharedBus::wake`: a board that dozes is woken, once, and the console hears of it. Refused
+    /// `NotDozing` where none dozes or it was woken already; then nothing changes.
+    pub fn call<J: Journal>(bus: &mut SharedBus<J>, heard: &mut Heard<J>) -> Waking
         ensures wakes { Wakes (bus_in bus.old) (bus_in bus.new) result }
         ensures may { MayWake result }
+        ensures heard { heard.new ≡ after_waking result heard.old }
     {
-        let answered = bus.wake();
+        let answered = bus.wake(heard);
         Waking { answered }
     }
 

@@ -15,12 +15,13 @@ pub struct ConsoleHeard {
     doubt: Option<Command>,
     shown: u64,
     state: Option<Durable>,
+    woken: u64,
 }
 
 impl Model for ConsoleHeard {
     ghost Value = { Hearing };
 
-    ghost view = { λ h. record { refused = h.refused; refusal = h.refusal; doubt = h.doubt; shown = h.shown; state = h.state } };
+    ghost view = { λ h. record { refused = h.refused; refusal = h.refusal; doubt = h.doubt; shown = h.shown; state = h.state; woken = h.woken } };
 }
 
 impl ConsoleHeard {
@@ -34,6 +35,7 @@ impl ConsoleHeard {
             doubt: None,
             shown: 0,
             state: None,
+            woken: 0,
         }
     }
 
@@ -47,6 +49,7 @@ impl ConsoleHeard {
             doubt: heard.in_doubt(),
             shown: heard.shown(),
             state: heard.state(),
+            woken: heard.woken(),
         }
     }
 

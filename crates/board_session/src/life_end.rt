@@ -1,6 +1,6 @@
 //! The end of a life: the receipts that were told, and the disk.
 
-ghost use Rattle.std.specs.Prelude.{◌≡◌, ◌≤◌, ◌+◌, ℕ, List, [], ◌∷◌, true, None, All, length, vec_len, vec_capacity};
+ghost use Rattle.std.specs.Prelude.{◌≡◌, ◌≤◌, ◌+◌, ℕ, List, [], ◌∷◌, true, None, Some, All, length, vec_len, vec_capacity};
 ghost use Rattle.store.specs.Leaves.{IsIdle};
 ghost use Rattle.store.specs.Taken.{are_taken};
 ghost use Rattle.store.specs.Views.{size_of_store, found_state, journal_of, life_of, doubt_of, failures_at_open};
@@ -9,27 +9,41 @@ ghost use Rattle.shared_store.specs.Runs.{IsCarried};
 ghost use Rattle.shared_store.specs.Views.{inside, parts_with};
 ghost use Rattle.hart_threads.specs.Ends.{AreNumberedFrom, IsEnding};
 ghost use Rattle.board_session.specs.Backs.{AreBack};
-ghost use Rattle.board_session.specs.Sessions.{IsOfLife};
+ghost use Rattle.board_session.specs.Sessions.{IsBy, IsOfLife};
 
+use board_model::Entry;
 use disk::Disk;
-use hart_threads::{HartEnd, HartLocal, Parted, Rested, Threaded};
+use hart_threads::{HartEnd, HartLocal, Parted, Rested, ShutBy, Threaded};
 use shared_store::{Heard, Part, Unshared};
 use std::sync::Wait;
 use store::Store;
 
-/// How the hart of that number ended, of whose loop this is. That a loop is of the hart whose thread it was on no type says, so
-/// it is looked at here: one of another hart would be waited for in vain, which no run comes to.
+/// Whether a loop that another hart's command ended was ended by this one.
+fn is_by(last: &Option<(u32, Entry)>, by: Option<ShutBy>) -> bool
+    ensures { result ≡ true → IsBy last.now by }
+{
+    match by {
+        Some(ShutBy::Life(number, entry)) => *last == Some((number, entry)),
+        Some(ShutBy::Console) | None => true,
+    }
+}
+
+/// How the hart of that number ended, of whose loop this is, in a life whose last command is that. That a loop is of the hart
+/// whose thread it was on, and that the command which ended it is the life's last, no type says, so both are looked at here:
+/// another loop would be waited for in vain, which no run comes to.
 fn end_of<'c, R: Wait, J: Threaded>(
     rt: &R,
     rested: &Rested<'c, J>,
     parted: &Parted<'c, J>,
     number: usize,
+    last: &Option<(u32, Entry)>,
 ) -> HartEnd
     ensures number { result.number ≡ number }
+    ensures by { IsBy last.now result.by }
     ensures well { IsEnding J.machine J.turns J.found J.gated parted.now.token.value result }
 {
     let end = rested.end(parted);
-    if end.hart().index() == number {
+    if end.hart().index() == number && is_by(last, end.by()) {
         return end;
     }
     for _ in rt.forever() {}
@@ -37,22 +51,24 @@ fn end_of<'c, R: Wait, J: Threaded>(
 }
 
 /// How the harts of those loops ended, in the order of their numbers, from 0. In the list of loops the highest number comes
-/// first. `parted` holds what their console said of the harts when it left.
+/// first. `parted` holds what their console said of the harts when it left, and `last` the last command of their life.
 pub(crate) fn ends_of<'c, R: Wait, J: Threaded>(
     rt: &R,
     loops: &[Rested<'c, J>],
     parted: &Parted<'c, J>,
     room: Vec<HartEnd>,
+    last: &Option<(u32, Entry)>,
 ) -> Vec<HartEnd>
     requires empty { vec_len room ≡ 0 }
     requires room { length loops.now ≤ vec_capacity room }
     ensures many { vec_len result ≡ length loops.entry.now }
     ensures numbered { AreNumberedFrom 0 result.items }
     ensures well { All (IsEnding J.machine J.turns J.found J.gated parted.now.token.value) result.items }
+    ensures by { All (λ e. IsBy last.now e.by) result.items }
 {
     let (mut ends, many) = (room, loops.len());
     for k in 0..many {
-        ends.push_reserved(end_of(rt, &loops[many - 1 - k], parted, k));
+        ends.push_reserved(end_of(rt, &loops[many - 1 - k], parted, k, last));
     }
     ends
 }
@@ -119,7 +135,8 @@ pub(crate) fn disk_of<D: Disk + Drop, J: Threaded>(
     requires boot { boot.told ≡ boot_told J.issued }
     requires all { J.parts ≡ J.size.harts + 2 }
     ensures none_out { IsIdle (D.facts result) }
-    ensures life { IsOfLife J.size J.found J.issued J.memory J.failures console.told heard.doubt (D.facts result) }
+    ensures life { (life : IsOfLife J.size J.found J.issued J.memory J.failures console.told heard.doubt (D.facts result))
+        × (life.journal ≡ journal_of (inside whole)) }
 {
     let mut whole = whole;
     gather_loops(&mut whole, loops);

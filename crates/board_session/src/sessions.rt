@@ -24,7 +24,7 @@ ghost use Rattle.store.specs.Taken.{are_taken};
 ghost use Rattle.board_console.specs.Commands.{party};
 ghost use Rattle.board_console.specs.Dialogues.{Talks, dialogue_ends};
 ghost use Rattle.board_session.specs.Backs.{AreBack};
-ghost use Rattle.board_session.specs.Sessions.{TakesFormat, RunsOver, RefusesDisk, RefusesSession, Begins, IsOfLife, RanOver, TalksIf, outcome_of, harts_after, AreDriven};
+ghost use Rattle.board_session.specs.Sessions.{TakesFormat, RunsOver, RefusesDisk, RefusesSession, Begins, IsOfLife, RanOver, TalksIf, outcome_of, harts_after, AreByLast, AreDriven};
 
 use crate::gate::{Open, harts_after};
 use crate::heard::ConsoleHeard;
@@ -176,10 +176,11 @@ fn run_board<
     requires opened { failures_at_open booted.parts.store ≡ J.failures }
     ensures none_out { IsIdle (D.facts result.disk) }
     ensures life { (console : List (ℕ × Entry))
-        × IsOfLife J.size J.found J.issued J.memory J.failures console result.heard.doubt (D.facts result.disk)
+        × (life : IsOfLife J.size J.found J.issued J.memory J.failures console result.heard.doubt (D.facts result.disk))
         × TalksIf J.found J.issued result.console_left
         (dialogue_ends (I.remaining streams.input) (W.contents streams.out) (party [] heard_nothing))
-        (dialogue_ends (I.remaining result.streams.input) (W.contents result.streams.out) (party console result.heard)) }
+        (dialogue_ends (I.remaining result.streams.input) (W.contents result.streams.out) (party console result.heard))
+        × AreByLast life.journal result.harts.items }
     ensures ran { result.ran ≡ outcome_of result.console_left }
     ensures driven { AreDriven J.size.harts J.machine J.turns J.found result.console_left result.harts.items }
     ensures unheard { result.console_left ≡ None → (result.streams ≡ streams) × (result.heard ≡ heard_nothing) }
@@ -284,8 +285,8 @@ fn after_console<'c, R: Wait, D: Disk + Drop, J: Threaded, I: Read + Drop, W: Wr
     requires empty { vec_len room ≡ 0 }
     requires room { vec_len loops ≤ vec_capacity room }
     ensures none_out { IsIdle (D.facts result.disk) }
-    ensures life { IsOfLife J.size J.found J.issued J.memory J.failures talked.entry.side.part.told
-        talked.entry.side.heard.doubt (D.facts result.disk) }
+    ensures life { (life : IsOfLife J.size J.found J.issued J.memory J.failures talked.entry.side.part.told
+        talked.entry.side.heard.doubt (D.facts result.disk)) × AreByLast life.journal result.harts.items }
     ensures streams { result.streams ≡ talked.entry.side.streams }
     ensures heard { result.heard ≡ talked.entry.side.heard }
     ensures console_left { result.console_left ≡ Some talked.entry.left }
@@ -293,7 +294,8 @@ fn after_console<'c, R: Wait, D: Disk + Drop, J: Threaded, I: Read + Drop, W: Wr
     ensures driven { AreDriven J.size.harts J.machine J.turns J.found (Some talked.entry.left) result.harts.items }
 {
     let Talked { side, left, parted } = talked;
-    let harts = ends_of(rt, &loops, &parted, room);
+    let last = whole.last();
+    let harts = ends_of(rt, &loops, &parted, room, &last);
     let ConsoleSide {
         streams,
         part,
@@ -332,6 +334,7 @@ fn without_console<D: Disk + Drop, J: Threaded, I: Read + Drop, W: Write + Drop>
     ensures heard { result.heard ≡ heard_nothing }
     ensures console_left { result.console_left ≡ None }
     ensures ran { result.ran ≡ Err Memory }
+    ensures harts { result.harts.items ≡ [] }
 {
     let ConsoleSide {
         streams,
@@ -461,8 +464,9 @@ pub fn session<R: Threads + Wait + Sync, D: Disk + Drop + Send, I: Read + Drop, 
     // was read and answered belongs: each command of its journal was acknowledged to the boot, the console or a
     // hart, and no other was; and its suspension carries what steps of harts made of the memory of the board that was on. A
     // command is in doubt only where the disk failed, and it was asked for by the console, which was answered 6, or by a hart.
-    // Each hart went from where the power-on left it by its own turns: it made all of them, or one of them ended the life,
-    // or the console left so that they were halted. It is then refused by why the console left alone.
+    // Each hart went from where the power-on left it by its own turns: it made all of them, or one of them ended the life
+    // by the last command of its journal, or the console left so that they were halted. It is then refused by why the console
+    // left alone.
     ensures ended { (RefusesSession options.now.new options.now.shape options.now.mode payloads.now (D.facts disk)
         result.ran (D.facts result.disk) × (result.console_left ≡ None))
         ⊎ (RanOver options.now.new options.now.shape options.now.mode payloads.now options.now.turns (D.facts disk)

@@ -57,16 +57,25 @@ impl Looks {
         self.woken
     }
 
-    /// One look at the bus: whether the board dozes by that hart, and was woken. Then the doze is over. The memory stays.
-    fn look<J: Journal>(&mut self, bus: &mut SharedBus<J>, by: HartId) -> bool
-        requires { self.old.made < 2 ^ 64 - 1 }
+    /// One look at the bus for the hart of that seat, which is quiet: whether the board dozes by it, and was woken. Then the doze
+    /// is over. The memory stays.
+    fn look<J: Journal>(
+        &mut self,
+        bus: &mut SharedBus<J>,
+        seats: &Seats,
+        tables: &Tables,
+        by: HartId,
+    ) -> bool
+        requires few { self.old.made < 2 ^ 64 - 1 }
+        requires seats { AreSeatsOfBoth tables.now seats.now }
+        requires quiet { Acts by Quiet seats.now }
         ensures woken { result ≡ is_woken by (bus_in bus.old).doze }
         ensures counted { self.new ≡ after_look result self.old }
         ensures memory { (bus_in bus.new).ram ≡ (bus_in bus.old).ram }
         ensures left { (bus_in bus.new).doze ≡ doze_left result (bus_in bus.old).doze }
     {
         self.made += 1;
-        if !bus.end_doze(by) {
+        if !bus.end_doze(seats, tables, by) {
             return false;
         }
         self.woken += 1;
@@ -109,7 +118,7 @@ pub(crate) fn doze_turn<J: Journal>(
     ensures memory { (bus_in bus.new).ram ≡ (bus_in bus.old).ram }
     ensures left { (bus_in bus.new).doze ≡ doze_left (is_woken hart.old.id (bus_in bus.old).doze) (bus_in bus.old).doze }
 {
-    if !looks.look(bus, hart.id()) {
+    if !looks.look(bus, &seats, tables, hart.id()) {
         return (seats, Word::Goes(Did::Idle), Some(doze));
     }
     let address = doze.at.address;

@@ -32,9 +32,11 @@ pub(crate) struct LockedBus<'r, 'a, R, J: Threaded> {
 }
 
 impl<'r, 'a, R: Wait, J: Threaded> MemoryBus for LockedBus<'r, 'a, R, J> {
+    ghost use Rattle.std.proofs.Common.{refl};
+
     ghost may_hold = { λ bus memory. StepsMake J.memory memory };
 
-    ghost holds_one = { λ bus. (J.memory, λ is keep here. here) };
+    ghost holds_one = { λ bus. (J.memory, ∣ (0, refl) ∣₁) };
 
     #[inline(always)]
     fn step(&mut self, hart: &mut Hart, pending: bool) -> Outcome {

@@ -29,15 +29,17 @@ use Rattle.sbi.specs.declared.words.Word.{Word}
 use Rattle.sbi.specs.declared.resets.ResetType.{ResetType}
 use Rattle.sbi.specs.Resets.{reset_of}
 use Rattle.sbi.specs.Helds.{MakesReset, MakesHeld}
-use Rattle.shared_store.specs.Runs.{IsStep, StepsMake, CarriesSteps, AllCarrySteps, IsCarried}
+use Rattle.std.proofs.Math.Logic.{∥∥₁_map}
+use Rattle.shared_store.specs.Runs.{IsStep, StepsInRow, StepsMake, CarriesSteps, AllCarrySteps, IsCarried}
 
 -- ---- steps
 pub none_yet : (m n : List ℕ) → n ≡ m → StepsMake m n
-none_yet m n same = λ is keep here. subst (λ (x : List ℕ). is x ≡ true) (sym same) here
+none_yet m n same = ∣ (zero, same) ∣₁
 
 pub one_step : (begun m n : List ℕ) (pending : Bool) (s t : ArchState) (outcome : Outcome) → StepsMake begun m → Steps pending s m t n outcome → StepsMake begun n
 one_step begun m n pending s t outcome made steps =
-    λ is keep here. let last : IsStep m n = (pending, s, t, outcome, steps) in keep m n last (made is keep here)
+    let last : IsStep m n = (pending, s, t, outcome, steps) in
+    ∥∥₁_map made (λ (row : (k : ℕ) × StepsInRow k begun m). let longer : (k : ℕ) × StepsInRow k begun n = (suc row.0, (m, row.1, last)) in longer)
 
 -- ---- commands
 command_carries : (begun : List ℕ) (command : Command) → CarriesSteps begun (change_of command)

@@ -7,16 +7,17 @@ use Rattle.board_model.specs.declared.refusal.Refusal.{Refusal}
 use Rattle.board_model.specs.declared.refusal.Refusal.TheVariants.{Down}
 
 -- how many commands were refused, and the last of them with its refusal; the one of them that is in doubt; how often the
--- state was shown, and the last that was
+-- state was shown, and the last that was; how often the board was woken
 pub record Hearing : Type 0 where
   pub refused : ℕ
   pub refusal : Option (Command × Refusal)
   pub doubt : Option Command
   pub shown : ℕ
   pub state : Option Durable
+  pub woken : ℕ
 
 abbrev pub heard_nothing : Hearing
-heard_nothing = record { refused = 0; refusal = None; doubt = None; shown = 0; state = None }
+heard_nothing = record { refused = 0; refusal = None; doubt = None; shown = 0; state = None; woken = 0 }
 
 -- a count that begins anew at 2^64
 abbrev pub one_more : ℕ → ℕ
@@ -35,6 +36,7 @@ after_refusal newly command e h = record {
   doubt = doubt_after newly command e h.doubt;
   shown = h.shown;
   state = h.state;
+  woken = h.woken;
 }
 
 abbrev pub after_look : Durable → Hearing → Hearing
@@ -44,7 +46,13 @@ after_look state h = record {
   doubt = h.doubt;
   shown = one_more h.shown;
   state = Some state;
+  woken = h.woken;
 }
+
+-- a call of the wake-up device woke the board, or was refused: then nothing is heard of it
+abbrev pub after_waking : Result (Unit {0}) Refusal → Hearing → Hearing
+after_waking (Ok done) h = record h { woken = one_more h.woken }
+after_waking (Err e) h = h
 
 -- a command that is acknowledged has a receipt, and one that is refused is heard of here
 abbrev pub heard_by : Bool → Command → Result (ℕ × Entry) Refusal → Hearing → Hearing

@@ -1,5 +1,5 @@
 -- The memory that steps of harts make, one after another, whichever harts make them. Source: docs/THREADS.md, "The bus".
-use Rattle.std.specs.Prelude.{◌≡◌, ℕ, Bool, true, List, Some, slice_get}
+use Rattle.std.specs.Prelude.{◌≡◌, ℕ, zero, suc, Bool, List, Some, slice_get}
 use Rattle.board_model.specs.Durable.{Change, Suspend}
 use Rattle.hart.specs.Means.{Steps}
 use Rattle.hart.specs.State.{ArchState}
@@ -10,13 +10,14 @@ use Rattle.store.specs.Lives.{Life}
 abbrev pub IsStep : List ℕ → List ℕ → Type 0
 IsStep m n = (pending : Bool) × (s : ArchState) × (t : ArchState) × (outcome : Outcome) × Steps pending s m t n outcome
 
--- each step keeps it
-abbrev pub StepsKeep : (List ℕ → Bool) → Type 0
-StepsKeep is = (m : List ℕ) (n : List ℕ) → IsStep m n → is m ≡ true → is n ≡ true
+-- so many steps, one after another, make the memory n of m
+abbrev pub StepsInRow : ℕ → List ℕ → List ℕ → Type 0
+StepsInRow zero m n = n ≡ m
+StepsInRow (suc k) m n = (mid : List ℕ) × StepsInRow k m mid × IsStep mid n
 
--- Some steps, one after another, make the memory n of m: n is in each set of memories that m is in and that no step leaves.
+-- some steps do
 abbrev pub StepsMake : List ℕ → List ℕ → Type 0
-StepsMake m n = (is : List ℕ → Bool) → StepsKeep is → is m ≡ true → is n ≡ true
+StepsMake m n = ∥ ((k : ℕ) × StepsInRow k m n) ∥₁
 
 -- a suspension carries a memory that steps of harts made of this one
 abbrev pub CarriesSteps : List ℕ → Change → Type 0

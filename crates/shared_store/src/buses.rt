@@ -3,7 +3,7 @@
 ghost use Rattle.std.specs.Prelude.{◌≡◌, ◌<◌, ◌↔◌, true, IsOk, OnOk, IfErr};
 ghost use Rattle.board_model.specs.declared.refusal.Refusal.{Refusal};
 ghost use Rattle.hart.specs.Means.{Steps};
-ghost use Rattle.hsm_steps.specs.declared.view.Stage.TheVariants.{Running};
+ghost use Rattle.hsm_steps.specs.declared.view.Stage.TheVariants.{Quiet, Running};
 ghost use Rattle.sbi.specs.Helds.{MakesHeld};
 ghost use Rattle.sbi.specs.Words.{stage_told};
 ghost use Rattle.sbi_abi.specs.Calls.{call_of};
@@ -11,8 +11,10 @@ ghost use Rattle.sbi_calls.specs.Both.{AreSeatsOfBoth, GivesBack, Acts, harts_of
 ghost use Rattle.store.specs.Views.{life_of};
 ghost use Rattle.susp.specs.Dozes.{can_wake, after_wake};
 ghost use Rattle.shared_store.specs.Dozes.{doze_left, is_woken};
+ghost use Rattle.shared_store.specs.Heard.{after_waking};
 ghost use Rattle.shared_store.specs.Runs.{IsCarried, StepsMake};
 
+use crate::heard::Heard;
 use board_model::{HartId, Refusal};
 use crew::Crew;
 use disk::Disk;
@@ -85,12 +87,16 @@ impl<J: Journal> SharedBus<J> {
     }
 
     /// One look for a hart in whose doze the board may be: whether it is, and was woken. Then the doze is over. The memory
-    /// stays.
-    pub fn end_doze(&mut self, by: HartId) -> bool
+    /// stays. Only who has the seat of that hart, which is quiet, may ask.
+    pub fn end_doze(&mut self, seats: &Seats, tables: &Tables, by: HartId) -> bool
+        requires seats { AreSeatsOfBoth tables.now seats.now }
+        requires quiet { Acts by Quiet seats.now }
         ensures woken { result ≡ is_woken by (bus_in self.old).doze }
         ensures memory { (bus_in self.new).ram ≡ (bus_in self.old).ram }
         ensures left { (bus_in self.new).doze ≡ doze_left result (bus_in self.old).doze }
     {
+        let _ = seats;
+        let _ = tables;
         if !is_woken(&self.bus.doze, by) {
             return false;
         }
@@ -98,15 +104,18 @@ impl<J: Journal> SharedBus<J> {
         true
     }
 
-    /// Calls the wake-up device, as `susp::wake`: a board that dozes is woken, once. Refused `NotDozing` where none
-    /// dozes or it was woken already, and then nothing changes.
-    pub fn wake(&mut self) -> Result<(), Refusal>
+    /// Calls the wake-up device, as `susp::wake`, for the console, which hears of it: a board that dozes is woken, once. Refused
+    /// `NotDozing` where none dozes or it was woken already, and then nothing changes.
+    pub fn wake(&mut self, heard: &mut Heard<J>) -> Result<(), Refusal>
         ensures ok { IsOk result ↔ (can_wake (bus_in self.old).doze ≡ true) }
         ensures memory { (bus_in self.new).ram ≡ (bus_in self.old).ram }
         ensures woken { OnOk result ((bus_in self.new).doze ≡ after_wake (bus_in self.old).doze) }
         ensures refused { IfErr result (λ e. (e ≡ Refusal.NotDozing) × (bus_in self.new ≡ bus_in self.old)) }
+        ensures heard { heard.new ≡ after_waking result heard.old }
     {
-        wake(&mut self.bus)
+        wake(&mut self.bus)?;
+        heard.wake();
+        Ok(())
     }
 
     /// The durable call at which a hart stands, as `dispatch_held` with this bus and that store. The memory stays; and a

@@ -1,8 +1,8 @@
 //! What a holder of a shared store heard that is no receipt.
 
-ghost use Rattle.std.specs.Prelude.{◌≡◌, [], false};
+ghost use Rattle.std.specs.Prelude.{◌≡◌, [], false, Ok};
 ghost use Rattle.shared_store.specs.Doubts.{HoldsDoubt};
-ghost use Rattle.shared_store.specs.Heard.{Hearing, after_look, after_refusal, heard_nothing};
+ghost use Rattle.shared_store.specs.Heard.{Hearing, after_look, after_refusal, after_waking, heard_nothing};
 
 use crate::doubts::OfDoubts;
 use board_model::{Command, Durable, Refusal};
@@ -10,8 +10,9 @@ use receipts::{Journal, Part};
 use std::marker::Model;
 
 /// How many commands of the console were refused, the last of these with its refusal, and the one of them that is in doubt;
-/// how often the console was shown the state, and which it was last. Only a shared store adds to it: so one that has more of
-/// them asked a store. A life has one, which comes with its store before that is shared (`Unshared::new`) and goes back once
+/// how often the console was shown the state, and which it was last; and how often it woke the board. Only a shared store and a
+/// shared bus add to it: so one that has more of them asked a store or a bus, and nobody wakes the board without it. A life has
+/// one, which comes with its store before that is shared (`Unshared::new`) and goes back once
 /// the life has ended. A count begins anew at 2^64.
 #[derive(Drop)]
 pub struct Heard<J: Journal> {
@@ -20,6 +21,7 @@ pub struct Heard<J: Journal> {
     pub(crate) doubt: Option<Command>,
     shown: u64,
     state: Option<Durable>,
+    woken: u64,
     // Its part of the book of what is in doubt, which stays here but for the moment in which that book notes a command.
     pub(crate) part: Option<Part<OfDoubts<J>>>,
 }
@@ -27,7 +29,7 @@ pub struct Heard<J: Journal> {
 impl<J: Journal> Model for Heard<J> {
     ghost Value = { Hearing };
 
-    ghost view = { λ h. record { refused = h.refused; refusal = h.refusal; doubt = h.doubt; shown = h.shown; state = h.state } };
+    ghost view = { λ h. record { refused = h.refused; refusal = h.refusal; doubt = h.doubt; shown = h.shown; state = h.state; woken = h.woken } };
 
     ghost invariant = { λ h. HoldsDoubt h.part h.doubt };
 }
@@ -44,6 +46,7 @@ impl<J: Journal> Heard<J> {
             doubt: None,
             shown: 0,
             state: None,
+            woken: 0,
             part: Some(part),
         }
     }
@@ -62,6 +65,13 @@ impl<J: Journal> Heard<J> {
     {
         self.shown = self.shown.wrapping_add(1);
         self.state = Some(state);
+    }
+
+    /// The board was woken.
+    pub(crate) fn wake(&mut self)
+        ensures { self.new ≡ after_waking (Ok tt) self.old }
+    {
+        self.woken = self.woken.wrapping_add(1);
     }
 
     /// How many commands were refused.
@@ -97,5 +107,12 @@ impl<J: Journal> Heard<J> {
         ensures { result ≡ self.now.state }
     {
         self.state
+    }
+
+    /// How often the board was woken.
+    pub fn woken(&self) -> u64
+        ensures { result ≡ self.now.woken }
+    {
+        self.woken
     }
 }

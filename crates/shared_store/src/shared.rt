@@ -195,7 +195,7 @@ impl<D: Disk + Drop, J: Journal> SharedStore<D, J> {
 }
 
 /// The last command of a journal of so many.
-fn last_entry<D: Disk + Drop>(store: &Store<D>, count: u32) -> Option<Entry>
+pub(crate) fn last_entry<D: Disk + Drop>(store: &Store<D>, count: u32) -> Option<Entry>
     requires { count ≡ receipts store.now }
     ensures some { IfSome result (λ e. IsLastOf (journal_of store.now) count e) }
     ensures none { result ≡ None → count ≡ 0 }

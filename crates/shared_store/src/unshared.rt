@@ -1,12 +1,13 @@
 //! A store with its book, before it is shared and after.
 
-ghost use Rattle.std.specs.Prelude.{◌≡◌, ◌≤◌, ◌<◌, ◌+◌, [], ◌∷◌, true, None, length, All, IfOk, IfErr, vec_len};
+ghost use Rattle.std.specs.Prelude.{◌≡◌, ◌≤◌, ◌<◌, ◌+◌, [], ◌∷◌, true, None, length, All, IfOk, IfErr, IfSome, vec_len};
 ghost use Rattle.std.specs.Option.{option_to_list};
 ghost use Rattle.store.specs.Views.{size_of_store, found_state, journal_of, life_of, receipts, doubt_of, failures_at_open};
 ghost use Rattle.receipts.specs.Books.{entries_of};
 ghost use Rattle.receipts.specs.Closed.{AreStanding, AreReceiptsOf, told_in};
 ghost use Rattle.receipts.specs.Views.{id_of, parts_of};
 ghost use Rattle.store.specs.Taken.{are_taken};
+ghost use Rattle.shared_store.specs.Called.{IsLastOf};
 ghost use Rattle.shared_store.specs.Doubts.{IsDoubtOf};
 ghost use Rattle.shared_store.specs.Heard.{heard_nothing};
 ghost use Rattle.shared_store.specs.Legal.{BeginsWith, IsNamed};
@@ -15,7 +16,8 @@ ghost use Rattle.shared_store.specs.Runs.{IsCarried};
 
 use crate::doubts::Doubts;
 use crate::heard::Heard;
-use crate::shared::SharedStore;
+use crate::shared::{SharedStore, last_entry};
+use board_model::Entry;
 use disk::Disk;
 use receipts::{Book, Journal, Keeper, NewBook, Part};
 use std::alloc::{AllocError, Global};
@@ -142,6 +144,14 @@ impl<D: Disk + Drop, J: Journal> Unshared<D, J> {
         ensures parts { parts_with self.new ≡ part ∷ parts_with self.old }
     {
         self.book.gather(&mut self.keeper, part);
+    }
+
+    /// The last command of the journal, and its place; none where the journal is empty.
+    pub fn last(&self) -> Option<(u32, Entry)>
+        ensures { IfSome result (λ t. IsLastOf (journal_of (inside self.now)) t.0 t.1) }
+    {
+        let entry = last_entry(&self.store, self.count)?;
+        Some((self.count, entry))
     }
 
     /// The store, whose life ends here. What the parts that are back were told stands in its journal, each

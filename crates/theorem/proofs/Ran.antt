@@ -18,7 +18,7 @@ use Rattle.shared_store.specs.Heard.{Hearing}
 use Rattle.board_console.specs.Commands.{party}
 use Rattle.board_console.specs.Dialogues.{DialogueEnds, dialogue_ends}
 use Rattle.board_console.specs.declared.talks.Left.{Left}
-use Rattle.board_session.specs.Sessions.{Begins, IsOfLife, TalksIf, AreDriven, RanOver}
+use Rattle.board_session.specs.Sessions.{Begins, IsOfLife, TalksIf, AreByLast, AreDriven, RanOver}
 use Rattle.hart_threads.specs.Ends.{Ending}
 use Rattle.theorem.specs.Sessions.{FindsSession}
 use Rattle.theorem.proofs.PowerLost.{OneStanding}
@@ -33,6 +33,7 @@ IsSession size s mode payloads failures disk left a input output heard =
 abbrev pub IsDriven : Size → DurableState → BootMode → List (List ℕ) → ℕ → ℕ → Facts → Option Left → DialogueEnds → Option (List ℕ) → Option (List ℕ) → Hearing → List Ending → Type 0
 IsDriven size s mode payloads turns failures disk left a input output heard ends =
     (session : IsSession size s mode payloads failures disk left a input output heard) × AreDriven size.harts session.0 turns s left ends
+    × AreByLast session.3.journal ends
 
 module _ (one : OneStanding) (new : Bool) (shape : Size) (mode : BootMode) (payloads : List (List ℕ)) (turns : ℕ) (old disk : Facts) (left : Option Left) (a : DialogueEnds) (input output : Option (List ℕ)) (heard : Hearing) (ends : List Ending) where
   pub over : RanOver new shape mode payloads turns old disk left a input output heard ends → (size : Size) (s : DurableState) → new ≡ false → StandsFor old.content size s → IsDriven size s mode payloads turns old.failures disk left a input output heard ends
@@ -40,7 +41,7 @@ module _ (one : OneStanding) (new : Bool) (shape : Size) (mode : BootMode) (payl
       let begins : Begins false shape old.content ran.size ran.found = subst (λ (n : Bool). Begins n shape old.content ran.size ran.found) is ran.begins in
       let same = one old.content ran.size size ran.found s begins stands in
       let P : Size → DurableState → Type 0 = λ z t. IsDriven z t mode payloads turns old.failures disk left a input output heard ends in
-      subst (λ (t : DurableState). P size t) same.1 (subst (λ (z : Size). P z ran.found) same.0 ((ran.machine, ran.powered, ran.console, ran.life, ran.talks), ran.driven))
+      subst (λ (t : DurableState). P size t) same.1 (subst (λ (z : Size). P z ran.found) same.0 ((ran.machine, ran.powered, ran.console, ran.life, ran.talks), ran.driven, ran.ended))
 
   pub begun : (R S : Type 0) → (R × (left ≡ None)) ⊎ (RanOver new shape mode payloads turns old disk left a input output heard ends × S) → (left ≡ None → ⊥) → (size : Size) (s : DurableState) → new ≡ false → StandsFor old.content size s
       → IsDriven size s mode payloads turns old.failures disk left a input output heard ends

@@ -7,7 +7,7 @@ ghost use Rattle.board.specs.Begins.{IsBegun};
 ghost use Rattle.board.specs.Moments.{commands_by};
 ghost use Rattle.board_console.specs.Commands.{party};
 ghost use Rattle.board_console.specs.Dialogues.{dialogue_ends};
-ghost use Rattle.board_session.specs.Sessions.{IsOfLife, TalksIf, AreDriven};
+ghost use Rattle.board_session.specs.Sessions.{IsOfLife, TalksIf, AreByLast, AreDriven};
 ghost use Rattle.machine.specs.Machine.{Machine};
 ghost use Rattle.shared_store.specs.Heard.{heard_nothing};
 ghost use Rattle.store.specs.Leaves.{IsIdle};
@@ -38,7 +38,8 @@ use store::{Store, one_standing};
 /// that steps of harts made of that of the board which its power-on made (`IsBegun`). What was read and answered is of that
 /// journal (`TalksIf`). Each hart is one of that board, and went by its own turns, one after another, from where the power-on
 /// left it to where its end says that it stands; it made all turns that it was given, or a hart ended the life by a command
-/// that was acknowledged, or the console halted the harts when it left (`AreDriven`). So a session by `resume` begins with the
+/// that was acknowledged, or the console halted the harts when it left (`AreDriven`). Where another hart ended the life, its
+/// command is the last of that journal (`AreByLast`). So a session by `resume` begins with the
 /// image's memory and one hart that is STARTED, at the image's address, with its number and opaque value; every other hart is
 /// STOPPED and never ran (`woken`).
 pub fn a_session<R: Threads + Wait + Sync, D: Disk + Drop + Send, I: Read + Drop, W: Write + Drop>(
@@ -53,12 +54,13 @@ pub fn a_session<R: Threads + Wait + Sync, D: Disk + Drop + Send, I: Read + Drop
     ensures { (size : Size) (s : DurableState) → options.now.new ≡ false → StandsFor (D.facts disk).content size s
         → (result.console_left ≡ None → ⊥) → (machine : Machine) × IsBegun options.now.mode size payloads.now s machine
         × (console : List (ℕ × Entry))
-        × IsOfLife size s (commands_by options.now.mode s) machine.memory (D.facts disk).failures console
-        result.heard.doubt (D.facts result.disk)
+        × (life : IsOfLife size s (commands_by options.now.mode s) machine.memory (D.facts disk).failures console
+        result.heard.doubt (D.facts result.disk))
         × TalksIf s (commands_by options.now.mode s) result.console_left
         (dialogue_ends (I.remaining streams.input) (W.contents streams.out) (party [] heard_nothing))
         (dialogue_ends (I.remaining result.streams.input) (W.contents result.streams.out) (party console result.heard))
-        × AreDriven size.harts machine options.now.turns s result.console_left result.harts.items }
+        × AreDriven size.harts machine options.now.turns s result.console_left result.harts.items
+        × AreByLast life.journal result.harts.items }
 {
     one_standing();
     session(rt, alloc, options, disk, payloads, streams)

@@ -1,4 +1,4 @@
-use Rattle.std.proofs.Common.{◌≡◌, ℕ, List, None, length, refl, ap, subst, arith}
+use Rattle.std.proofs.Common.{◌≡◌, ◌∙◌, ℕ, List, None, length, refl, ap, subst, arith}
 use Rattle.board_model.specs.Durable.{DurableState, fold, refusal_of}
 use Rattle.board_model.specs.Shapes.{Size}
 use Rattle.board.specs.Unbooted.{LeavesLife}
@@ -31,18 +31,20 @@ returns-clause-life g c =
     let long = ap (λ (ps : List PartView). length ps) last in
     let all = c.requires.all in
     let count : length (parts_with c.gather_last.new.whole) ≡ g.J.Journal.parts = omega (arith, long, many, all) in
-    let receipts = subst (λ (ps : List PartView). AreReceiptsOf (entries_in (journal_of store)) (told_in ps)) last (c.close.ensures.all count) in
-    record {
-      journal = journal_of store;
-      acknowledged = acknowledged size g.J.Journal.issued (journal_of store) c.args.boot c.args.console ds c.gather_parts.ensures.back many c.requires.boot receipts;
-      begun = begins_so g.J.Journal.issued (journal_of store) c.close.ensures.issued;
-      taken = named.life.taken;
-      doubt = doubt_of store;
-      leaves = left';
-      allowed = λ x is. subst (λ (s : DurableState). refusal_of s x ≡ None) named.life.now (o.allowed x is);
-      reads = kept_reads disk size (life_kept (doubt_of store) disk size now left') (g.met.D.Disk.may_keep c.into_disk.result);
-      carried = c.close.ensures.carried.journal;
-      doubted = c.close.ensures.carried.doubt;
-      failed = λ x is. subst (λ (n : ℕ). Failed n disk.failures) c.close.ensures.opened (o.failed x is);
-      asked = c.close.ensures.doubt;
-    }
+    let receipts = subst (λ (ps : List PartView). AreReceiptsOf (entries_in (journal_of store)) (told_in ps)) last (c.close.ensures.all count) in (
+      record {
+        journal = journal_of store;
+        acknowledged = acknowledged size g.J.Journal.issued (journal_of store) c.args.boot c.args.console ds c.gather_parts.ensures.back many c.requires.boot receipts;
+        begun = begins_so g.J.Journal.issued (journal_of store) c.close.ensures.issued;
+        taken = named.life.taken;
+        doubt = doubt_of store;
+        leaves = left';
+        allowed = λ x is. subst (λ (s : DurableState). refusal_of s x ≡ None) named.life.now (o.allowed x is);
+        reads = kept_reads disk size (life_kept (doubt_of store) disk size now left') (g.met.D.Disk.may_keep c.into_disk.result);
+        carried = c.close.ensures.carried.journal;
+        doubted = c.close.ensures.carried.doubt;
+        failed = λ x is. subst (λ (n : ℕ). Failed n disk.failures) c.close.ensures.opened (o.failed x is);
+        asked = c.close.ensures.doubt;
+      },
+      ap (λ x. journal_of x) (c.close.ensures.same ∙ c.gather_last.ensures.store ∙ c.gather_parts.ensures.store ∙ c.gather_loops.ensures.store),
+    )
