@@ -1,7 +1,7 @@
 -- What the parser's own clauses say of the command `sbiboard`.
 use Rattle.std.proofs.Common.{◌≡◌, ◌∙◌, ◌⊎◌, ℕ, true, List, Result, Ok, Err, IfErr, IfOk, ap, inl, inr, subst}
-use Rattle.board_help.proofs.Simple.{sbiboard_free}
-use Rattle.board_help.specs.Lines.{TakesModes, sbiboard}
+use Rattle.board_options.proofs.Simple.{sbiboard_free}
+use Rattle.board_options.specs.Lines.{TakesModes, sbiboard}
 use Rattle.board_options.specs.Parses.{AreParsed, AreRefused}
 use Rattle.clap.specs.Words.{App, HasKind, IsAmong, fault_of, found_of, is_simple_and_free, kind_of}
 use Rattle.clap.specs.declared.builder.value_parser.ValueParser.{ValueParser}

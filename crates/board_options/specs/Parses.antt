@@ -1,6 +1,6 @@
 -- What the command's parser makes of words, by its own definitions. Source: docs/CONSOLE.md, "The command line".
 use Rattle.std.specs.Prelude.{ℕ, List}
-use Rattle.board_help.specs.Lines.{TakesModes, sbiboard}
+use Rattle.board_options.specs.Lines.{TakesModes, sbiboard}
 use Rattle.clap.specs.Words.{IsAmong, fault_of}
 use Rattle.clap.specs.declared.builder.value_parser.ValueParser.{ValueParser}
 use Rattle.clap.specs.declared.error.kind.ErrorKind.{ErrorKind}

@@ -13,7 +13,7 @@ ghost use Rattle.script_lang.specs.Lines.{mode_of};
 ghost use Rattle.script_lang.specs.Words.{number_of};
 
 use crate::given::{Options, ShapeGiven};
-use board_help::{DISK, HARTS, LANES, MODE, MOST_TURNS, NEW, PAGES, SYNC, TELL, TURNS, command};
+use crate::help::{DISK, HARTS, LANES, MODE, MOST_TURNS, NEW, PAGES, SYNC, TELL, TURNS, command};
 use board_model::{BootMode, Shape};
 use clap::error::ErrorKind;
 use clap::parser::ValueSource;

@@ -3,8 +3,8 @@ use Rattle.clap.specs.Words.{Rule, rule_of}
 use Rattle.clap.specs.declared.builder.arg.Arg.{Arg}
 use Rattle.clap.specs.declared.builder.value_parser.ValueParser.{ValueParser}
 use Rattle.command_line.specs.Options.{value_rule}
-use Rattle.board_help.specs.Lines.{required}
-use Rattle.board_help.proofs.help.mode.Goals as goal
+use Rattle.board_options.specs.Lines.{required}
+use Rattle.board_options.proofs.help.mode.Goals as goal
 
 abbrev is_global : Arg → Bool
 is_global a = a.global

@@ -2,8 +2,8 @@ use Rattle.std.proofs.Common.{◌∙◌, ap, ap₂}
 use Rattle.std.proofs.lemmas.Result.{IfOk-weaker}
 use Rattle.clap.specs.Words.{with_rule}
 use Rattle.command_line.specs.Options.{with_payloads}
-use Rattle.board_help.specs.Lines.{with_shape}
-use Rattle.board_help.proofs.help.command.Goals as goal
+use Rattle.board_options.specs.Lines.{with_shape}
+use Rattle.board_options.proofs.help.command.Goals as goal
 
 pub returns : goal.returns
 returns c =

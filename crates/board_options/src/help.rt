@@ -3,7 +3,7 @@
 ghost use Rattle.std.specs.Prelude.{◌≡◌, false, IfOk};
 ghost use Rattle.clap.specs.Words.{app_of, rule_of};
 ghost use Rattle.clap.specs.declared.builder.value_parser.ValueParser.{ValueParser as Parser};
-ghost use Rattle.board_help.specs.Lines.{TakesModes, mode_rule, board_line, with_shape, sbiboard};
+ghost use Rattle.board_options.specs.Lines.{TakesModes, mode_rule, board_line, with_shape, sbiboard};
 
 use board_model::refusal_lines;
 use clap::{Arg, Command};

@@ -1,7 +1,7 @@
 use Rattle.std.proofs.Common.{◌∙◌, refl, ap₂}
 use Rattle.std.proofs.lemmas.Result.{IfOk-weaker}
 use Rattle.clap.specs.Words.{with_rule}
-use Rattle.board_help.proofs.help.shaped.Goals as goal
+use Rattle.board_options.proofs.help.shaped.Goals as goal
 
 pub returns : goal.returns
 returns c =

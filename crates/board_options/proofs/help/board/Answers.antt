@@ -3,8 +3,8 @@ use Rattle.std.proofs.lemmas.Result.{IfOk-weaker}
 use Rattle.clap.specs.Words.{rule_of, with_rule}
 use Rattle.clap.specs.declared.builder.arg.Arg.{Arg}
 use Rattle.command_line.specs.Options.{path_rule}
-use Rattle.board_help.specs.Lines.{required}
-use Rattle.board_help.proofs.help.board.Goals as goal
+use Rattle.board_options.specs.Lines.{required}
+use Rattle.board_options.proofs.help.board.Goals as goal
 
 abbrev is_global : Arg → Bool
 is_global a = a.global

@@ -3,7 +3,7 @@ use Rattle.std.proofs.Common.{◌≡◌, true, refl}
 use Rattle.clap.proofs.OnLiterals.{clap_on_literals}
 use Rattle.clap.specs.Words.{is_simple_and_free}
 use Rattle.clap.specs.declared.builder.value_parser.ValueParser.{ValueParser}
-use Rattle.board_help.specs.Lines.{sbiboard}
+use Rattle.board_options.specs.Lines.{sbiboard}
 
 pub sbiboard_free : (modes : ValueParser) → is_simple_and_free (sbiboard modes) ≡ true
 unfolding clap_on_literals
