@@ -37,6 +37,10 @@ crew_rule crews =
 abbrev pub count_rule : Text → Rule
 count_rule id = value_rule id (Unsigned 1 1000000)
 
+-- the option with a number of threads
+abbrev pub jobs_rule : Rule
+jobs_rule = value_rule (codes "jobs") (Unsigned 1 64)
+
 abbrev pub with_schedules : App → App
 with_schedules app =
     with_rule (with_rule (with_rule app (count_rule (codes "schedules"))) (option_rule (codes "seed"))) (count_rule (codes "show"))
@@ -49,7 +53,9 @@ sbibench crews =
     with_payloads
     (with_preemptions
     (with_schedules
-    (with_rule (with_rule (with_rule (named_app (codes "sbibench")) (crew_rule crews)) (flag_rule (codes "sweep"))) (flag_rule (codes "faults")))))
+    (with_rule
+    (with_rule (with_rule (with_rule (named_app (codes "sbibench")) (crew_rule crews)) (flag_rule (codes "sweep"))) (flag_rule (codes "faults")))
+    jobs_rule)))
 
 -- the payload files, by their paths
 abbrev pub payload_files : Options → List (Option (List ℕ))

@@ -31,8 +31,9 @@ use bench_sweep::{Bench as Swept, Sweep, run_bench};
 use board::Payloads;
 use board_model::{MAX_LINE_BYTES, MAX_SCRIPT_LINES, Refusal};
 pub use command_line::Pipe;
-use command_line::{read_at_most, words};
+use command_line::{keep_heap, read_at_most, words};
 use crew::Crew;
+use jobs::Jobs;
 use std::alloc::Global;
 use std::convert::AsStr;
 use std::io::{self, BufWriter, ErrorKind, IsTerminal, Read, Write};
@@ -92,6 +93,7 @@ pub fn write_report<C: Crew, W: Write + Drop>(
 
 /// Runs a bench over the script that begins with these payloads. Refused as `bench_sweep::run_bench` is.
 fn run_named_bench<R: Threads + Sync, W: Write + Drop>(
+    jobs: &Jobs<'_, R>,
     alloc: Global,
     script: &[u8],
     bench: Bench,
@@ -110,15 +112,17 @@ fn run_named_bench<R: Threads + Sync, W: Write + Drop>(
         × ((result ≡ Err Refusal.NotPlain) ⊎ (result ≡ Err Refusal.Memory)) }
 {
     match bench {
-        Bench::Sweep => run_bench::<R, BufWriter<W>>(alloc, Swept::Cuts, script, payloads, out),
-        Bench::Faults => run_bench::<R, BufWriter<W>>(alloc, Swept::Fails, script, payloads, out),
+        Bench::Sweep => run_bench(jobs, alloc, Swept::Cuts, script, payloads, out),
+        Bench::Faults => run_bench(jobs, alloc, Swept::Fails, script, payloads, out),
     }
 }
 
-/// Runs a bench over the script that begins with these payloads, and writes its lines to the end.
+/// Runs a bench over the script that begins with these payloads, and writes its lines to the end. The threads of these jobs
+/// make its runs.
 ///
 /// Refused as `bench_sweep::run_bench` is, and `Output` also where what the writer held back could not be written.
 pub fn write_bench<R: Threads + Sync, W: Write + Drop>(
+    jobs: &Jobs<'_, R>,
     alloc: Global,
     script: &[u8],
     bench: Bench,
@@ -141,7 +145,7 @@ pub fn write_bench<R: Threads + Sync, W: Write + Drop>(
         → (writer_contents W.contents out.new ≡ writer_contents W.contents out.old)
         × ((result ≡ Err Refusal.NotPlain) ⊎ (result ≡ Err Refusal.Memory)) }
 {
-    let done = run_named_bench::<R, W>(alloc, script, bench, payloads, out)?;
+    let done = run_named_bench::<R, W>(jobs, alloc, script, bench, payloads, out)?;
     out.flush().map_err(|_| Refusal::Output)?;
     Ok(done)
 }
@@ -254,6 +258,7 @@ fn at_once(rt: &HostRuntime) -> usize {
 fn run_words<R: Threads + Sync, S: AsStr>(rt: &HostRuntime, threads: &R, words: &[S]) -> u8
     ensures { (done : Result (Unit {0}) BenchFault) × (result ≡ status_after done) }
 {
+    keep_heap(rt.alloc());
     let mut faults = rt.stderr();
     match BufWriter::with_capacity(rt.alloc(), at_once(rt), Pipe::new(io::writer(rt))) {
         Ok(mut out) => {

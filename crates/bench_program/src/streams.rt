@@ -1,6 +1,6 @@
 //! The program over any streams: it does what the command line asks for, from a reader to a writer.
 
-ghost use Rattle.std.specs.Prelude.{◌≡◌, ◌⊎◌, ◌≤◌, [], map, Err, Result, OnOk, IfOk, IfErr, IfSome};
+ghost use Rattle.std.specs.Prelude.{◌≡◌, ◌⊎◌, ◌≤◌, ◌<◌, [], map, Err, Result, OnOk, IfOk, IfErr, IfSome};
 ghost use Rattle.board_model.specs.declared.refusal.Refusal.TheVariants.{Memory};
 ghost use Rattle.std.specs.Io.Buffered.{writer_buffer, writer_contents};
 ghost use Rattle.bench_program.specs.Faults.{status_after, unread_by, without_work};
@@ -15,7 +15,7 @@ ghost use Rattle.bench_program.specs.declared.usage.Work.TheVariants.{Compare, J
 ghost use Rattle.script_lang.specs.Scripts.{script_of};
 
 use crate::fault::{BenchFault, status_of};
-use crate::usage::{Bench, Drawn, Options, Savers, Work, options_of};
+use crate::usage::{Bench, Drawn, MOST_JOBS, Options, Savers, Work, options_of};
 use crate::{
     read_script, write_bench, write_preemptions, write_report, write_schedule, write_schedules,
 };
@@ -23,18 +23,18 @@ use board::Payloads;
 use board_model::Refusal;
 use command_line::{FileFault, NoWork, Pipe, ProgramFault, explain_fault, show_on, tell_fault};
 use crew::{Crew, Sequential};
+use jobs::Jobs;
 use payload_files::{PayloadFiles, read_payloads};
 use std::alloc::Global;
 use std::convert::AsStr;
 use std::io::{BufReader, BufWriter, IsTerminal, Read, Write};
+use std::thread;
 use std::thread::Threads;
 
 /// How many bytes of a script are read at once.
 const READ_AT_ONCE: usize = 262_144;
 
-/// The script of an input. The buffer that it is read through is freed before anything runs: the C library's
-/// allocator then keeps freed memory of that size for the next board, and does not give it back to the system
-/// at each power-off.
+/// The script of an input. The buffer that it is read through is freed before anything runs.
 fn input_script<I: Read + Drop>(alloc: Global, input: I) -> Result<Vec<u8>, BenchFault>
     ensures said { IfOk result (λ script. IfSome (I.remaining input) (λ bytes. script_of script.items ≡ script_of bytes)) }
     // It is the whole input, but for what is more than any script has.
@@ -100,8 +100,22 @@ fn report<R: Threads + Sync, O: Write + Drop>(
     }
 }
 
-/// Runs a bench over the script, and writes its lines. Each of them is handed on as it is made.
+/// How many threads make the runs of a bench, at most: as many as were asked for, or as there are processors.
+fn jobs_of<R: Threads>(threads: &R, asked: Option<usize>) -> usize
+    ensures { 0 < result }
+{
+    match asked {
+        Some(count) => count.clamp(1, MOST_JOBS as usize),
+        None => match thread::available_parallelism(threads) {
+            Ok(count) => count.get().min(MOST_JOBS as usize),
+            Err(_) => 1,
+        },
+    }
+}
+
+/// Runs a bench over the script by the threads of these jobs, and writes its lines. Each of them is handed on as it comes.
 fn judge<R: Threads + Sync, O: Write + Drop>(
+    jobs: &Jobs<'_, R>,
     alloc: Global,
     bench: Bench,
     script: &[u8],
@@ -113,7 +127,7 @@ fn judge<R: Threads + Sync, O: Write + Drop>(
     ensures flushed { OnOk result (writer_buffer out.new ≡ []) }
     ensures faults { IfErr result (λ fault. IsFaultIn (Judge bench) script.now fault) }
 {
-    match write_bench::<R, Pipe<O>>(alloc, script, bench, payloads, out) {
+    match write_bench::<R, Pipe<O>>(jobs, alloc, script, bench, payloads, out) {
         Ok(sweep) if sweep.wrong == 0 => Ok(()),
         Ok(_) => Err(BenchFault::Wrong),
         Err(e) => Err(fault_of(e, out)),
@@ -233,6 +247,7 @@ fn run_work<R: Threads + Sync, I: Read + Drop, O: Write + Drop>(
     alloc: Global,
     threads: &R,
     work: Work,
+    jobs: Option<usize>,
     payloads: Payloads,
     input: I,
     out: &mut BufWriter<Pipe<O>>,
@@ -252,7 +267,10 @@ fn run_work<R: Threads + Sync, I: Read + Drop, O: Write + Drop>(
     };
     match work {
         Work::Report(savers) => report(alloc, threads, savers, &script, payloads, out),
-        Work::Judge(bench) => judge::<R, O>(alloc, bench, &script, payloads, out),
+        Work::Judge(bench) => {
+            let jobs = Jobs::new(threads, jobs_of(threads, jobs));
+            judge(&jobs, alloc, bench, &script, payloads, out)
+        }
         Work::Compare(drawn) => compare::<R, O>(alloc, drawn, &script, &payloads, out),
         Work::Show(drawn) => show_schedule::<R, O>(alloc, drawn, &script, &payloads, out),
         Work::Preempt(first) => preempt::<R, O>(alloc, first, &script, &payloads, out),
@@ -280,7 +298,15 @@ fn run_options<R: Threads + Sync, P: PayloadFiles, I: Read + Drop, O: Write + Dr
         ⊎ IsFaultOf options.now.work (I.remaining input) fault) }
 {
     let payloads = named_payloads(alloc, files, options, faults)?;
-    run_work(alloc, threads, options.work, payloads, input, out)
+    run_work(
+        alloc,
+        threads,
+        options.work,
+        options.jobs,
+        payloads,
+        input,
+        out,
+    )
 }
 
 /// Does the work that the words ask for, or shows what they ask to be shown, or their fault.

@@ -7,7 +7,7 @@ ghost use Rattle.clap.specs.Words.{app_of, first_value, found_of, kind_of, rule_
 ghost use Rattle.clap.specs.declared.builder.value_parser.ValueParser.{ValueParser};
 ghost use Rattle.command_line.specs.Kinds.{no_work};
 ghost use Rattle.command_line.specs.Parses.{AreParsed};
-ghost use Rattle.bench_program.specs.Usage.{number_up_to, count_rule, crew_rule, work_of_flags, schedules_named, preemptions_named, without_options, savers_of, sbibench, seed_of, IsBounded, compare_or_show, without_benches, with_preemptions, with_schedules, work_asked, work_by, work_without, IsFlag, IsNamedBy, NamesConflict, NamesNoWork};
+ghost use Rattle.bench_program.specs.Usage.{number_up_to, count_rule, crew_rule, jobs_rule, work_of_flags, schedules_named, preemptions_named, without_options, savers_of, sbibench, seed_of, IsBounded, compare_or_show, without_benches, with_preemptions, with_schedules, work_asked, work_by, work_without, IsFlag, IsNamedBy, NamesConflict, NamesNoWork};
 
 use board_model::refusal_lines;
 use clap::builder::ValueParser;
@@ -110,6 +110,12 @@ const FIRST: &str = "first";
 /// The most preemptions of an order.
 const MOST_PREEMPTIONS: u64 = 1;
 
+/// The option that says how many threads make the runs of a bench.
+const JOBS: &str = "jobs";
+
+/// The most of them.
+pub const MOST_JOBS: u64 = 64;
+
 /// The most schedules of one run of the bench.
 const MOST_SCHEDULES: u64 = 1_000_000;
 
@@ -140,6 +146,8 @@ pub struct Drawn {
 #[derive(Drop)]
 pub struct Options {
     pub work: Work,
+    /// How many threads make the runs of a bench, where it is said.
+    pub jobs: Option<usize>,
     /// The file of each boot slot's payload, where one is named. The others are empty.
     pub payloads: [Option<String>; 4],
 }
@@ -209,6 +217,15 @@ fn with_preemptions<'a>(alloc: Global, command: Command<'a>) -> Result<Command<'
         .arg(flag(alloc, FIRST, first))
 }
 
+/// The option with the number of threads.
+fn jobs<'a>(alloc: Global) -> Arg<'a>
+    ensures rule { rule_of result ≡ jobs_rule }
+    ensures local { result.global ≡ false }
+{
+    let help = "How many threads make the runs of --sweep or --faults, all processors if not said";
+    option(alloc, JOBS, "N", help).value_parser(ValueParser::unsigned(1, MOST_JOBS))
+}
+
 fn command<'a>(alloc: Global) -> Result<Command<'a>, AllocError>
     ensures { IfOk result (λ c. (crews : ValueParser) × (app_of c ≡ sbibench crews)) }
 {
@@ -217,7 +234,8 @@ fn command<'a>(alloc: Global) -> Result<Command<'a>, AllocError>
     let command = program(alloc, "sbibench", USAGE, ABOUT, NUMBERS)
         .arg(crew(alloc))?
         .arg(flag(alloc, SWEEP, sweep))?
-        .arg(flag(alloc, FAULTS, faults))?;
+        .arg(flag(alloc, FAULTS, faults))?
+        .arg(jobs(alloc))?;
     let command = with_schedules(alloc, command)?;
     let command = with_preemptions(alloc, command)?;
     with_payloads(alloc, command)
@@ -403,6 +421,13 @@ fn work_asked(matches: &ArgMatches<'_>) -> Option<Work>
     }
 }
 
+/// How many threads are to make the runs of a bench, where the words say it.
+fn jobs_asked(matches: &ArgMatches<'_>) -> Option<usize> {
+    let word = matches.get_str(JOBS)?;
+    let count = number_up_to(MOST_JOBS, word)?;
+    Some(count as usize)
+}
+
 /// The text that says why the words name no one work.
 fn conflict(matches: &ArgMatches<'_>) -> &'static str {
     if matches.get_str(PREEMPTIONS).is_some() {
@@ -469,6 +494,11 @@ pub fn options_of<'a, S: AsStr>(alloc: Global, words: &'a [S]) -> Result<Options
         Ok(work) => work,
         Err(error) => return Err(error),
     };
+    let jobs = jobs_asked(&matches);
     let payloads = payload_paths(alloc, &matches)?;
-    Ok(Options { work, payloads })
+    Ok(Options {
+        work,
+        jobs,
+        payloads,
+    })
 }

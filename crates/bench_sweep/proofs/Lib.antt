@@ -14,3 +14,4 @@ pub mod Fed
 pub mod Ran
 pub mod Made
 pub mod Scripts
+pub mod Rowed

@@ -15,15 +15,7 @@ use Rattle.bench_sweep.specs.Reports.{Reports}
 use Rattle.bench_sweep.specs.Rows.{row_text}
 use Rattle.bench_sweep.specs.Swept.{Cell, cell_of, runs_of, IsPlainLine, AreSwept, Writes}
 use Rattle.bench_report.specs.Bench.{Bench as ModelBench}
-use Rattle.bench_sweep.proofs.Written.{writes_one, writes_none, writes_more, writes_as, writes_weaker, writes_at, with_points}
-
--- one row, of a run that was judged, whatever bench it ended at
-pub reports_one : {W E : Type 0} (contents : W → Option (List ℕ)) (Was : ModelBench → Type 0) (Is : ModelBench → Row → Type 0) (r : Result (Unit {0}) E) (old new : Report W) (row : Row) → ((b : ModelBench) → Was b → Is b row) → new.out.ghost_name ≡ old.out.ghost_name
-    → OnOk r (Appends (contents old.out.now) (contents new.out.now) (row_text row ++ 10 ∷ [])) → new.sweep.points ≡ old.sweep.points → new.sweep.runs ≡ counted old.sweep.runs 1 → new.sweep.wrong ≡ old.sweep.wrong
-    → OnOk r ((b : ModelBench) → Was b → Reports contents (Is b) old new (cell_of row ∷ []) 0)
-reports_one contents Was Is (Err e) old new row is same text points runs wrong = tt
-reports_one contents Was Is (Ok u) old new row is same text points runs wrong = λ b was.
-    record { same = same; wrote = writes_one (Is b) _ _ old.sweep new.sweep row (is b was) text points runs wrong }
+use Rattle.bench_sweep.proofs.Written.{writes_none, writes_more, writes_as, writes_weaker, with_points}
 
 -- no row
 pub reports_none : {W : Type 0} (contents : W → Option (List ℕ)) (Is : Row → Type 0) (now : Report W) → Reports contents Is now now [] 0
@@ -40,11 +32,6 @@ reports_as contents Is a b xs ys m n e f r = record { same = r.same; wrote = wri
 -- rows of which another thing holds too
 pub reports_weaker : {W : Type 0} (contents : W → Option (List ℕ)) (Is So : Row → Type 0) (a b : Report W) (xs : List Cell) (n : ℕ) → ((row : Row) → Is row → So row) → Reports contents Is a b xs n → Reports contents So a b xs n
 reports_weaker contents Is So a b xs n then r = record { same = r.same; wrote = writes_weaker Is So _ _ _ _ _ _ then r.wrote }
-
--- rows of one point
-pub reports_at : {W : Type 0} (contents : W → Option (List ℕ)) (kind : Kind) (caller : Caller) (number : ℕ) (Is So : Row → Type 0) (a b : Report W) (n : ℕ) → ((row : Row) → row.caller ≡ caller → row.number ≡ number → Is row → So row) → Reports contents Is a b (runs_of kind caller number) n
-    → Reports contents So a b (runs_of kind caller number) n
-reports_at contents kind caller number Is So a b n then r = record { same = r.same; wrote = writes_at kind caller number Is So _ _ _ _ _ then r.wrote }
 
 -- points that are counted at the end
 pub reports_points : {W : Type 0} (contents : W → Option (List ℕ)) (Is : Row → Type 0) (a b c : Report W) (xs : List Cell) (n : ℕ) → Reports contents Is a b xs 0 → c.out.ghost_name ≡ b.out.ghost_name → contents c.out.now ≡ contents b.out.now

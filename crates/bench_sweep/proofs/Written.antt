@@ -35,7 +35,7 @@ line_of r = row_text r ++ 10 ∷ []
 text_more : (rows more : List Row) → rows_text (rows ++ more) ≡ rows_text rows ++ rows_text more
 text_more rows more = flat_map-append line_of rows more
 
-cells_more : (rows more : List Row) → map cell_of (rows ++ more) ≡ map cell_of rows ++ map cell_of more
+pub cells_more : (rows more : List Row) → map cell_of (rows ++ more) ≡ map cell_of rows ++ map cell_of more
 cells_more [] more = refl
 cells_more (r ∷ rows) more = ap (λ cs. cell_of r ∷ cs) (cells_more rows more)
 
@@ -45,19 +45,11 @@ stays n k e = omega (arith, e)
 one_more : (m n : ℕ) → n ≡ counted m 1 → GoesOn m n 1
 one_more m n is k e = omega (arith, is, e)
 
--- one row
-pub writes_one : (Is : Row → Type 0) (old now : Option (List ℕ)) (s t : Sweep) (row : Row) → Is row → Appends old now (row_text row ++ 10 ∷ []) → t.points ≡ s.points → t.runs ≡ counted s.runs 1 → t.wrong ≡ s.wrong
-    → Writes Is old now s t (cell_of row ∷ []) 0
-writes_one Is old now s t row is text points runs wrong =
-    let P : ℕ → Type 0 = λ n. GoesOn s.points n 0 in record {
-      rows = row ∷ [];
-      each = All-cons Is row [] is (All-nil Is);
-      text = rw (append-nil (line_of row)) text;
-      cells = refl;
-      points = subst P (sym points) (stays s.points);
-      runs = one_more s.runs t.runs runs;
-      right = wrong;
-    }
+-- one row more
+pub rows_one_more : (rows : List Row) (i : ℕ) (row d : Row) → i < length rows → row ≡ get_or rows i d → rows_text (take i rows) ++ line_of row ≡ rows_text (take (i + 1) rows)
+rows_one_more rows i row d less is =
+    ap (λ (t : List ℕ). rows_text (take i rows) ++ t) (sym (append-nil (line_of row)) ∙ ap (λ (r : Row). rows_text (r ∷ [])) is) ∙ sym (text_more (take i rows) (get_or rows i d ∷ []))
+    ∙ ap rows_text (sym (take_more rows i d less))
 
 -- no row
 pub writes_none : (Is : Row → Type 0) (now : Option (List ℕ)) (s : Sweep) → Writes Is now now s s [] 0
@@ -93,10 +85,8 @@ pub writes_weaker : (Is So : Row → Type 0) (a b : Option (List ℕ)) (s t : Sw
 writes_weaker Is So a b s t xs n then w = record { rows = w.rows; each = All-weaker Is So then w.rows w.each; text = w.text; cells = w.cells; points = w.points; runs = w.runs; right = w.right }
 
 -- rows of one point
-pub writes_at : (bench : Bench) (caller : Caller) (number : ℕ) (Is So : Row → Type 0) (a b : Option (List ℕ)) (s t : Sweep) (n : ℕ) → ((row : Row) → row.caller ≡ caller → row.number ≡ number → Is row → So row) → Writes Is a b s t (runs_of bench caller number) n
-    → Writes So a b s t (runs_of bench caller number) n
-writes_at bench caller number Is So a b s t n then w =
-    record { rows = w.rows; each = by w.rows (subst (λ (xs : List Cell). All At xs) (sym w.cells) (all bench)) w.each; text = w.text; cells = w.cells; points = w.points; runs = w.runs; right = w.right }
+pub each_at : (bench : Bench) (caller : Caller) (number : ℕ) (Is So : Row → Type 0) (rows : List Row) → ((row : Row) → row.caller ≡ caller → row.number ≡ number → Is row → So row) → map cell_of rows ≡ runs_of bench caller number → All Is rows → All So rows
+each_at bench caller number Is So rows then cells each = by rows (subst (λ (xs : List Cell). All At xs) (sym cells) (all bench)) each
   where
     At : Cell → Type 0
     At x = (x.caller ≡ caller) × (x.number ≡ number)

@@ -1,14 +1,20 @@
 -- What a bench has written and counted so far. Source: docs/SCRIPT.md, "The benches".
-use Rattle.std.specs.Prelude.{◌≡◌, ℕ, List, Option, length, take, drop}
+use Rattle.std.specs.Prelude.{◌≡◌, ◌≤◌, ◌<◌, ◌+◌, ◌^◌, ◌++◌, ◌∷◌, [], ℕ, List, Option, All, length, map, take, drop}
+use Rattle.std.specs.Io.KnownBytes.{Appends}
+use Rattle.disk.specs.Facts.{counted}
 use Rattle.board_model.specs.Shapes.{Size}
 use Rattle.script_lang.specs.declared.line.Line.{Line}
 use Rattle.bench_report.specs.Bench.{Bench}
 use Rattle.bench_report.specs.Happens.{unpowered}
 use Rattle.bench_sweep.specs.declared.points.Bench.{Bench as Kind}
+use Rattle.bench_sweep.specs.declared.points.Caller.{Caller}
 use Rattle.bench_sweep.specs.declared.rows.Row.{Row}
+use Rattle.bench_sweep.specs.declared.judging.PointRows.{PointRows}
+use Rattle.bench_sweep.specs.declared.site.Site.{Site}
 use Rattle.bench_sweep.specs.declared.sweeps.Report.{Report}
 use Rattle.bench_sweep.specs.Made.{LooksAt, ShowsState, IsFormatted, IsPlainRun, RunsWith, IsRunOf}
-use Rattle.bench_sweep.specs.Swept.{Cell, Writes, all_runs, callers, total}
+use Rattle.bench_sweep.specs.Runs.{RunsAt, Sits}
+use Rattle.bench_sweep.specs.Swept.{Cell, Writes, AreSwept, cell_of, rows_text, runs_of, all_runs, callers, total}
 
 -- The report goes on in the same writer: these runs were made at so many points, one line was written for each, and
 -- each was counted. None was wrong, and of each row that holds.
@@ -29,6 +35,45 @@ RunsRow size kind made b lines row = RunsWith size kind row.caller made row.numb
 -- a row of a bench over those lines, of which the first begin at that bench
 abbrev pub IsRow : Size → Kind → Bench → List Line → Row → Type 0
 IsRow size kind first lines row = IsRunOf size kind row.caller row.number first lines row.left
+
+-- ---- the rows of a point, before they are written
+-- One row more was kept, of that run, and counted as right; of it that holds.
+pub record Keeps (Is : Row → Type 0) (old new : PointRows) (made : Cell) : Type 0 where
+  pub row : Row
+  pub is : Is row
+  pub cell : cell_of row ≡ made
+  pub rows : new.rows.items ≡ old.rows.items ++ row ∷ []
+  pub runs : new.sweep.runs ≡ counted old.sweep.runs 1
+  pub right : new.sweep.wrong ≡ old.sweep.wrong
+
+-- Of these runs a row each was kept, and each was counted. None was wrong, and of each row that holds.
+pub record Judged (Is : Row → Type 0) (rows : PointRows) (made : List Cell) : Type 0 where
+  pub each : All Is rows.rows.items
+  pub cells : map cell_of rows.rows.items ≡ made
+  pub runs : rows.sweep.runs ≡ counted 0 (length rows.rows.items)
+  pub right : rows.sweep.wrong ≡ 0
+
+-- A bench may run those lines from that site on, up to the next one at most, with the call armed before which so many were
+-- made from there.
+pub record HasCall (size : Size) (lines : List Line) (count : ℕ) (site : Site) (before done : ℕ) : Type 0 where
+  pub few : count ≤ length lines
+  pub swept : AreSwept size lines
+  pub sits : Sits size site
+  pub room : before + done + 1 < 2 ^ 64
+
+-- those are the rows of that call
+abbrev pub IsOfCall : Size → Kind → Caller → ℕ → List Line → Site → ℕ → PointRows → Type 0
+IsOfCall size kind caller before lines site done rows =
+    (b : Bench) → RunsAt size b site
+    → Judged (RunsRow size kind before (unpowered b) lines) rows (runs_of kind caller (before + done + 1))
+
+-- The lines of these rows were written, and their runs are counted with those before.
+pub record TakesPoint {W : Type 0} (contents : W → Option (List ℕ)) (old : Report W) (rows : PointRows) (new : Report W) : Type 0 where
+  pub same : new.out.ghost_name ≡ old.out.ghost_name
+  pub text : Appends (contents old.out.now) (contents new.out.now) (rows_text rows.rows.items)
+  pub points : new.sweep.points ≡ old.sweep.points
+  pub runs : new.sweep.runs ≡ counted old.sweep.runs rows.sweep.runs
+  pub right : rows.sweep.wrong ≡ 0 → new.sweep.wrong ≡ old.sweep.wrong
 
 -- ---- all rows
 -- All lines from that bench on are run as they are, and then the runs at the points of each caller are made.

@@ -6,6 +6,7 @@ mod begins;
 mod finds;
 mod follows;
 mod harts;
+mod judging;
 mod points;
 mod rows;
 mod runner;

@@ -4,6 +4,7 @@ ghost use Rattle.std.specs.Prelude.{◌≡◌, ◌⊎◌, ◌++◌, ◌∷◌, [
 ghost use Rattle.std.specs.Io.KnownBytes.{Appends};
 ghost use Rattle.board_model.specs.declared.refusal.Refusal.TheVariants.{Memory, Output};
 ghost use Rattle.bench_sweep.specs.Rows.{caller_text, fill_part, left_text, row_text, sweep_text};
+ghost use Rattle.bench_sweep.specs.Swept.{rows_text};
 
 use crate::points::Caller;
 use bench_judge::Sweep;
@@ -95,12 +96,23 @@ impl fmt::Display for Row {
 
 /// Writes a line of a bench, and hands it on: whoever reads sees it at once.
 #[tactic(auto, using(crate::proofs::Written::handed_on))]
-pub fn write_row<W: Write>(out: &mut W, row: Row) -> Result<(), Refusal>
+fn write_row<W: Write>(out: &mut W, row: Row) -> Result<(), Refusal>
     ensures ok { OnOk result (Appends (W.contents out.old) (W.contents out.new) (row_text row ++ 10 ∷ [])) }
     ensures err { IfErr result (λ e. (e ≡ Memory) ⊎ (e ≡ Output)) }
 {
     writeln!(out, "{row}").map_err(|error| unwritten(error))?;
     out.flush().map_err(|error| unwritten(error))
+}
+
+/// Writes these lines of a bench.
+pub fn write_rows<W: Write>(out: &mut W, rows: &[Row]) -> Result<(), Refusal>
+    ensures ok { OnOk result (Appends (W.contents out.old) (W.contents out.new) (rows_text rows.now)) }
+    ensures err { IfErr result (λ e. (e ≡ Memory) ⊎ (e ≡ Output)) }
+{
+    for row in rows {
+        write_row(out, *row)?;
+    }
+    Ok(())
 }
 
 /// Writes the last line of a bench.

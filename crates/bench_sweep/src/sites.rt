@@ -144,6 +144,8 @@ impl Going {
         ensures exact { result ≡ false → (size : Size) (b : Bench) → Agrees size b self.now.power
             → b.fault_state.struck ≡ false }
         ensures off { result ≡ true → StopsOff self.now.power }
+        ensures struck { result ≡ true → until_off ≡ false → (size : Size) (b : Bench) → Agrees size b self.now.power
+            → b.fault_state.struck ≡ true }
     {
         if self.is_struck() {
             return true;
@@ -298,6 +300,9 @@ pub fn run_lines<C: Crew>(
         → RunsCalm setting.now.shape.now b (Off site.off) site.payloads site.ledger
         → RanTo setting.now.shape.now b (take went.count lines.now) went.going.power went.going.payloads went.going.ledger) }
     ensures stops { IfOk result (λ went. until_off ≡ true → went.count < length lines.now → StopsOff went.going.power) }
+    // Where it is not asked to end at a board that is off, only an armed cut that struck ends it early.
+    ensures whole { IfOk result (λ went. until_off ≡ false → (size : Size) (b : Bench) → Agrees size b went.going.power
+        → b.fault_state.struck ≡ false → went.count ≡ length lines.now) }
     ensures few { IfOk result (λ went. went.count ≤ length lines.now) }
     ensures some { IfOk result (λ went. 0 < length lines.now → 0 < went.count) }
     ensures refused { IfErr result (λ e. e ≡ Memory) }

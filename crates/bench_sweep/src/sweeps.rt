@@ -16,20 +16,19 @@ ghost use Rattle.bench_sweep.specs.Swept.{IsPlainLine, IsNoFormat, IsNotPlain, N
 ghost use Rattle.bench_sweep.specs.Reports.{Reports, ReportsAll, ReportsScript, IsLeft, RunsRow, IsRow};
 
 use crate::begins::run_to_format;
-use crate::finds::count_run;
-use crate::points::{Bench, CALLERS, Caller, FILLS, Point};
-use crate::rows::{Row, write_row, write_sweep};
+use crate::judging::{PointRows, RunsAtCalls, turn_off};
+use crate::points::{Bench, CALLERS, Caller};
+use crate::rows::{write_rows, write_sweep};
 use crate::runner::Runner;
-use crate::site::{Going, Site};
-use crate::sites::{Went, cut_by, run_lines};
+use crate::site::Site;
+use crate::sites::run_lines;
 use bench_judge::Sweep;
 use bench_report::Setting;
 use board::Payloads;
 use board_model::Refusal;
 use crew::{Crew, Sequential};
-use disk::Disk;
+use jobs::{Jobs, Sink, hand_on_all};
 use script_lang::{Line, Script, parse_script};
-use simdisk::Fill;
 use std::alloc::Global;
 use std::io::Write;
 use std::thread::Threads;
@@ -41,170 +40,18 @@ struct Report<'a, W> {
     sweep: Sweep,
 }
 
-/// Cuts power, powers a board on over what that leaves of the disk, counts the run, and writes its line. What was not
-/// synced is left by the run's fill; where a run has none, behind a failure, with zeros.
-fn judge_run<C: Crew, W: Write>(
-    setting: &Setting<'_, C>,
-    site: &Site,
-    point: Point,
-    fill: Option<Fill>,
-    report: &mut Report<'_, W>,
-) -> Result<(), Refusal>
-    requires sits { Sits setting.now.shape.now site.now }
-    ensures wrote { OnOk result ((b : ModelBench)
-        → RunsAt setting.now.shape.now b site.now
-        → Reports W.contents (IsLeft setting.now.shape.now b) report.old report.new
-        (cell point.caller point.number fill ∷ []) 0) }
-    ensures refused { IfErr result (λ e. (e ≡ Memory) ⊎ (e ≡ Output)) }
-{
-    let off = cut_by(&site.off, fill.unwrap_or(Fill::Byte(0)))?;
-    let left = count_run(
-        setting.alloc,
-        setting.shape,
-        off,
-        &site.ledger,
-        &mut report.sweep,
-    )?;
-    let row = Row {
-        caller: point.caller,
-        number: point.number,
-        fill,
-        left,
-    };
-    write_row(report.out, row)
-}
+impl<'a, W: Write> Sink<PointRows> for Report<'a, W> {
+    ghost use Rattle.bench_sweep.specs.Reports.{TakesPoint};
 
-/// Judges what a run that a cut ended leaves by each fill.
-fn judge_each_fill<C: Crew, W: Write>(
-    setting: &Setting<'_, C>,
-    site: &Site,
-    point: Point,
-    report: &mut Report<'_, W>,
-) -> Result<(), Refusal>
-    requires sits { Sits setting.now.shape.now site.now }
-    ensures wrote { OnOk result ((b : ModelBench)
-        → RunsAt setting.now.shape.now b site.now
-        → Reports W.contents (IsLeft setting.now.shape.now b) report.old report.new
-        (runs_of Bench.Cuts point.caller point.number) 0) }
-    ensures refused { IfErr result (λ e. (e ≡ Memory) ⊎ (e ≡ Output)) }
-{
-    for fill in FILLS {
-        judge_run(setting, site, point, Some(fill), report)?;
-    }
-    Ok(())
-}
+    ghost takes = { λ old made new. TakesPoint W.contents old made new };
 
-/// Runs the lines with a cut armed at that call, up to the one in which it strikes, and judges what each fill
-/// leaves of it.
-fn run_to_cut<C: Crew, W: Write>(
-    runner: &Runner<'_, C>,
-    site: Site,
-    point: Point,
-    report: &mut Report<'_, W>,
-) -> Result<(), Refusal>
-    requires lines { AreSwept runner.now.setting.shape.now runner.now.lines.now }
-    requires sits { SitsLeft runner.now.setting.shape.now site }
-    ensures wrote { OnOk result ((b : ModelBench)
-        → LeftAt runner.now.setting.shape.now b site
-        → Reports W.contents (RunsRow runner.now.setting.shape.now Bench.Cuts point.before b runner.now.lines.now)
-        report.old report.new (runs_of Bench.Cuts point.caller point.number) 0) }
-    ensures refused { IfErr result (λ e. (e ≡ Memory) ⊎ (e ≡ Output)) }
-{
-    let armed = site.armed(Bench::Cuts, point);
-    let went = run_lines(&runner.setting, runner.lines, false, armed)?;
-    // The plain run made the call. Only one that was refused memory can have missed it.
-    let left = turn_off(went.going, true)?;
-    judge_each_fill(&runner.setting, &left, point, report)
-}
-
-/// Runs the lines to their end with a failure armed at that call, cuts power, and judges what is left.
-fn run_past_failure<C: Crew, W: Write>(
-    runner: &Runner<'_, C>,
-    site: Site,
-    point: Point,
-    report: &mut Report<'_, W>,
-) -> Result<(), Refusal>
-    requires lines { AreSwept runner.now.setting.shape.now runner.now.lines.now }
-    requires sits { SitsLeft runner.now.setting.shape.now site }
-    ensures wrote { OnOk result ((b : ModelBench)
-        → LeftAt runner.now.setting.shape.now b site
-        → Reports W.contents (RunsRow runner.now.setting.shape.now Bench.Fails point.before b runner.now.lines.now)
-        report.old report.new (runs_of Bench.Fails point.caller point.number) 0) }
-    ensures refused { IfErr result (λ e. (e ≡ Memory) ⊎ (e ≡ Output)) }
-{
-    let failed = site.off.disk.failures();
-    let armed = site.armed(Bench::Fails, point);
-    let went = run_lines(&runner.setting, runner.lines, false, armed)?;
-    let left = turn_off_failed(went, runner.lines.len(), failed)?;
-    judge_run(&runner.setting, &left, point, None, report)
-}
-
-/// Turns the board off behind lines in which an armed cut struck, or none did, as is said. Refused `Memory` where that is
-/// not so, or where the disk's record found none.
-fn turn_off(going: Going, struck: bool) -> Result<Site, Refusal>
-    ensures runs { IfOk result (λ site. (size : Size) (b : ModelBench)
-        → Runs size b going.power going.payloads going.ledger
-        → (b.fault_state.struck ≡ struck) × (b.fault_state.own ≡ 0) × RunsAt size (off b) site) }
-    ensures refused { IfErr result (λ e. e ≡ Memory) }
-{
-    if going.is_struck() != struck {
-        return Err(Refusal::Memory);
-    }
-    let site = going.into_site();
-    if site.off.disk.refused() != 0 {
-        return Err(Refusal::Memory);
-    }
-    Ok(site)
-}
-
-/// Turns the board off behind all of so many lines, in which its disk failed: before them it had so often. Refused
-/// `Memory` where it did not. As with a cut, only a run that was refused memory can have missed the call.
-fn turn_off_failed(went: Went, all: usize, failed: u64) -> Result<Site, Refusal>
-    ensures whole { OnOk result (all ≤ went.count) }
-    ensures runs { IfOk result (λ site. (size : Size) (b : ModelBench)
-        → Runs size b went.going.power went.going.payloads went.going.ledger
-        → (b.fault_state.struck ≡ false) × (b.fault_state.own ≡ 0) × RunsAt size (off b) site) }
-    ensures refused { IfErr result (λ e. e ≡ Memory) }
-{
-    let Went { count, going } = went;
-    // No cut is armed that could end the run before its last line.
-    if count < all {
-        return Err(Refusal::Memory);
-    }
-    let left = turn_off(going, false)?;
-    if left.off.disk.failures() == failed {
-        return Err(Refusal::Memory);
-    }
-    Ok(left)
-}
-
-/// Makes the one run of the bench at that point, or the five. So many lines stand up to the next site.
-fn run_at_point<C: Crew, W: Write>(
-    runner: &Runner<'_, C>,
-    count: usize,
-    site: Site,
-    point: Point,
-    report: &mut Report<'_, W>,
-) -> Result<(), Refusal>
-    requires few { count ≤ length runner.now.lines.now }
-    requires lines { AreSwept runner.now.setting.shape.now runner.now.lines.now }
-    requires sits { SitsLeft runner.now.setting.shape.now site }
-    ensures wrote { OnOk result ((b : ModelBench)
-        → LeftAt runner.now.setting.shape.now b site
-        → Reports W.contents (RunsRow runner.now.setting.shape.now runner.now.bench point.before b runner.now.lines.now)
-        report.old report.new (runs_of runner.now.bench point.caller point.number) 0) }
-    ensures refused { IfErr result (λ e. (e ≡ Memory) ⊎ (e ≡ Output)) }
-{
-    match runner.bench {
-        Bench::Cuts => {
-            let front = Runner {
-                setting: runner.setting,
-                bench: runner.bench,
-                lines: &runner.lines[..count],
-            };
-            run_to_cut(&front, site, point, report)
-        }
-        Bench::Fails => run_past_failure(runner, site, point, report),
+    /// Writes the lines of a point, and counts its runs.
+    fn take(&mut self, made: PointRows) -> Result<(), Refusal> {
+        let PointRows { rows, sweep } = made;
+        write_rows(self.out, rows.as_slice())?;
+        self.sweep.runs = self.sweep.runs.saturating_add(sweep.runs);
+        self.sweep.wrong = self.sweep.wrong.saturating_add(sweep.wrong);
+        Ok(())
     }
 }
 
@@ -219,7 +66,8 @@ struct Calls {
 }
 
 /// Makes the runs at those calls, which the lines make from the site on. So many lines stand up to the next site.
-fn run_at_calls<C: Crew, W: Write>(
+fn run_at_calls<R: Threads + Sync, C: Crew + Sync, W: Write>(
+    jobs: &Jobs<'_, R>,
     runner: &Runner<'_, C>,
     count: usize,
     site: &Site,
@@ -236,17 +84,14 @@ fn run_at_calls<C: Crew, W: Write>(
         report.old report.new (runs_from runner.now.bench calls.caller (calls.made + 1) calls.count) 0) }
     ensures refused { IfErr result (λ e. (e ≡ Memory) ⊎ (e ≡ Output)) }
 {
-    for done in 0..calls.count {
-        let point = Point {
-            caller: calls.caller,
-            number: calls.made + done + 1,
-            call: done + 1,
-            before: calls.made,
-        };
-        let from = site.copy(runner.setting.alloc)?;
-        run_at_point(runner, count, from, point, report)?;
-    }
-    Ok(())
+    let task = RunsAtCalls {
+        runner,
+        count,
+        site,
+        caller: calls.caller,
+        before: calls.made,
+    };
+    hand_on_all(jobs, runner.setting.alloc, &task, 0, calls.count, report)
 }
 
 /// Lines of the plain run up to the next moment at which the board is off.
@@ -294,7 +139,8 @@ fn calls_between(caller: Caller, from: &Site, to: &Site) -> Result<u64, Refusal>
 /// Goes over the points of that caller in the lines up to the next moment at which the board is off, and puts the board
 /// of that moment in the place of this one. So many points were before them. Answers how many lines they are, and how
 /// many calls they made.
-fn sweep_stretch<C: Crew, W: Write>(
+fn sweep_stretch<R: Threads + Sync, C: Crew + Sync, W: Write>(
+    jobs: &Jobs<'_, R>,
     runner: &Runner<'_, C>,
     site: &mut Site,
     caller: Caller,
@@ -325,14 +171,15 @@ fn sweep_stretch<C: Crew, W: Write>(
         made,
         count: made_here,
     };
-    run_at_calls(runner, count, site, calls, report)?;
+    run_at_calls(jobs, runner, count, site, calls, report)?;
     *site = next;
     Ok((count, made_here))
 }
 
 /// Goes over the points of that caller, and answers how many they were. Each run begins at the last moment before its
 /// call at which the board was off.
-fn sweep_caller<C: Crew, W: Write>(
+fn sweep_caller<R: Threads + Sync, C: Crew + Sync, W: Write>(
+    jobs: &Jobs<'_, R>,
     runner: &Runner<'_, C>,
     begin: &Site,
     caller: Caller,
@@ -355,7 +202,7 @@ fn sweep_caller<C: Crew, W: Write>(
             bench: runner.bench,
             lines: &runner.lines[from..],
         };
-        let (count, calls) = sweep_stretch(&rest, &mut site, caller, made, report)?;
+        let (count, calls) = sweep_stretch(jobs, &rest, &mut site, caller, made, report)?;
         from += count;
         made += calls;
     }
@@ -394,7 +241,8 @@ fn run_plain<C: Crew>(runner: &Runner<'_, C>, begin: &Site) -> Result<Site, Refu
 /// Goes over the points of each caller in turn, over the lines from that site on. Of each there are as many as it made
 /// calls up to that end of the plain run. Refused `Memory` where another run of the lines made others: then the one or
 /// the other was refused some.
-fn sweep_all_callers<C: Crew, W: Write>(
+fn sweep_all_callers<R: Threads + Sync, C: Crew + Sync, W: Write>(
+    jobs: &Jobs<'_, R>,
     runner: &Runner<'_, C>,
     site: &Site,
     end: &Site,
@@ -411,7 +259,7 @@ fn sweep_all_callers<C: Crew, W: Write>(
 {
     for caller in CALLERS {
         let calls = calls_between(caller, site, end)?;
-        let made = sweep_caller(runner, site, caller, report)?;
+        let made = sweep_caller(jobs, runner, site, caller, report)?;
         if made != calls {
             return Err(Refusal::Memory);
         }
@@ -420,7 +268,8 @@ fn sweep_all_callers<C: Crew, W: Write>(
 }
 
 /// Runs the lines from that site on as they are, and then goes over the points of each caller.
-fn sweep_site<C: Crew, W: Write>(
+fn sweep_site<R: Threads + Sync, C: Crew + Sync, W: Write>(
+    jobs: &Jobs<'_, R>,
     runner: &Runner<'_, C>,
     site: &Site,
     report: &mut Report<'_, W>,
@@ -434,7 +283,7 @@ fn sweep_site<C: Crew, W: Write>(
     ensures refused { IfErr result (λ e. (e ≡ Memory) ⊎ (e ≡ Output)) }
 {
     let end = run_plain(runner, site)?;
-    sweep_all_callers(runner, site, &end, report)
+    sweep_all_callers(jobs, runner, site, &end, report)
 }
 
 /// Whether a bench runs the line: it cuts nothing, lets nothing fail, and leaves the disk to the firmware.
@@ -487,7 +336,8 @@ fn check_plain(lines: &[Line]) -> Result<(), Refusal>
 }
 
 /// Goes over the points of those lines, which stand in a script that begins with these payloads.
-fn sweep_lines<'a, C: Crew, W: Write>(
+fn sweep_lines<'a, R: Threads + Sync, C: Crew + Sync, W: Write>(
+    jobs: &Jobs<'_, R>,
     setting: &Setting<'a, C>,
     bench: Bench,
     lines: &'a [Line],
@@ -505,11 +355,12 @@ fn sweep_lines<'a, C: Crew, W: Write>(
         bench,
         lines: &lines[count..],
     };
-    sweep_site(&runner, &site, report)
+    sweep_site(jobs, &runner, &site, report)
 }
 
 /// Writes what that bench makes of those lines, and the line of its counts.
-fn write_swept<'a, C: Crew, W: Write>(
+fn write_swept<'a, R: Threads + Sync, C: Crew + Sync, W: Write>(
+    jobs: &Jobs<'_, R>,
     setting: &Setting<'a, C>,
     bench: Bench,
     lines: &'a [Line],
@@ -527,7 +378,7 @@ fn write_swept<'a, C: Crew, W: Write>(
         wrong: 0,
     };
     let mut report = Report { out, sweep };
-    sweep_lines(setting, bench, lines, payloads, &mut report)?;
+    sweep_lines(jobs, setting, bench, lines, payloads, &mut report)?;
     let Report { out, sweep } = report;
     write_sweep(out, sweep)?;
     Ok(sweep)
@@ -535,6 +386,7 @@ fn write_swept<'a, C: Crew, W: Write>(
 
 /// Runs that bench over a script whose lines are all plain.
 fn sweep_plain_script<R: Threads + Sync, W: Write>(
+    jobs: &Jobs<'_, R>,
     alloc: Global,
     bench: Bench,
     script: &Script,
@@ -553,7 +405,7 @@ fn sweep_plain_script<R: Threads + Sync, W: Write>(
         crew: &crew,
         shape: &script.shape,
     };
-    write_swept(&setting, bench, &script.lines, payloads, out)
+    write_swept(jobs, &setting, bench, &script.lines, payloads, out)
 }
 
 /// A bench (docs/SCRIPT.md, "The benches") over the script that begins with these payloads: a slot boots its own until a
@@ -562,12 +414,14 @@ fn sweep_plain_script<R: Threads + Sync, W: Write>(
 /// At each call of the disk, and of each of its lanes, that the script makes after its first `format ok`, the power-cut
 /// bench cuts power, and lets the cut leave what each of five fills says of what was written since the last sync. The
 /// fault bench lets the call fail, runs the script to its end, and then cuts power. Behind each run a board is powered on
-/// that keeps its image, and what it found is judged. A line is written for each run, and one with the counts.
+/// that keeps its image, and what it found is judged. A line is written for each run, and one with the counts. The runs
+/// are made by the threads of these jobs; what is written is the same however many these are.
 ///
 /// Refused `BadShape` or `BadScript` where the script has a fault, and `NotPlain` where a line of it arms a cut or a
 /// failure, cuts power or pokes, or none is `format`: then nothing is written. Refused `Memory` where memory was, and
 /// `Output` where the writer failed: then any first lines may stand in it.
 pub fn run_bench<R: Threads + Sync, W: Write>(
+    jobs: &Jobs<'_, R>,
     alloc: Global,
     bench: Bench,
     script: &[u8],
@@ -589,5 +443,5 @@ pub fn run_bench<R: Threads + Sync, W: Write>(
 {
     let script = parse_script(alloc, script)?;
     check_plain(&script.lines)?;
-    sweep_plain_script::<R, W>(alloc, bench, &script, &payloads, out)
+    sweep_plain_script::<R, W>(jobs, alloc, bench, &script, &payloads, out)
 }

@@ -1,4 +1,4 @@
-use Rattle.std.proofs.Common.{rules, refl, sym, ◌+◌, ℕ, subst, take, arith, ◌≡◌}
+use Rattle.std.proofs.Common.{rules, true, false, refl, sym, ◌∙◌, ◌+◌, ℕ, subst, take, arith, ◌≡◌}
 use Rattle.bench_report.specs.Bench.{Bench}
 use Rattle.script_lang.specs.declared.line.Line.{Line}
 use Rattle.script_lang.specs.declared.line.Line.TheVariants as lines
@@ -70,3 +70,9 @@ returns-clause-few g c = let i = c.loop-line.invariant in omega (arith, i.count)
 
 pub returns-clause-some : goal.returns-clause-some
 returns-clause-some g c = let i = c.loop-line.invariant in λ some. omega (arith, i.count, some, c.loop-line-test.false)
+
+pub returns-then-stops-clause-whole : goal.returns-then-stops-clause-whole
+returns-then-stops-clause-whole g c = λ until size b agrees calm. absurd (let no : true ≡ false = sym (c.stops.ensures.struck c.if-stops.true until size b agrees) ∙ calm in let never : ⊥ = cc in never)
+
+pub returns-clause-whole : goal.returns-clause-whole
+returns-clause-whole g c = λ until size b agrees calm. let i = c.loop-line.invariant in omega (arith, i.count, c.loop-line-test.false)

@@ -1,21 +1,22 @@
-use Rattle.std.proofs.Common.{◌≡◌, ◌+◌, refl, arith}
-use Rattle.bench_report.specs.Happens.{unpowered}
-use Rattle.bench_sweep.proofs.Reported.{reports_none, reports_more, reports_as}
-use Rattle.bench_sweep.proofs.Written.{next_call}
+use Rattle.std.proofs.Common.{arith}
+use Rattle.std.proofs.lemmas.Result.{on_ok_weaker}
+use Rattle.bench_sweep.proofs.Rowed.{all_points}
 use Rattle.bench_sweep.proofs.sweeps.run_at_calls.Goals as goal
 
-pub run_at_point-requires-clause-sits : goal.run_at_point-requires-clause-sits
-run_at_point-requires-clause-sits g c κs within = let sits = c.requires.sits in (unpowered sits.0, c.in_ok-from.ensures.runs c.args.runner.now.setting.shape.now sits.0 sits.1)
+pub hand_on_all-requires-clause-has : goal.hand_on_all-requires-clause-has
+hand_on_all-requires-clause-has g c κs within = λ i less. (
+  record {
+    few = c.requires.few;
+    swept = c.requires.lines;
+    sits = c.requires.sits;
+    room = omega (arith, c.requires.numbers, less);
+  },
+  record { shared = c.type_bounds.sync-C-Handle.shared },
+)
 
-pub loop-done-init : goal.loop-done-init
-loop-done-init g c = λ b r. reports_none _ _ _
-
-pub loop-done-preserved : goal.loop-done-preserved
-loop-done-preserved g c = λ b r.
-    let size = c.args.runner.now.setting.shape.now in
-    let kind = c.args.runner.now.bench in
+pub returns-clause-wrote : goal.returns-clause-wrote
+returns-clause-wrote g c = on_ok_weaker c.hand_on_all.result (λ handed b r.
+    (let runner = c.args.runner.now in
     let calls = c.args.calls in
-    let done = c.loop-done.done in
-    let wrote = c.in_ok-run_at_point.ensures.wrote (unpowered b) (c.in_ok-from.ensures.runs size b r) in
-    reports_as _ _ _ _ _ _ _ _ (next_call kind calls.caller (calls.made + 1) done (calls.made + done + 1) (omega (arith, c.requires.numbers, c.loop-done-test.true))) refl
-    (reports_more _ _ _ _ _ _ _ _ _ (c.loop-done.invariant b r) wrote)
+    all_points g.W.Write.contents runner.setting.shape.now runner.bench calls.caller calls.made runner.lines.now c.args.site.now b r _ calls.count _ c.requires.numbers handed))
+    c.hand_on_all.ensures.handed

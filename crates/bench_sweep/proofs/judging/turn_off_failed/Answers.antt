@@ -1,4 +1,4 @@
-use Rattle.bench_sweep.proofs.sweeps.turn_off_failed.Goals as goal
+use Rattle.bench_sweep.proofs.judging.turn_off_failed.Goals as goal
 
 pub returns-clause-whole : goal.returns-clause-whole
 returns-clause-whole c = c.if-count-all.false

@@ -1,11 +1,10 @@
-use Rattle.std.proofs.Common.{◌≡◌, ℕ, refl, arith, length}
-use Rattle.std.proofs.lemmas.Result.{on_ok_weaker}
+use Rattle.std.proofs.Common.{◌≡◌, ℕ, [], refl, arith, length}
 use Rattle.bench_sweep.specs.declared.points.Bench.TheVariants.{Fails}
 use Rattle.bench_sweep.specs.Points.{fault_at}
 use Rattle.bench_report.specs.Happens.{armed_with, off}
 use Rattle.bench_sweep.proofs.Made.{past_failure}
-use Rattle.bench_sweep.proofs.Reported.{reports_at}
-use Rattle.bench_sweep.proofs.sweeps.run_past_failure.Goals as goal
+use Rattle.bench_sweep.proofs.Rowed.{judged_none, judged_more, judged_at}
+use Rattle.bench_sweep.proofs.judging.run_past_failure.Goals as goal
 
 pub judge_run-requires-clause-sits : goal.judge_run-requires-clause-sits
 judge_run-requires-clause-sits g c κs within =
@@ -16,15 +15,15 @@ judge_run-requires-clause-sits g c κs within =
     let left = c.in_ok-left.ensures.runs size ran.bench ran.runs in
     (off ran.bench, left.2)
 
-pub returns-clause-wrote : goal.returns-clause-wrote
-returns-clause-wrote g c = on_ok_weaker c.judge_run.result (λ did b l.
-    (let size = c.args.runner.now.setting.shape.now in
+pub returns-clause-judged : goal.returns-clause-judged
+returns-clause-judged g c = λ b l.
+    let size = c.args.runner.now.setting.shape.now in
     let lines = c.args.runner.now.lines.now in
     let calm = c.armed-armed.ensures.runs size b l in
     let ran = c.in_ok-went.ensures.ran (armed_with (fault_at Fails c.args.point.caller c.args.point.call) b) calm in
     let left = c.in_ok-left.ensures.runs size ran.bench ran.runs in
     let all : c.in_ok-went.went.count ≡ length lines = omega (arith, c.in_ok-went.ensures.few, c.in_ok-left.ensures.whole) in
-    reports_at _ Fails c.args.point.caller c.args.point.number _ _ _ _ _
+    let none = c.none-made.ensures in
+    judged_at Fails c.args.point.caller c.args.point.number _ _ _
     (past_failure size c.args.point b lines c.in_ok-went.went.count _ _ _ all ran left.0 left.1)
-    (did (off ran.bench) left.2)))
-    c.judge_run.ensures.wrote
+    (judged_more _ _ _ [] _ (judged_none _ _ none.rows none.runs none.right) (c.in_ok-judge_run.ensures.kept (off ran.bench) left.2))

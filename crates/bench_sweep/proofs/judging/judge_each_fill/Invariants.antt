@@ -1,13 +1,13 @@
 use Rattle.std.proofs.Common.{map, take, Some}
 use Rattle.bench_report.specs.Bench.{Bench}
 use Rattle.simdisk.specs.declared.fill.Fill.{Fill}
-use Rattle.bench_sweep.specs.Reports.{Reports, IsLeft}
+use Rattle.bench_sweep.specs.Reports.{Judged, IsLeft}
 use Rattle.bench_sweep.specs.Runs.{RunsAt}
 use Rattle.bench_sweep.specs.Swept.{cell}
-use Rattle.bench_sweep.proofs.sweeps.judge_each_fill.Given as goal
+use Rattle.bench_sweep.proofs.judging.judge_each_fill.Given as goal
 
--- the runs of the fills so far are written
+-- the runs of the fills so far are judged
 abbrev pub invariant-loop-fill : goal.invariant-loop-fill
 invariant-loop-fill g l =
     (b : Bench) → RunsAt l.setting.shape.now b l.site
-    → Reports g.W.Write.contents (IsLeft l.setting.shape.now b) l.fn.report l.report (map (λ (fill : Fill). cell l.point.caller l.point.number (Some fill)) (take l.fill-index l.fill-items)) 0
+    → Judged (IsLeft l.setting.shape.now b) l.made (map (λ (fill : Fill). cell l.point.caller l.point.number (Some fill)) (take l.fill-index l.fill-items))

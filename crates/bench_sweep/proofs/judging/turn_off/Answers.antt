@@ -1,7 +1,7 @@
 use Rattle.std.proofs.Common.{◌≡◌, Bool, true, false, refl, sym, ◌∙◌, ap}
 use Rattle.std.proofs.Math.Bool.{not, beq}
 use Rattle.disk.specs.FaultState.{FaultState}
-use Rattle.bench_sweep.proofs.sweeps.turn_off.Goals as goal
+use Rattle.bench_sweep.proofs.judging.turn_off.Goals as goal
 
 same : (a b : Bool) → not (beq a b) ≡ false → a ≡ b
 same true true e = refl

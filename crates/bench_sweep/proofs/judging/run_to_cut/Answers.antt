@@ -1,10 +1,10 @@
-use Rattle.std.proofs.lemmas.Result.{on_ok_weaker}
+use Rattle.std.proofs.lemmas.Result.{IfOk-weaker}
 use Rattle.bench_sweep.specs.declared.points.Bench.TheVariants.{Cuts}
 use Rattle.bench_sweep.specs.Points.{fault_at}
 use Rattle.bench_report.specs.Happens.{armed_with, off}
 use Rattle.bench_sweep.proofs.Made.{to_cut}
-use Rattle.bench_sweep.proofs.Reported.{reports_at}
-use Rattle.bench_sweep.proofs.sweeps.run_to_cut.Goals as goal
+use Rattle.bench_sweep.proofs.Rowed.{judged_at}
+use Rattle.bench_sweep.proofs.judging.run_to_cut.Goals as goal
 
 pub judge_each_fill-requires-clause-sits : goal.judge_each_fill-requires-clause-sits
 judge_each_fill-requires-clause-sits g c κs within =
@@ -14,14 +14,14 @@ judge_each_fill-requires-clause-sits g c κs within =
     let ran = c.in_ok-went.ensures.ran (armed_with (fault_at Cuts c.args.point.caller c.args.point.call) sits.0) calm in
     (off ran.bench, (c.in_ok-left.ensures.runs size ran.bench ran.runs).2)
 
-pub returns-clause-wrote : goal.returns-clause-wrote
-returns-clause-wrote g c = on_ok_weaker c.judge_each_fill.result (λ did b l.
+pub returns-clause-judged : goal.returns-clause-judged
+returns-clause-judged g c = IfOk-weaker c.judge_each_fill.result _ _ (λ rows did b l.
     (let size = c.args.runner.now.setting.shape.now in
     let lines = c.args.runner.now.lines.now in
     let calm = c.armed-armed.ensures.runs size b l in
     let ran = c.in_ok-went.ensures.ran (armed_with (fault_at Cuts c.args.point.caller c.args.point.call) b) calm in
     let left = c.in_ok-left.ensures.runs size ran.bench ran.runs in
-    reports_at _ Cuts c.args.point.caller c.args.point.number _ _ _ _ _
+    judged_at Cuts c.args.point.caller c.args.point.number _ _ rows
     (to_cut size c.args.point b lines c.in_ok-went.went.count _ _ _ c.in_ok-went.ensures.few ran left.0 left.1)
     (did (off ran.bench) left.2)))
-    c.judge_each_fill.ensures.wrote
+    c.judge_each_fill.ensures.judged

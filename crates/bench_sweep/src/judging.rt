@@ -1,0 +1,253 @@
+//! The runs at a point: they are made, judged and counted.
+
+ghost use Rattle.std.specs.Prelude.{◌≡◌, ◌⊎◌, ◌≤◌, ◌<◌, ◌+◌, ◌++◌, ◌^◌, ◌∷◌, [], ℕ, List, None, false, length, Ok, IfOk, IfErr, OnOk};
+ghost use Rattle.disk.specs.FaultState.{Unarmed};
+ghost use Rattle.board_model.specs.Shapes.{Size};
+ghost use Rattle.board_model.specs.declared.refusal.Refusal.TheVariants.{Memory};
+ghost use Rattle.bench_report.specs.Bench.{Bench as ModelBench};
+ghost use Rattle.bench_report.specs.Happens.{off, unpowered};
+ghost use Rattle.bench_sweep.specs.Runs.{Runs, RunsAt, LeftAt, Sits, SitsLeft};
+ghost use Rattle.bench_sweep.specs.Swept.{AreSwept, cell, runs_of};
+ghost use Rattle.bench_sweep.specs.Reports.{Keeps, Judged, IsLeft, RunsRow};
+
+use crate::finds::count_run;
+use crate::points::{Bench, Caller, FILLS, Point};
+use crate::rows::Row;
+use crate::runner::Runner;
+use crate::site::{Going, Site};
+use crate::sites::{Went, cut_by, run_lines};
+use bench_judge::Sweep;
+use bench_report::Setting;
+use board_model::Refusal;
+use crew::Crew;
+use disk::Disk;
+use jobs::Task;
+use simdisk::Fill;
+use std::alloc::Global;
+
+/// What the runs at a point told, in their order, and how they were counted.
+#[derive(Drop)]
+pub struct PointRows {
+    pub rows: Vec<Row>,
+    pub sweep: Sweep,
+}
+
+impl PointRows {
+    /// No run was made yet.
+    fn none(alloc: Global) -> PointRows
+        ensures rows { result.rows.items ≡ [] }
+        ensures runs { result.sweep.runs ≡ 0 }
+        ensures right { result.sweep.wrong ≡ 0 }
+    {
+        PointRows {
+            rows: Vec::new(alloc),
+            sweep: Sweep {
+                points: 0,
+                runs: 0,
+                wrong: 0,
+            },
+        }
+    }
+}
+
+/// Cuts power, powers a board on over what that leaves of the disk, counts the run, and keeps what it told. What was not
+/// synced is left by the run's fill; where a run has none, behind a failure, with zeros.
+fn judge_run<C: Crew>(
+    setting: &Setting<'_, C>,
+    site: &Site,
+    point: Point,
+    fill: Option<Fill>,
+    made: &mut PointRows,
+) -> Result<(), Refusal>
+    requires sits { Sits setting.now.shape.now site.now }
+    ensures kept { OnOk result ((b : ModelBench)
+        → RunsAt setting.now.shape.now b site.now
+        → Keeps (IsLeft setting.now.shape.now b) made.old made.new (cell point.caller point.number fill)) }
+    ensures refused { IfErr result (λ e. e ≡ Memory) }
+{
+    let off = cut_by(&site.off, fill.unwrap_or(Fill::Byte(0)))?;
+    let left = count_run(
+        setting.alloc,
+        setting.shape,
+        off,
+        &site.ledger,
+        &mut made.sweep,
+    )?;
+    let row = Row {
+        caller: point.caller,
+        number: point.number,
+        fill,
+        left,
+    };
+    made.rows.push(row)?;
+    Ok(())
+}
+
+/// Judges what a run that a cut ended leaves by each fill.
+fn judge_each_fill<C: Crew>(
+    setting: &Setting<'_, C>,
+    site: &Site,
+    point: Point,
+) -> Result<PointRows, Refusal>
+    requires sits { Sits setting.now.shape.now site.now }
+    ensures judged { IfOk result (λ made. (b : ModelBench)
+        → RunsAt setting.now.shape.now b site.now
+        → Judged (IsLeft setting.now.shape.now b) made (runs_of Bench.Cuts point.caller point.number)) }
+    ensures refused { IfErr result (λ e. e ≡ Memory) }
+{
+    let mut made = PointRows::none(setting.alloc);
+    for fill in FILLS {
+        judge_run(setting, site, point, Some(fill), &mut made)?;
+    }
+    Ok(made)
+}
+
+/// Runs the lines with a cut armed at that call, up to the one in which it strikes, and judges what each fill
+/// leaves of it.
+fn run_to_cut<C: Crew>(
+    runner: &Runner<'_, C>,
+    site: Site,
+    point: Point,
+) -> Result<PointRows, Refusal>
+    requires lines { AreSwept runner.now.setting.shape.now runner.now.lines.now }
+    requires sits { SitsLeft runner.now.setting.shape.now site }
+    ensures judged { IfOk result (λ made. (b : ModelBench)
+        → LeftAt runner.now.setting.shape.now b site
+        → Judged (RunsRow runner.now.setting.shape.now Bench.Cuts point.before b runner.now.lines.now) made
+        (runs_of Bench.Cuts point.caller point.number)) }
+    ensures refused { IfErr result (λ e. e ≡ Memory) }
+{
+    let armed = site.armed(Bench::Cuts, point);
+    let went = run_lines(&runner.setting, runner.lines, false, armed)?;
+    // The plain run made the call. Only one that was refused memory can have missed it.
+    let left = turn_off(went.going, true)?;
+    judge_each_fill(&runner.setting, &left, point)
+}
+
+/// Runs the lines to their end with a failure armed at that call, cuts power, and judges what is left.
+fn run_past_failure<C: Crew>(
+    runner: &Runner<'_, C>,
+    site: Site,
+    point: Point,
+) -> Result<PointRows, Refusal>
+    requires lines { AreSwept runner.now.setting.shape.now runner.now.lines.now }
+    requires sits { SitsLeft runner.now.setting.shape.now site }
+    ensures judged { IfOk result (λ made. (b : ModelBench)
+        → LeftAt runner.now.setting.shape.now b site
+        → Judged (RunsRow runner.now.setting.shape.now Bench.Fails point.before b runner.now.lines.now) made
+        (runs_of Bench.Fails point.caller point.number)) }
+    ensures refused { IfErr result (λ e. e ≡ Memory) }
+{
+    let failed = site.off.disk.failures();
+    let armed = site.armed(Bench::Fails, point);
+    let went = run_lines(&runner.setting, runner.lines, false, armed)?;
+    let left = turn_off_failed(went, runner.lines.len(), failed)?;
+    let mut made = PointRows::none(runner.setting.alloc);
+    judge_run(&runner.setting, &left, point, None, &mut made)?;
+    Ok(made)
+}
+
+/// Turns the board off behind lines in which an armed cut struck, or none did, as is said. Refused `Memory` where that is
+/// not so, or where the disk's record found none.
+pub fn turn_off(going: Going, struck: bool) -> Result<Site, Refusal>
+    ensures runs { IfOk result (λ site. (size : Size) (b : ModelBench)
+        → Runs size b going.power going.payloads going.ledger
+        → (b.fault_state.struck ≡ struck) × (b.fault_state.own ≡ 0) × RunsAt size (off b) site) }
+    ensures refused { IfErr result (λ e. e ≡ Memory) }
+{
+    if going.is_struck() != struck {
+        return Err(Refusal::Memory);
+    }
+    let site = going.into_site();
+    if site.off.disk.refused() != 0 {
+        return Err(Refusal::Memory);
+    }
+    Ok(site)
+}
+
+/// Turns the board off behind all of so many lines, in which its disk failed: before them it had so often. Refused
+/// `Memory` where it did not. As with a cut, only a run that was refused memory can have missed the call.
+fn turn_off_failed(went: Went, all: usize, failed: u64) -> Result<Site, Refusal>
+    ensures whole { OnOk result (all ≤ went.count) }
+    ensures runs { IfOk result (λ site. (size : Size) (b : ModelBench)
+        → Runs size b went.going.power went.going.payloads went.going.ledger
+        → (b.fault_state.struck ≡ false) × (b.fault_state.own ≡ 0) × RunsAt size (off b) site) }
+    ensures refused { IfErr result (λ e. e ≡ Memory) }
+{
+    let Went { count, going } = went;
+    // No cut is armed that could end the run before its last line.
+    if count < all {
+        return Err(Refusal::Memory);
+    }
+    let left = turn_off(going, false)?;
+    if left.off.disk.failures() == failed {
+        return Err(Refusal::Memory);
+    }
+    Ok(left)
+}
+
+/// Makes the one run of the bench at that point, or the five. So many lines stand up to the next site.
+fn run_at_point<C: Crew>(
+    runner: &Runner<'_, C>,
+    count: usize,
+    site: Site,
+    point: Point,
+) -> Result<PointRows, Refusal>
+    requires few { count ≤ length runner.now.lines.now }
+    requires lines { AreSwept runner.now.setting.shape.now runner.now.lines.now }
+    requires sits { SitsLeft runner.now.setting.shape.now site }
+    ensures judged { IfOk result (λ made. (b : ModelBench)
+        → LeftAt runner.now.setting.shape.now b site
+        → Judged (RunsRow runner.now.setting.shape.now runner.now.bench point.before b runner.now.lines.now) made
+        (runs_of runner.now.bench point.caller point.number)) }
+    ensures refused { IfErr result (λ e. e ≡ Memory) }
+{
+    match runner.bench {
+        Bench::Cuts => {
+            let front = Runner {
+                setting: runner.setting,
+                bench: runner.bench,
+                lines: &runner.lines[..count],
+            };
+            run_to_cut(&front, site, point)
+        }
+        Bench::Fails => run_past_failure(runner, site, point),
+    }
+}
+
+/// The runs at calls of a caller, which lines make from a site on.
+#[derive(Drop)]
+pub struct RunsAtCalls<'a, 'b, C> {
+    pub runner: &'a Runner<'b, C>,
+    /// How many lines stand up to the next site.
+    pub count: usize,
+    pub site: &'a Site,
+    pub caller: Caller,
+    /// How many calls the caller made up to the site.
+    pub before: u64,
+}
+
+impl<'a, 'b, C: Crew + Sync> Task for RunsAtCalls<'a, 'b, C> {
+    ghost use Rattle.std.specs.Thread.{IsSync};
+    ghost use Rattle.bench_sweep.specs.Reports.{HasCall, IsOfCall};
+
+    type Row = PointRows;
+
+    ghost has = { λ task done. HasCall task.runner.now.setting.shape.now task.runner.now.lines.now task.count task.site.now task.before done
+        × IsSync C.Handle.row };
+
+    ghost is_row = { λ task done made. IsOfCall task.runner.now.setting.shape.now task.runner.now.bench task.caller task.before
+        task.runner.now.lines.now task.site.now done made };
+
+    /// Makes the runs at the call before which so many were made from the site on.
+    fn row(&self, done: u64) -> Result<PointRows, Refusal> {
+        let point = Point {
+            caller: self.caller,
+            number: self.before + done + 1,
+            call: done + 1,
+            before: self.before,
+        };
+        let from = self.site.copy(self.runner.setting.alloc)?;
+        run_at_point(self.runner, self.count, from, point)
+    }
+}
