@@ -107,7 +107,7 @@ one_counted b ones d old new done m (Err e) tried wrote counted others = tt
 -- the line of an order that differs
 pub order_told : (b : Basis) (ones points : List Preemption) (d : Difference) (old new : Option (List ℕ)) → points ≡ script_points b.those ones
     → (own said : List ℕ) × IsFirstApart (told_lines d.own) (told_lines d.answer) own said
-        × Appends old new (differs_text (points_text b.numbers points) (slice_index_or b.numbers (1 + place_of_other d.place b.those) 0) said own)
+    × Appends old new (differs_text (points_text b.numbers points) (slice_index_or b.numbers (1 + place_of_other d.place b.those) 0) said own)
     → (text : List ℕ) × OrderText b ones (Some d) text × Appends old new text × (1 ≡ differing (Some d ∷ []))
 order_told b ones points d old new are wrote =
     let number = slice_index_or b.numbers (1 + place_of_other d.place b.those) 0 in (

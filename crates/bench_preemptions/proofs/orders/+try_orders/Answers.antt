@@ -59,7 +59,7 @@ returns-clause-tried g t c =
     let same : length c.deref-3.result.now ≡ length counts = ap length c.deref-3.ensures.value in
     let len : c.len.result ≡ length counts = omega (arith, c.len.ensures, same) in
     let end : c.points_before-end.result ≡ number_in counts (length counts) 0 =
-        c.points_before-end.ensures ∙ ap (λ ks. number_in ks c.len.result 0) c.deref-3.ensures.value ∙ ap (λ n. number_in counts n 0) len in
+    c.points_before-end.ensures ∙ ap (λ ks. number_in ks c.len.result 0) c.deref-3.ensures.value ∙ ap (λ n. number_in counts n 0) len in
     let next : suc (c.args.more - 1) ≡ c.args.more = first_of (omega (arith, c.if-more-eq0.false), grind (arith, nat_tests, c.if-more-eq0.false)) in
     points_done (basis r.setting.shape.now r.payloads.now r.lines.now r.own.now r.numbers.now r.most) r.first c.args.more (c.args.more - 1) node.lines.items node.ones.items counts c.loop-number.number
     (g.W.Write.contents c.args.out.now) (g.W.Write.contents c.loop-number.out) c.args.done.orders c.args.done.differ c.loop-number.now.orders c.loop-number.now.differ
