@@ -4,7 +4,7 @@ use Rattle.board_model.specs.Shapes.{Size}
 use Rattle.script_lang.specs.Lines.{IsLineInRange}
 use Rattle.script_lang.specs.declared.line.Line.{Line}
 use Rattle.bench_orders.specs.Orders.{IsOrderFor, other_count}
-use Rattle.bench_preemptions.specs.Orders.{ArePreemptions, OfAll, order_of, place_behind}
+use Rattle.bench_preemptions.specs.Orders.{ArePreemptions, order_of, place_behind}
 use Rattle.bench_preemptions.specs.Points.{IsBusyAt, behind, order_by, point_before, script_points}
 use Rattle.bench_preemptions.specs.Preemptions.{Basis}
 use Rattle.bench_preemptions.specs.SoFar.{IsMade}

@@ -1,5 +1,5 @@
 -- Orders with few preemptions that were run and told, one after another.
-use Rattle.std.proofs.Common.{◌≡◌, ◌∙◌, ◌⊎◌, inl, inr, ℕ, zero, suc, ◌+◌, ◌-◌, ◌<◌, ◌≤◌, Bool, true, false, List, [], ◌∷◌, ◌++◌, Option, Some, None, Result, Ok, Err, IfOk, All, length, take, slice_index_or, refl, sym, ap, subst, arith, append_assoc, length-append}
+use Rattle.std.proofs.Common.{◌≡◌, ◌∙◌, ◌⊎◌, inl, inr, ℕ, zero, suc, ◌+◌, ◌<◌, ◌≤◌, Bool, true, List, [], ◌∷◌, ◌++◌, Option, Some, None, Result, Ok, Err, IfOk, All, length, take, slice_index_or, refl, sym, ap, subst, arith, append_assoc, length-append}
 use Rattle.std.proofs.lemmas.Bool.{cases_lt}
 use Rattle.std.proofs.lemmas.List.{take_all}
 use Rattle.std.proofs.lemmas.List.Elements.{All-append, All-cons, All-head, All-nil, All-tail}
@@ -15,13 +15,12 @@ use Rattle.bench_schedules.specs.declared.runs.Difference.{Difference}
 use Rattle.bench_schedules.specs.Schedules.{RanLike, RanOwn, RanWell, differing, other_answers}
 use Rattle.bench_preemptions.specs.Orders.{AllAlike, OfAll, order_of, place_behind}
 use Rattle.bench_preemptions.specs.Points.{IsBusyAt, number_in, script_points}
-use Rattle.bench_preemptions.specs.Preemptions.{Basis, IsWhole, OrderRun, OrderText, OrdersText, Tried, WasRun, WroteOrders, WrotePreemptions, basis, count_text, differences_of, differs_text, points_text}
+use Rattle.bench_preemptions.specs.Preemptions.{Basis, IsWhole, OrderRun, OrderText, OrdersText, Tried, WasRun, WrotePreemptions, basis, count_text, differences_of, differs_text, points_text}
 use Rattle.bench_preemptions.specs.SoFar.{RanAll, RanDepths, RanMore, RanPoints}
 use Rattle.bench_preemptions.specs.Stepped.{RanByTurns}
 use Rattle.bench_preemptions.specs.declared.orders.Preempted.{Preempted}
 use Rattle.bench_preemptions.specs.declared.points.Preemption.{Preemption}
 use Rattle.bench_preemptions.proofs.Numbers.{before_row, index_within, least_row, same_point}
-use Rattle.bench_preemptions.proofs.Steps.{stepped_length}
 
 -- ---- what was written of orders
 texts_both : (b : Basis) (runs more : List OrderRun) (text rest : List ℕ) → OrdersText b runs text → OrdersText b more rest → OrdersText b (runs ++ more) (text ++ rest)

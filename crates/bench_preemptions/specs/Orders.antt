@@ -1,5 +1,5 @@
 -- The orders of a script with few preemptions. Source: docs/SCRIPT.md, "Preemptions".
-use Rattle.std.specs.Prelude.{◌≡◌, ◌≤◌, ◌++◌, ◌∷◌, [], ⊤, ℕ, zero, suc, List, None, length}
+use Rattle.std.specs.Prelude.{◌≤◌, ◌++◌, ◌∷◌, [], ⊤, ℕ, zero, suc, List, None}
 use Rattle.board_model.specs.Shapes.{Size}
 use Rattle.script_lang.specs.declared.line.Line.{Line}
 use Rattle.report_lines.specs.declared.printed.Answer.{Answer}

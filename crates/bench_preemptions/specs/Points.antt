@@ -1,5 +1,5 @@
 -- The points of an order, at which a preemption may part it. Source: docs/SCRIPT.md, "Preemptions".
-use Rattle.std.specs.Prelude.{◌≡◌, ◌+◌, ◌-◌, ◌<◌, ◌==◌, ◌∷◌, [], ℕ, zero, suc, List, drop, map, slice_index_or, nat_lt, if◌then◌else◌}
+use Rattle.std.specs.Prelude.{◌+◌, ◌-◌, ◌<◌, ◌==◌, ◌∷◌, [], ℕ, zero, suc, List, drop, map, slice_index_or, nat_lt, if◌then◌else◌}
 use Rattle.script_lang.specs.declared.line.Line.{Line}
 use Rattle.script_lang.specs.declared.line.Line.TheVariants as lines
 use Rattle.bench_orders.specs.Preempted.{others_first, parted}

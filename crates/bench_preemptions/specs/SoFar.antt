@@ -1,6 +1,5 @@
 -- The bench under way: which orders were run.
 use Rattle.std.specs.Prelude.{◌≡◌, ◌≤◌, ◌<◌, ◌+◌, ◌++◌, ◌∷◌, [], ℕ, Bool, List, Option, All, length}
-use Rattle.board_model.specs.Shapes.{Size}
 use Rattle.script_lang.specs.Lines.{IsLineInRange}
 use Rattle.script_lang.specs.declared.line.Line.{Line}
 use Rattle.bench_orders.specs.Orders.{other_count}

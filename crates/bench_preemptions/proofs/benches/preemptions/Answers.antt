@@ -1,4 +1,4 @@
-use Rattle.std.proofs.Common.{ℕ, List, IfOk, ◌∙◌, ◌≡◌, Ok, subst}
+use Rattle.std.proofs.Common.{ℕ, List, ◌∙◌, subst}
 use Rattle.std.proofs.lemmas.Result.{IfOk-weaker}
 use Rattle.script_lang.specs.Views.{view}
 use Rattle.bench_preemptions.specs.Preemptions.{WrotePreemptions}

@@ -1,5 +1,4 @@
-use Rattle.std.proofs.Common.{List, All, IfOk, sym, subst}
-use Rattle.script_lang.specs.Lines.{IsLineInRange}
+use Rattle.std.proofs.Common.{List, IfOk, subst}
 use Rattle.script_lang.specs.declared.line.Line.{Line}
 use Rattle.bench_preemptions.specs.Preemptions.{WrotePreemptions}
 use Rattle.bench_preemptions.proofs.benches.try_script.Goals as goal

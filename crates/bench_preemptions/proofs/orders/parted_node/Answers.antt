@@ -1,4 +1,4 @@
-use Rattle.std.proofs.Common.{◌≡◌, ◌∙◌, ◌∷◌, ◌++◌, [], List, ap, length, sym, subst, arith, ◌<◌}
+use Rattle.std.proofs.Common.{◌∙◌, ◌∷◌, ◌++◌, [], List, ap, length, sym, subst, arith, ◌<◌}
 use Rattle.script_lang.specs.declared.line.Line.{Line}
 use Rattle.bench_preemptions.specs.Points.{order_by}
 use Rattle.bench_preemptions.specs.Preemptions.{basis}

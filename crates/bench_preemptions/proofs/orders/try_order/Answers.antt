@@ -1,4 +1,3 @@
-use Rattle.std.proofs.lemmas.Result.{IfOk-weaker}
 use Rattle.bench_preemptions.specs.Preemptions.{basis}
 use Rattle.bench_preemptions.proofs.Ran.{one_counted}
 use Rattle.bench_preemptions.proofs.orders.try_order.Goals as goal

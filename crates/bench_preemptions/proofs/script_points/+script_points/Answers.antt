@@ -1,4 +1,4 @@
-use Rattle.std.proofs.Common.{◌<◌, ◌≤◌, length, rules, arith}
+use Rattle.std.proofs.Common.{◌<◌, length, rules, arith}
 use Rattle.std.proofs.lemmas.Bool.Decides.{nat_tests}
 use Rattle.bench_preemptions.proofs.Made.{first_place}
 use Rattle.bench_preemptions.proofs.script_points.+script_points.Goals as goal
