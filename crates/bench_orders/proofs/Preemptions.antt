@@ -8,7 +8,7 @@ use Rattle.script_lang.specs.Lines.{FitsLine, IsLineInRange}
 use Rattle.script_lang.specs.declared.line.Line.{Line}
 use Rattle.script_lang.specs.declared.line.Line.TheVariants as lines
 use Rattle.bench_orders.specs.Orders.{more_turns, seen_by, IsOrderFor}
-use Rattle.bench_orders.specs.Preempted.{is_of_another, kept_turns, part_row, parted, put_off}
+use Rattle.bench_orders.specs.Preempted.{is_of_another, kept_turns, others_first, part_row, parted, put_off}
 use Rattle.bench_orders.proofs.SeenRows.{more_twice, no_more}
 
 -- ---- turns that are put off
@@ -52,6 +52,55 @@ pub others_all : (h n : ℕ) (ls : List Line) (i : ℕ) → length ls ≤ i
 others_all h n ls i past so_far =
     let none = nothing_left ls i past in
     so_far ∙ ap (λ d. take i ls ++ put_off h n d) none ∙ ap (λ d. take i ls ++ lines.Turn h n ∷ d) (sym none)
+
+first_next : (h : ℕ) (line : Line) (more : List Line) → is_of_another h line ≡ true → others_first h (line ∷ more) ≡ others_first h more + 1
+first_next h line more other = rw other (let e : suc (others_first h more) ≡ others_first h more + 1 = omega arith in e)
+
+first_here : (h : ℕ) (line : Line) (more : List Line) → is_of_another h line ≡ false → others_first h (line ∷ more) ≡ 0
+first_here h line more own = rw own refl
+
+pub first_more : (h : ℕ) (ls : List Line) (i : ℕ) (line : Line) → i < length ls → line ≡ get_or ls i line → is_of_another h line ≡ true
+    → others_first h ls ≡ i + others_first h (drop i ls) → others_first h ls ≡ (i + 1) + others_first h (drop (i + 1) ls)
+first_more h ls i line less is other so_far =
+    let here = ap (others_first h) (here_is ls i line less is) ∙ first_next h line (drop (i + 1) ls) other in
+    omega (arith, so_far, here)
+
+pub first_end : (h : ℕ) (ls : List Line) (i : ℕ) (line : Line) → i < length ls → line ≡ get_or ls i line → is_of_another h line ≡ false
+    → others_first h ls ≡ i + others_first h (drop i ls) → i ≡ others_first h ls
+first_end h ls i line less is own so_far =
+    let here = ap (others_first h) (here_is ls i line less is) ∙ first_here h line (drop (i + 1) ls) own in
+    omega (arith, so_far, here)
+
+pub first_all : (h : ℕ) (ls : List Line) (i : ℕ) → length ls ≤ i → others_first h ls ≡ i + others_first h (drop i ls) → i ≡ others_first h ls
+first_all h ls i past so_far =
+    let none : others_first h (drop i ls) ≡ 0 = ap (others_first h) (nothing_left ls i past) in
+    omega (arith, so_far, none)
+
+-- ---- how many lines there are
+put_length : (h n : ℕ) (ls : List Line) → length (put_off h n ls) ≡ length ls + 1
+put_length h n [] = refl
+put_length h n (line ∷ more) = by_case (is_of_another h line) (put_length h n more)
+  where
+    by_case : (b : Bool) → length (put_off h n more) ≡ length more + 1 → length (if b then (line ∷ put_off h n more) else (lines.Turn h n ∷ line ∷ more)) ≡ length (line ∷ more) + 1
+    by_case true later = omega (arith, later)
+    by_case false later = omega arith
+
+part_length : (p : ℕ) (line : Line) (more : List Line) → length (part_row p line more) ≤ length more + 2
+part_length p (lines.Turn h n) more = by_case (nat_lt p n)
+  where
+    kept : (b : Bool) (rest : List Line) → length ((if b then (lines.Turn h p ∷ []) else []) ++ rest) ≤ length rest + 1
+    kept true rest = omega arith
+    kept false rest = omega arith
+
+    by_case : (b : Bool) → length (if b then (kept_turns h p ++ put_off h (n - p) more) else (lines.Turn h n ∷ more)) ≤ length more + 2
+    by_case true = omega (arith, kept (nat_lt 0 p) (put_off h (n - p) more), put_length h (n - p) more)
+    by_case false = omega arith
+part_length p line more = omega arith
+
+pub parted_length : (i p : ℕ) (ls : List Line) → length (parted i p ls) ≤ length ls + 1
+parted_length i p [] = omega arith
+parted_length zero p (line ∷ more) = omega (arith, part_length p line more)
+parted_length (suc i) p (line ∷ more) = omega (arith, parted_length i p more)
 
 -- ---- a row that is parted
 pub parted_at : (i p : ℕ) (ls : List Line) (line : Line) → i < length ls → line ≡ get_or ls i line → parted i p ls ≡ take i ls ++ part_row p line (drop (i + 1) ls)

@@ -8,6 +8,11 @@ abbrev pub is_of_another : ℕ → Line → Bool
 is_of_another h (lines.Turn by n) = not (by == h)
 is_of_another h line = false
 
+-- how many rows of other harts begin these lines
+abbrev pub others_first : ℕ → List Line → ℕ
+others_first h [] = 0
+others_first h (line ∷ more) = if is_of_another h line then suc (others_first h more) else 0
+
 -- n turns of hart h, put in behind the rows of other harts that begin these lines: just before the hart's next row of the
 -- stretch, or at the stretch's end
 abbrev pub put_off : ℕ → ℕ → List Line → List Line

@@ -10,8 +10,11 @@ mod quotas;
 mod rows;
 mod schedules;
 
-pub use laws::{orders_keep_lines, preemptions_are_orders, rows_may_change};
-pub use preempted::parted;
+pub use copies::copied_row;
+pub use laws::{
+    orders_keep_lines, preemptions_add_one_line, preemptions_are_orders, rows_may_change,
+};
+pub use preempted::{others_length, parted};
 pub use quotas::{Front, harts, total};
 pub use rows::is_turn;
 pub use schedules::{generator, schedule};

@@ -2,7 +2,7 @@
 
 ghost use Rattle.std.specs.Prelude.{◌≡◌, ◌+◌, ◌≤◌, ◌<◌, ◌++◌, ◌∷◌, ℕ, length, take, drop, IfOk, OnOk};
 ghost use Rattle.script_lang.specs.declared.line.Line.TheVariants as variants;
-ghost use Rattle.bench_orders.specs.Preempted.{is_of_another, kept_turns, parted, put_off};
+ghost use Rattle.bench_orders.specs.Preempted.{is_of_another, kept_turns, others_first, parted, put_off};
 
 use crate::copies::copied_row;
 use board_model::HartId;
@@ -20,8 +20,9 @@ fn is_of_another(line: &Line, hart: HartId) -> bool
 }
 
 /// How many first lines make turns of other harts.
-fn others_length(lines: &[Line], hart: HartId) -> usize
+pub fn others_length(lines: &[Line], hart: HartId) -> usize
     ensures few { result ≤ length lines.now }
+    ensures count { result ≡ others_first hart lines.now }
     ensures put { (n : ℕ) → put_off hart n lines.now ≡ take result lines.now ++ variants.Turn hart n ∷ drop result lines.now }
 {
     let mut count = 0;

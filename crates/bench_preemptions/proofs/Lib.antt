@@ -1,2 +1,5 @@
 pub mod Steps
-pub mod Orders
+pub mod Numbers
+pub mod Rows
+pub mod Ran
+pub mod Made

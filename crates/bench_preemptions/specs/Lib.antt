@@ -1,3 +1,5 @@
 pub mod Stepped
+pub mod Points
+pub mod Orders
 pub mod Preemptions
 pub mod SoFar

@@ -1,114 +1,111 @@
--- All orders of a script with few preemptions. Source: docs/SCRIPT.md, "Preemptions".
-use Rattle.std.specs.Prelude.{◌≡◌, ◌⊎◌, ◌+◌, ◌<◌, ◌≤◌, ◌++◌, ◌∷◌, [], ℕ, zero, suc, Bool, false, List, Option, None, Some, All, length, map, slice_index_or, nat_lt, if◌then◌else◌}
+-- What the bench of preemptions runs and writes. Source: docs/SCRIPT.md, "Preemptions".
+use Rattle.std.specs.Prelude.{◌≡◌, ◌⊎◌, ◌+◌, ◌≤◌, ◌++◌, ◌∷◌, [], ℕ, Bool, false, List, Option, None, Some, All, length, map, slice_index_or}
 use Rattle.std.specs.Fmt.{decimal}
+use Rattle.std.specs.List.{flat_map}
 use Rattle.std.specs.Io.KnownBytes.{Appends}
 use Rattle.board_model.specs.Shapes.{Size}
 use Rattle.script_lang.specs.Scripts.{Script}
 use Rattle.script_lang.specs.declared.line.Line.{Line}
-use Rattle.bench_orders.specs.Preempted.{parted}
 use Rattle.report_lines.specs.declared.printed.Answer.{Answer}
 use Rattle.bench_schedules.specs.Numbers.{place_of_other}
 use Rattle.bench_schedules.specs.Schedules.{RanLike, RanOwn, differing}
 use Rattle.bench_schedules.specs.Told.{IsFirstApart, told_lines}
 use Rattle.bench_schedules.specs.declared.runs.Difference.{Difference}
-use Rattle.bench_preemptions.specs.Stepped.{RanByTurns}
+use Rattle.bench_preemptions.specs.Orders.{AllAlike, ArePreemptions, OfAll, order_of}
+use Rattle.bench_preemptions.specs.Points.{script_points}
+use Rattle.bench_preemptions.specs.declared.points.Preemption.{Preemption}
 use lib.Chars.{codes}
 
--- A preemption: the row at this place of an order is parted behind so many of its turns.
-pub record Preemption : Type 0 where
-  pub place : ℕ
-  pub turns : ℕ
+-- What the orders of a script are compared with: the script's lines, run on a board of this size with these payloads in the slots, and
+-- what they answered that are no turns. Its lines have these numbers, the board line's first. An order has so many preemptions at most.
+pub record Basis : Type 0 where
+  pub size : Size
+  pub start : List (List ℕ)
+  pub those : List Line
+  pub own : List Answer
+  pub numbers : List ℕ
+  pub most : ℕ
 
--- the turn before which it parts the row did something, where of each line so many first turns did
-abbrev pub IsBusyAt : List ℕ → Preemption → Type 0
-IsBusyAt counts one = one.turns < slice_index_or counts one.place 0
+abbrev pub basis : Size → List (List ℕ) → List Line → List Answer → List ℕ → ℕ → Basis
+basis size start those own numbers most = record { size = size; start = start; those = those; own = own; numbers = numbers; most = most }
 
--- the order that it makes of an order
-abbrev pub order_by : Preemption → List Line → List Line
-order_by one order = parted one.place one.turns order
-
--- the place behind the turns that stay
-abbrev pub behind : Preemption → ℕ
-behind one = one.place + (if nat_lt 0 one.turns then 1 else 0)
-
--- The order answers as the script's own run does, and so does each that up to k preemptions make of it: each before a turn that did
--- something in a run of the order that is parted, at this place or behind it, and behind the preemption before it.
-abbrev pub AllAlike : Size → List (List ℕ) → List Answer → ℕ → ℕ → List Line → Type 0
-AllAlike size start own zero from order = RanLike size start order own None
-AllAlike size start own (suc k) from order =
-    RanLike size start order own None
-    × ((counts : List ℕ) × RanByTurns size start order counts
-    × ((one : Preemption) → from ≤ one.place → IsBusyAt counts one → AllAlike size start own k (behind one) (order_by one order)))
-
--- ---- what is written
--- an order with one preemption that was run, and where it answered other than the script's own run
+-- an order that was run, by its preemptions, and where it answered other than the script's own run
 pub record OrderRun : Type 0 where
-  pub one : Preemption
+  pub ones : List Preemption
   pub differs : Option Difference
 
--- the preemption is one of the script's, and its order answered so
-pub record Tried (size : Size) (start : List (List ℕ)) (those : List Line) (counts : List ℕ) (own : List Answer) (run : OrderRun) : Type 0 where
-  pub busy : IsBusyAt counts run.one
-  pub ran : RanLike size start (order_by run.one those) own run.differs
+-- The order has as many preemptions as it may, and at least one, and answered so.
+pub record Tried (b : Basis) (run : OrderRun) : Type 0 where
+  pub some : 1 ≤ length run.ones
+  pub few : length run.ones ≤ b.most
+  pub made : ArePreemptions b.size b.start 0 b.those run.ones
+  pub ran : RanLike b.size b.start (order_of b.those run.ones) b.own run.differs
 
--- the line of an order: where its row was parted, and the first line in which it differs, with what both runs told there
-abbrev pub differs_text : ℕ → ℕ → ℕ → List ℕ → List ℕ → List ℕ
-differs_text line turns number said own =
-    codes "preempted line " ++ (decimal line ++ (codes " turn " ++ (decimal turns ++ (codes " line " ++ (decimal number
-    ++ (codes " " ++ (said ++ (codes " own " ++ (own ++ 10 ∷ [])))))))))
+-- a point of the script: the number of the line, and how many of its turns stand before it
+abbrev pub point_text : List ℕ → Preemption → List ℕ
+point_text numbers point =
+    codes " line " ++ (decimal (slice_index_or numbers (1 + point.place) 0) ++ (codes " turn " ++ decimal point.turns))
 
--- What is written of it, where the script's lines have these numbers, the board line's first: where the row was parted, and the first
--- line in which what is told of both runs differs, as the order's run has it and as the script's own run has it, which is another text.
-abbrev pub OrderText : List ℕ → List Line → Preemption → Option Difference → List ℕ → Type 0
-OrderText numbers those one None text = text ≡ []
-OrderText numbers those one (Some d) text =
+abbrev pub points_text : List ℕ → List Preemption → List ℕ
+points_text numbers points = flat_map (point_text numbers) points
+
+-- how the line of an order ends: the first line in which it differs, with what both runs told there
+abbrev pub apart_text : ℕ → List ℕ → List ℕ → List ℕ
+apart_text number said own =
+    codes " line " ++ (decimal number ++ (codes " " ++ (said ++ (codes " own " ++ (own ++ 10 ∷ [])))))
+
+-- the line of an order: where it was parted, and where it differs
+abbrev pub differs_text : List ℕ → ℕ → List ℕ → List ℕ → List ℕ
+differs_text points number said own = codes "preempted" ++ (points ++ apart_text number said own)
+
+-- What is written of it: the turns of the script before which it was parted, and the first line in which what is told of both runs
+-- differs, as the order's run has it and as the script's own run has it, which is another text.
+abbrev pub OrderText : Basis → List Preemption → Option Difference → List ℕ → Type 0
+OrderText b ones None text = text ≡ []
+OrderText b ones (Some d) text =
     (own said : List ℕ) × IsFirstApart (told_lines d.own) (told_lines d.answer) own said
-    × (text ≡ differs_text (slice_index_or numbers (1 + one.place) 0) one.turns (slice_index_or numbers (1 + place_of_other d.place those) 0) said own)
+    × (text ≡ differs_text (points_text b.numbers (script_points b.those ones))
+    (slice_index_or b.numbers (1 + place_of_other d.place b.those) 0) said own)
 
-abbrev pub OrdersText : List ℕ → List Line → List OrderRun → List ℕ → Type 0
-OrdersText numbers those [] text = text ≡ []
-OrdersText numbers those (run ∷ runs) text =
-    (first rest : List ℕ) × OrderText numbers those run.one run.differs first × OrdersText numbers those runs rest × (text ≡ first ++ rest)
+abbrev pub OrdersText : Basis → List OrderRun → List ℕ → Type 0
+OrdersText b [] text = text ≡ []
+OrdersText b (run ∷ runs) text =
+    (first rest : List ℕ) × OrderText b run.ones run.differs first × OrdersText b runs rest × (text ≡ first ++ rest)
 
 abbrev pub count_text : ℕ → ℕ → ℕ → List ℕ
 count_text most orders differ =
     codes "preemptions " ++ (decimal most ++ (codes " orders " ++ (decimal orders ++ (codes " differ " ++ (decimal differ ++ 10 ∷ [])))))
 
--- the order of this preemption was run
-abbrev pub WasRun : Preemption → List OrderRun → Type 0
-WasRun one [] = ⊥
-WasRun one (run ∷ runs) = (run.one ≡ one) ⊎ WasRun one runs
+-- the order of these preemptions was run
+abbrev pub WasRun : List OrderRun → List Preemption → Type 0
+WasRun [] ones = ⊥
+WasRun (run ∷ runs) ones = (run.ones ≡ ones) ⊎ WasRun runs ones
 
 abbrev pub differences_of : List OrderRun → List (Option Difference)
 differences_of runs = map (λ run. run.differs) runs
 
--- These orders were run, each was compared with the script's own run and counted, and this was written of them.
-pub record WroteOrders (size : Size) (start : List (List ℕ)) (those : List Line) (counts : List ℕ) (own : List Answer) (numbers : List ℕ)
-    (runs : List OrderRun) (old new : Option (List ℕ)) (orders differ : ℕ) : Type 0 where
-  pub each : All (Tried size start those counts own) runs
-  pub count : orders ≡ length runs
-  pub others : differ ≡ differing (differences_of runs)
+-- These orders were run, each was compared with the script's own run, and this was written of them.
+pub record WroteOrders (b : Basis) (runs : List OrderRun) (old new : Option (List ℕ)) : Type 0 where
+  pub each : All (Tried b) runs
   pub text : List ℕ
-  pub tells : OrdersText numbers those runs text
+  pub tells : OrdersText b runs text
   pub written : Appends old new text
 
--- Where the first order that differs is not the last, or where none does, these are all orders with one preemption.
-abbrev pub AreAll : Bool → ℕ → List ℕ → List OrderRun → Type 0
-AreAll first differ counts runs =
-    ((first ≡ false) ⊎ (differ ≡ 0)) → (one : Preemption) → IsBusyAt counts one → WasRun one runs
+-- the first order that differs is not the last, or none does
+abbrev pub IsWhole : Bool → ℕ → Type 0
+IsWhole first differ = (first ≡ false) ⊎ (differ ≡ 0)
 
--- The script was run, once more with its turns one by one, and then all orders of it with one preemption, or as many as there are up to
--- the first that differs. Those that answered otherwise were written. Where none did, each order of the script with at most one
--- preemption answers as the script does.
-pub record WrotePreemptions (said : Script) (start : List (List ℕ)) (numbers : List ℕ) (first : Bool) (old new : Option (List ℕ))
+-- The script was run, and then all orders of it with at most so many preemptions, or as many as there are up to the first that differs.
+-- Those that answered otherwise were written. Where none did, each of these orders answers as the script does.
+pub record WrotePreemptions (said : Script) (start : List (List ℕ)) (numbers : List ℕ) (most : ℕ) (first : Bool) (old new : Option (List ℕ))
     (orders differ : ℕ) : Type 0 where
   pub own : List Answer
   pub ran : RanOwn said.size start said.lines own
-  pub counts : List ℕ
-  pub asked : RanByTurns said.size start said.lines counts
   pub runs : List OrderRun
   pub last : Option (List ℕ)
-  pub wrote : WroteOrders said.size start said.lines counts own numbers runs old last orders differ
-  pub all : AreAll first differ counts runs
-  pub alike : differ ≡ 0 → AllAlike said.size start own 1 0 said.lines
-  pub ended : Appends last new (count_text 1 orders differ)
+  pub wrote : WroteOrders (basis said.size start said.lines own numbers most) runs old last
+  pub count : orders ≡ length runs
+  pub others : differ ≡ differing (differences_of runs)
+  pub all : IsWhole first differ → (k : ℕ) → 1 ≤ k → k ≤ most → OfAll (WasRun runs) said.size start said.lines k []
+  pub alike : differ ≡ 0 → (k : ℕ) → k ≤ most → AllAlike said.size start own said.lines k
+  pub ended : Appends last new (count_text most orders differ)

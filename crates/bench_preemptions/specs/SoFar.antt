@@ -1,32 +1,47 @@
 -- The bench under way: which orders were run.
-use Rattle.std.specs.Prelude.{◌≡◌, ◌⊎◌, ◌<◌, ◌+◌, ◌∷◌, [], ℕ, Bool, false, List, Option}
-use Rattle.board_model.specs.Shapes.{Size}
+use Rattle.std.specs.Prelude.{◌≡◌, ◌≤◌, ◌<◌, ◌+◌, ◌++◌, ◌∷◌, [], ℕ, Bool, List, Option, All, length}
+use Rattle.script_lang.specs.Lines.{IsLineInRange}
 use Rattle.script_lang.specs.declared.line.Line.{Line}
-use Rattle.report_lines.specs.declared.printed.Answer.{Answer}
-use Rattle.std.specs.Io.KnownBytes.{Appends}
-use Rattle.bench_schedules.specs.Schedules.{RanLike, differing}
-use Rattle.bench_schedules.specs.declared.runs.Difference.{Difference}
-use Rattle.bench_preemptions.specs.Preemptions.{IsBusyAt, OrderRun, OrderText, Preemption, WasRun, WroteOrders, order_by}
+use Rattle.bench_orders.specs.Orders.{other_count}
+use Rattle.bench_schedules.specs.Schedules.{differing}
+use Rattle.bench_preemptions.specs.Orders.{ArePreemptions, OfAll, order_of, place_behind}
+use Rattle.bench_preemptions.specs.Points.{IsBusyAt, number_in}
+use Rattle.bench_preemptions.specs.Preemptions.{Basis, IsWhole, OrderRun, WasRun, WroteOrders, differences_of}
+use Rattle.bench_preemptions.specs.declared.points.Preemption.{Preemption}
 
--- it parts a row before this place, or the row at this place before this turn
-abbrev pub IsBefore : ℕ → ℕ → Preemption → Type 0
-IsBefore place turns one = (one.place < place) ⊎ ((one.place ≡ place) × (one.turns < turns))
+-- These lines are the order that these preemptions make, and the next one stands at this place or behind it.
+pub record IsMade (b : Basis) (order : List Line) (ones : List Preemption) (from : ℕ) : Type 0 where
+  pub lines : order ≡ order_of b.those ones
+  pub place : from ≡ place_behind 0 ones
+  pub made : ArePreemptions b.size b.start 0 b.those ones
+  pub ranges : All (IsLineInRange b.size) order
+  pub count : other_count order ≡ other_count b.those
+  pub few : length order ≤ length b.those + length ones
+  pub near : from ≤ length b.those + length ones
 
--- Of the orders with one preemption those before this place and turn were run, and this was written of them; or fewer, where the first
--- that differs is the last.
-pub record SoFar (size : Size) (start : List (List ℕ)) (those : List Line) (counts : List ℕ) (own : List Answer) (numbers : List ℕ) (first : Bool)
-    (place turns : ℕ) (old new : Option (List ℕ)) (orders differ : ℕ) : Type 0 where
+-- these orders were run beside those that were counted, written and counted too
+pub record RanMore (b : Basis) (runs : List OrderRun) (old new : Option (List ℕ)) (orders differ more_orders more_differ : ℕ) : Type 0 where
+  pub wrote : WroteOrders b runs old new
+  pub counted : more_orders ≡ orders + length runs
+  pub others : more_differ ≡ differ + differing (differences_of runs)
+
+-- all orders with k preemptions more than these were run; or fewer, where the first that differs is the last
+pub record RanAll (b : Basis) (first : Bool) (k : ℕ) (ones : List Preemption) (old new : Option (List ℕ))
+    (orders differ more_orders more_differ : ℕ) : Type 0 where
   pub runs : List OrderRun
-  pub wrote : WroteOrders size start those counts own numbers runs old new orders differ
-  pub all : ((first ≡ false) ⊎ (differ ≡ 0)) → (one : Preemption) → IsBusyAt counts one → IsBefore place turns one → WasRun one runs
+  pub ran : RanMore b runs old new orders differ more_orders more_differ
+  pub all : IsWhole first more_differ → OfAll (WasRun runs) b.size b.start b.those k ones
 
--- the order of a preemption was run, written where it differs, and counted
-pub record TriedOne (size : Size) (start : List (List ℕ)) (those : List Line) (own : List Answer) (numbers : List ℕ) (one : Preemption)
-    (old new : Option (List ℕ)) (orders differ more_orders more_differ : ℕ) : Type 0 where
-  pub differs : Option Difference
-  pub ran : RanLike size start (order_by one those) own differs
-  pub text : List ℕ
-  pub tells : OrderText numbers those one differs text
-  pub written : Appends old new text
-  pub counted : more_orders ≡ orders + 1
-  pub others : more_differ ≡ differ + differing (differs ∷ [])
+-- Of those whose next preemption stands at a point of the order, as many first points were taken.
+pub record RanPoints (b : Basis) (first : Bool) (k : ℕ) (ones : List Preemption) (counts : List ℕ) (number : ℕ) (old new : Option (List ℕ))
+    (orders differ more_orders more_differ : ℕ) : Type 0 where
+  pub runs : List OrderRun
+  pub ran : RanMore b runs old new orders differ more_orders more_differ
+  pub all : IsWhole first more_differ → (one : Preemption) → place_behind 0 ones ≤ one.place → IsBusyAt counts one
+      → number_in counts one.place one.turns < number → OfAll (WasRun runs) b.size b.start b.those k (ones ++ one ∷ [])
+
+-- all orders with fewer than k preemptions more than none were run, and at least one
+pub record RanDepths (b : Basis) (first : Bool) (most : ℕ) (old new : Option (List ℕ)) (more_orders more_differ : ℕ) : Type 0 where
+  pub runs : List OrderRun
+  pub ran : RanMore b runs old new 0 0 more_orders more_differ
+  pub all : IsWhole first more_differ → (k : ℕ) → 1 ≤ k → k ≤ most → OfAll (WasRun runs) b.size b.start b.those k []

@@ -1,9 +1,14 @@
-//! The bench of preemptions (docs/SCRIPT.md, "Preemptions"): runs every order of a script in which one row of turns is parted, and
+//! The bench of preemptions (docs/SCRIPT.md, "Preemptions"): runs every order of a script in which few rows of turns are parted, and
 //! tells where a run answers other than the script's own.
 #![tactic(auto)]
 
 mod benches;
 mod counts;
+mod orders;
+mod points;
+mod script_points;
 mod written;
 
-pub use benches::{Preempted, preemptions};
+pub use benches::{Within, preemptions};
+pub use orders::Preempted;
+pub use points::Preemption;

@@ -129,13 +129,13 @@ work_without f sweep faults =
     work_named sweep faults (first_value f (codes "schedules")) (first_value f (codes "seed")) (first_value f (codes "show"))
     (savers_of (first_value f (codes "crew")))
 
--- what is to be done with orders that have few preemptions, by the word of `--preemptions` and by `--first`: so many is 1
+-- what is to be done with orders that have few preemptions, by the word of `--preemptions` and by `--first`
 abbrev pub preemptions_by : Option ℕ → Bool → Option Work
 preemptions_by None first = None
-preemptions_by (Some k) first = Some (Preempt first)
+preemptions_by (Some k) first = Some (Preempt (record { most = k; first = first }))
 
 abbrev pub preemptions_named : List ℕ → Bool → Option Work
-preemptions_named word first = preemptions_by (number_up_to 1 (number_of word)) first
+preemptions_named word first = preemptions_by (number_up_to 3 (number_of word)) first
 
 -- no option of schedules stands beside it
 abbrev pub without_options : Option (List ℕ) → Option (List ℕ) → Option (List ℕ) → Option Work → Option Work
@@ -153,9 +153,10 @@ work_by (Some word) f sweep faults first =
 abbrev pub work_asked : Found → Bool → Bool → Bool → Option Work
 work_asked f sweep faults first = work_by (first_value f (codes "preemptions")) f sweep faults first
 
--- the bench of schedules runs at most so many
+-- the bench of schedules runs at most so many, and an order has at most so many preemptions
 abbrev pub IsBounded : Work → Type 0
 IsBounded (Compare drawn) = drawn.number ≤ 1000000
+IsBounded (Preempt within) = within.most ≤ 3
 IsBounded work = ⊤
 
 -- what the words of a command line name, as the command's parser reads them: one work

@@ -11,6 +11,7 @@ use Rattle.bench_report.specs.Reports.{AreByFirmware, IsReportWith}
 use Rattle.report_lines.specs.declared.printed.Answer.{Answer}
 use Rattle.bench_sweep.specs.Swept.{IsBenchOf, NoBenchRuns}
 use Rattle.bench_preemptions.specs.Preemptions.{WrotePreemptions}
+use Rattle.bench_preemptions.specs.declared.benches.Within.{Within}
 use Rattle.bench_schedules.specs.Numbers.{number_of_other, numbers_of}
 use Rattle.bench_schedules.specs.Schedules.{Shown, WroteSchedules}
 use Rattle.bench_judge.specs.declared.judges.Sweep.{Sweep as Counts}
@@ -36,28 +37,28 @@ abbrev pub IsCompared : ℕ → List (List ℕ) → List ℕ → Option (List �
 IsCompared n payloads script old now differ = (said : Said) × (script_of script ≡ Ok said)
     × WroteSchedules said payloads (number_of_other script said.lines) n old now differ
 
--- the script that begins with these payloads was run, and its orders with one preemption; so many differ
-abbrev pub IsPreempted : Bool → List (List ℕ) → List ℕ → Option (List ℕ) → Option (List ℕ) → ℕ → Type 0
-IsPreempted first payloads script old now differ = (said : Said) × (script_of script ≡ Ok said) × (orders : ℕ)
-    × WrotePreemptions said payloads (numbers_of script) first old now orders differ
+-- the script that begins with these payloads was run, and its orders with so many preemptions at most; so many differ
+abbrev pub IsPreempted : Within → List (List ℕ) → List ℕ → Option (List ℕ) → Option (List ℕ) → ℕ → Type 0
+IsPreempted within payloads script old now differ = (said : Said) × (script_of script ≡ Ok said) × (orders : ℕ)
+    × WrotePreemptions said payloads (numbers_of script) within.most within.first old now orders differ
 
 -- one schedule of the script was written
 abbrev pub IsShown : List ℕ → Option (List ℕ) → Option (List ℕ) → Type 0
 IsShown script old now = (said : Said) × (script_of script ≡ Ok said) × Shown said old now
 
 -- what was written is what the work makes of the script: its report, the lines of a bench, of which none is wrong, or of its
--- schedules, of which none differs, or one of them, or of its orders with one preemption, of which none differs
+-- schedules, of which none differs, or one of them, or of its orders with few preemptions, of which none differs
 abbrev pub IsWritten : Work → List (List ℕ) → List ℕ → Option (List ℕ) → Option (List ℕ) → Type 0
 IsWritten (Report savers) payloads script old now = IsReported payloads script old now
 IsWritten (Judge bench) payloads script old now = (counts : Counts) × IsBenchOf (judged bench) payloads script old now counts
 IsWritten (Compare drawn) payloads script old now = IsCompared drawn.number payloads script old now 0
 IsWritten (Show drawn) payloads script old now = IsShown script old now
-IsWritten (Preempt first) payloads script old now = IsPreempted first payloads script old now 0
+IsWritten (Preempt within) payloads script old now = IsPreempted within payloads script old now 0
 
 -- what was written is what the work makes of the script, and tells that something is wrong: some schedules or orders differ
 abbrev pub TellsWrong : Work → List (List ℕ) → List ℕ → Option (List ℕ) → Option (List ℕ) → Type 0
 TellsWrong (Compare drawn) payloads script old now = (differ : ℕ) × (0 < differ) × IsCompared drawn.number payloads script old now differ
-TellsWrong (Preempt first) payloads script old now = (differ : ℕ) × (0 < differ) × IsPreempted first payloads script old now differ
+TellsWrong (Preempt within) payloads script old now = (differ : ℕ) × (0 < differ) × IsPreempted within payloads script old now differ
 TellsWrong work payloads script old now = ⊥
 
 -- what is read of an input of these bytes: all of them, but for what is more than any script has
@@ -100,12 +101,12 @@ IsNotTaken (Report savers) script e = ⊥
 IsNotTaken (Judge bench) script e = (e ≡ NotPlain) × NoBenchRuns script
 IsNotTaken (Compare drawn) script e = ⊥
 IsNotTaken (Show drawn) script e = ⊥
-IsNotTaken (Preempt first) script e = ⊥
+IsNotTaken (Preempt within) script e = ⊥
 
 -- a work may tell that something is wrong: the benches of power cuts and failures never do
 abbrev pub MayTellWrong : Work → Type 0
 MayTellWrong (Compare drawn) = ⊤
-MayTellWrong (Preempt first) = ⊤
+MayTellWrong (Preempt within) = ⊤
 MayTellWrong work = ⊥
 
 -- a fault of a work over that script: memory was refused, the output failed or nobody reads it, the script has it, or no

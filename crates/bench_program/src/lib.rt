@@ -24,7 +24,7 @@ pub use crate::streams::run_on;
 use crate::streams::{end, without_work};
 use crate::usage::USAGE;
 pub use crate::usage::{Bench, Drawn, Options, Savers, Work, options_of};
-use bench_preemptions::{Preempted, preemptions};
+use bench_preemptions::{Preempted, Within, preemptions};
 use bench_report::run_with;
 use bench_schedules::{Compared, schedules, show};
 use bench_sweep::{Bench as Swept, Sweep, run_bench};
@@ -216,18 +216,19 @@ pub fn write_schedule<R: Threads + Sync, W: Write + Drop>(
     }
 }
 
-/// Runs all orders of the script with one preemption, with these payloads in the slots, and writes which differ, to the end.
+/// Runs all orders of the script with few preemptions, with these payloads in the slots, and writes which differ, to the end.
 ///
 /// Refused as `bench_preemptions::preemptions` is, and `Output` also where what the writer held back could not be written.
 pub fn write_preemptions<R: Threads + Sync, W: Write + Drop>(
     alloc: Global,
     script: &[u8],
-    first: bool,
+    within: Within,
     payloads: &Payloads,
     out: &mut BufWriter<W>,
 ) -> Result<Preempted, Refusal>
-    // The script was run, and its orders with one preemption. Where none differs, each of them answers as the script does.
-    ensures wrote { IfOk result (λ count. IsPreempted first payloads.now script.now
+    requires most { within.most ≤ 3 }
+    // The script was run, and its orders with few preemptions. Where none differs, each of them answers as the script does.
+    ensures wrote { IfOk result (λ count. IsPreempted within payloads.now script.now
         (writer_contents W.contents out.old) (writer_contents W.contents out.new) count.differ) }
     // Nothing of it is held back.
     ensures flushed { OnOk result (writer_buffer out.new ≡ []) }
@@ -238,7 +239,7 @@ pub fn write_preemptions<R: Threads + Sync, W: Write + Drop>(
         → (writer_contents W.contents out.new ≡ writer_contents W.contents out.old)
         × ((result ≡ Err e) ⊎ (result ≡ Err Refusal.Memory)) }
 {
-    let count = preemptions::<R, BufWriter<W>>(alloc, script, payloads, first, out)?;
+    let count = preemptions::<R, BufWriter<W>>(alloc, script, payloads, within, out)?;
     match out.flush() {
         Ok(()) => Ok(count),
         Err(_) => Err(Refusal::Output),

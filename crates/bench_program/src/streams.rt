@@ -19,6 +19,7 @@ use crate::usage::{Bench, Drawn, MOST_JOBS, Options, Savers, Work, options_of};
 use crate::{
     read_script, write_bench, write_preemptions, write_report, write_schedule, write_schedules,
 };
+use bench_preemptions::Within;
 use board::Payloads;
 use board_model::Refusal;
 use command_line::{FileFault, NoWork, Pipe, ProgramFault, explain_fault, show_on, tell_fault};
@@ -177,23 +178,24 @@ fn show_schedule<R: Threads + Sync, O: Write + Drop>(
     }
 }
 
-/// Runs all orders of the script with one preemption, and writes which differ. Each line is handed on as it is made.
+/// Runs all orders of the script with few preemptions, and writes which differ. Each line is handed on as it is made.
 fn preempt<R: Threads + Sync, O: Write + Drop>(
     alloc: Global,
-    first: bool,
+    within: Within,
     script: &[u8],
     payloads: &Payloads,
     out: &mut BufWriter<Pipe<O>>,
 ) -> Result<(), BenchFault>
-    ensures written { OnOk result (IsWritten (Preempt first) payloads.now script.now
+    requires most { within.most ≤ 3 }
+    ensures written { OnOk result (IsWritten (Preempt within) payloads.now script.now
         (writer_contents (pipe_contents O.contents) out.old) (writer_contents (pipe_contents O.contents) out.new)) }
     ensures flushed { OnOk result (writer_buffer out.new ≡ []) }
-    ensures wrong { result ≡ Err Wrong → TellsWrong (Preempt first) payloads.now script.now
+    ensures wrong { result ≡ Err Wrong → TellsWrong (Preempt within) payloads.now script.now
         (writer_contents (pipe_contents O.contents) out.old) (writer_contents (pipe_contents O.contents) out.new) }
     ensures told { result ≡ Err Wrong → writer_buffer out.new ≡ [] }
-    ensures faults { IfErr result (λ fault. IsFaultIn (Preempt first) script.now fault) }
+    ensures faults { IfErr result (λ fault. IsFaultIn (Preempt within) script.now fault) }
 {
-    match write_preemptions::<R, Pipe<O>>(alloc, script, first, payloads, out) {
+    match write_preemptions::<R, Pipe<O>>(alloc, script, within, payloads, out) {
         Ok(count) if count.differ == 0 => Ok(()),
         Ok(_) => Err(BenchFault::Wrong),
         Err(e) => Err(fault_of(e, out)),
@@ -273,7 +275,7 @@ fn run_work<R: Threads + Sync, I: Read + Drop, O: Write + Drop>(
         }
         Work::Compare(drawn) => compare::<R, O>(alloc, drawn, &script, &payloads, out),
         Work::Show(drawn) => show_schedule::<R, O>(alloc, drawn, &script, &payloads, out),
-        Work::Preempt(first) => preempt::<R, O>(alloc, first, &script, &payloads, out),
+        Work::Preempt(within) => preempt::<R, O>(alloc, within, &script, &payloads, out),
     }
 }
 

@@ -9,6 +9,7 @@ ghost use Rattle.command_line.specs.Kinds.{no_work};
 ghost use Rattle.command_line.specs.Parses.{AreParsed};
 ghost use Rattle.bench_program.specs.Usage.{number_up_to, count_rule, crew_rule, jobs_rule, work_of_flags, schedules_named, preemptions_named, without_options, savers_of, sbibench, seed_of, IsBounded, compare_or_show, without_benches, with_preemptions, with_schedules, work_asked, work_by, work_without, IsFlag, IsNamedBy, NamesConflict, NamesNoWork};
 
+use bench_preemptions::Within;
 use board_model::refusal_lines;
 use clap::builder::ValueParser;
 use clap::error::ErrorKind;
@@ -32,8 +33,8 @@ each run a power-on that must find what the disk was told to keep.
 With --schedules the script runs N times more, each time with the turns of its
 harts in another order, and the first line that each run reports otherwise is
 told. --show writes the script of one of those orders, to be run again.
-With --preemptions it runs in every order in which one row of turns is parted
-before a turn that does something, and its rest is put off.
+With --preemptions it runs in every order in which up to K rows of turns are
+parted, each before a turn that does something, and the rest is put off.
 
 A payload too long for a line of the script comes from a file, by --p0 to --p3:
 its slot boots it until a line 'payload' says otherwise.";
@@ -108,7 +109,7 @@ const PREEMPTIONS: &str = "preemptions";
 const FIRST: &str = "first";
 
 /// The most preemptions of an order.
-const MOST_PREEMPTIONS: u64 = 1;
+const MOST_PREEMPTIONS: u64 = 3;
 
 /// The option that says how many threads make the runs of a bench.
 const JOBS: &str = "jobs";
@@ -130,9 +131,9 @@ pub enum Work {
     Compare(Drawn),
     /// One schedule, written as a script. `number` is which.
     Show(Drawn),
-    /// All orders of the script with one preemption, each compared with the script's own run; or as many as there are up to the
+    /// All orders of the script with few preemptions, each compared with the script's own run; or as many as there are up to the
     /// first that differs.
-    Preempt(bool),
+    Preempt(Within),
 }
 
 /// Schedules are drawn from a seed, and have numbers from 1 on.
@@ -210,7 +211,7 @@ fn with_preemptions<'a>(alloc: Global, command: Command<'a>) -> Result<Command<'
     ensures { IfOk result (λ c. app_of c ≡ with_preemptions (app_of command.entry)) }
 {
     let preemptions =
-        "Runs all orders with at most K preemptions, K being 1, and tells which report otherwise";
+        "Runs all orders with at most K preemptions, 1 to 3, and tells which report otherwise";
     let first = "Ends at the first order that reports otherwise";
     command
         .arg(count(alloc, PREEMPTIONS, "K", preemptions))?
@@ -335,8 +336,8 @@ fn preemptions_named(word: &str, first: bool) -> Option<Work>
     ensures value { result ≡ preemptions_named word.now first }
     ensures most { IfSome result (λ work. IsBounded work) }
 {
-    number_up_to(MOST_PREEMPTIONS, word)?;
-    Some(Work::Preempt(first))
+    let most = number_up_to(MOST_PREEMPTIONS, word)?;
+    Some(Work::Preempt(Within { most, first }))
 }
 
 /// That work, beside which no option of schedules may stand. None where one does.
@@ -431,7 +432,7 @@ fn jobs_asked(matches: &ArgMatches<'_>) -> Option<usize> {
 /// The text that says why the words name no one work.
 fn conflict(matches: &ArgMatches<'_>) -> &'static str {
     if matches.get_str(PREEMPTIONS).is_some() {
-        return "--preemptions takes 1, and goes with --first alone";
+        return "--preemptions takes 1 to 3, and goes with --first alone";
     }
     if matches.get_flag(FIRST) {
         return "--first goes with --preemptions";

@@ -1,4 +1,4 @@
-use Rattle.std.proofs.Common.{ℕ, List, IfOk, ◌∙◌, ◌≡◌, Ok, subst}
+use Rattle.std.proofs.Common.{ℕ, List, ◌∙◌, subst}
 use Rattle.std.proofs.lemmas.Result.{IfOk-weaker}
 use Rattle.script_lang.specs.Views.{view}
 use Rattle.bench_preemptions.specs.Preemptions.{WrotePreemptions}
@@ -9,6 +9,6 @@ returns-clause-wrote g c =
     let read = c.in_ok-read.read in
     IfOk-weaker c.try_script.result _ _
     (λ done wrote.
-    let P : List ℕ → Type 0 = λ ns. WrotePreemptions (view read) c.args.payloads.now ns c.args.first (g.W.Write.contents c.args.out.now) (g.W.Write.contents c.try_script.new.out) done.orders done.differ in
+    let P : List ℕ → Type 0 = λ ns. WrotePreemptions (view read) c.args.payloads.now ns c.args.within.most c.args.within.first (g.W.Write.contents c.args.out.now) (g.W.Write.contents c.try_script.new.out) done.orders done.differ in
     (view read, c.in_ok-read.ensures.value, subst P (c.deref.ensures.value ∙ c.in_ok-numbers.ensures) wrote))
     c.try_script.ensures.wrote
