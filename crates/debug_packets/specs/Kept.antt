@@ -1,6 +1,8 @@
 -- What a request that moves nothing does to the debugger's lists, and to the talk.
-use Rattle.std.specs.Prelude.{◌≡◌, ℕ, Bool, true, false, List, ⊤}
+use Rattle.std.specs.Prelude.{◌≡◌, ℕ, Bool, true, false, List, Option, Some, None, ⊤}
+use Rattle.board_model.specs.Shapes.{Size}
 use Rattle.debug_session.specs.Points.{with_point, with_watch, without_point, without_watch}
+use Rattle.debug_session.specs.Sessions.{size_of}
 use Rattle.debug_session.specs.declared.halts.Stop.{Stop}
 use Rattle.debug_session.specs.declared.stops.Stops.{Stops}
 use Rattle.debug_session.specs.declared.stops.Watch.{Watch}
@@ -9,7 +11,8 @@ use Rattle.gdb_requests.specs.declared.requests.Look.TheVariants as looks
 use Rattle.gdb_requests.specs.declared.requests.Request.{Request}
 use Rattle.gdb_requests.specs.declared.requests.Request.TheVariants as asks
 use Rattle.debug_packets.specs.declared.talk.Talk.{Talk}
-use Rattle.debug_packets.specs.Talks.{acknowledges_in, is_over_in, last_in, takes_in}
+use Rattle.debug_packets.specs.Replies.{hart_named}
+use Rattle.debug_packets.specs.Talks.{acknowledges_in, is_over_in, last_in, runner_in, session_in, takes_in}
 
 -- the breakpoints behind it
 abbrev pub points_after : Look → List ℕ → List ℕ
@@ -29,6 +32,16 @@ Listed (asks.Look look) old new =
     (new.points.items ≡ points_after look old.points.items) × (new.watches.items ≡ watches_after look old.watches.items)
 Listed (asks.Move move) old new = new ≡ old
 
+-- A hart runs from then on that is chosen to, where it is there, and none where any thread may.
+abbrev pub named_or : Option ℕ → Option ℕ → Option ℕ
+named_or None runner = runner
+named_or (Some h) runner = Some h
+
+abbrev pub runner_after : Look → Size → Option ℕ → Option ℕ
+runner_after (looks.Run thread) size runner = named_or (hart_named size thread) runner
+runner_after looks.RunShown size runner = None
+runner_after look size runner = runner
+
 -- packets are acknowledged until GDB asks that they are not
 abbrev pub acknowledges_after : Look → Bool → Bool
 acknowledges_after looks.NoAcks acknowledges = false
@@ -46,17 +59,24 @@ TakesAs looks.Supports old new = ⊤
 TakesAs look old new = new ≡ old
 
 -- the talk stands so
-abbrev pub IsTalk : {C : Type 0} → Stop → Bool → Bool → Bool → Talk C → Type 0
-IsTalk last takes acknowledges over talk =
-    (last_in talk ≡ last) × (takes_in talk ≡ takes) × (acknowledges_in talk ≡ acknowledges) × (is_over_in talk ≡ over)
+abbrev pub IsTalk : {C : Type 0} → Stop → Option ℕ → Bool → Bool → Bool → Talk C → Type 0
+IsTalk last runner takes acknowledges over talk =
+    (last_in talk ≡ last) × (runner_in talk ≡ runner) × (takes_in talk ≡ takes) × (acknowledges_in talk ≡ acknowledges)
+    × (is_over_in talk ≡ over)
 
 -- it goes on as it was
 abbrev pub StaysOpen : {C : Type 0} → Talk C → Talk C → Type 0
-StaysOpen old new = IsTalk (last_in old) (takes_in old) (acknowledges_in old) (is_over_in old) new
+StaysOpen old new = IsTalk (last_in old) (runner_in old) (takes_in old) (acknowledges_in old) (is_over_in old) new
 
 -- the talk behind it
 pub record IsKept {C : Type 0} (look : Look) (old new : Talk C) : Type 0 where
   pub last : last_in new ≡ last_in old
+  pub runner : runner_in new ≡ runner_after look (size_of (session_in old)) (runner_in old)
   pub takes : TakesAs look (takes_in old) (takes_in new)
   pub acknowledges : acknowledges_in new ≡ acknowledges_after look (acknowledges_in old)
   pub over : is_over_in new ≡ is_over_after look (is_over_in old)
+
+-- the same of any request: one that moves the board leaves all but the stop and the hart that is shown
+abbrev pub Keeps : {C : Type 0} → Request → Talk C → Talk C → Type 0
+Keeps (asks.Look look) old new = IsKept look old new
+Keeps (asks.Move move) old new = IsTalk (last_in new) (runner_in old) (takes_in old) (acknowledges_in old) (is_over_in old) new

@@ -1,5 +1,5 @@
 -- How a request changes the history of a session.
-use Rattle.std.specs.Prelude.{◌≡◌, ◌⊎◌, ◌≤◌, ℕ, Bool, true, false, List, [], ◌∷◌, ◌++◌, All, Option, Some, None, Result, Ok, Err, if◌then◌else◌, bytes_eq, slice_index_or, replicate}
+use Rattle.std.specs.Prelude.{◌≡◌, ◌⊎◌, ◌≤◌, ℕ, Bool, true, false, List, [], ◌∷◌, ◌++◌, Option, Some, None, Result, Ok, Err, option_and_then, length, nat_lt, if◌then◌else◌, bytes_eq, slice_index_or, replicate}
 use Rattle.std.specs.Bool.{MatchBool}
 use Rattle.hex.specs.Hex.{decode_of}
 use Rattle.bench_history.specs.Pasts.{IsBack, NoRow}
@@ -8,15 +8,16 @@ use Rattle.report_lines.specs.Texts.{answer_text}
 use Rattle.board_model.specs.Shapes.{Size}
 use Rattle.board_model.specs.declared.refusal.Refusal.{Refusal}
 use Rattle.debug_packets.specs.Resumes.{IsAskedBy}
-use Rattle.debug_packets.specs.Texts.{HandOver, board_line, hart_lines}
+use Rattle.debug_packets.specs.Texts.{HandOver, board_line, hart_lines, when_text}
 use Rattle.debug_packets.specs.Stops.{stop_text}
-use Rattle.debug_packets.specs.Talks.{hart_in, last_in, session_in, takes_in}
+use Rattle.debug_packets.specs.Talks.{hart_in, last_in, runs_in, session_in, takes_in}
 use Rattle.debug_packets.specs.declared.talk.Talk.{Talk}
-use Rattle.debug_session.specs.Backs.{BackTo}
+use Rattle.debug_session.specs.Backs.{BackTo, StaysBack}
 use Rattle.debug_session.specs.Firsts.{ToHalt}
 use Rattle.debug_session.specs.Sessions.{history_of, plan_of, size_of, stops_of, timeline_of}
-use Rattle.debug_session.specs.Steps.{IsStep, MakesNone, Went}
+use Rattle.debug_session.specs.Steps.{IsStep, Went}
 use Rattle.debug_session.specs.Texts.{history_text}
+use Rattle.debug_session.specs.Turns.{WentTo}
 use Rattle.debug_session.specs.Withins.{StepsWithin, within_plan}
 use Rattle.debug_session.specs.declared.halts.Halt.TheVariants as halts
 use Rattle.debug_session.specs.declared.halts.Stop.{Stop}
@@ -31,29 +32,29 @@ use Rattle.gdb_requests.specs.declared.requests.Move.TheVariants as moves
 use Rattle.gdb_requests.specs.declared.requests.Request.{Request}
 use Rattle.gdb_requests.specs.declared.requests.Request.TheVariants as asks
 use Rattle.script_lang.specs.Scripts.{Script, script_of}
-use Rattle.script_lang.specs.Words.{decoded}
+use Rattle.script_lang.specs.Words.{decoded, number_of}
 use Rattle.script_lang.specs.declared.line.Line.{Line}
 use lib.Chars.{codes}
 
 -- ---- on and back, to that stop
 
--- one turn of hart h, or none
+-- One turn of hart h, or none; the stop is that hart's.
 abbrev pub SteppedOnce : {C : Type 0} → ℕ → Stop → Session C → Session C → Type 0
 SteppedOnce h stop old new =
-    IsStep (size_of old) h (timeline_of old) (timeline_of new)
-    × ToHalt (size_of old) (stops_of old) (Some stop.halt) (timeline_of old) (timeline_of new)
+    (stop.hart ≡ h) × IsStep (size_of old) h stop.halt (timeline_of old) (timeline_of new)
+    × ToHalt (size_of old) (stops_of old) h (Some stop.halt) (timeline_of old) (timeline_of new)
 
--- harts went on, of those that may, and no other, to the first halt
+-- Harts went on, of those that may, and no other, to the first halt. Where a turn is why, the stop is its hart's.
 abbrev pub WentOn : {C : Type 0} → List Bool → Stop → Session C → Session C → Type 0
 WentOn harts stop old new =
     ((n : ℕ) × (n ≤ (plan_of old).most) × Went (λ h. slice_index_or harts h false ≡ true) n (size_of old) (timeline_of old) (timeline_of new))
-    × ToHalt (size_of old) (stops_of old) (Some stop.halt) (timeline_of old) (timeline_of new)
+    × ToHalt (size_of old) (stops_of old) stop.hart (Some stop.halt) (timeline_of old) (timeline_of new)
 
--- one hart went on while its pc lay from the first address on and before the end, to the first halt
+-- One hart went on while its pc lay from the first address on and before the end, to the first halt; the stop is its.
 abbrev pub WentAlone : {C : Type 0} → ℕ → ℕ → ℕ → Stop → Session C → Session C → Type 0
 WentAlone h first end stop old new =
-    ((n : ℕ) × (n ≤ (plan_of old).most) × Went (λ g. g ≡ h) n (size_of old) (timeline_of old) (timeline_of new))
-    × ToHalt (size_of old) (stops_of old) (Some stop.halt) (timeline_of old) (timeline_of new)
+    (stop.hart ≡ h) × ((n : ℕ) × (n ≤ (plan_of old).most) × Went (λ g. g ≡ h) n (size_of old) (timeline_of old) (timeline_of new))
+    × ToHalt (size_of old) (stops_of old) h (Some stop.halt) (timeline_of old) (timeline_of new)
     × StepsWithin (size_of old) (within_plan first end (plan_of old)) h stop.halt (timeline_of old) (timeline_of new)
 
 -- back before the last turn of hart h, which made none where nothing changed
@@ -62,11 +63,11 @@ WentBack h stop old new =
     (stop.hart ≡ h) × (((stop.halt ≡ halts.Stepped) × IsBack h (history_of old) (history_of new))
     ⊎ ((stop.halt ≡ halts.Begin) × NoRow h (history_of old) × (timeline_of new ≡ timeline_of old)))
 
--- back to the last halt; no turn was made where nothing changed
+-- back to the last halt; where nothing changed no turn was made, or the debugger asked for it
 abbrev pub WentFarBack : {C : Type 0} → ℕ → Stop → Session C → Session C → Type 0
 WentFarBack h stop old new =
     BackTo (size_of old) (stops_of old) stop (timeline_of old) (timeline_of new)
-    ⊎ ((stop.halt ≡ halts.Begin) × (stop.hart ≡ h) × All MakesNone (history_of old) × (timeline_of new ≡ timeline_of old))
+    ⊎ StaysBack stop h (timeline_of old) (timeline_of new)
 
 -- ---- what is told of it
 
@@ -119,39 +120,63 @@ abbrev pub LineRan : Option Line → Size → Timeline → Timeline → List ℕ
 LineRan None size old new said = new ≡ old
 LineRan (Some line) size old new said = (answer : Answer) × Ran size line answer old new × (said ≡ answer_text answer)
 
--- the debugger's own words change nothing: `script` says the history, and `harts` where each hart stands
-abbrev pub TextSaid : List ℕ → Size → Timeline → Timeline → List ℕ → Type 0
-TextSaid text size old new said =
-    MatchBool (bytes_eq text (codes "script")) ((new ≡ old) × (said ≡ history_text size old.begins old.history ++ codes "\n"))
+-- the history as a script; a comment behind it says where it is longer than a script may be
+abbrev pub script_text : Size → List (List ℕ) → List Line → List ℕ
+script_text size begins past =
+    if nat_lt 65535 (length past)
+    then (history_text size begins past ++ codes "\n") ++ codes "# this is longer than a script may be: 65,535 lines behind the board line\n"
+    else history_text size begins past ++ codes "\n"
+
+-- the number of turns to which `goto` is to go, where a text says one
+abbrev pub goto_in : List ℕ → Option ℕ
+goto_in text = option_and_then number_of (behind_prefix (codes "goto ") text)
+
+-- where the history stands then; before it that no turn came behind so many, where that is so
+abbrev pub goto_text : Bool → ℕ → List Line → List ℕ
+goto_text true h past = when_text h past
+goto_text false h past = codes "no turn came behind so many: " ++ when_text h past
+
+-- `goto` goes back to before the turn that came behind so many; any other text is a line, or none
+abbrev pub GotoOr : Option ℕ → List ℕ → Size → ℕ → Timeline → Timeline → List ℕ → Type 0
+GotoOr None text size h old new said = LineRan (line_in size text) size old new said
+GotoOr (Some n) text size h old new said = (found : Bool) × WentTo n found old new × (said ≡ goto_text found h new.history)
+
+-- The debugger's own words but `goto` change nothing: `script` says the history, `harts` where each hart stands, and `when` where
+-- the history does.
+abbrev pub TextSaid : List ℕ → Size → ℕ → Timeline → Timeline → List ℕ → Type 0
+TextSaid text size h old new said =
+    MatchBool (bytes_eq text (codes "script")) ((new ≡ old) × (said ≡ script_text size old.begins old.history))
     (MatchBool (is_help text) (new ≡ old)
     (MatchBool (bytes_eq text (codes "harts")) ((new ≡ old) × (said ≡ hart_lines size.harts old.bench))
-    (LineRan (line_in size text) size old new said)))
+    (MatchBool (bytes_eq text (codes "when")) ((new ≡ old) × (said ≡ when_text h old.history))
+    (GotoOr (goto_in text) text size h old new said))))
 
 -- what is said goes to the console, and then comes `OK`
-abbrev pub HexSaid : Option (List ℕ) → Size → Timeline → Timeline → List (List ℕ) → List ℕ → Type 0
-HexSaid None size old new told text = (new ≡ old) × (told ≡ []) × (text ≡ codes "E01")
-HexSaid (Some line) size old new told text = (said : List ℕ) × HandOver said told × TextSaid line size old new said × (text ≡ codes "OK")
+abbrev pub HexSaid : Option (List ℕ) → Size → ℕ → Timeline → Timeline → List (List ℕ) → List ℕ → Type 0
+HexSaid None size h old new told text = (new ≡ old) × (told ≡ []) × (text ≡ codes "E01")
+HexSaid (Some line) size h old new told text =
+    (said : List ℕ) × HandOver said told × TextSaid line size h old new said × (text ≡ codes "OK")
 
-abbrev pub MonitoredBy : Option (List ℕ) → Size → Timeline → Timeline → List (List ℕ) → List ℕ → Type 0
-MonitoredBy None size old new told text = (new ≡ old) × (told ≡ []) × (text ≡ [])
-MonitoredBy (Some word) size old new told text = HexSaid (hexed word) size old new told text
+abbrev pub MonitoredBy : Option (List ℕ) → Size → ℕ → Timeline → Timeline → List (List ℕ) → List ℕ → Type 0
+MonitoredBy None size h old new told text = (new ≡ old) × (told ≡ []) × (text ≡ [])
+MonitoredBy (Some word) size h old new told text = HexSaid (hexed word) size h old new told text
 
 -- ---- any request
 
 -- how what may move the board changes the history, by its packet, what goes to the console, and what is told last
 abbrev pub MovedBy : {C : Type 0} → Move → List ℕ → Talk C → Talk C → List (List ℕ) → List ℕ → Type 0
 MovedBy moves.Step packet old new told text =
-    IsTold old new text × SteppedOnce (hart_in old) (last_in new) (session_in old) (session_in new)
+    IsTold old new text × SteppedOnce (runs_in old) (last_in new) (session_in old) (session_in new)
 MovedBy moves.Go packet old new told text =
     IsTold old new text × WentOn (replicate 8 true) (last_in new) (session_in old) (session_in new)
 MovedBy moves.StepBack packet old new told text =
-    IsTold old new text × WentBack (hart_in old) (last_in new) (session_in old) (session_in new)
+    IsTold old new text × WentBack (runs_in old) (last_in new) (session_in old) (session_in new)
 MovedBy moves.GoBack packet old new told text =
-    IsTold old new text × WentFarBack (hart_in old) (last_in new) (session_in old) (session_in new)
+    IsTold old new text × WentFarBack (runs_in old) (last_in new) (session_in old) (session_in new)
 MovedBy moves.Resume packet old new told text = ResumedBy (behind_prefix (codes "vCont;") packet) old new text
 MovedBy moves.Monitor packet old new told text =
-    IsUntold old new × MonitoredBy (behind_prefix (codes "qRcmd,") packet) (size_of (session_in old)) (timeline_of (session_in old))
-    (timeline_of (session_in new)) told text
+    IsUntold old new × MonitoredBy (behind_prefix (codes "qRcmd,") packet) (size_of (session_in old)) (hart_in old)
+    (timeline_of (session_in old)) (timeline_of (session_in new)) told text
 
 -- What looks changes neither the bench nor its history. What moves the board tells the console first, and its stop last.
 abbrev pub Moved : {C : Type 0} → Request → List ℕ → Talk C → Talk C → List (List ℕ) → Type 0

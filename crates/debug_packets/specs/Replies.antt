@@ -1,11 +1,12 @@
 -- What is replied to a request, of a bench with a board of that size whose hart h is shown. Source:
 -- "Debugging with GDB", appendix "GDB Remote Serial Protocol", "Packets" and "General Query Packets".
-use Rattle.std.specs.Prelude.{◌≡◌, ⊤, ℕ, ◌+◌, ◌-◌, List, [], ◌∷◌, ◌++◌, Option, Some, None, false, nat_lt, nat_le, ◌&&◌, if◌then◌else◌}
+use Rattle.std.specs.Prelude.{◌≡◌, ⊤, ℕ, ◌+◌, ◌-◌, List, [], ◌∷◌, ◌++◌, Option, Some, None, false, nat_lt, nat_le, ◌&&◌, length, ◌==◌, if◌then◌else◌}
 use Rattle.std.specs.Fmt.{digits}
 use Rattle.board_model.specs.Shapes.{Size}
 use Rattle.debug_timeline.specs.Lives.{machine_of, memory_in, register_in}
 use Rattle.debug_timeline.specs.declared.debugged.DebuggedBench.{DebuggedBench}
 use Rattle.gdb_packets.specs.Packets.{digit_of}
+use Rattle.debug_packets.specs.Talks.{hart_or}
 use Rattle.debug_packets.specs.Texts.{threads_object}
 use Rattle.gdb_replies.specs.Replies.{memory_map_text, pairs_of, part_text, register_text, registers_text, threads_text}
 use Rattle.gdb_requests.specs.declared.requests.Look.{Look}
@@ -28,19 +29,14 @@ by_hart (Some h) = codes "OK"
 abbrev pub thread_reply : Size → ℕ → List ℕ
 thread_reply size thread = by_hart (hart_named size thread)
 
--- that hart, where there is one
-abbrev pub hart_or : Option ℕ → ℕ → ℕ
-hart_or None h = h
-hart_or (Some g) h = g
-
 -- one register by its value; there are 42
 abbrev pub register_reply : ℕ → Option ℕ → List ℕ
 register_reply n value = if nat_lt n 42 then register_text n value else codes "E01"
 
--- bytes of memory, where all of them are there
+-- bytes of memory, where all of them are there; that none were asked for is an error, since no text would mean that `m` is unknown
 abbrev pub memory_reply : Option (List ℕ) → List ℕ
 memory_reply None = codes "E0e"
-memory_reply (Some bytes) = pairs_of bytes
+memory_reply (Some bytes) = if length bytes == 0 then codes "E01" else pairs_of bytes
 
 -- a part of an object of qXfer; of the description, which is fixed, a part of some text
 abbrev pub IsPart : Object → Size → DebuggedBench → ℕ → ℕ → List ℕ → Type 0
@@ -68,6 +64,8 @@ IsLookReply looks.Registers size h b stands out = Says (registers_text 42 (λ n.
 IsLookReply (looks.Register n) size h b stands out = Says (register_reply n (register_in h n (machine_of b))) out
 IsLookReply (looks.Memory address count) size h b stands out = Says (memory_reply (memory_in address count (machine_of b))) out
 IsLookReply (looks.Show thread) size h b stands out = Says (thread_reply size thread) out
+IsLookReply (looks.Run thread) size h b stands out = Says (thread_reply size thread) out
+IsLookReply looks.RunShown size h b stands out = Says (codes "OK") out
 IsLookReply looks.AnyThread size h b stands out = Says (codes "OK") out
 IsLookReply (looks.IsAlive thread) size h b stands out = Says (thread_reply size thread) out
 IsLookReply (looks.SetPoint address) size h b stands out = Says (codes "OK") out

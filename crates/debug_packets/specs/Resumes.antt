@@ -24,12 +24,22 @@ goers_by words =
     is_going 0 words ∷ is_going 1 words ∷ is_going 2 words ∷ is_going 3 words ∷ is_going 4 words ∷ is_going 5 words
     ∷ is_going 6 words ∷ is_going 7 words ∷ []
 
--- The words ask it of a board of that size: a hart of the board that is to step steps, or those go on that are to.
+abbrev pub steps : Option Action → Bool
+steps None = false
+steps (Some Step) = true
+steps (Some (StepWithin first end)) = true
+steps (Some Go) = false
+
+-- none of the first so many harts is to step
+abbrev pub NoneSteps : ℕ → List (List ℕ) → Type 0
+NoneSteps n words = (h : ℕ) → h < n → steps (first_asked (h + 1) words) ≡ false
+
+-- The words ask it of a board of that size: a hart of the board that is to step steps, or where none is those go on that are to.
 abbrev pub IsAskedIn : Size → List (List ℕ) → Asked → Type 0
 IsAskedIn size words asked.Nothing = are_known words ≡ false
 IsAskedIn size words (asked.Step h) = (h < size.harts) × (first_asked (h + 1) words ≡ Some Step)
 IsAskedIn size words (asked.StepWithin h first end) = (h < size.harts) × (first_asked (h + 1) words ≡ Some (StepWithin first end))
-IsAskedIn size words (asked.Go harts) = harts ≡ goers_by words
+IsAskedIn size words (asked.Go harts) = NoneSteps size.harts words × (harts ≡ goers_by words)
 
 -- the words are those of a packet, between semicolons
 abbrev pub IsAskedBy : Size → Option (List ℕ) → Asked → Type 0

@@ -1,5 +1,5 @@
 -- The parts of a talk.
-use Rattle.std.specs.Prelude.{ℕ, Bool}
+use Rattle.std.specs.Prelude.{ℕ, Bool, List, Option, Some, None}
 use Rattle.debug_session.specs.declared.session.Session.{Session}
 use Rattle.debug_session.specs.declared.halts.Stop.{Stop}
 use Rattle.debug_packets.specs.declared.talk.Talk.{Talk}
@@ -11,6 +11,19 @@ session_in talk = talk.session
 -- the hart that is shown
 abbrev pub hart_in : {C : Type 0} → Talk C → ℕ
 hart_in talk = talk.hart
+
+-- that hart, where there is one
+abbrev pub hart_or : Option ℕ → ℕ → ℕ
+hart_or None h = h
+hart_or (Some g) h = g
+
+-- the hart that was chosen to run
+abbrev pub runner_in : {C : Type 0} → Talk C → Option ℕ
+runner_in talk = talk.runner
+
+-- the hart that steps, and that goes on first
+abbrev pub runs_in : {C : Type 0} → Talk C → ℕ
+runs_in talk = hart_or talk.runner talk.hart
 
 -- why nothing runs
 abbrev pub last_in : {C : Type 0} → Talk C → Stop
@@ -27,3 +40,7 @@ acknowledges_in talk = talk.acknowledges
 -- whether the debugger has left
 abbrev pub is_over_in : {C : Type 0} → Talk C → Bool
 is_over_in talk = talk.is_over
+
+-- what was sent last in answer to a packet
+abbrev pub sent_in : {C : Type 0} → Talk C → List ℕ
+sent_in talk = talk.sent.items

@@ -1,10 +1,12 @@
 -- Texts of a session. Source: docs/SCRIPT.md for the board line; "Debugging with GDB", appendix "GDB Remote Serial Protocol",
 -- "Thread List Format".
-use Rattle.std.specs.Prelude.{◌≡◌, ℕ, ◌+◌, false, List, ◌++◌, Option, Some, None, map}
+use Rattle.std.specs.Prelude.{◌≡◌, ℕ, ◌+◌, false, List, ◌++◌, Option, Some, None, length, map}
 use Rattle.std.specs.Fmt.{decimal, digits}
 use Rattle.std.specs.List.{flat_map, range_with_len}
 use Rattle.board_model.specs.Shapes.{Size}
 use Rattle.debug_session.specs.Texts.{state_text}
+use Rattle.debug_session.specs.Turns.{lives_begun, turns_told}
+use Rattle.script_lang.specs.declared.line.Line.{Line}
 use Rattle.debug_timeline.specs.Lives.{machine_of, pc_in}
 use Rattle.debug_timeline.specs.declared.debugged.DebuggedBench.{DebuggedBench}
 use Rattle.gdb_replies.specs.Replies.{pairs_of}
@@ -25,6 +27,12 @@ hart_line b h = stands_text h (pc_in h (machine_of b))
 -- `monitor harts`
 abbrev pub hart_lines : ℕ → DebuggedBench → List ℕ
 hart_lines harts b = flat_map (hart_line b) (range_with_len 0 harts)
+
+-- `monitor when`: where a history stands, and the hart that is shown
+abbrev pub when_text : ℕ → List Line → List ℕ
+when_text h past =
+    codes "life " ++ (decimal (lives_begun past) ++ (codes ", line " ++ (decimal (length past) ++ (codes ", turn "
+    ++ (decimal (turns_told past) ++ (codes ", hart " ++ (decimal h ++ codes "\n")))))))
 
 -- a hart as a thread, with its state
 abbrev pub thread_line : DebuggedBench → ℕ → List ℕ

@@ -5,18 +5,19 @@ ghost use Rattle.debug_timeline.specs.Ats.{IsAt};
 ghost use Rattle.debug_session.specs.Sessions.{plan_of, size_of, stops_of, timeline_of};
 ghost use Rattle.debug_packets.specs.Kept.{IsTalk};
 ghost use Rattle.debug_packets.specs.Moved.{IsTold, MovedBy, ResumedBy, SteppedOnce, WentAlone, WentBack, WentFarBack, WentOn};
+ghost use Rattle.debug_packets.specs.Talks.{runs_in};
 ghost use Rattle.gdb_requests.specs.Fields.{behind_prefix};
 
 use crate::answers::Payloads;
 use crate::asked::Asked;
 use crate::resumes::asked_by;
-use crate::stops::{stop_text, told_of};
+use crate::stops::{idle_text, stop_text, told_of};
 use crate::talk::Talk;
 use crate::texts::{answer_text, tell};
 use bench_report::Answer;
 use board_model::{HartId, Refusal};
 use crew::Crew;
-use debug_session::Stop;
+use debug_session::{Halt, Stop};
 use gdb_requests::Move;
 use std::sync::atomic::AtomicBool;
 
@@ -36,15 +37,26 @@ impl<'a, C: Crew> Talk<'a, C> {
         ensures moved { IfOk result (λ v. MovedBy asked packet.now self.old self.new (map (λ v. v.items) out.new.items) v.items) }
         ensures plan { plan_of self.new.session ≡ plan_of self.old.session }
         ensures stops { stops_of self.new.session ≡ stops_of self.old.session }
-        ensures talk { IsTalk self.new.last self.old.takes_swbreak self.old.acknowledges self.old.is_over self.new }
+        ensures talk { IsTalk self.new.last self.old.runner self.old.takes_swbreak self.old.acknowledges self.old.is_over self.new }
     {
         match asked {
-            Move::Step => self.step(self.hart, out),
-            Move::Go => self.go(&[true; 8], interrupt, out),
+            Move::Step => self.step(self.runs(), out),
+            Move::Go => self.go(self.runs(), &[true; 8], interrupt, out),
             Move::StepBack => self.step_back(),
-            Move::GoBack => self.go_back(),
+            Move::GoBack => self.go_back(interrupt),
             Move::Resume => self.resume(packet, interrupt, out),
             Move::Monitor => self.monitor(packet, out),
+        }
+    }
+
+    /// The hart that steps, and that goes on first.
+    fn runs(&self) -> HartId
+        ensures is { result ≡ runs_in self.now }
+        ensures there { result < (size_of self.now.session).harts }
+    {
+        match self.runner {
+            Some(hart) => hart,
+            None => self.hart,
         }
     }
 
@@ -53,28 +65,30 @@ impl<'a, C: Crew> Talk<'a, C> {
         requires at { IsAt (size_of self.old.session) (timeline_of self.old.session) }
         ensures at { OnOk result (IsAt (size_of self.new.session) (timeline_of self.new.session)) }
         ensures size { size_of self.new.session ≡ size_of self.old.session }
-        ensures moved { OnOk result (WentBack self.old.hart self.new.last self.old.session self.new.session) }
+        ensures moved { OnOk result (WentBack (runs_in self.old) self.new.last self.old.session self.new.session) }
         ensures told { IfOk result (λ v. IsTold self.old self.new v.items) }
         ensures plan { plan_of self.new.session ≡ plan_of self.old.session }
         ensures stops { stops_of self.new.session ≡ stops_of self.old.session }
-        ensures talk { IsTalk self.new.last self.old.takes_swbreak self.old.acknowledges self.old.is_over self.new }
+        ensures talk { IsTalk self.new.last self.old.runner self.old.takes_swbreak self.old.acknowledges self.old.is_over self.new }
     {
-        let stop = self.session.step_back(self.hart)?;
+        let hart = self.runs();
+        let stop = self.session.step_back(hart)?;
         self.stopped_at(stop)
     }
 
     /// `bc`
-    fn go_back(&mut self) -> Result<Vec<u8>, Refusal>
+    fn go_back(&mut self, interrupt: &AtomicBool) -> Result<Vec<u8>, Refusal>
         requires at { IsAt (size_of self.old.session) (timeline_of self.old.session) }
         ensures at { OnOk result (IsAt (size_of self.new.session) (timeline_of self.new.session)) }
         ensures size { size_of self.new.session ≡ size_of self.old.session }
-        ensures moved { OnOk result (WentFarBack self.old.hart self.new.last self.old.session self.new.session) }
+        ensures moved { OnOk result (WentFarBack (runs_in self.old) self.new.last self.old.session self.new.session) }
         ensures told { IfOk result (λ v. IsTold self.old self.new v.items) }
         ensures plan { plan_of self.new.session ≡ plan_of self.old.session }
         ensures stops { stops_of self.new.session ≡ stops_of self.old.session }
-        ensures talk { IsTalk self.new.last self.old.takes_swbreak self.old.acknowledges self.old.is_over self.new }
+        ensures talk { IsTalk self.new.last self.old.runner self.old.takes_swbreak self.old.acknowledges self.old.is_over self.new }
     {
-        let stop = self.session.go_back(self.hart)?;
+        let hart = self.runs();
+        let stop = self.session.go_back(hart, interrupt)?;
         self.stopped_at(stop)
     }
 
@@ -91,7 +105,7 @@ impl<'a, C: Crew> Talk<'a, C> {
         ensures moved { IfOk result (λ v. ResumedBy (behind_prefix (codes "vCont;") packet.now) self.old self.new v.items) }
         ensures plan { plan_of self.new.session ≡ plan_of self.old.session }
         ensures stops { stops_of self.new.session ≡ stops_of self.old.session }
-        ensures talk { IsTalk self.new.last self.old.takes_swbreak self.old.acknowledges self.old.is_over self.new }
+        ensures talk { IsTalk self.new.last self.old.runner self.old.takes_swbreak self.old.acknowledges self.old.is_over self.new }
     {
         let asked = asked_by(self.alloc(), self.session.setting().shape, packet)?;
         match asked {
@@ -100,7 +114,7 @@ impl<'a, C: Crew> Talk<'a, C> {
             Asked::StepWithin(hart, first, end) => {
                 self.step_within(hart, first, end, interrupt, out)
             }
-            Asked::Go(harts) => self.go(&harts, interrupt, out),
+            Asked::Go(harts) => self.go(self.hart, &harts, interrupt, out),
         }
     }
 
@@ -114,11 +128,11 @@ impl<'a, C: Crew> Talk<'a, C> {
         ensures told { IfOk result (λ v. IsTold self.old self.new v.items) }
         ensures plan { plan_of self.new.session ≡ plan_of self.old.session }
         ensures stops { stops_of self.new.session ≡ stops_of self.old.session }
-        ensures talk { IsTalk self.new.last self.old.takes_swbreak self.old.acknowledges self.old.is_over self.new }
+        ensures talk { IsTalk self.new.last self.old.runner self.old.takes_swbreak self.old.acknowledges self.old.is_over self.new }
     {
         let mut told = Vec::new(self.alloc());
         let stop = self.session.step(hart, &mut told)?;
-        self.after(stop, &told, out)
+        self.after_step(stop, &told, out)
     }
 
     /// Steps a hart while its pc lies from the first address on and before the second.
@@ -138,34 +152,59 @@ impl<'a, C: Crew> Talk<'a, C> {
         ensures told { IfOk result (λ v. IsTold self.old self.new v.items) }
         ensures plan { plan_of self.new.session ≡ plan_of self.old.session }
         ensures stops { stops_of self.new.session ≡ stops_of self.old.session }
-        ensures talk { IsTalk self.new.last self.old.takes_swbreak self.old.acknowledges self.old.is_over self.new }
+        ensures talk { IsTalk self.new.last self.old.runner self.old.takes_swbreak self.old.acknowledges self.old.is_over self.new }
     {
         let mut told = Vec::new(self.alloc());
         let stop = self
             .session
             .step_within(hart, first, end, interrupt, &mut told)?;
-        self.after(stop, &told, out)
+        self.after_step(stop, &told, out)
     }
 
-    /// Goes on with these harts.
+    /// Goes on with these harts, from that one on.
     fn go(
         &mut self,
+        first: HartId,
         harts: &[bool; 8],
         interrupt: &AtomicBool,
         out: &mut Payloads,
     ) -> Result<Vec<u8>, Refusal>
         requires at { IsAt (size_of self.old.session) (timeline_of self.old.session) }
+        requires first { first < (size_of self.old.session).harts }
         ensures at { OnOk result (IsAt (size_of self.new.session) (timeline_of self.new.session)) }
         ensures size { size_of self.new.session ≡ size_of self.old.session }
         ensures moved { OnOk result (WentOn harts.now self.new.last self.old.session self.new.session) }
         ensures told { IfOk result (λ v. IsTold self.old self.new v.items) }
         ensures plan { plan_of self.new.session ≡ plan_of self.old.session }
         ensures stops { stops_of self.new.session ≡ stops_of self.old.session }
-        ensures talk { IsTalk self.new.last self.old.takes_swbreak self.old.acknowledges self.old.is_over self.new }
+        ensures talk { IsTalk self.new.last self.old.runner self.old.takes_swbreak self.old.acknowledges self.old.is_over self.new }
     {
         let mut told = Vec::new(self.alloc());
-        let stop = self.session.go(self.hart, harts, interrupt, &mut told)?;
+        let stop = self.session.go(first, harts, interrupt, &mut told)?;
         self.after(stop, &told, out)
+    }
+
+    /// Tells the report of what ended a step, and why it stands.
+    fn after_step(
+        &mut self,
+        stop: Stop,
+        told: &Vec<Answer>,
+        out: &mut Payloads,
+    ) -> Result<Vec<u8>, Refusal>
+        requires there { stop.hart < (size_of self.old.session).harts }
+        ensures same { self.new.session ≡ self.old.session }
+        ensures told { IfOk result (λ v. IsTold self.old self.new v.items) }
+        ensures last { OnOk result (self.new.last ≡ stop) }
+        ensures talk { IsTalk self.new.last self.old.runner self.old.takes_swbreak self.old.acknowledges self.old.is_over self.new }
+    {
+        if stop.halt != Halt::Idle {
+            return self.after(stop, told, out);
+        }
+        let alloc = self.alloc();
+        let state = self.session.state_text(stop.hart);
+        let text = idle_text(alloc, stop.hart, state)?;
+        tell(alloc, text.as_bytes(), out)?;
+        self.stopped_at(stop)
     }
 
     /// Tells the report of what ended a run, and why it stands.
@@ -179,7 +218,7 @@ impl<'a, C: Crew> Talk<'a, C> {
         ensures same { self.new.session ≡ self.old.session }
         ensures told { IfOk result (λ v. IsTold self.old self.new v.items) }
         ensures last { OnOk result (self.new.last ≡ stop) }
-        ensures talk { IsTalk self.new.last self.old.takes_swbreak self.old.acknowledges self.old.is_over self.new }
+        ensures talk { IsTalk self.new.last self.old.runner self.old.takes_swbreak self.old.acknowledges self.old.is_over self.new }
     {
         let alloc = self.alloc();
         for answer in told {
@@ -196,7 +235,7 @@ impl<'a, C: Crew> Talk<'a, C> {
         ensures same { self.new.session ≡ self.old.session }
         ensures told { IfOk result (λ v. IsTold self.old self.new v.items) }
         ensures last { OnOk result (self.new.last ≡ stop) }
-        ensures talk { IsTalk self.new.last self.old.takes_swbreak self.old.acknowledges self.old.is_over self.new }
+        ensures talk { IsTalk self.new.last self.old.runner self.old.takes_swbreak self.old.acknowledges self.old.is_over self.new }
     {
         self.last = stop;
         self.hart = stop.hart;

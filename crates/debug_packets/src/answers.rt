@@ -1,13 +1,13 @@
 //! What is answered to a packet.
 
-ghost use Rattle.std.specs.Prelude.{◌≡◌, true, false, map, IfOk, OnOk};
+ghost use Rattle.std.specs.Prelude.{◌≡◌, true, false, [], None, map, IfOk, OnOk};
 ghost use Rattle.debug_timeline.specs.Ats.{IsAt};
 ghost use Rattle.debug_session.specs.Sessions.{bench_of, plan_of, points_of, size_of, stops_of, timeline_of, watches_of};
 ghost use Rattle.debug_packets.specs.Replies.{IsReply, Replied, Shown, hart_shown};
-ghost use Rattle.debug_packets.specs.Kept.{IsKept, IsTalk, Listed, points_after, watches_after};
+ghost use Rattle.debug_packets.specs.Kept.{IsKept, IsTalk, Keeps, Listed, points_after, watches_after};
 ghost use Rattle.debug_packets.specs.Moved.{Moved};
 ghost use Rattle.debug_packets.specs.Stops.{stop_text};
-ghost use Rattle.debug_packets.specs.Talks.{acknowledges_in, hart_in, is_over_in, last_in, session_in, takes_in};
+ghost use Rattle.debug_packets.specs.Talks.{acknowledges_in, hart_in, is_over_in, last_in, runner_in, sent_in, session_in, takes_in};
 ghost use Rattle.gdb_requests.specs.Asked.{request_of};
 ghost use Rattle.gdb_requests.specs.declared.requests.Look.{Look};
 ghost use Rattle.gdb_requests.specs.declared.requests.Request.TheVariants as asks;
@@ -28,13 +28,16 @@ impl<'a, C: Crew> Talk<'a, C> {
     pub fn new(session: Session<'a, C>) -> Result<Talk<'a, C>, Refusal>
         ensures session { IfOk result (λ talk. session_in talk ≡ session.entry) }
         ensures first { IfOk result (λ talk. hart_in talk ≡ 0) }
+        ensures runner { IfOk result (λ talk. runner_in talk ≡ None) }
         ensures last { IfOk result (λ talk. last_in talk ≡ record { hart = 0; halt = Halt.Stepped }) }
         ensures acknowledges { IfOk result (λ talk. acknowledges_in talk ≡ true) }
         ensures ongoing { IfOk result (λ talk. is_over_in talk ≡ false) }
+        ensures sent { IfOk result (λ talk. sent_in talk ≡ []) }
     {
         let Some(hart) = session.setting().shape.hart(0) else {
             return Err(Refusal::BadShape);
         };
+        let alloc = session.setting().alloc;
         let last = Stop {
             hart,
             halt: Halt::Stepped,
@@ -42,10 +45,12 @@ impl<'a, C: Crew> Talk<'a, C> {
         Ok(Talk {
             session,
             hart,
+            runner: None,
             last,
             takes_swbreak: false,
             acknowledges: true,
             is_over: false,
+            sent: Vec::new(alloc),
         })
     }
 
@@ -71,7 +76,8 @@ impl<'a, C: Crew> Talk<'a, C> {
         // A breakpoint or a watchpoint is set or taken away where a packet names it, and no other.
         ensures listed { OnOk result (Listed (request_of packet.now) (stops_of (session_in self.old))
             (stops_of (session_in self.new))) }
-        ensures kept { (look : Look) → request_of packet.now ≡ asks.Look look → OnOk result (IsKept look self.old self.new) }
+        // The talk stays as it was, but for what the packet says of it.
+        ensures kept { OnOk result (Keeps (request_of packet.now) self.old self.new) }
         ensures plan { plan_of (session_in self.new) ≡ plan_of (session_in self.old) }
     {
         match request_of(packet) {
@@ -115,7 +121,7 @@ impl<'a, C: Crew> Talk<'a, C> {
         ensures moved { IfOk result (λ out. Moved (asks.Move asked) packet.now self.old self.new (map (λ v. v.items) out.items)) }
         ensures plan { plan_of self.new.session ≡ plan_of self.old.session }
         ensures stops { stops_of self.new.session ≡ stops_of self.old.session }
-        ensures talk { IsTalk self.new.last self.old.takes_swbreak self.old.acknowledges self.old.is_over self.new }
+        ensures talk { IsTalk self.new.last self.old.runner self.old.takes_swbreak self.old.acknowledges self.old.is_over self.new }
     {
         let mut out = Vec::new(self.alloc());
         let answer = self.act(asked, packet, interrupt, &mut out)?;

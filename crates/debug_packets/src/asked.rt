@@ -5,7 +5,7 @@ use board_model::HartId;
 /// What a `vCont` asks.
 #[derive(Clone, Copy, Drop)]
 pub enum Asked {
-    /// Nothing, since an action is not known.
+    /// Nothing, since an action is not known, or a thread is none.
     Nothing,
     /// That hart makes one turn.
     Step(HartId),

@@ -16,4 +16,4 @@ mod wire;
 
 pub use answers::Payloads;
 pub use talk::Talk;
-pub use wire::reply;
+pub use wire::{acknowledge, reply, reply_again};

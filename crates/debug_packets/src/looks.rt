@@ -3,9 +3,10 @@
 ghost use Rattle.std.specs.Prelude.{◌≡◌, IfOk, OnOk};
 ghost use Rattle.std.specs.Option.{option_map};
 ghost use Rattle.debug_session.specs.Sessions.{bench_of, plan_of, points_of, size_of, timeline_of, watches_of};
-ghost use Rattle.debug_packets.specs.Kept.{IsKept, IsTalk, StaysOpen, points_after, watches_after};
+ghost use Rattle.debug_packets.specs.Kept.{IsKept, IsTalk, StaysOpen, named_or, points_after, watches_after};
 ghost use Rattle.debug_packets.specs.Stops.{stop_text};
-ghost use Rattle.debug_packets.specs.Replies.{hart_named, hart_or, hart_shown, IsLookReply};
+ghost use Rattle.debug_packets.specs.Replies.{hart_named, hart_shown, IsLookReply};
+ghost use Rattle.debug_packets.specs.Talks.{hart_or};
 
 use crate::replies::{hart_of, reply_of};
 use crate::talk::Talk;
@@ -51,6 +52,14 @@ impl<'a, C: Crew> Talk<'a, C> {
         match asked {
             Look::Show(thread) => {
                 self.show(thread);
+                Ok(())
+            }
+            Look::Run(thread) => {
+                self.choose(thread);
+                Ok(())
+            }
+            Look::RunShown => {
+                self.runner = None;
                 Ok(())
             }
             Look::SetPoint(address) => self.session.set_point(address),
@@ -101,10 +110,23 @@ impl<'a, C: Crew> Talk<'a, C> {
         }
     }
 
+    /// The hart of a thread runs from now on, where there is one.
+    fn choose(&mut self, thread: u64)
+        ensures same { self.new.session ≡ self.old.session }
+        ensures talk { IsTalk self.old.last self.new.runner self.old.takes_swbreak self.old.acknowledges self.old.is_over
+            self.new }
+        ensures chosen { self.new.runner ≡ named_or (hart_named (size_of self.old.session) thread) self.old.runner }
+        ensures hart { self.new.hart ≡ self.old.hart }
+    {
+        if let Some(hart) = hart_of(self.session.setting().shape, thread) {
+            self.runner = Some(hart);
+        }
+    }
+
     /// Hears whether GDB takes `swbreak`.
     fn hear_offers(&mut self, packet: &[u8]) -> Result<(), Refusal>
         ensures same { self.new.session ≡ self.old.session }
-        ensures talk { IsTalk self.old.last self.new.takes_swbreak self.old.acknowledges self.old.is_over self.new }
+        ensures talk { IsTalk self.old.last self.old.runner self.new.takes_swbreak self.old.acknowledges self.old.is_over self.new }
         ensures hart { self.new.hart ≡ self.old.hart }
     {
         if let Some(offers) = behind(packet, b"qSupported:") {

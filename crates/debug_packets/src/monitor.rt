@@ -3,21 +3,21 @@
 ghost use Rattle.std.specs.Prelude.{◌≡◌, [], codes, map, string_bytes, IfOk, IfSome, OnOk};
 ghost use Rattle.std.specs.Option.{option_map};
 ghost use Rattle.debug_timeline.specs.Ats.{IsAt};
-ghost use Rattle.debug_session.specs.Sessions.{plan_of, size_of, stops_of, timeline_of};
+ghost use Rattle.debug_session.specs.Sessions.{begins_of, history_of, plan_of, size_of, stops_of, timeline_of};
 ghost use Rattle.debug_packets.specs.Kept.{StaysOpen};
-ghost use Rattle.debug_packets.specs.Moved.{LineRan, MonitoredBy, TextSaid, hexed, just_one, line_in};
+ghost use Rattle.debug_packets.specs.Moved.{GotoOr, LineRan, MonitoredBy, TextSaid, goto_in, hexed, just_one, line_in, script_text};
 ghost use Rattle.gdb_requests.specs.Fields.{behind_prefix};
 ghost use Rattle.script_lang.specs.Lines.{IsLineInRange};
 
 use crate::answers::Payloads;
 use crate::talk::Talk;
-use crate::texts::{answer_text, board_text, harts_text, tell};
-use board_model::{Refusal, Shape};
+use crate::texts::{answer_text, board_text, harts_text, tell, when_text};
+use board_model::{HartId, Refusal, Shape};
 use crew::Crew;
 use debug_session::Session;
 use gdb_requests::behind;
 use hex::FromHexError;
-use script_lang::{Line, parse_script};
+use script_lang::{Line, number, parse_script};
 use std::alloc::Global;
 
 const HELP: &str = "\
@@ -29,12 +29,18 @@ Any line of the script language is run, becomes part of the history, and says it
 Beside them:
   script    the history as a script, which sbibench runs to the same reports
   harts     what each hart stands at
+  when      how many lives, lines and turns the history has, and the hart that is shown
+  goto N    back to before the turn that came behind N others
   help      this text
 After a line that moves the board, `maintenance flush register-cache` (flushregs) shows it.
 ";
 
-/// What is no line of the language is told.
-const NO_LINE: &str = "not a line of the script language: see monitor help\n";
+/// What is no line of the language is told, and a line whose number or place no board of this shape has.
+const NO_LINE: &str =
+    "not a line of the script language, or a number is out of its range: see monitor help\n";
+
+/// The most lines of a script behind its board line.
+const MOST_LINES: usize = 65535;
 
 /// The line of a script that has just one.
 #[tactic(auto, using(crate::proofs::Lines::just_from))]
@@ -88,20 +94,69 @@ fn run_text<C: Crew>(session: &mut Session<'_, C>, text: &[u8]) -> Result<String
     }
 }
 
-/// What `monitor` says: of a word of the debugger's own, which changes nothing, or a line's report.
-fn monitored<C: Crew>(session: &mut Session<'_, C>, text: &[u8]) -> Result<String, Refusal>
+/// The history as a script; a comment behind it says where it is longer than a script may be.
+fn script_said<C: Crew>(session: &Session<'_, C>) -> Result<String, Refusal>
+    ensures { IfOk result (λ said. string_bytes said
+        ≡ script_text (size_of session.now) (begins_of session.now) (history_of session.now)) }
+{
+    let mut script = session.script()?;
+    script.push_str("\n")?;
+    if MOST_LINES < session.lines() {
+        script.push_str(
+            "# this is longer than a script may be: 65,535 lines behind the board line\n",
+        )?;
+    }
+    Ok(script)
+}
+
+/// The number of turns to which `goto` is to go, where a text says one.
+fn goto_in(text: &[u8]) -> Option<u64>
+    ensures { result ≡ goto_in text.now }
+{
+    number(behind(text, b"goto ")?)
+}
+
+/// Goes back to before the turn that came behind so many, where a text asks for it, or runs the line that it is.
+fn go_or_run<C: Crew>(
+    session: &mut Session<'_, C>,
+    hart: HartId,
+    text: &[u8],
+) -> Result<String, Refusal>
     requires at { IsAt (size_of session.old) (timeline_of session.old) }
     ensures at { OnOk result (IsAt (size_of session.new) (timeline_of session.new)) }
     ensures size { size_of session.new ≡ size_of session.old }
     ensures plan { plan_of session.new ≡ plan_of session.old }
     ensures stops { stops_of session.new ≡ stops_of session.old }
-    ensures moved { IfOk result (λ said. TextSaid text.now (size_of session.old)
+    ensures moved { IfOk result (λ said. GotoOr (goto_in text.now) text.now (size_of session.old) hart
+        (timeline_of session.old) (timeline_of session.new) (string_bytes said)) }
+{
+    let Some(turns) = goto_in(text) else {
+        return run_text(session, text);
+    };
+    let found = session.go_to(turns)?;
+    let when = when_text(session, hart)?;
+    if found {
+        return Ok(when);
+    }
+    Ok(format!(in session.setting().alloc; "no turn came behind so many: {when}")?)
+}
+
+/// What `monitor` says: of a word of the debugger's own, or a line's report.
+fn monitored<C: Crew>(
+    session: &mut Session<'_, C>,
+    hart: HartId,
+    text: &[u8],
+) -> Result<String, Refusal>
+    requires at { IsAt (size_of session.old) (timeline_of session.old) }
+    ensures at { OnOk result (IsAt (size_of session.new) (timeline_of session.new)) }
+    ensures size { size_of session.new ≡ size_of session.old }
+    ensures plan { plan_of session.new ≡ plan_of session.old }
+    ensures stops { stops_of session.new ≡ stops_of session.old }
+    ensures moved { IfOk result (λ said. TextSaid text.now (size_of session.old) hart
         (timeline_of session.old) (timeline_of session.new) (string_bytes said)) }
 {
     if text == b"script".as_slice() {
-        let mut script = session.script()?;
-        script.push_str("\n")?;
-        return Ok(script);
+        return script_said(session);
     }
     if text.is_empty() || text == b"help".as_slice() {
         return Ok(String::from_str(session.setting().alloc, HELP)?);
@@ -109,7 +164,10 @@ fn monitored<C: Crew>(session: &mut Session<'_, C>, text: &[u8]) -> Result<Strin
     if text == b"harts".as_slice() {
         return harts_text(session);
     }
-    run_text(session, text)
+    if text == b"when".as_slice() {
+        return Ok(when_text(session, hart)?);
+    }
+    go_or_run(session, hart, text)
 }
 
 /// The bytes that pairs of digits write.
@@ -130,7 +188,7 @@ impl<'a, C: Crew> Talk<'a, C> {
         requires none { out.old.items ≡ [] }
         ensures at { OnOk result (IsAt (size_of self.new.session) (timeline_of self.new.session)) }
         ensures size { size_of self.new.session ≡ size_of self.old.session }
-        ensures moved { IfOk result (λ v. MonitoredBy (behind_prefix (codes "qRcmd,") packet.now) (size_of self.old.session)
+        ensures moved { IfOk result (λ v. MonitoredBy (behind_prefix (codes "qRcmd,") packet.now) (size_of self.old.session) self.old.hart
             (timeline_of self.old.session) (timeline_of self.new.session) (map (λ v. v.items) out.new.items) v.items) }
         ensures plan { plan_of self.new.session ≡ plan_of self.old.session }
         ensures stops { stops_of self.new.session ≡ stops_of self.old.session }
@@ -143,7 +201,7 @@ impl<'a, C: Crew> Talk<'a, C> {
         let Some(line) = unhex(self.alloc(), word)? else {
             return self.said(b"E01");
         };
-        let text = monitored(&mut self.session, &line)?;
+        let text = monitored(&mut self.session, self.hart, &line)?;
         tell(self.alloc(), text.as_bytes(), out)?;
         self.said(b"OK")
     }

@@ -56,12 +56,13 @@ fn register<C: Crew>(
     Ok(out)
 }
 
-/// Bytes of memory, where all of them lie in RAM of a board that is on; else the error 0e.
+/// Bytes of memory, where all of them lie in RAM of a board that is on; else the error 0e, and 01 where none are asked for.
 fn memory<C: Crew>(session: &Session<'_, C>, address: u64, count: u64) -> Result<Vec<u8>, Refusal>
     ensures { IfOk result (λ v. v.items ≡ memory_reply (memory_in address count (machine_of_session session.now))) }
 {
     let alloc = session.setting().alloc;
     match session.bench().memory(address, count) {
+        Some(bytes) if bytes.is_empty() => Ok(Vec::from_slice(alloc, b"E01")?),
         Some(bytes) => {
             let mut out = Vec::new(alloc);
             put_hex(&mut out, bytes)?;
@@ -152,7 +153,9 @@ pub(crate) fn reply_of<C: Crew>(
         Look::Registers => Ok(Some(registers(session, hart)?)),
         Look::Register(number) => Ok(Some(register(session, hart, number)?)),
         Look::Memory(address, count) => Ok(Some(memory(session, address, count)?)),
-        Look::Show(thread) | Look::IsAlive(thread) => Ok(Some(alive(alloc, shape, thread)?)),
+        Look::Show(thread) | Look::Run(thread) | Look::IsAlive(thread) => {
+            Ok(Some(alive(alloc, shape, thread)?))
+        }
         Look::Supports => Ok(Some(features(alloc)?)),
         Look::Part(object, offset, count) => Ok(Some(part_of(session, object, offset, count)?)),
         Look::CurrentThread => Ok(Some(current(alloc, hart)?)),
@@ -160,7 +163,8 @@ pub(crate) fn reply_of<C: Crew>(
         Look::FirstThreads => Ok(Some(threads(alloc, shape.harts())?)),
         Look::MoreThreads => Ok(Some(Vec::from_slice(alloc, b"l")?)),
         Look::Actions => Ok(Some(Vec::from_slice(alloc, b"vCont;c;C;s;S;r")?)),
-        Look::AnyThread
+        Look::RunShown
+        | Look::AnyThread
         | Look::SetPoint(_)
         | Look::ClearPoint(_)
         | Look::SetWatch(_, _)

@@ -1,7 +1,8 @@
 //! What a `vCont` asks of the harts of a board.
 
-ghost use Rattle.std.specs.Prelude.{◌≡◌, ◌<◌, map, codes, IfOk, IfSome};
-ghost use Rattle.debug_packets.specs.Resumes.{goers_by, is_going, IsAskedBy, IsAskedIn};
+ghost use Rattle.std.specs.Prelude.{◌≡◌, ◌<◌, ◌+◌, false, map, codes, IfOk, IfNone, IfSome};
+ghost use Rattle.debug_packets.specs.Resumes.{goers_by, is_going, steps, IsAskedBy, IsAskedIn, NoneSteps};
+ghost use Rattle.gdb_requests.specs.Actions.{first_asked};
 ghost use Rattle.gdb_requests.specs.Fields.{behind_prefix};
 
 use crate::asked::Asked;
@@ -11,12 +12,14 @@ use std::alloc::Global;
 
 /// The step that a hart is to make, if it is to make one.
 fn step_of(shape: &Shape, words: &[&[u8]], number: u64) -> Option<Asked>
-    requires { number < 8 }
-    ensures { IfSome result (IsAskedIn shape.now (map (λ w. w.now) words.now)) }
+    requires { number < shape.now.harts }
+    ensures some { IfSome result (IsAskedIn shape.now (map (λ w. w.now) words.now)) }
+    ensures none { IfNone result (steps (first_asked (number + 1) (map (λ w. w.now) words.now)) ≡ false) }
 {
     let hart = shape.hart(number)?;
     match action_for(words, number + 1) {
-        None | Some(Action::Go) => None,
+        None => None,
+        Some(Action::Go) => None,
         Some(Action::Step) => Some(Asked::Step(hart)),
         Some(Action::StepWithin(first, end)) => Some(Asked::StepWithin(hart, first, end)),
     }
@@ -24,7 +27,8 @@ fn step_of(shape: &Shape, words: &[&[u8]], number: u64) -> Option<Asked>
 
 /// The step of the first hart that is to make one.
 fn first_step(shape: &Shape, words: &[&[u8]]) -> Option<Asked>
-    ensures { IfSome result (IsAskedIn shape.now (map (λ w. w.now) words.now)) }
+    ensures some { IfSome result (IsAskedIn shape.now (map (λ w. w.now) words.now)) }
+    ensures none { IfNone result (NoneSteps shape.now.harts (map (λ w. w.now) words.now)) }
 {
     for number in 0..u64::from(shape.harts()) {
         if let Some(asked) = step_of(shape, words, number) {

@@ -3,6 +3,7 @@
 ghost use Rattle.std.specs.Prelude.{◌≡◌, ◌++◌, IfOk, OnOk};
 ghost use Rattle.debug_packets.specs.Stops.{reason_text, signal_text, stop_text, watch_text};
 
+use board_model::HartId;
 use debug_session::{Halt, Stop};
 use gdb_packets::digit;
 use std::alloc::{AllocError, Global};
@@ -59,7 +60,13 @@ pub fn stop_text(alloc: Global, stop: Stop, takes_swbreak: bool) -> Result<Vec<u
     Ok(out)
 }
 
-/// What the console says of a stop that GDB has no words for.
+/// What the console says of a hart that was to step and has nothing to do, which is in that state.
+pub fn idle_text(alloc: Global, hart: HartId, state: &str) -> Result<String, AllocError> {
+    let number = hart.number();
+    format!(in alloc; "hart {number} has nothing to do: it is {state}\n")
+}
+
+/// What the console says of a stop of harts that went on, where GDB has no words for it.
 pub fn told_of(halt: Halt) -> &'static str {
     match halt {
         Halt::Idle => "every hart that may run has nothing to do\n",

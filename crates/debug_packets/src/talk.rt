@@ -1,6 +1,7 @@
 //! A talk with GDB.
 
 ghost use Rattle.std.specs.Prelude.{◌<◌};
+ghost use Rattle.std.specs.Option.{ForSome};
 ghost use Rattle.debug_session.specs.Sessions.{size_of};
 
 use board_model::HartId;
@@ -10,13 +11,18 @@ use debug_session::{Session, Stop};
 #[derive(Drop)]
 pub struct Talk<'a, C> {
     pub(crate) session: Session<'a, C>,
-    /// The hart that is shown, and that steps.
+    /// The hart that is shown.
     pub(crate) hart: HartId,
+    /// The hart that steps and goes on first, where `Hc` chose one; else it is the one that is shown.
+    pub(crate) runner: Option<HartId>,
     /// Why nothing runs.
     pub(crate) last: Stop,
     /// Whether GDB takes `swbreak` as a reason.
     pub(crate) takes_swbreak: bool,
     pub(crate) acknowledges: bool,
     pub(crate) is_over: bool,
+    /// What was sent last in answer to a packet, since it may be wanted again.
+    pub(crate) sent: Vec<u8>,
     ghost there: { hart < (size_of session).harts },
+    ghost runner_there: { ForSome runner (λ h. h < (size_of session).harts) },
 }

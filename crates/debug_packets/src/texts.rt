@@ -1,9 +1,9 @@
 //! Texts of a session: an answer, its harts.
 
 ghost use Rattle.std.specs.Prelude.{◌≡◌, ◌++◌, ◌<◌, ℕ, List, map, string_bytes, IfOk, OnOk};
-ghost use Rattle.debug_session.specs.Sessions.{bench_of, size_of};
+ghost use Rattle.debug_session.specs.Sessions.{bench_of, history_of, size_of};
 ghost use Rattle.report_lines.specs.Texts.{found_line, answer_text};
-ghost use Rattle.debug_packets.specs.Texts.{HandOver, board_line, hart_line, hart_lines, thread_line, thread_lines, threads_object};
+ghost use Rattle.debug_packets.specs.Texts.{HandOver, board_line, hart_line, hart_lines, thread_line, thread_lines, threads_object, when_text};
 
 use crate::answers::Payloads;
 use bench_report::Answer;
@@ -88,6 +88,17 @@ pub fn harts_text<C: Crew>(session: &Session<'_, C>) -> Result<String, Refusal>
         text.push_str(line.as_str())?;
     }
     Ok(text)
+}
+
+/// Where a session stands, whose hart of that number is shown.
+pub fn when_text<C: Crew>(session: &Session<'_, C>, hart: HartId) -> Result<String, AllocError>
+    ensures { IfOk result (λ text. string_bytes text ≡ when_text hart (history_of session.now)) }
+{
+    let life = session.lives();
+    let line = session.lines();
+    let turn = session.turns();
+    let number = hart.number();
+    format!(in session.setting().alloc; "life {life}, line {line}, turn {turn}, hart {number}\n")
 }
 
 /// A hart as a thread, with its state.

@@ -1,11 +1,11 @@
 //! What is sent for a packet.
 
-ghost use Rattle.std.specs.Prelude.{◌≡◌, ◌++◌, ℕ, List, OnOk};
+ghost use Rattle.std.specs.Prelude.{ℕ, List, OnOk};
 ghost use Rattle.std.specs.Io.KnownBytes.{Appends};
 ghost use Rattle.debug_timeline.specs.Ats.{IsAt};
 ghost use Rattle.debug_session.specs.Sessions.{size_of, timeline_of};
-ghost use Rattle.debug_packets.specs.Answers.{IsAnswer, front_text};
-ghost use Rattle.debug_packets.specs.Talks.{acknowledges_in, session_in};
+ghost use Rattle.debug_packets.specs.Answers.{IsReplied, again_text, front_text};
+ghost use Rattle.debug_packets.specs.Talks.{session_in};
 ghost use Rattle.gdb_replies.specs.Replies.{packets_of};
 
 use crate::talk::Talk;
@@ -24,19 +24,21 @@ fn send<W: Write>(out: &mut W, bytes: &[u8]) -> Result<(), Refusal>
     out.flush().map_err(|_| Refusal::Output)
 }
 
-/// The acknowledgement of a packet, where these are wanted.
-fn front<C: Crew>(talk: &Talk<'_, C>) -> &'static [u8]
-    ensures { result.now ≡ front_text (acknowledges_in talk.now) }
+/// Acknowledges a packet on a writer, where that is wanted.
+///
+/// Refused `Output` where the debugger does not read.
+pub fn acknowledge<W: Write>(acknowledges: bool, out: &mut W) -> Result<(), Refusal>
+    ensures { OnOk result (Appends (W.contents out.old) (W.contents out.new) (front_text acknowledges)) }
 {
-    if talk.acknowledges() {
-        b"+".as_slice()
+    if acknowledges {
+        send(out, b"+")
     } else {
-        b"".as_slice()
+        send(out, b"")
     }
 }
 
-/// Answers a packet on a writer: its acknowledgement, where these are wanted, and the payloads of its answer, each in
-/// its packet.
+/// Answers a packet on a writer: the payloads of its answer, each in its packet. The talk keeps them, since they may be
+/// wanted again.
 ///
 /// Refused `Output` where the debugger does not read, and `Memory`; then the talk is of no use.
 pub fn reply<C: Crew, W: Write>(
@@ -48,13 +50,23 @@ pub fn reply<C: Crew, W: Write>(
 ) -> Result<(), Refusal>
     requires at { IsAt (size_of (session_in talk.old)) (timeline_of (session_in talk.old)) }
     ensures at { OnOk result (IsAt (size_of (session_in talk.new)) (timeline_of (session_in talk.new))) }
-    ensures sent { OnOk result ((payloads : List (List ℕ)) × IsAnswer packet.now talk.old talk.new payloads
-        × Appends (W.contents out.old) (W.contents out.new)
-        (front_text (acknowledges_in talk.old) ++ packets_of payloads)) }
+    ensures sent { OnOk result ((payloads : List (List ℕ)) × IsReplied packet.now talk.old talk.new payloads
+        × Appends (W.contents out.old) (W.contents out.new) (packets_of payloads)) }
 {
-    let front = front(talk);
     let payloads = talk.answer(packet, interrupt)?;
-    let mut bytes = Vec::from_slice(alloc, front)?;
-    bytes.extend_from_slice(&packets(alloc, &payloads)?)?;
-    send(out, &bytes)
+    talk.sent = packets(alloc, &payloads)?;
+    send(out, &talk.sent)
+}
+
+/// Sends what was sent last in answer to a packet once more, where packets are acknowledged.
+///
+/// Refused `Output` where the debugger does not read.
+pub fn reply_again<C: Crew, W: Write>(talk: &Talk<'_, C>, out: &mut W) -> Result<(), Refusal>
+    ensures { OnOk result (Appends (W.contents out.old) (W.contents out.new) (again_text talk.now)) }
+{
+    if talk.acknowledges() {
+        send(out, &talk.sent)
+    } else {
+        send(out, b"")
+    }
 }

@@ -16,7 +16,7 @@ use Rattle.debug_timeline.specs.Ats.{IsPlace}
 use Rattle.debug_timeline.specs.declared.timeline.Timeline.{Timeline}
 use Rattle.debug_timeline.proofs.Histories.{left_moments, place_at, place_before}
 use Rattle.debug_session.specs.Backs.{BackTo, EndsAt, FoundIn, FoundOf, IsEnd, IsPassed, IsRowPast, IsSeen, IsWhyBack, MayMove, PassBack, before_place, halt_back, later_place, later_turn}
-use Rattle.debug_session.specs.Firsts.{KeepsWatched, Tells, is_at_point, one_turn}
+use Rattle.debug_session.specs.Firsts.{changed_by, is_at_point, one_turn}
 use Rattle.debug_session.specs.Steps.{MakesNone}
 use Rattle.debug_session.specs.declared.back.Place.{Place}
 use Rattle.debug_session.specs.declared.halts.Halt.{Halt}
@@ -88,7 +88,7 @@ module _ (size : Size) (stops : Stops) where
   pass_run (x ∷ xs) b new (next, (move, is), passed) = let more = pass_run xs next new passed in (move.0 ∷ more.0, (next, move.1, more.1))
 
   -- what is seen of a turn
-  pub is_seen : (h : ℕ) (b new : Bench) (stands : Bool) (changed : Option ℕ) → is_at_point stops h b ≡ stands → Tells changed (KeepsWatched stops b new) → IsSeen (halt_back stands changed) stops h b new
+  pub is_seen : (h : ℕ) (b new : Bench) (stands : Bool) (changed : Option ℕ) → is_at_point stops h b ≡ stands → changed_by stops b new ≡ changed → IsSeen (halt_back stands changed) stops h b new
   is_seen h b new true None at told = at
   is_seen h b new false None at told = (at, told)
   is_seen h b new stands (Some address) at told = told

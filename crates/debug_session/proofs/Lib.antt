@@ -4,3 +4,5 @@ pub mod Places
 pub mod Firsts
 pub mod Backs
 pub mod Withins
+pub mod Others
+pub mod Turns

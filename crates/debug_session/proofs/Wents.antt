@@ -1,5 +1,5 @@
 -- Turns that became part of a history, one command after another.
-use Rattle.std.proofs.Common.{◌≡◌, ◌≤◌, ◌+◌, ◌-◌, ◌⊎◌, inl, inr, ℕ, Bool, true, false, List, [], ◌∷◌, ◌++◌, Option, length, refl, sym, ap, ◌∙◌, subst, append_assoc, arith}
+use Rattle.std.proofs.Common.{◌≡◌, ◌≤◌, ◌+◌, ◌-◌, ◌⊎◌, inl, inr, ℕ, Bool, true, false, List, [], ◌∷◌, ◌++◌, Option, Some, None, length, refl, sym, ap, ◌∙◌, subst, append_assoc, arith}
 use Rattle.std.specs.Prelude.{All}
 use Rattle.std.proofs.lemmas.List.{append-nil, length-append}
 use Rattle.std.proofs.lemmas.List.Elements.{All-append, All-cons, All-head, All-nil, All-tail}
@@ -14,9 +14,13 @@ use Rattle.debug_timeline.specs.declared.timeline.Timeline.{Timeline}
 use Rattle.bench_report.specs.Bench.{Bench}
 use Rattle.debug_timeline.specs.Passes.{GoesTo, Passes}
 use Rattle.debug_timeline.specs.Ats.{IsAt}
+use Rattle.debug_timeline.specs.Lives.{machine_of, pc_in}
+use Rattle.debug_session.specs.declared.forth.Part.{Part}
 use Rattle.debug_session.specs.declared.halts.Halt.{Halt}
+use Rattle.debug_session.specs.declared.halts.Halt.TheVariants as halts
 use Rattle.debug_session.specs.Firsts.{Stretched}
-use Rattle.debug_session.specs.Steps.{IsStep, IsTurnOf, Went}
+use Rattle.debug_session.specs.Steps.{EndsStep, IsStep, IsTurnOf, Went, halt_step}
+use Rattle.debug_session.specs.Withins.{HaltsBy, MadeOne}
 
 -- none
 pub went_none : (May : ℕ → Type 0) (size : Size) (t : Timeline) → IsAt size t → Went May 0 size t t
@@ -61,10 +65,6 @@ went_more May Next n k size first mid last may one two = record {
 
 -- ---- turns of one hart
 
-rests_or : (rests : Bool) (P : Type 0) → (rests ≡ false → (◌≡◌ {A = ℕ} 1 0) ⊎ P) → (rests ≡ true) ⊎ P
-rests_or true P why = inl refl
-rests_or false P why = elim (why refl) [ inl never ↦ absurd (omega (arith, never)) | inr p ↦ inr p ]
-
 -- one turn comes to any address
 one_turn : (size : Size) (h : ℕ) (points : List ℕ) (row : Row) (b new : Bench) → IsWithin 1 row → GoesTo size h points row b new → GoesTo size h [] row b new
 one_turn size h points rows.Off b new within goes = goes
@@ -80,9 +80,27 @@ one_turn size h points (rows.Lost n) b new within (mid, passed, last) =
     (mid, subst Q (sym none) (subst P none passed), last)
 
 -- one turn, as a step
-pub step_of : (size : Size) (h made : ℕ) (points : List ℕ) (rests : Bool) (halt : Option Halt) (old new : Timeline) → Stretched size h 1 points made rests halt old new
-    → IsStep size h old new
-step_of size h made points rests halt old new (row, turns, e, within, why, is) = (row, rests, within, record { moves = λ b left. (let did = turns.moves b left in (did.0, did.1, did.2, did.3, one_turn size h points row b did.0 within did.4)); grew = turns.grew; busy = turns.busy }, λ off. rests_or rests _ (why off))
+step_ends : (row : Row) (rests : Bool) (pc : Option ℕ) (made : ℕ) (halt : Option Halt) → IsWithin 1 row → made ≡ made_in row → HaltsBy row rests pc halt → EndsStep row rests pc (halt_step halt made)
+step_ends rows.Off true pc made halt within count by =
+    let P : Option Halt → Type 0 = λ x. halt_step x made ≡ halts.Idle in
+    let Q : ℕ → Type 0 = λ k. halt_step None k ≡ halts.Idle in
+    subst P (sym by) (subst Q (sym count) refl)
+step_ends rows.Off false pc made halt within count by = (ap (λ (x : Option Halt). halt_step x made) by.0, by.1)
+step_ends (rows.Made n word) rests pc made None within count by = inl (stepped made (omega (arith, within, count)))
+  where
+    stepped : (k : ℕ) → k ≡ 1 → halt_step None k ≡ halts.Stepped
+    stepped k is = let P : ℕ → Type 0 = λ x. halt_step None x ≡ halts.Stepped in subst P (sym is) refl
+step_ends (rows.Made n word) rests pc made (Some halt) within count by = inr by
+step_ends (rows.Lost n) rests pc made halt within count by = ap (λ (x : Option Halt). halt_step x made) by
+
+pub step_of : (size : Size) (h : ℕ) (points : List ℕ) (part : Part) (old new : Timeline) → MadeOne size h points part old new → IsStep size h (halt_step part.halt part.made) old new
+step_of size h points part old new (row, turns, within, count, by) = (
+  row,
+  part.rests,
+  within,
+  record { moves = λ b left. (let did = turns.moves b left in (did.0, did.1, did.2, did.3, one_turn size h points row b did.0 within did.4)); grew = turns.grew; busy = turns.busy },
+  step_ends row part.rests (pc_in h (machine_of new.bench)) part.made part.halt within count by,
+)
 
 pub few_of : (size : Size) (h most made : ℕ) (points : List ℕ) (rests : Bool) (halt : Option Halt) (old new : Timeline) → Stretched size h most points made rests halt old new
     → made ≤ most

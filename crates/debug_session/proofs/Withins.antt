@@ -9,17 +9,18 @@ use Rattle.bench_history.specs.Pasts.{moments}
 use Rattle.bench_report.specs.Bench.{Bench}
 use Rattle.bench_rows.specs.declared.rows.Row.{Row}
 use Rattle.bench_rows.specs.declared.rows.Row.TheVariants as rows
-use Rattle.bench_rows.specs.Rows.{IsWithin, RowMoves, made_in}
+use Rattle.bench_rows.specs.Rows.{IsWithin, RowMoves, is_off, made_in}
 use Rattle.debug_timeline.specs.declared.timeline.Timeline.{Timeline}
 use Rattle.debug_timeline.specs.Ats.{IsLeft, MadeTurns}
 use Rattle.debug_timeline.specs.Lives.{Rests, machine_of, pc_in}
 use Rattle.debug_timeline.specs.Passes.{machine_left}
 use Rattle.debug_timeline.proofs.Passed.{shown_machine}
+use Rattle.debug_session.specs.declared.forth.Part.{Part}
 use Rattle.debug_session.specs.declared.forth.Within.{Within}
 use Rattle.debug_session.specs.declared.halts.Halt.{Halt}
 use Rattle.debug_session.specs.declared.halts.Halt.TheVariants as halts
 use Rattle.debug_session.specs.Firsts.{Stretched, halt_after, halt_seen, halts_all, is_of_turn, one_turn}
-use Rattle.debug_session.specs.Withins.{HaltsBy, LeftBy, StayedWithin, StaysWithin, IsSpent, StepsTo, StepsWithin, TurnsOnce, is_in, is_pc_in}
+use Rattle.debug_session.specs.Withins.{HaltsBy, LeftBy, MadeOne, StayedWithin, StaysWithin, IsSpent, StepsTo, StepsWithin, TurnsOnce, is_in, is_pc_in}
 
 -- ---- one turn at most
 behind_turn : (ended stands : Bool) (changed : Option ℕ) → IfSome (halt_seen (if ended then Some halts.Ended else (if stands then Some halts.Point else None)) changed) (λ x. is_of_turn x ≡ true)
@@ -29,26 +30,21 @@ behind_turn false true (Some address) = refl
 behind_turn false false None = tt
 behind_turn false false (Some address) = refl
 
-halts_by : (row : Row) (rests stands : Bool) (changed : Option ℕ) (halt : Option Halt) → halt ≡ halt_seen (halt_after row rests stands) changed → (made_in row ≡ 0 → changed ≡ None) → HaltsBy row rests halt
-halts_by rows.Off true stands changed halt is none = is ∙ ap (halt_seen None) (none refl)
-halts_by rows.Off false stands changed halt is none = is
-halts_by (rows.Made n word) rests stands changed halt is none =
+or_never : (P : Type 0) → (◌≡◌ {A = ℕ} 1 0) ⊎ P → P
+or_never P either = elim either [ inl never ↦ absurd (omega (arith, never)) | inr p ↦ p ]
+
+halts_by : (row : Row) (rests stands : Bool) (pc : Option ℕ) (changed : Option ℕ) (halt : Option Halt) → halt ≡ halt_seen (halt_after row rests stands) changed → (made_in row ≡ 0 → changed ≡ None)
+    → (is_off row ≡ true → rests ≡ false → (◌≡◌ {A = ℕ} 1 0) ⊎ (pc ≡ None)) → HaltsBy row rests pc halt
+halts_by rows.Off true stands pc changed halt is none why = is ∙ ap (halt_seen None) (none refl)
+halts_by rows.Off false stands pc changed halt is none why = (is, or_never (pc ≡ None) (why refl refl))
+halts_by (rows.Made n word) rests stands pc changed halt is none why =
     let P : Option Halt → Type 0 = λ x. IfSome x (λ y. is_of_turn y ≡ true) in subst P (sym is) (behind_turn (halts_all word) stands changed)
-halts_by (rows.Lost n) rests stands changed halt is none = let P : Option Halt → Type 0 = λ x. IfSome x (λ y. is_of_turn y ≡ true) in subst P (sym is) refl
+halts_by (rows.Lost n) rests stands pc changed halt is none why = is
 
 pub made_one : (size : Size) (h made : ℕ) (points : List ℕ) (rests : Bool) (at halt : Option Halt) (changed : Option ℕ) (old new : Timeline) → Stretched size h 1 points made rests at old new → halt ≡ halt_seen at changed → (made ≡ 0 → changed ≡ None)
-    → (row : Row) × MadeTurns size h points row rests old new × IsWithin 1 row × (made ≡ made_in row) × HaltsBy row rests halt
+    → (row : Row) × MadeTurns size h points row rests old new × IsWithin 1 row × (made ≡ made_in row) × HaltsBy row rests (pc_in h (machine_of new.bench)) halt
 made_one size h made points rests at halt changed old new (row, turns, count, within, why, is) seen none =
-    (row, turns, within, count, halts_by row rests _ changed halt (seen ∙ ap (λ (x : Option Halt). halt_seen x changed) is) (λ e. none (count ∙ e)))
-
--- whether it steps on
-pub steps_off : (rests inside : Bool) → (if rests then false else inside) ≡ false → (rests ≡ true) ⊎ (inside ≡ false)
-steps_off true inside is = inl refl
-steps_off false inside is = inr is
-
-pub steps_on : (rests inside : Bool) → (if rests then false else inside) ≡ true → (rests ≡ false) × (inside ≡ true)
-steps_on true inside is = absurd (let never : ⊥ = cc in never)
-steps_on false inside is = (refl, is)
+    (row, turns, within, count, halts_by row rests _ (pc_in h (machine_of new.bench)) changed halt (seen ∙ ap (λ (x : Option Halt). halt_seen x changed) is) (λ e. none (count ∙ e)) why)
 
 left_by : (within : Within) (h : ℕ) (halt : Halt) (b : Bench) → is_of_turn halt ≡ true → LeftBy within h halt b
 left_by within h halts.Stepped b of_turn = absurd (let never : ⊥ = cc in never)
@@ -96,92 +92,74 @@ module _ (size : Size) (within : Within) (h : ℕ) where
     ran = λ b left. (let was = stayed.ran b left in (was.0, inl (was.1, spent was.0), was.2));
   }
 
-  pub steps_spent : (n : ℕ) (first last : Timeline) → StayedWithin size within h n first last → n ≡ within.most → StepsWithin size within h halts.Stepped first last
-  steps_spent n first last stayed all = of_stayed n halts.Stepped first last stayed (λ b. inr all)
+  pub steps_spent : (n : ℕ) (first last : Timeline) → StayedWithin size within h n first last → n ≡ within.most → StepsWithin size within h halts.Spent first last
+  steps_spent n first last stayed all = of_stayed n halts.Spent first last stayed (λ b. all)
 
   pub steps_asked : (n : ℕ) (first last : Timeline) → StayedWithin size within h n first last → StepsWithin size within h halts.Interrupted first last
   steps_asked n first last stayed = of_stayed n halts.Interrupted first last stayed (λ b. tt)
 
-  module _ (n : ℕ) (points : List ℕ) (rests : Bool) (first mid last : Timeline) (stayed : StayedWithin size within h n first mid) where
+  module _ (n : ℕ) (points : List ℕ) (part : Part) (first mid last : Timeline) (stayed : StayedWithin size within h n first mid) where
     -- a turn was made
-    once_grew : (row : Row) → MadeTurns size h points row rests mid last → made_in row ≡ 1 → moments last.history ≡ moments first.history ++ replicate (n + 1) (one_turn h)
+    once_grew : (row : Row) → MadeTurns size h points row part.rests mid last → made_in row ≡ 1 → moments last.history ≡ moments first.history ++ replicate (n + 1) (one_turn h)
     once_grew row turns one =
         let P : ℕ → Type 0 = λ j. moments last.history ≡ moments first.history ++ replicate (n + j) (one_turn h) in
         subst P one (joined n (made_in row) first mid last stayed.grew turns.grew)
 
     -- and the hart steps on
-    once_more : (row : Row) → MadeTurns size h points row rests mid last → made_in row ≡ 1 → is_in within (pc_in h (machine_of last.bench)) ≡ true → StayedWithin size within h (n + 1) first last
-    once_more row turns one is = record {
-      grew = once_grew row turns one;
-      ran = λ b left. (let was = stayed.ran b left in let did = turns.moves was.0 was.2 in (did.0, one_more n b was.0 did.0 was.1 (row, one, did.1) (sym (is_shown last did.0 did.2) ∙ is), did.2));
+    pub stayed_more : MadeOne size h points part mid last → part.made ≡ 1 → is_in within (pc_in h (machine_of last.bench)) ≡ true → StayedWithin size within h (n + 1) first last
+    stayed_more (row, turns, few, count, found) made is = record {
+      grew = once_grew row turns (sym count ∙ made);
+      ran = λ b left. (let was = stayed.ran b left in let did = turns.moves was.0 was.2 in (did.0, one_more n b was.0 did.0 was.1 (row, sym count ∙ made, did.1) (sym (is_shown last did.0 did.2) ∙ is), did.2));
     }
 
     -- and is the last
-    once_left : (row : Row) (halt : Halt) → MadeTurns size h points row rests mid last → made_in row ≡ 1 → ((b : Bench) → IsLeft size last b → LeftBy within h halt b) → StepsWithin size within h halt first last
+    once_left : (row : Row) (halt : Halt) → MadeTurns size h points row part.rests mid last → made_in row ≡ 1 → ((b : Bench) → IsLeft size last b → LeftBy within h halt b) → StepsWithin size within h halt first last
     once_left row halt turns one why = record {
       count = n + 1;
       grew = once_grew row turns one;
       ran = λ b left. (let was = stayed.ran b left in let did = turns.moves was.0 was.2 in (did.0, inr (n, was.0, refl, was.1, (row, one, did.1), why did.0 did.2), did.2));
     }
 
-    -- and the next is idle
-    once_rests : (row : Row) → MadeTurns size h points row rests mid last → made_in row ≡ 1 → is_in within (pc_in h (machine_of last.bench)) ≡ true → rests ≡ true → StepsWithin size within h halts.Stepped first last
-    once_rests row turns one is idle = record {
-      count = n + 1;
-      grew = once_grew row turns one;
-      ran =
-          λ b left. (let was = stayed.ran b left in
-          let did = turns.moves was.0 was.2 in
-          let P : Bool → Type 0 = λ x. Rests size h x did.0 in
-          (did.0, inl (one_more n b was.0 did.0 was.1 (row, one, did.1) (sym (is_shown last did.0 did.2) ∙ is), inl (subst P idle did.3)), did.2));
-    }
+    pub steps_out : MadeOne size h points part mid last → part.made ≡ 1 → is_in within (pc_in h (machine_of last.bench)) ≡ false → StepsWithin size within h halts.Stepped first last
+    steps_out (row, turns, few, count, found) made is = once_left row halts.Stepped turns (sym count ∙ made) (λ b left. sym (is_shown last b left) ∙ is)
 
     -- no turn was made
-    none_made : (halt : Halt) → MadeTurns size h points rows.Off rests mid last → ((b : Bench) → Rests size h rests b → IsSpent size within h halt n b) → StepsWithin size within h halt first last
+    none_made : (halt : Halt) → MadeTurns size h points rows.Off part.rests mid last → ((b : Bench) → IsLeft size last b → Rests size h part.rests b → IsSpent size within h halt n b) → StepsWithin size within h halt first last
     none_made halt turns spent = record {
       count = n;
       grew = (let same : n + 0 ≡ n = omega arith in
           let P : ℕ → Type 0 = λ j. moments last.history ≡ moments first.history ++ replicate j (one_turn h) in
           subst P same (joined n 0 first mid last stayed.grew turns.grew));
-      ran = λ b left. (let was = stayed.ran b left in let did = turns.moves was.0 was.2 in (did.0, inl (same_bench n b was.0 did.0 did.1 was.1, spent did.0 did.3), did.2));
+      ran = λ b left. (let was = stayed.ran b left in let did = turns.moves was.0 was.2 in (did.0, inl (same_bench n b was.0 did.0 did.1 was.1, spent did.0 did.2 did.3), did.2));
     }
 
-    rests_so : (idle : rests ≡ true) (b : Bench) → Rests size h rests b → Rests size h true b
-    rests_so idle b so = let P : Bool → Type 0 = λ x. Rests size h x b in subst P idle so
+    -- since the board is off, or lacks the hart
+    off_so : pc_in h (machine_of last.bench) ≡ None → (b : Bench) → IsLeft size last b → pc_in h (machine_left b.power) ≡ None
+    off_so off b left = sym (ap (λ (m : Option Machine). pc_in h m) (shown_machine size b last.bench.live.power last.bench.live.payloads left.2)) ∙ off
 
-    outside : (row : Row) (e : Bool) → is_in within (pc_in h (machine_of last.bench)) ≡ e → MadeTurns size h points row rests mid last → made_in row ≡ 1 → (rests ≡ true) ⊎ (is_in within (pc_in h (machine_of last.bench)) ≡ false)
-        → StepsWithin size within h halts.Stepped first last
-    outside row false is turns one why = once_left row halts.Stepped turns one (λ b left. sym (is_shown last b left) ∙ is)
-    outside row true is turns one (inl idle) = once_rests row turns one is idle
-    outside row true is turns one (inr out) = absurd (let same : true ≡ false = sym is ∙ out in let never : ⊥ = cc in never)
+    -- since the hart has nothing to do
+    idle_none : (rests : Bool) → part.rests ≡ rests → MadeTurns size h points rows.Off part.rests mid last → HaltsBy rows.Off rests (pc_in h (machine_of last.bench)) part.halt → part.halt ≡ None → StepsWithin size within h halts.Idle first last
+    idle_none true idle turns found none = none_made halts.Idle turns (λ b left so. let P : Bool → Type 0 = λ x. Rests size h x b in subst P idle so)
+    idle_none false idle turns found none = absurd (let never : ◌≡◌ {A = Option Halt} None (Some halts.Off) = sym none ∙ found.0 in let never_so : ⊥ = cc in never_so)
 
-    -- by what came of it
-    pub stayed_more : (made : ℕ) (halt : Option Halt) → (row : Row) × MadeTurns size h points row rests mid last × IsWithin 1 row × (made ≡ made_in row) × HaltsBy row rests halt → halt ≡ None → rests ≡ false → is_in within (pc_in h (machine_of last.bench)) ≡ true
-        → StayedWithin size within h (n + 1) first last
-    stayed_more made halt (rows.Off, turns, few, count, found) none goes is =
-        absurd (let never : ◌≡◌ {A = Option Halt} None (Some halts.Off) = sym none ∙ found ∙ ap (λ (x : Bool). if x then None else Some halts.Off) goes in let never_so : ⊥ = cc in never_so)
-    stayed_more made halt (rows.Made k word, turns, few, count, found) none goes is = once_more (rows.Made k word) turns (omega (arith, few)) is
-    stayed_more made halt (rows.Lost k, turns, few, count, found) none goes is = once_more (rows.Lost k) turns (omega (arith, few)) is
+    pub steps_idle : MadeOne size h points part mid last → part.made ≡ 0 → part.halt ≡ None → StepsWithin size within h halts.Idle first last
+    steps_idle (rows.Off, turns, few, count, found) empty none = idle_none part.rests refl turns found none
+    steps_idle (rows.Made k word, turns, few, count, found) empty none = absurd (omega (arith, few, count, empty))
+    steps_idle (rows.Lost k, turns, few, count, found) empty none = absurd (omega (arith, few, count, empty))
 
-    pub steps_end : (made : ℕ) (halt : Option Halt) → (row : Row) × MadeTurns size h points row rests mid last × IsWithin 1 row × (made ≡ made_in row) × HaltsBy row rests halt → halt ≡ None
-        → (rests ≡ true) ⊎ (is_in within (pc_in h (machine_of last.bench)) ≡ false) → StepsWithin size within h halts.Stepped first last
-    steps_end made halt (rows.Off, turns, few, count, found) none why = none_made halts.Stepped turns (λ b so. inl (rests_so (idle rests found) b so))
-      where
-        idle : (e : Bool) → halt ≡ (if e then None else Some halts.Off) → e ≡ true
-        idle true is = refl
-        idle false is = absurd (let never : ◌≡◌ {A = Option Halt} None (Some halts.Off) = sym none ∙ is in let never_so : ⊥ = cc in never_so)
-    steps_end made halt (rows.Made k word, turns, few, count, found) none why = outside (rows.Made k word) (is_in within (pc_in h (machine_of last.bench))) refl turns (omega (arith, few)) why
-    steps_end made halt (rows.Lost k, turns, few, count, found) none why = outside (rows.Lost k) (is_in within (pc_in h (machine_of last.bench))) refl turns (omega (arith, few)) why
+    off_none : (why : Halt) (rests : Bool) → part.rests ≡ rests → MadeTurns size h points rows.Off part.rests mid last → HaltsBy rows.Off rests (pc_in h (machine_of last.bench)) part.halt → part.halt ≡ Some why → StepsWithin size within h why first last
+    off_none why true idle turns found is = absurd (let never : ◌≡◌ {A = Option Halt} None (Some why) = sym found ∙ is in let never_so : ⊥ = cc in never_so)
+    off_none why false idle turns found is =
+        let both : ◌≡◌ {A = Option Halt} (Some halts.Off) (Some why) = sym found.0 ∙ is in
+        let same : halts.Off ≡ why = cc in
+        let P : Halt → Type 0 = λ x. StepsWithin size within h x first last in
+        subst P same (none_made halts.Off turns (λ b left so. off_so found.1 b left))
 
-    pub steps_halt : (made : ℕ) (halt : Option Halt) (why : Halt) → (row : Row) × MadeTurns size h points row rests mid last × IsWithin 1 row × (made ≡ made_in row) × HaltsBy row rests halt → halt ≡ Some why → StepsWithin size within h why first last
-    steps_halt made halt why (rows.Off, turns, few, count, found) is = off rests found turns
-      where
-        off : (e : Bool) → halt ≡ (if e then None else Some halts.Off) → MadeTurns size h points rows.Off rests mid last → StepsWithin size within h why first last
-        off true none made_none = absurd (let never : ◌≡◌ {A = Option Halt} None (Some why) = sym none ∙ is in let never_so : ⊥ = cc in never_so)
-        off false some made_none =
-            let both : ◌≡◌ {A = Option Halt} (Some halts.Off) (Some why) = sym some ∙ is in
-            let same : halts.Off ≡ why = cc in
-            let P : Halt → Type 0 = λ x. StepsWithin size within h x first last in
-            subst P same (none_made halts.Off made_none (λ b so. tt))
-    steps_halt made halt why (rows.Made k word, turns, few, count, found) is = once_left (rows.Made k word) why turns (omega (arith, few)) (λ b left. left_by within h why b (some_is halt why (λ x. is_of_turn x ≡ true) is found))
-    steps_halt made halt why (rows.Lost k, turns, few, count, found) is = once_left (rows.Lost k) why turns (omega (arith, few)) (λ b left. left_by within h why b (some_is halt why (λ x. is_of_turn x ≡ true) is found))
+    pub steps_halt : (why : Halt) → MadeOne size h points part mid last → part.halt ≡ Some why → StepsWithin size within h why first last
+    steps_halt why (rows.Off, turns, few, count, found) is = off_none why part.rests refl turns found is
+    steps_halt why (rows.Made k word, turns, few, count, found) is = once_left (rows.Made k word) why turns (omega (arith, few)) (λ b left. left_by within h why b (some_is part.halt why (λ x. is_of_turn x ≡ true) is found))
+    steps_halt why (rows.Lost k, turns, few, count, found) is =
+        let both : ◌≡◌ {A = Option Halt} (Some halts.Ended) (Some why) = sym found ∙ is in
+        let same : halts.Ended ≡ why = cc in
+        let P : Halt → Type 0 = λ x. StepsWithin size within h x first last in
+        subst P same (once_left (rows.Lost k) halts.Ended turns (omega (arith, few)) (λ b left. refl))

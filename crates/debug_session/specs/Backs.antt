@@ -1,5 +1,5 @@
 -- Running back ends at the last halt.
-use Rattle.std.specs.Prelude.{◌≡◌, ◌<◌, ℕ, Bool, true, false, List, [], ◌∷◌, ◌++◌, All, Option, Some, None, replicate, take, if◌then◌else◌, ⊤}
+use Rattle.std.specs.Prelude.{◌≡◌, ◌⊎◌, ◌<◌, ℕ, Bool, true, false, List, [], ◌∷◌, ◌++◌, All, Option, Some, None, replicate, take, if◌then◌else◌, ⊤}
 use Rattle.board_model.specs.Shapes.{Size}
 use Rattle.script_lang.specs.declared.line.Line.{Line}
 use Rattle.script_lang.specs.declared.line.Line.TheVariants as lines
@@ -10,11 +10,13 @@ use Rattle.bench_report.specs.Steps.{Moves}
 use Rattle.bench_rows.specs.Notes.{Leaves}
 use Rattle.debug_timeline.specs.declared.timeline.Timeline.{Timeline}
 use Rattle.debug_session.specs.declared.back.Place.{Place}
+use Rattle.debug_session.specs.declared.back.Way.{Way}
+use Rattle.debug_session.specs.declared.back.Way.TheVariants as ways
 use Rattle.debug_session.specs.declared.halts.Halt.{Halt}
 use Rattle.debug_session.specs.declared.halts.Halt.TheVariants as halts
 use Rattle.debug_session.specs.declared.halts.Stop.{Stop}
 use Rattle.debug_session.specs.declared.stops.Stops.{Stops}
-use Rattle.debug_session.specs.Firsts.{KeepsWatched, is_at_point, one_turn}
+use Rattle.debug_session.specs.Firsts.{KeepsWatched, changed_by, is_at_point, one_turn}
 use Rattle.debug_session.specs.Steps.{MakesNone}
 
 -- a line may make that of the bench
@@ -25,7 +27,7 @@ MayMove size line b new = (answer : Answer) × Moves size line b answer new
 abbrev pub IsSeen : Option Halt → Stops → ℕ → Bench → Bench → Type 0
 IsSeen None stops h b new = (is_at_point stops h b ≡ false) × KeepsWatched stops b new
 IsSeen (Some halts.Point) stops h b new = is_at_point stops h b ≡ true
-IsSeen (Some (halts.Watched address)) stops h b new = KeepsWatched stops b new → ⊥
+IsSeen (Some (halts.Watched address)) stops h b new = changed_by stops b new ≡ Some address
 IsSeen (Some halt) stops h b new = ⊥
 
 -- a line before which it does not end
@@ -62,7 +64,17 @@ BackTo size stops stop old new =
     (last : Bench) × EndsAt size stops (IsWhyBack stop.halt stops stop.hart (moments new.history)) stop.hart (moments new.history)
     (moments old.history) (bench_with old.begins) last
 
+-- Nothing changed: no turn was made, or the debugger asked that the way back end.
+abbrev pub StaysBack : Stop → ℕ → Timeline → Timeline → Type 0
+StaysBack stop h old new =
+    (stop.hart ≡ h) × (new ≡ old) × (((stop.halt ≡ halts.Begin) × All MakesNone old.history) ⊎ (stop.halt ≡ halts.Interrupted))
+
 -- ---- how the code finds it
+-- what holds where looking for a place came to its end
+abbrev pub IfEnded : Way → (Option Place → Type 0) → Type 0
+IfEnded (ways.Ended found) P = P found
+IfEnded ways.Interrupted P = ⊤
+
 -- the last of these lines before which it ends, by how many turns of its hart stand before it, and why
 abbrev pub FoundIn : Size → Stops → Option (ℕ × Stop) → List Line → Bench → Bench → Type 0
 FoundIn size stops None all b new = PassBack size stops all b new

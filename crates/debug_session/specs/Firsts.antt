@@ -1,6 +1,5 @@
 -- Running forward ends at the first halt.
-use Rattle.std.specs.Prelude.{◌≡◌, ◌⊎◌, ℕ, Bool, true, false, List, [], ◌∷◌, ◌++◌, Option, Some, None, map, if◌then◌else◌}
-use Rattle.std.specs.List.{flat_map}
+use Rattle.std.specs.Prelude.{◌≡◌, ◌⊎◌, ℕ, Bool, true, false, List, [], ◌∷◌, ◌++◌, Option, Some, None, map, bytes_eq, if◌then◌else◌}
 use Rattle.board_model.specs.Shapes.{Size}
 use Rattle.machine.specs.Machine.{Machine}
 use Rattle.sbi.specs.declared.words.Word.{Word}
@@ -31,9 +30,11 @@ bytes_seen (Some bytes) = bytes
 abbrev pub seen_by : Option Machine → Watch → List ℕ
 seen_by m w = bytes_seen (memory_in w.address w.count m)
 
--- the bytes that are watched, one after another, as far as the board has them
-abbrev pub watched_in : List Watch → Option Machine → List ℕ
-watched_in watches m = flat_map (seen_by m) watches
+-- the first of these whose bytes are others now, by its address
+abbrev pub changed_in : Option Machine → Option Machine → List Watch → Option ℕ
+changed_in before now [] = None
+changed_in before now (w ∷ more) =
+    if bytes_eq (seen_by before w) (seen_by now w) then changed_in before now more else Some w.address
 
 -- ---- a turn behind which nothing halts
 abbrev pub is_dozing : Did → Bool
@@ -54,10 +55,13 @@ ends_all (rows.Lost n) = true
 abbrev pub is_at_point : Stops → ℕ → Bench → Bool
 is_at_point stops h b = stands_in stops.points.items (pc_in h (machine_left b.power))
 
+-- the first watchpoint whose bytes a turn changed
+abbrev pub changed_by : Stops → Bench → Bench → Option ℕ
+changed_by stops b new = changed_in (machine_left b.power) (machine_left new.power) stops.watches.items
+
 -- what is watched is as it was
 abbrev pub KeepsWatched : Stops → Bench → Bench → Type 0
-KeepsWatched stops b new =
-    watched_in stops.watches.items (machine_left new.power) ≡ watched_in stops.watches.items (machine_left b.power)
+KeepsWatched stops b new = changed_by stops b new ≡ None
 
 -- A turn of hart h: the life goes on, the hart stands at no breakpoint, and what is watched is as it was.
 abbrev pub PassesBy : Size → Stops → ℕ → Bench → Bench → Type 0
@@ -81,28 +85,29 @@ is_of_turn halt = false
 abbrev pub IsWhy : Halt → Stops → ℕ → Row → Bench → Bench → Type 0
 IsWhy halts.Ended stops h row b new = ends_all row ≡ true
 IsWhy halts.Point stops h row b new = is_at_point stops h new ≡ true
-IsWhy (halts.Watched address) stops h row b new = KeepsWatched stops b new → ⊥
+IsWhy (halts.Watched address) stops h row b new = changed_by stops b new ≡ Some address
 IsWhy halt stops h row b new = ⊥
 
--- Turns of these harts, one after another. Where a turn is why all halts, it is the last; behind each other nothing halts.
-abbrev pub RanBy : Bool → Size → Stops → Halt → List ℕ → Bench → Bench → Type 0
-RanBy false size stops halt harts b new = PassAll size stops harts b new
-RanBy true size stops halt harts b new =
-    (before : List ℕ) × (h : ℕ) × (mid : Bench) × (row : Row) × (harts ≡ before ++ h ∷ []) × PassAll size stops before b mid
+-- Turns of these harts, one after another. Where a turn is why all halts, it is the last, of hart h; behind each other nothing
+-- halts.
+abbrev pub RanBy : Bool → Size → Stops → ℕ → Halt → List ℕ → Bench → Bench → Type 0
+RanBy false size stops h halt harts b new = PassAll size stops harts b new
+RanBy true size stops h halt harts b new =
+    (before : List ℕ) × (mid : Bench) × (row : Row) × (harts ≡ before ++ h ∷ []) × PassAll size stops before b mid
     × (made_in row ≡ 1) × RowMoves size h row mid new × IsWhy halt stops h row mid new
 
-abbrev pub RanTo : Size → Stops → Option Halt → List ℕ → Bench → Bench → Type 0
-RanTo size stops None harts b new = PassAll size stops harts b new
-RanTo size stops (Some halt) harts b new = RanBy (is_of_turn halt) size stops halt harts b new
+abbrev pub RanTo : Size → Stops → ℕ → Option Halt → List ℕ → Bench → Bench → Type 0
+RanTo size stops h None harts b new = PassAll size stops harts b new
+RanTo size stops h (Some halt) harts b new = RanBy (is_of_turn halt) size stops h halt harts b new
 
 abbrev pub one_turn : ℕ → Line
 one_turn h = lines.Turn h 1
 
--- Turns became part of the history, up to the first halt.
-pub record ToHalt (size : Size) (stops : Stops) (halt : Option Halt) (old new : Timeline) : Type 0 where
+-- Turns became part of the history, up to the first halt; where a turn is why, it is one of hart h.
+pub record ToHalt (size : Size) (stops : Stops) (h : ℕ) (halt : Option Halt) (old new : Timeline) : Type 0 where
   pub harts : List ℕ
   pub grew : moments new.history ≡ moments old.history ++ map one_turn harts
-  pub ran : (b : Bench) → IsLeft size old b → (after : Bench) × RanTo size stops halt harts b after × IsLeft size new after
+  pub ran : (b : Bench) → IsLeft size old b → (after : Bench) × RanTo size stops h halt harts b after × IsLeft size new after
 
 -- ---- how the code finds it
 -- behind a row, by where the hart stands then
@@ -112,7 +117,7 @@ halt_after (rows.Lost n) rests stands = Some halts.Ended
 halt_after (rows.Made n word) rests stands =
     if halts_all word then Some halts.Ended else (if stands then Some halts.Point else None)
 
--- and where what is watched has changed, by the first address of it
+-- and where what is watched has changed, by the first address that has
 abbrev pub watch_or : Option Halt → Option ℕ → Option Halt
 watch_or halt None = halt
 watch_or halt (Some address) = Some (halts.Watched address)
@@ -122,10 +127,14 @@ halt_seen None changed = watch_or None changed
 halt_seen (Some halts.Point) changed = watch_or (Some halts.Point) changed
 halt_seen (Some halt) changed = Some halt
 
--- by what is told of a change: none, so it is the same
-abbrev pub Tells : Option ℕ → Type 0 → Type 0
-Tells None same = same
-Tells (Some address) same = same → ⊥
+-- what is watched, with the bytes that were seen of it
+abbrev pub seen_all : Option Machine → List Watch → List (Watch × List ℕ)
+seen_all m watches = map (λ w. (w, seen_by m w)) watches
+
+-- the first of that whose bytes are others now
+abbrev pub changed_since : Option Machine → List (Watch × List ℕ) → Option ℕ
+changed_since now [] = None
+changed_since now (was ∷ more) = if bytes_eq was.1 (seen_by now was.0) then changed_since now more else Some was.0.address
 
 -- a row of a hart to the first that halts there
 abbrev pub Stretched : Size → ℕ → ℕ → List ℕ → ℕ → Bool → Option Halt → Timeline → Timeline → Type 0

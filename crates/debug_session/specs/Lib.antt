@@ -3,6 +3,8 @@
 pub mod Points
 -- Turns that become part of the history.
 pub mod Steps
+-- Where a history stands.
+pub mod Turns
 -- What a clause sees of a session.
 pub mod Sessions
 -- The text of a history, and the state of a hart in words.
@@ -13,3 +15,5 @@ pub mod Firsts
 pub mod Withins
 -- Running back ends at the last halt.
 pub mod Backs
+-- How the code finds the first watchpoint that changed.
+pub mod Others

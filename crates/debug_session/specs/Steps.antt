@@ -1,27 +1,43 @@
 -- Steps of a session: turns that became part of its history.
-use Rattle.std.specs.Prelude.{◌≡◌, ◌⊎◌, ℕ, Bool, true, List, [], ◌∷◌, ◌++◌, All, None, length, ⊤}
+use Rattle.std.specs.Prelude.{◌≡◌, ◌⊎◌, ℕ, Bool, true, false, List, [], ◌∷◌, ◌++◌, All, Option, Some, None, ◌==◌, if◌then◌else◌, length, ⊤}
 use Rattle.board_model.specs.Shapes.{Size}
 use Rattle.script_lang.specs.declared.line.Line.{Line}
 use Rattle.script_lang.specs.declared.line.Line.TheVariants as lines
 use Rattle.bench_history.specs.Pasts.{moments}
 use Rattle.report_lines.specs.declared.printed.Answer.{Answer}
 use Rattle.bench_rows.specs.declared.rows.Row.{Row}
-use Rattle.bench_rows.specs.Rows.{IsWithin, is_off}
+use Rattle.bench_rows.specs.declared.rows.Row.TheVariants as rows
+use Rattle.bench_rows.specs.Rows.{IsWithin}
 use Rattle.debug_timeline.specs.declared.timeline.Timeline.{Timeline}
 use Rattle.debug_timeline.specs.Ats.{IsAt, IsNoted, MadeTurns}
 use Rattle.debug_timeline.specs.Lives.{machine_of, pc_in}
+use Rattle.debug_session.specs.declared.halts.Halt.{Halt}
+use Rattle.debug_session.specs.declared.halts.Halt.TheVariants as halts
+use Rattle.debug_session.specs.Firsts.{is_of_turn}
 
 -- these lines became part of it, one after another
 abbrev pub AreNoted : List Line → List Line → List Line → Type 0
 AreNoted [] old new = new ≡ old
 AreNoted (line ∷ more) old new = (answer : Answer) × (mid : List Line) × IsNoted line answer old mid × AreNoted more mid new
 
--- One turn of hart h became part of the history, and nothing else; or none did, since it is idle and changes nothing, or
--- the board is off or lacks the hart.
-abbrev pub IsStep : Size → ℕ → Timeline → Timeline → Type 0
-IsStep size h old new =
+-- Why a step ends so, by what came of its turn, whether the next one is idle, and the pc behind it: the turn was made, and may be
+-- why all halts; or none was, since the hart has nothing to do, or the board is off or lacks the hart.
+abbrev pub EndsStep : Row → Bool → Option ℕ → Halt → Type 0
+EndsStep rows.Off true pc halt = halt ≡ halts.Idle
+EndsStep rows.Off false pc halt = (halt ≡ halts.Off) × (pc ≡ None)
+EndsStep (rows.Made n word) rests pc halt = (halt ≡ halts.Stepped) ⊎ (is_of_turn halt ≡ true)
+EndsStep (rows.Lost n) rests pc halt = halt ≡ halts.Ended
+
+-- One turn of hart h became part of the history, and nothing else; or none did. The step ends so.
+abbrev pub IsStep : Size → ℕ → Halt → Timeline → Timeline → Type 0
+IsStep size h halt old new =
     (row : Row) × (rests : Bool) × IsWithin 1 row × MadeTurns size h [] row rests old new
-    × (is_off row ≡ true → (rests ≡ true) ⊎ (pc_in h (machine_of new.bench) ≡ None))
+    × EndsStep row rests (pc_in h (machine_of new.bench)) halt
+
+-- why it ends so where all halts, or nothing does and so many turns were made
+abbrev pub halt_step : Option Halt → ℕ → Halt
+halt_step None made = if made == 0 then halts.Idle else halts.Stepped
+halt_step (Some halt) made = halt
 
 -- one turn of a hart that may run
 abbrev pub IsTurnOf : (ℕ → Type 0) → Line → Type 0

@@ -8,7 +8,7 @@ use Rattle.bench_rows.specs.declared.rows.Row.TheVariants as rows
 use Rattle.bench_rows.specs.Rows.{IsWithin, RowMoves, made_in}
 use Rattle.debug_timeline.specs.declared.timeline.Timeline.{Timeline}
 use Rattle.debug_timeline.specs.Ats.{IsLeft, MadeTurns}
-use Rattle.debug_timeline.specs.Lives.{Rests, pc_in}
+use Rattle.debug_timeline.specs.Lives.{Rests, machine_of, pc_in}
 use Rattle.debug_timeline.specs.Passes.{machine_left}
 use Rattle.debug_session.specs.declared.forth.Part.{Part}
 use Rattle.debug_session.specs.declared.forth.Within.{Within}
@@ -40,12 +40,13 @@ StaysWithin size within h zero b new = new ≡ b
 StaysWithin size within h (suc n) b new =
     (mid : Bench) × StaysWithin size within h n b mid × (TurnsOnce size h mid new × (is_pc_in within h new ≡ true))
 
--- why the hart steps no more, though each turn left the pc within: the next is idle, all that it may make were made, the
--- debugger asked for it, or the board is off
+-- why the hart steps no more, though each turn left the pc within: it has nothing to do, all turns that it may make were made,
+-- the debugger asked for it, or the board is off or lacks the hart
 abbrev pub IsSpent : Size → Within → ℕ → Halt → ℕ → Bench → Type 0
-IsSpent size within h halts.Stepped n b = Rests size h true b ⊎ (n ≡ within.most)
+IsSpent size within h halts.Idle n b = Rests size h true b
+IsSpent size within h halts.Spent n b = n ≡ within.most
 IsSpent size within h halts.Interrupted n b = ⊤
-IsSpent size within h halts.Off n b = ⊤
+IsSpent size within h halts.Off n b = pc_in h (machine_left b.power) ≡ None
 IsSpent size within h halt n b = ⊥
 
 -- the last turn left the pc outside, or is why all halts
@@ -72,12 +73,13 @@ pub record StayedWithin (size : Size) (within : Within) (h count : ℕ) (old new
 
 -- ---- one turn at most
 -- why all halts behind it, if it does
-abbrev pub HaltsBy : Row → Bool → Option Halt → Type 0
-HaltsBy rows.Off rests halt = halt ≡ (if rests then None else Some halts.Off)
-HaltsBy (rows.Made n word) rests halt = IfSome halt (λ x. is_of_turn x ≡ true)
-HaltsBy (rows.Lost n) rests halt = IfSome halt (λ x. is_of_turn x ≡ true)
+abbrev pub HaltsBy : Row → Bool → Option ℕ → Option Halt → Type 0
+HaltsBy rows.Off true pc halt = halt ≡ None
+HaltsBy rows.Off false pc halt = (halt ≡ Some halts.Off) × (pc ≡ None)
+HaltsBy (rows.Made n word) rests pc halt = IfSome halt (λ x. is_of_turn x ≡ true)
+HaltsBy (rows.Lost n) rests pc halt = halt ≡ Some halts.Ended
 
 abbrev pub MadeOne : Size → ℕ → List ℕ → Part → Timeline → Timeline → Type 0
 MadeOne size h points part old new =
     (row : Row) × MadeTurns size h points row part.rests old new × IsWithin 1 row × (part.made ≡ made_in row)
-    × HaltsBy row part.rests part.halt
+    × HaltsBy row part.rests (pc_in h (machine_of new.bench)) part.halt

@@ -7,19 +7,20 @@ ghost use Rattle.bench_rows.specs.Notes.{AreInRange};
 ghost use Rattle.bench_history.specs.Pasts.{moments, singles};
 ghost use Rattle.bench_report.specs.Bench.{Bench, bench_with};
 ghost use Rattle.debug_timeline.specs.Ats.{IsAt, IsPlace};
-ghost use Rattle.debug_session.specs.Backs.{BackTo, FoundIn, FoundOf, IsEnd, IsRowPast, IsSeen, MayMove, halt_back, later_place, later_turn};
+ghost use Rattle.debug_session.specs.Backs.{BackTo, FoundIn, FoundOf, IfEnded, IsEnd, IsRowPast, IsSeen, MayMove, StaysBack, halt_back, later_place, later_turn};
 ghost use Rattle.debug_session.specs.Firsts.{one_turn};
 ghost use Rattle.debug_session.specs.Steps.{MakesNone};
 ghost use Rattle.debug_timeline.specs.Lives.{IsSound, Shows};
 ghost use Rattle.script_lang.specs.Lines.{IsLineInRange};
 
 use crate::halts::{Halt, Stop};
-use crate::stops::Stops;
+use crate::stops::{Stops, first_changed};
 use bench_report::Setting;
 use board_model::{HartId, Refusal};
 use crew::Crew;
 use debug_timeline::{DebuggedBench, Timeline, replay};
 use script_lang::Line;
+use std::sync::atomic::{AtomicBool, Ordering};
 
 /// A place in a history: a line, and how many of its turns stand before it.
 #[derive(Clone, Copy, Drop)]
@@ -27,6 +28,15 @@ pub(crate) struct Place {
     pub(crate) line: usize,
     pub(crate) turns: u32,
     pub(crate) stop: Stop,
+}
+
+/// What looking for a place came to.
+#[derive(Clone, Copy, Drop)]
+enum Way {
+    /// That place was found, or there is none.
+    Ended(Option<Place>),
+    /// The debugger asked that it end.
+    Interrupted,
 }
 
 /// The first turn of a history.
@@ -80,7 +90,7 @@ fn seen_back<C: Crew>(
     let stands = bench.stands_at(hart, stops.points());
     let before = stops.watched(setting.alloc, bench)?;
     bench.turns(setting, hart, 1);
-    let changed = stops.changed(setting.alloc, bench, &before)?;
+    let changed = first_changed(bench, &before);
     Ok(halt_back(stands, changed))
 }
 
@@ -157,27 +167,31 @@ fn last_halt_of<C: Crew>(
 }
 
 /// Runs the history again, turn by turn: the last turn before which its hart stood at a breakpoint, or that changed
-/// what is watched.
+/// what is watched. The interrupt is looked at before each line.
 fn last_halt<C: Crew>(
     setting: &Setting<'_, C>,
     stops: &Stops,
     timeline: &Timeline,
-) -> Result<Option<Place>, Refusal>
+    interrupt: &AtomicBool,
+) -> Result<Way, Refusal>
     requires ranges { AreInRange setting.now.shape.now timeline.now.history }
-    ensures place { IfOk result (λ found. IfSome found (λ place. IsPlace place.stop.hart place.line place.turns
-        timeline.now.history)) }
-    ensures found { IfOk result (λ found. (last : Bench) × FoundOf setting.now.shape.now stops.now found timeline.now.history
-        (moments timeline.now.history) (bench_with timeline.now.begins) last) }
+    ensures place { IfOk result (λ way. IfEnded way (λ found. IfSome found (λ place. IsPlace place.stop.hart place.line
+        place.turns timeline.now.history))) }
+    ensures found { IfOk result (λ way. IfEnded way (λ found. (last : Bench) × FoundOf setting.now.shape.now stops.now found
+        timeline.now.history (moments timeline.now.history) (bench_with timeline.now.begins) last)) }
     ensures refused { IfErr result (λ e. e ≡ Memory) }
 {
     let mut found = None;
     let mut bench = DebuggedBench::blank(setting.alloc, setting.shape, timeline.begins())?;
     let lines = timeline.lines();
     for (number, line) in lines.iter().enumerate() {
+        if interrupt.swap(false, Ordering::SeqCst) {
+            return Ok(Way::Interrupted);
+        }
         let last = last_halt_of(setting, stops, &mut bench, line)?;
         found = later_place(found, number, last);
     }
-    Ok(found)
+    Ok(Way::Ended(found))
 }
 
 /// Where the way back ends: before the last turn of which the hart stood at a breakpoint, or that changed what is
@@ -186,41 +200,51 @@ fn place_back<C: Crew>(
     setting: &Setting<'_, C>,
     stops: &Stops,
     timeline: &Timeline,
-) -> Result<Option<Place>, Refusal>
+    interrupt: &AtomicBool,
+) -> Result<Way, Refusal>
     requires ranges { AreInRange setting.now.shape.now timeline.now.history }
-    ensures place { IfOk result (λ found. IfSome found (λ place. IsPlace place.stop.hart place.line place.turns
-        timeline.now.history)) }
-    ensures end { IfOk result (λ found. IfSome found (λ place. IsEnd setting.now.shape.now stops.now place
-        timeline.now.history (bench_with timeline.now.begins))) }
-    ensures none { IfOk result (λ found. IfNone found (All MakesNone timeline.now.history)) }
+    ensures place { IfOk result (λ way. IfEnded way (λ found. IfSome found (λ place. IsPlace place.stop.hart place.line
+        place.turns timeline.now.history))) }
+    ensures end { IfOk result (λ way. IfEnded way (λ found. IfSome found (λ place. IsEnd setting.now.shape.now stops.now
+        place timeline.now.history (bench_with timeline.now.begins)))) }
+    ensures none { IfOk result (λ way. IfEnded way (λ found. IfNone found (All MakesNone timeline.now.history))) }
     ensures refused { IfErr result (λ e. e ≡ Memory) }
 {
-    match last_halt(setting, stops, timeline)? {
-        Some(place) => Ok(Some(place)),
-        None => Ok(first_turn(setting, timeline.lines())),
+    let Way::Ended(found) = last_halt(setting, stops, timeline, interrupt)? else {
+        return Ok(Way::Interrupted);
+    };
+    match found {
+        Some(place) => Ok(Way::Ended(Some(place))),
+        None => Ok(Way::Ended(first_turn(setting, timeline.lines()))),
     }
 }
 
 /// Goes back to before the last turn of which the hart stood at a breakpoint, or that changed what is watched; where
-/// there is none, to before the first turn.
+/// there is none, to before the first turn. Interrupted it leaves the timeline as it was.
 #[tactic(auto, using(debug_timeline::proofs::Histories::place_hart))]
 pub(crate) fn go_back<C: Crew>(
     setting: &Setting<'_, C>,
     stops: &Stops,
     timeline: &mut Timeline,
     hart: HartId,
+    interrupt: &AtomicBool,
 ) -> Result<Stop, Refusal>
     requires at { IsAt setting.now.shape.now timeline.old }
     requires hart { hart < setting.now.shape.now.harts }
     ensures at { OnOk result (IsAt setting.now.shape.now timeline.new) }
     ensures back { IfOk result (λ stop. BackTo setting.now.shape.now stops.now stop timeline.old timeline.new
-        ⊎ ((stop.halt ≡ Halt.Begin) × (stop.hart ≡ hart) × All MakesNone timeline.old.history
-        × (timeline.new ≡ timeline.old))) }
+        ⊎ StaysBack stop hart timeline.old timeline.new) }
     ensures there { IfOk result (λ stop. stop.hart < setting.now.shape.now.harts) }
     ensures begins { timeline.new.begins ≡ timeline.old.begins }
     ensures refused { IfErr result (λ e. e ≡ Memory) }
 {
-    match place_back(setting, stops, timeline)? {
+    let Way::Ended(found) = place_back(setting, stops, timeline, interrupt)? else {
+        return Ok(Stop {
+            hart,
+            halt: Halt::Interrupted,
+        });
+    };
+    match found {
         Some(place) => {
             let Place { line, turns, stop } = place;
             timeline.go_back(setting, stop.hart, line, turns)?;

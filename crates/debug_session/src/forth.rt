@@ -1,24 +1,23 @@
 //! Running forward: turns of one hart, and of harts in turn.
 
-ghost use Rattle.std.specs.Prelude.{◌≡◌, ◌⊎◌, ◌≤◌, ◌<◌, ◌+◌, ℕ, Bool, true, false, slice_index_or, if◌then◌else◌, None, Some, IfOk, IfErr, IfSome, OnOk};
+ghost use Rattle.std.specs.Prelude.{◌≡◌, ◌⊎◌, ◌≤◌, ◌<◌, ◌+◌, ℕ, Bool, true, false, slice_index_or, map, None, Some, IfOk, IfErr, IfSome, OnOk};
 ghost use Rattle.board_model.specs.declared.refusal.Refusal.TheVariants.{Memory};
 ghost use Rattle.bench_rows.specs.declared.rows.Row.{Row};
 ghost use Rattle.bench_rows.specs.Rows.{IsWithin, is_off, made_in};
 ghost use Rattle.debug_timeline.specs.Ats.{IsAt, MadeTurns};
-ghost use Rattle.debug_session.specs.Steps.{IsStep, Went};
+ghost use Rattle.debug_session.specs.Steps.{IsStep, Went, halt_step};
 ghost use Rattle.debug_session.specs.Withins.{MadeOne, StepsWithin, is_in};
-ghost use Rattle.debug_session.specs.Firsts.{Stretched, Tells, ToHalt, halt_after, halt_seen, halts_all, watched_in};
+ghost use Rattle.debug_session.specs.Firsts.{Stretched, ToHalt, changed_since, halt_after, halt_seen, halts_all};
 ghost use Rattle.debug_timeline.specs.Lives.{machine_of, pc_in, stands_in};
 
 use crate::halts::{Halt, Stop};
-use crate::stops::Stops;
+use crate::stops::{Seen, Stops, first_changed};
 use bench_report::{Answer, Setting};
 use bench_rows::Row;
 use board_model::{HartId, Refusal, Shape};
 use crew::Crew;
 use debug_timeline::Timeline;
 use machine::{Did, Word};
-use std::alloc::Global;
 use std::sync::atomic::{AtomicBool, Ordering};
 
 /// The most turns of a hart before the next one's.
@@ -157,23 +156,16 @@ fn halt_seen(halt: Option<Halt>, changed: Option<u64>) -> Option<Halt>
     }
 }
 
-/// Whether what is watched has changed in so many turns.
-fn change_behind(
-    alloc: Global,
-    stops: &Stops,
-    timeline: &Timeline,
-    made: u32,
-    before: &Vec<u8>,
-) -> Result<Option<u64>, Refusal>
-    ensures none { IfOk result (λ changed. made ≡ 0 → changed ≡ None) }
-    ensures told { IfOk result (λ changed. (made ≡ 0 → ⊥) → Tells changed
-        (watched_in stops.now.watches.items (machine_of timeline.now.bench) ≡ before.now.items)) }
-    ensures refused { IfErr result (λ e. e ≡ Memory) }
+/// What so many turns changed of what is watched.
+fn change_behind(timeline: &Timeline, made: u32, before: &Vec<Seen>) -> Option<u64>
+    ensures none { made ≡ 0 → result ≡ None }
+    ensures told { (made ≡ 0 → ⊥) → result ≡ changed_since (machine_of timeline.now.bench)
+        (map (λ was. (was.watch, was.bytes.items)) before.now.items) }
 {
     if made == 0 {
-        return Ok(None);
+        return None;
     }
-    stops.changed(alloc, timeline.bench(), before)
+    first_changed(timeline.bench(), before)
 }
 
 /// Up to so many turns of a hart, to the first that halts everything; what the line `turn` would have said of the
@@ -218,9 +210,8 @@ fn watched_turn<C: Crew>(
     requires at { IsAt setting.now.shape.now timeline.old }
     requires hart { hart < setting.now.shape.now.harts }
     ensures at { OnOk result (IsAt setting.now.shape.now timeline.new) }
-    ensures step { OnOk result (IsStep setting.now.shape.now hart timeline.old timeline.new) }
     ensures went { IfOk result (λ part. Went (λ h. h ≡ hart) part.made setting.now.shape.now timeline.old timeline.new) }
-    ensures first { IfOk result (λ part. ToHalt setting.now.shape.now stops.now part.halt timeline.old timeline.new) }
+    ensures first { IfOk result (λ part. ToHalt setting.now.shape.now stops.now hart part.halt timeline.old timeline.new) }
     ensures one { IfOk result (λ part. part.made ≤ 1) }
     ensures made { IfOk result (λ part. MadeOne setting.now.shape.now hart stops.now.points.items part timeline.old timeline.new) }
     ensures begins { timeline.new.begins ≡ timeline.old.begins }
@@ -228,7 +219,7 @@ fn watched_turn<C: Crew>(
 {
     let before = stops.watched(setting.alloc, timeline.bench())?;
     let part = stretch(setting, stops.points(), timeline, hart, 1, told)?;
-    let changed = change_behind(setting.alloc, stops, timeline, part.made, &before)?;
+    let changed = change_behind(timeline, part.made, &before);
     let halt = halt_seen(part.halt, changed);
     Ok(Part {
         halt,
@@ -249,7 +240,7 @@ fn watched_part<C: Crew>(
     requires at { IsAt setting.now.shape.now timeline.old }
     requires hart { hart < setting.now.shape.now.harts }
     ensures went { IfOk result (λ part. Went (λ h. h ≡ hart) part.made setting.now.shape.now timeline.old timeline.new) }
-    ensures first { IfOk result (λ part. ToHalt setting.now.shape.now stops.now part.halt timeline.old timeline.new) }
+    ensures first { IfOk result (λ part. ToHalt setting.now.shape.now stops.now hart part.halt timeline.old timeline.new) }
     ensures few { IfOk result (λ part. part.made ≤ most) }
     ensures refused { IfErr result (λ e. e ≡ Memory) }
 {
@@ -285,7 +276,7 @@ fn run_part<C: Crew>(
     requires hart { hart < setting.now.shape.now.harts }
     requires most { most ≤ 1000000 }
     ensures went { IfOk result (λ part. Went (λ h. h ≡ hart) part.made setting.now.shape.now timeline.old timeline.new) }
-    ensures first { IfOk result (λ part. ToHalt setting.now.shape.now stops.now part.halt timeline.old timeline.new) }
+    ensures first { IfOk result (λ part. ToHalt setting.now.shape.now stops.now hart part.halt timeline.old timeline.new) }
     ensures few { IfOk result (λ part. part.made ≤ most) }
     ensures refused { IfErr result (λ e. e ≡ Memory) }
 {
@@ -307,29 +298,32 @@ pub(crate) fn step<C: Crew>(
     requires at { IsAt setting.now.shape.now timeline.old }
     requires hart { hart < setting.now.shape.now.harts }
     ensures at { OnOk result (IsAt setting.now.shape.now timeline.new) }
-    ensures step { OnOk result (IsStep setting.now.shape.now hart timeline.old timeline.new) }
-    ensures first { IfOk result (λ stop. ToHalt setting.now.shape.now stops.now (Some stop.halt) timeline.old timeline.new) }
+    ensures step { IfOk result (λ stop. IsStep setting.now.shape.now hart stop.halt timeline.old timeline.new) }
+    ensures first { IfOk result (λ stop. ToHalt setting.now.shape.now stops.now stop.hart (Some stop.halt) timeline.old timeline.new) }
     ensures there { IfOk result (λ stop. stop.hart ≡ hart) }
     ensures begins { timeline.new.begins ≡ timeline.old.begins }
     ensures refused { IfErr result (λ e. e ≡ Memory) }
 {
     let part = watched_turn(setting, stops, timeline, hart, told)?;
-    match part.halt {
-        Some(halt) => Ok(Stop { hart, halt }),
-        None => Ok(Stop {
-            hart,
-            halt: Halt::Stepped,
-        }),
+    let halt = halt_step(part.halt, part.made);
+    Ok(Stop { hart, halt })
+}
+
+/// Why a step ends so: of no turn, since the hart has nothing to do.
+fn halt_step(halt: Option<Halt>, made: u32) -> Halt
+    ensures { result ≡ halt_step halt made }
+{
+    match halt {
+        Some(halt) => halt,
+        None if made == 0 => Halt::Idle,
+        None => Halt::Stepped,
     }
 }
 
-/// Whether a hart steps on within these addresses: its next turn is not idle, and its pc lies there.
-fn steps_on(timeline: &Timeline, hart: HartId, rests: bool, within: Within) -> bool
-    ensures { result ≡ (if rests then false else is_in within (pc_in hart (machine_of timeline.now.bench))) }
+/// Whether the pc of a hart lies within these addresses.
+fn stands_within(timeline: &Timeline, hart: HartId, within: Within) -> bool
+    ensures { result ≡ is_in within (pc_in hart (machine_of timeline.now.bench)) }
 {
-    if rests {
-        return false;
-    }
     match timeline.bench().pc(hart) {
         Some(pc) => within.first <= pc && pc < within.end,
         None => false,
@@ -349,7 +343,7 @@ pub(crate) fn step_within<C: Crew>(
     requires at { IsAt setting.now.shape.now timeline.old }
     requires hart { hart < setting.now.shape.now.harts }
     ensures went { OnOk result ((n : ℕ) × (n ≤ within.most) × Went (λ h. h ≡ hart) n setting.now.shape.now timeline.old timeline.new) }
-    ensures first { IfOk result (λ stop. ToHalt setting.now.shape.now stops.now (Some stop.halt) timeline.old timeline.new) }
+    ensures first { IfOk result (λ stop. ToHalt setting.now.shape.now stops.now stop.hart (Some stop.halt) timeline.old timeline.new) }
     ensures within { IfOk result (λ stop. StepsWithin setting.now.shape.now within hart stop.halt timeline.old timeline.new) }
     ensures there { IfOk result (λ stop. stop.hart ≡ hart) }
     ensures refused { IfErr result (λ e. e ≡ Memory) }
@@ -357,11 +351,17 @@ pub(crate) fn step_within<C: Crew>(
     let mut done = 0;
     while done < within.most {
         let part = watched_turn(setting, stops, timeline, hart, told)?;
-        done += 1;
         if let Some(halt) = part.halt {
             return Ok(Stop { hart, halt });
         }
-        if !steps_on(timeline, hart, part.rests, within) {
+        if part.made == 0 {
+            return Ok(Stop {
+                hart,
+                halt: Halt::Idle,
+            });
+        }
+        done += 1;
+        if !stands_within(timeline, hart, within) {
             return Ok(Stop {
                 hart,
                 halt: Halt::Stepped,
@@ -376,7 +376,7 @@ pub(crate) fn step_within<C: Crew>(
     }
     Ok(Stop {
         hart,
-        halt: Halt::Stepped,
+        halt: Halt::Spent,
     })
 }
 
@@ -393,7 +393,7 @@ fn round_part<C: Crew>(
     requires hart { hart < setting.now.shape.now.harts }
     ensures went { OnOk result ((n : ℕ) × (round.new.left + n ≡ round.old.left)
         × Went (λ h. h ≡ hart) n setting.now.shape.now timeline.old timeline.new) }
-    ensures first { IfOk result (λ halt. ToHalt setting.now.shape.now stops.now halt timeline.old timeline.new) }
+    ensures first { IfOk result (λ halt. ToHalt setting.now.shape.now stops.now hart halt timeline.old timeline.new) }
     ensures harts { OnOk result (round.new.harts ≡ round.old.harts) }
     ensures resting { OnOk result (round.new.resting ≤ round.old.resting) }
     ensures refused { IfErr result (λ e. e ≡ Memory) }
@@ -418,7 +418,7 @@ pub(crate) fn go<C: Crew>(
     requires rested { round.resting ≡ 0 }
     ensures went { OnOk result ((n : ℕ) × (n ≤ round.left)
         × Went (λ h. slice_index_or round.harts h false ≡ true) n setting.now.shape.now timeline.old timeline.new) }
-    ensures first { IfOk result (λ stop. ToHalt setting.now.shape.now stops.now (Some stop.halt) timeline.old timeline.new) }
+    ensures first { IfOk result (λ stop. ToHalt setting.now.shape.now stops.now stop.hart (Some stop.halt) timeline.old timeline.new) }
     ensures there { IfOk result (λ stop. stop.hart < setting.now.shape.now.harts) }
     ensures refused { IfErr result (λ e. e ≡ Memory) }
 {

@@ -15,7 +15,7 @@ pub enum Halt {
     Ended,
     /// The board is off.
     Off,
-    /// No hart that may run has anything to do.
+    /// No hart that may run, or is to step, has anything to do.
     Idle,
     /// The turns that one command may make are made.
     Spent,

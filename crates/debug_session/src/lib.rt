@@ -3,6 +3,7 @@
 #![tactic(auto)]
 
 mod back;
+mod counts;
 mod forth;
 mod halts;
 mod script;

@@ -1,20 +1,21 @@
 //! A board under a debugger.
 
-ghost use Rattle.std.specs.Prelude.{◌≡◌, ◌⊎◌, ◌≤◌, ◌<◌, ℕ, [], All, slice_index_or, true, false, string_bytes, Ok, Some, IfOk, IfErr, OnErr, OnOk};
+ghost use Rattle.std.specs.Prelude.{◌≡◌, ◌⊎◌, ◌≤◌, ◌<◌, ℕ, [], All, length, slice_index_or, true, false, string_bytes, Ok, Some, IfOk, IfErr, OnErr, OnOk};
 ghost use Rattle.board_model.specs.declared.refusal.Refusal.TheVariants.{Memory};
 ghost use Rattle.bench_history.specs.Pasts.{IsBack, NoRow};
 ghost use Rattle.bench_report.specs.Bench.{no_payloads};
 ghost use Rattle.bench_rows.specs.Notes.{AreInRange};
 ghost use Rattle.debug_timeline.specs.Ats.{IsAt, Ran};
-ghost use Rattle.debug_session.specs.Steps.{AreNoted, IsStep, MakesNone, Went};
+ghost use Rattle.debug_session.specs.Steps.{AreNoted, IsStep, Went};
 ghost use Rattle.debug_timeline.specs.Lives.{register_in};
 ghost use Rattle.debug_session.specs.Texts.{state_text};
 ghost use Rattle.debug_session.specs.Sessions.{begins_of, bench_of, history_of, machine_of_session, plan_of, points_of, size_of, stops_of, timeline_of, watches_of};
-ghost use Rattle.debug_session.specs.Backs.{BackTo};
+ghost use Rattle.debug_session.specs.Backs.{BackTo, StaysBack};
 ghost use Rattle.debug_session.specs.Firsts.{ToHalt};
 ghost use Rattle.debug_session.specs.Points.{with_point, with_watch, without_point, without_watch};
 ghost use Rattle.debug_session.specs.Withins.{StepsWithin, within_plan};
 ghost use Rattle.debug_session.specs.Texts.{history_text};
+ghost use Rattle.debug_session.specs.Turns.{WentTo, lives_begun, turns_told};
 ghost use Rattle.script_lang.specs.Lines.{IsLineInRange};
 ghost use Rattle.script_lang.specs.Scripts.{script_of};
 ghost use Rattle.script_lang.specs.Spellings.{IsWritable};
@@ -22,7 +23,7 @@ ghost use Rattle.script_lang.specs.Spellings.{IsWritable};
 use crate::forth::{self, Round, Within};
 use crate::halts::{Halt, Stop};
 use crate::stops::{Stops, Watch};
-use crate::{back, script};
+use crate::{back, counts, script};
 use bench_report::{Answer, Setting};
 use board::Payloads;
 use board_model::{HartId, Refusal};
@@ -108,6 +109,27 @@ impl<'a, C: Crew> Session<'a, C> {
         ensures { result.now ≡ bench_of self.now }
     {
         self.timeline.bench()
+    }
+
+    /// How many lines its history has.
+    pub fn lines(&self) -> usize
+        ensures { result ≡ length (history_of self.now) }
+    {
+        self.timeline.lines().len()
+    }
+
+    /// How many turns of any harts its history has, at most 2^64 - 1.
+    pub fn turns(&self) -> u64
+        ensures { result ≡ turns_told (history_of self.now) }
+    {
+        counts::turns_told(self.timeline.lines())
+    }
+
+    /// How many lines of its history switch the power on.
+    pub fn lives(&self) -> usize
+        ensures { result ≡ lives_begun (history_of self.now) }
+    {
+        counts::lives_begun(self.timeline.lines())
     }
 
     /// The text of the history as a script, without a last line feed: `sbibench` runs it to the same reports. Behind
@@ -215,15 +237,16 @@ impl<'a, C: Crew> Session<'a, C> {
         }
     }
 
-    /// Steps a hart once. What its turn says is told where it ends everything, or where the board is off.
+    /// Steps a hart once: `Idle` where it has nothing to do, and `Stepped` where its turn was made. What its turn says is
+    /// told where it ends everything, or where the board is off.
     pub fn step(&mut self, hart: HartId, told: &mut Vec<Answer>) -> Result<Stop, Refusal>
         requires at { IsAt (size_of self.old) (timeline_of self.old) }
         requires hart { hart < (size_of self.old).harts }
         ensures at { OnOk result (IsAt (size_of self.new) (timeline_of self.new)) }
-        ensures step { OnOk result (IsStep (size_of self.old) hart (timeline_of self.old) (timeline_of self.new)) }
-        ensures first { IfOk result (λ stop. ToHalt (size_of self.old) (stops_of self.old) (Some stop.halt) (timeline_of self.old)
-            (timeline_of self.new)) }
-        ensures there { IfOk result (λ stop. stop.hart < (size_of self.old).harts) }
+        ensures step { IfOk result (λ stop. IsStep (size_of self.old) hart stop.halt (timeline_of self.old) (timeline_of self.new)) }
+        ensures first { IfOk result (λ stop. ToHalt (size_of self.old) (stops_of self.old) hart (Some stop.halt)
+            (timeline_of self.old) (timeline_of self.new)) }
+        ensures there { IfOk result (λ stop. stop.hart ≡ hart) }
         ensures size { size_of self.new ≡ size_of self.old }
         ensures stops { stops_of self.new ≡ stops_of self.old }
         ensures plan { plan_of self.new ≡ plan_of self.old }
@@ -233,7 +256,8 @@ impl<'a, C: Crew> Session<'a, C> {
         forth::step(&self.setting, &self.stops, &mut self.timeline, hart, told)
     }
 
-    /// Steps a hart while its pc lies from the first address on and before the second, to the first halt.
+    /// Steps a hart while its pc lies from the first address on and before the second, to the first halt: `Stepped` where a
+    /// turn left the pc outside, `Idle` where the hart has nothing to do, `Spent` where `most` turns were made.
     pub fn step_within(
         &mut self,
         hart: HartId,
@@ -246,13 +270,13 @@ impl<'a, C: Crew> Session<'a, C> {
         requires hart { hart < (size_of self.old).harts }
         ensures went { OnOk result ((n : ℕ) × (n ≤ self.old.plan.most)
             × Went (λ h. h ≡ hart) n (size_of self.old) (timeline_of self.old) (timeline_of self.new)) }
-        ensures first { IfOk result (λ stop. ToHalt (size_of self.old) (stops_of self.old) (Some stop.halt) (timeline_of self.old)
-            (timeline_of self.new)) }
+        ensures first { IfOk result (λ stop. ToHalt (size_of self.old) (stops_of self.old) hart (Some stop.halt)
+            (timeline_of self.old) (timeline_of self.new)) }
         // It steps on while its pc lies there.
         ensures within { IfOk result (λ stop. StepsWithin (size_of self.old)
             (within_plan first end (plan_of self.old)) hart stop.halt (timeline_of self.old)
             (timeline_of self.new)) }
-        ensures there { IfOk result (λ stop. stop.hart < (size_of self.old).harts) }
+        ensures there { IfOk result (λ stop. stop.hart ≡ hart) }
         ensures size { size_of self.new ≡ size_of self.old }
         ensures stops { stops_of self.new ≡ stops_of self.old }
         ensures plan { plan_of self.new ≡ plan_of self.old }
@@ -287,8 +311,8 @@ impl<'a, C: Crew> Session<'a, C> {
         requires first { first < (size_of self.old).harts }
         ensures went { OnOk result ((n : ℕ) × (n ≤ self.old.plan.most)
             × Went (λ h. slice_index_or harts.now h false ≡ true) n (size_of self.old) (timeline_of self.old) (timeline_of self.new)) }
-        ensures first { IfOk result (λ stop. ToHalt (size_of self.old) (stops_of self.old) (Some stop.halt) (timeline_of self.old)
-            (timeline_of self.new)) }
+        ensures first { IfOk result (λ stop. ToHalt (size_of self.old) (stops_of self.old) stop.hart (Some stop.halt)
+            (timeline_of self.old) (timeline_of self.new)) }
         ensures there { IfOk result (λ stop. stop.hart < (size_of self.old).harts) }
         ensures size { size_of self.new ≡ size_of self.old }
         ensures stops { stops_of self.new ≡ stops_of self.old }
@@ -336,14 +360,13 @@ impl<'a, C: Crew> Session<'a, C> {
 
     /// Goes back to before the last turn of which the hart stood at a breakpoint, or that changed what is watched;
     /// where there is none, to before the first turn; and forgets whatever came after. Where no turn was made nothing
-    /// changes.
-    pub fn go_back(&mut self, hart: HartId) -> Result<Stop, Refusal>
+    /// changes, nor where the interrupt asks that it end, which is looked at before each line of the history.
+    pub fn go_back(&mut self, hart: HartId, interrupt: &AtomicBool) -> Result<Stop, Refusal>
         requires at { IsAt (size_of self.old) (timeline_of self.old) }
         requires hart { hart < (size_of self.old).harts }
         ensures at { OnOk result (IsAt (size_of self.new) (timeline_of self.new)) }
         ensures back { IfOk result (λ stop. BackTo (size_of self.old) (stops_of self.old) stop (timeline_of self.old) (timeline_of self.new)
-            ⊎ ((stop.halt ≡ Halt.Begin) × (stop.hart ≡ hart) × All MakesNone (history_of self.old)
-            × (timeline_of self.new ≡ timeline_of self.old))) }
+            ⊎ StaysBack stop hart (timeline_of self.old) (timeline_of self.new)) }
         ensures there { IfOk result (λ stop. stop.hart < (size_of self.old).harts) }
         ensures size { size_of self.new ≡ size_of self.old }
         ensures stops { stops_of self.new ≡ stops_of self.old }
@@ -351,6 +374,27 @@ impl<'a, C: Crew> Session<'a, C> {
         ensures begins { OnOk result (begins_of self.new ≡ begins_of self.old) }
         ensures refused { IfErr result (λ e. e ≡ Memory) }
     {
-        back::go_back(&self.setting, &self.stops, &mut self.timeline, hart)
+        back::go_back(
+            &self.setting,
+            &self.stops,
+            &mut self.timeline,
+            hart,
+            interrupt,
+        )
+    }
+
+    /// Goes back to before the turn that came behind so many of any harts, and forgets it and whatever came after: whether
+    /// there was one. Where there was none nothing changes.
+    pub fn go_to(&mut self, turns: u64) -> Result<bool, Refusal>
+        requires at { IsAt (size_of self.old) (timeline_of self.old) }
+        ensures at { OnOk result (IsAt (size_of self.new) (timeline_of self.new)) }
+        ensures went { IfOk result (λ found. WentTo turns found (timeline_of self.old) (timeline_of self.new)) }
+        ensures size { size_of self.new ≡ size_of self.old }
+        ensures stops { stops_of self.new ≡ stops_of self.old }
+        ensures plan { plan_of self.new ≡ plan_of self.old }
+        ensures begins { begins_of self.new ≡ begins_of self.old }
+        ensures refused { IfErr result (λ e. e ≡ Memory) }
+    {
+        counts::go_to(&self.setting, &mut self.timeline, turns)
     }
 }

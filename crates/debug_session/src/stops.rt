@@ -1,15 +1,16 @@
 //! Where a debugged board halts: at addresses, and where bytes change.
 
-ghost use Rattle.std.specs.Prelude.{◌≡◌, [], true, false, ◌==◌, ◌++◌, IfErr, IfOk, OnErr, OnOk};
+ghost use Rattle.std.specs.Prelude.{◌≡◌, [], true, false, ◌==◌, ◌++◌, map, IfErr, IfOk, OnErr, OnOk};
 ghost use Rattle.std.specs.List.{list_any};
 ghost use Rattle.debug_session.specs.Points.{with_point, with_watch, without_point, without_watch};
-ghost use Rattle.debug_session.specs.Firsts.{Tells, seen_by, watched_in};
+ghost use Rattle.debug_session.specs.Firsts.{changed_since, seen_all, seen_by};
+ghost use Rattle.debug_session.specs.Others.{first_other, other_of};
 ghost use Rattle.debug_timeline.specs.Lives.{machine_of};
 ghost use Rattle.board_model.specs.declared.refusal.Refusal.TheVariants.{Memory};
 
 use board_model::Refusal;
 use debug_timeline::DebuggedBench;
-use std::alloc::{AllocError, Global};
+use std::alloc::Global;
 
 /// Bytes of memory that a turn is not to change unseen.
 #[derive(Clone, Copy, PartialEq, Eq, Drop)]
@@ -18,6 +19,13 @@ pub struct Watch {
     pub address: u64,
     /// How many they are.
     pub count: u64,
+}
+
+/// What is watched, as it was before a turn.
+#[derive(Drop)]
+pub(crate) struct Seen {
+    watch: Watch,
+    bytes: Vec<u8>,
 }
 
 /// The breakpoints and watchpoints of a session.
@@ -95,51 +103,61 @@ impl Stops {
         self.watches.retain(|w| *w != watch);
     }
 
-    /// The bytes that are watched, one after another, as far as the board has them.
-    pub(crate) fn watched(&self, alloc: Global, bench: &DebuggedBench) -> Result<Vec<u8>, Refusal>
-        ensures seen { IfOk result (λ bytes. bytes.items ≡ watched_in self.now.watches.items (machine_of bench.now)) }
+    /// What is watched, as it is now.
+    pub(crate) fn watched(&self, alloc: Global, bench: &DebuggedBench) -> Result<Vec<Seen>, Refusal>
+        ensures seen { IfOk result (λ all. map (λ was. (was.watch, was.bytes.items)) all.items
+            ≡ seen_all (machine_of bench.now) self.now.watches.items) }
         ensures refused { IfErr result (λ e. e ≡ Memory) }
     {
-        let mut bytes = Vec::new(alloc);
+        let mut all = Vec::new(alloc);
         for watch in &self.watches {
-            add_seen(bench, *watch, &mut bytes)?;
+            let bytes = Vec::from_slice(alloc, bytes_of(bench, *watch))?;
+            all.push(Seen {
+                watch: *watch,
+                bytes,
+            })?;
         }
-        Ok(bytes)
-    }
-
-    /// The first address that is watched; 0 where none is.
-    fn first(&self) -> u64 {
-        match self.watches.first() {
-            Some(watch) => watch.address,
-            None => 0,
-        }
-    }
-
-    /// Whether what is watched has changed: the first address that is watched.
-    pub(crate) fn changed(
-        &self,
-        alloc: Global,
-        bench: &DebuggedBench,
-        before: &Vec<u8>,
-    ) -> Result<Option<u64>, Refusal>
-        ensures told { IfOk result (λ changed. Tells changed
-            (watched_in self.now.watches.items (machine_of bench.now) ≡ before.now.items)) }
-        ensures refused { IfErr result (λ e. e ≡ Memory) }
-    {
-        let now = self.watched(alloc, bench)?;
-        if now.as_slice() == before.as_slice() {
-            return Ok(None);
-        }
-        Ok(Some(self.first()))
+        Ok(all)
     }
 }
 
-/// Adds bytes that are watched, where the board has them.
-fn add_seen(bench: &DebuggedBench, watch: Watch, bytes: &mut Vec<u8>) -> Result<(), AllocError>
-    ensures { OnOk result (bytes.new.items ≡ bytes.old.items ++ seen_by (machine_of bench.now) watch) }
+/// The bytes that are watched, where the board has them; else none.
+fn bytes_of(bench: &DebuggedBench, watch: Watch) -> &[u8]
+    ensures { result.now ≡ seen_by (machine_of bench.now) watch }
 {
     match bench.memory(watch.address, watch.count) {
-        Some(seen) => bytes.extend_from_slice(seen),
-        None => Ok(()),
+        Some(bytes) => bytes,
+        None => b"".as_slice(),
     }
+}
+
+/// The address of what was seen, where its bytes are others now.
+fn other_now(bench: &DebuggedBench, was: &Seen) -> Option<u64>
+    ensures { result ≡ other_of (machine_of bench.now) (was.now.watch, was.now.bytes.items) }
+{
+    if was.bytes.as_slice() == bytes_of(bench, was.watch) {
+        None
+    } else {
+        Some(was.watch.address)
+    }
+}
+
+/// The first of these whose bytes are others now, by its address.
+fn first_in(bench: &DebuggedBench, before: &[Seen]) -> Option<u64>
+    ensures { result ≡ first_other (machine_of bench.now) (map (λ was. (was.watch, was.bytes.items)) before.now) }
+{
+    for was in before {
+        if let Some(address) = other_now(bench, was) {
+            return Some(address);
+        }
+    }
+    None
+}
+
+/// The first of what was seen before a turn whose bytes are others now, by its address.
+#[tactic(auto, using(crate::proofs::Others::first_since))]
+pub(crate) fn first_changed(bench: &DebuggedBench, before: &Vec<Seen>) -> Option<u64>
+    ensures { result ≡ changed_since (machine_of bench.now) (map (λ was. (was.watch, was.bytes.items)) before.now.items) }
+{
+    first_in(bench, before)
 }

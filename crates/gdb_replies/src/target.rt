@@ -13,6 +13,7 @@ pub const DESCRIPTION: &str = "\
 <!DOCTYPE target SYSTEM \"gdb-target.dtd\">\n\
 <target version=\"1.0\">\n\
 <architecture>riscv:rv64</architecture>\n\
+<osabi>none</osabi>\n\
 <feature name=\"org.gnu.gdb.riscv.cpu\">\n\
 <reg name=\"zero\" bitsize=\"64\" regnum=\"0\" type=\"int\"/>\n\
 <reg name=\"ra\" bitsize=\"64\" regnum=\"1\" type=\"code_ptr\"/>\n\

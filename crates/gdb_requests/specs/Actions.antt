@@ -1,5 +1,5 @@
 -- What `vCont` asks of each thread. Source: "Debugging with GDB", appendix "GDB Remote Serial Protocol", "Packets", `vCont`.
-use Rattle.std.specs.Prelude.{ℕ, Bool, true, false, List, [], ◌∷◌, Option, Some, None, ◌==◌, if◌then◌else◌, bytes_eq, ◌&&◌}
+use Rattle.std.specs.Prelude.{ℕ, Bool, true, false, List, [], ◌∷◌, Option, Some, None, ◌==◌, nat_lt, if◌then◌else◌, bytes_eq, ◌&&◌}
 use Rattle.gdb_requests.specs.Fields.{number_of, parted_at, two_numbers}
 use Rattle.gdb_requests.specs.declared.actions.Action.{Action}
 use Rattle.gdb_requests.specs.declared.actions.Action.TheVariants.{Step, StepWithin, Go}
@@ -48,14 +48,22 @@ abbrev pub first_asked : ℕ → List (List ℕ) → Option Action
 first_asked thread [] = None
 first_asked thread (word ∷ more) = or_next (asked_by thread word) (first_asked thread more)
 
--- whether the action of a word is known, and those of all words
+-- whether the action of a word is known, and its thread, where it has one, can be one; and those of all words
 abbrev pub some_action : Option Action → Bool
 some_action None = false
 some_action (Some action) = true
 
+-- a text can name a thread, or all of them
+abbrev pub is_positive : Option ℕ → Bool
+is_positive None = false
+is_positive (Some n) = nat_lt 0 n
+
+abbrev pub is_thread : List ℕ → Bool
+is_thread text = if bytes_eq text (codes "-1") then true else is_positive (number_of text)
+
 abbrev pub known_in : List ℕ → Option (List ℕ × List ℕ) → Bool
 known_in word None = some_action (action_of word)
-known_in word (Some parts) = some_action (action_of parts.0)
+known_in word (Some parts) = some_action (action_of parts.0) && is_thread parts.1
 
 abbrev pub is_known : List ℕ → Bool
 is_known word = known_in word (parted_at 58 word)

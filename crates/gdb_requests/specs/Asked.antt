@@ -33,11 +33,18 @@ or_other asked other (Some rest) = asked rest
 abbrev pub is_any : List ℕ → Bool
 is_any word = if bytes_eq word (codes "0") then true else bytes_eq word (codes "-1")
 
--- H: by `g` a thread is shown from then on
+-- H of any thread: by `c` the one that is shown runs from then on
+abbrev pub unchosen : ℕ → Request
+unchosen kind = if kind == 99 then (asks.Look looks.RunShown) else (asks.Look looks.AnyThread)
+
+-- H of a thread: by `g` it is shown from then on, and by `c` it runs
+abbrev pub chosen_thread : ℕ → ℕ → Request
+chosen_thread kind t =
+    if kind == 103 then asks.Look (looks.Show t) else
+    (if kind == 99 then asks.Look (looks.Run t) else asks.Look (looks.IsAlive t))
+
 abbrev pub chosen : ℕ → List ℕ → Request
-chosen kind thread =
-    if is_any thread then (asks.Look looks.AnyThread) else
-    by_number (λ t. if kind == 103 then asks.Look (looks.Show t) else asks.Look (looks.IsAlive t)) (number_of thread)
+chosen kind thread = if is_any thread then unchosen kind else by_number (chosen_thread kind) (number_of thread)
 
 abbrev pub choice : List ℕ → Request
 choice [] = asks.Look looks.Unknown

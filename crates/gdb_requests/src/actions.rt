@@ -2,7 +2,7 @@
 
 ghost use Rattle.std.specs.Prelude.{◌≡◌, ◌==◌, map, IfOk};
 ghost use Rattle.std.specs.List.{slice_split};
-ghost use Rattle.gdb_requests.specs.Actions.{action_of, are_known, asked_by, first_asked, is_known, lettered, names};
+ghost use Rattle.gdb_requests.specs.Actions.{action_of, are_known, asked_by, first_asked, is_known, is_thread, lettered, names};
 
 use crate::fields::{number, parted, two_numbers};
 use std::alloc::{AllocError, Global};
@@ -84,13 +84,26 @@ pub fn action_for(words: &[&[u8]], thread: u64) -> Option<Action>
     None
 }
 
-/// Whether the action of a word is known.
+/// Whether a text can name a thread, or all of them.
+fn is_thread(text: &[u8]) -> bool
+    ensures { result ≡ is_thread text.now }
+{
+    if text == b"-1".as_slice() {
+        return true;
+    }
+    match number(text) {
+        None => false,
+        Some(number) => 0 < number,
+    }
+}
+
+/// Whether the action of a word is known, and its thread, where it has one, can be one.
 fn is_known(word: &[u8]) -> bool
     ensures { result ≡ is_known word.now }
 {
     match parted(word, b':') {
         None => action_of(word).is_some(),
-        Some((action, _)) => action_of(action).is_some(),
+        Some((action, text)) => action_of(action).is_some() && is_thread(text),
     }
 }
 

@@ -1,7 +1,7 @@
 //! Packets, read as requests.
 
 ghost use Rattle.std.specs.Prelude.{◌≡◌};
-ghost use Rattle.gdb_requests.specs.Asked.{alone, backward, by_letter, by_number, by_numbers, choice, chosen, is_any, is_point, is_write, looked, moved, part, placed, plain_query, point, point_at, query, request_of, setting, talk, transfer, verbose};
+ghost use Rattle.gdb_requests.specs.Asked.{alone, backward, by_letter, by_number, by_numbers, choice, chosen, chosen_thread, is_any, is_point, is_write, looked, moved, part, placed, plain_query, point, point_at, query, request_of, setting, talk, transfer, unchosen, verbose};
 
 use crate::fields::{behind, number, two_numbers};
 use crate::requests::{Look, Move, Object, Request};
@@ -24,17 +24,38 @@ fn is_any(word: &[u8]) -> bool
     word == b"0".as_slice() || word == b"-1".as_slice()
 }
 
-/// `H` with its kind: by `g` a thread is shown from then on.
+/// `H` of any thread, with its kind: by `c` none runs but the one that is shown.
+fn unchosen(kind: u8) -> Request
+    ensures { result ≡ unchosen kind }
+{
+    if kind == b'c' {
+        Request::Look(Look::RunShown)
+    } else {
+        Request::Look(Look::AnyThread)
+    }
+}
+
+/// `H` of a thread, with its kind: by `g` it is shown from then on, and by `c` it runs.
+fn chosen_thread(kind: u8, thread: u64) -> Request
+    ensures { result ≡ chosen_thread kind thread }
+{
+    match kind {
+        b'g' => Request::Look(Look::Show(thread)),
+        b'c' => Request::Look(Look::Run(thread)),
+        _ => Request::Look(Look::IsAlive(thread)),
+    }
+}
+
+/// `H` with its kind.
 fn chosen(kind: u8, thread: &[u8]) -> Request
     ensures { result ≡ chosen kind thread.now }
 {
     if is_any(thread) {
-        return Request::Look(Look::AnyThread);
+        return unchosen(kind);
     }
     match number(thread) {
         None => Request::Look(Look::Malformed),
-        Some(thread) if kind == b'g' => Request::Look(Look::Show(thread)),
-        Some(thread) => Request::Look(Look::IsAlive(thread)),
+        Some(thread) => chosen_thread(kind, thread),
     }
 }
 

@@ -24,9 +24,13 @@ pub enum Look {
     Memory(u64, u64),
     /// `Hg`: that thread is shown from now on.
     Show(u64),
-    /// `H` of any thread: nothing is chosen.
+    /// `Hc`: that thread steps from now on, and goes on first.
+    Run(u64),
+    /// `Hc` of any thread: the one that is shown does so from now on.
+    RunShown,
+    /// `H` of any thread, but for `Hc`: nothing is chosen.
     AnyThread,
-    /// `T`, and `H` but for `Hg`: whether there is that thread.
+    /// `T`, and `H` of another kind: whether there is that thread.
     IsAlive(u64),
     /// `Z0` and `Z1`: a breakpoint at that address.
     SetPoint(u64),
@@ -67,11 +71,11 @@ pub enum Look {
 /// What may move the board.
 #[derive(Clone, Copy, Drop)]
 pub enum Move {
-    /// `s`: the hart that is shown makes a turn.
+    /// `s`: the hart that runs makes a turn.
     Step,
     /// `c`: all harts go on.
     Go,
-    /// `bs`: back before the last turn of the hart that is shown.
+    /// `bs`: back before the last turn of the hart that runs.
     StepBack,
     /// `bc`: back.
     GoBack,

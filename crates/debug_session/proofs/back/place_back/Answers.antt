@@ -17,7 +17,7 @@ returns-in-Some-clause-end g c =
     let stops = c.args.stops.now in
     let past = c.args.timeline.now.history in
     let begin = bench_with c.args.timeline.now.begins in
-    let had = rw c.in-Some.is at c.in_ok-place.ensures.found in
+    let had = rw c.in-Some.is at (rw c.in-Ended.is at c.in_ok-found.ensures.found) in
     end_found size stops c.in-Some.place past begin had.0 had.1
 
 pub returns-in-None-clause-end : goal.returns-in-None-clause-end
@@ -26,7 +26,7 @@ returns-in-None-clause-end g c =
     let stops = c.args.stops.now in
     let past = c.args.timeline.now.history in
     let begin = bench_with c.args.timeline.now.begins in
-    let had = rw c.in-None.is at c.in_ok-place.ensures.found in
+    let had = rw c.in-None.is at (rw c.in-Ended.is at c.in_ok-found.ensures.found) in
     let P : List Line → Type 0 = λ lines. IfSome c.first_turn.result (λ place. IsPlace place.stop.hart place.line place.turns lines) in
     let Q : List Line → Type 0 = λ lines. IfSome c.first_turn.result (λ place. (place.turns ≡ 0) × (place.stop.halt ≡ halts.Begin) × All MakesNone (take place.line lines)) in
     let same = c.lines.ensures in

@@ -6,9 +6,8 @@ use Rattle.debug_timeline.specs.Passes.{machine_left}
 use Rattle.debug_timeline.proofs.Passed.{shown_machine}
 use Rattle.debug_session.specs.declared.halts.Halt.{Halt}
 use Rattle.debug_session.specs.Backs.{IsSeen}
-use Rattle.debug_session.specs.Firsts.{KeepsWatched, watched_in}
 use Rattle.debug_session.proofs.Backs.{is_seen}
-use Rattle.debug_session.proofs.Firsts.{tells_along}
+use Rattle.debug_session.proofs.Firsts.{changed_along}
 use Rattle.debug_session.proofs.back.seen_back.Goals as goal
 
 pub returns-clause-seen : goal.returns-clause-seen
@@ -19,12 +18,10 @@ returns-clause-seen g c = λ size b shows.
     let did = c.turns.ensures.reported size b shows in
     let now = c.turns.new.self in
     let new = did.0 in
-    let changed = c.in_ok-changed.changed in
+    let changed = c.first_changed-changed.result in
     let seen_was : machine_of was ≡ machine_left b.power = shown_machine size b was.live.power was.live.payloads shows in
     let seen_now : machine_of now ≡ machine_left new.power = shown_machine size new now.live.power now.live.payloads did.3 in
     let stands = ap (λ (m : Option Machine). stands_in stops.points.items (pc_in h m)) (sym seen_was) ∙ ap (λ (ps : List ℕ). stands_in ps (pc_in h (machine_of was))) (sym c.points.ensures) ∙ sym c.stands_at-stands.ensures in
-    let is_now : watched_in stops.watches.items (machine_of now) ≡ watched_in stops.watches.items (machine_left new.power) = ap (watched_in stops.watches.items) seen_now in
-    let had : c.in_ok-before.before.items ≡ watched_in stops.watches.items (machine_left b.power) = c.in_ok-before.ensures.seen ∙ ap (watched_in stops.watches.items) seen_was in
-    let told = tells_along size stops changed (watched_in stops.watches.items (machine_of now) ≡ c.in_ok-before.before.items) (KeepsWatched stops b new) (λ e. sym is_now ∙ e ∙ had) (λ keeps. is_now ∙ keeps ∙ sym had) c.in_ok-changed.ensures.told in
+    let told = changed_along size stops (machine_of was) (machine_of now) _ changed b new c.in_ok-before.ensures.seen seen_was seen_now c.first_changed-changed.ensures in
     let P : Option Halt → Type 0 = λ halt. IsSeen halt stops h b new in
     (new, ((row_answer h c.turns.result, did.2), subst P (sym c.halt_back.ensures) (is_seen size stops h b new c.stands_at-stands.result changed stands told)), did.3)

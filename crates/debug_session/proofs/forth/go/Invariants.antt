@@ -7,7 +7,7 @@ abbrev pub invariant-parts : goal.invariant-parts
 invariant-parts g l = record {
   went : (n : ℕ) × (l.round.left + n ≡ l.fn.round.left)
       × Went (λ h. slice_index_or l.fn.round.harts h false ≡ true) n l.setting.shape.now l.fn.timeline l.timeline;
-  first : ToHalt l.setting.shape.now l.stops None l.fn.timeline l.timeline;
+  first : ToHalt l.setting.shape.now l.stops l.first None l.fn.timeline l.timeline;
   harts : l.round.harts ≡ l.fn.round.harts;
   resting : l.round.resting ≤ 8;
 }

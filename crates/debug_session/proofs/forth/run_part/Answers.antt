@@ -10,5 +10,5 @@ returns-else-watch-clause-first g c =
     let old = c.args.timeline.now in
     let new = c.stretch.new.timeline in
     let Was : Part → Type 0 = λ part. Stretched size c.args.hart c.args.most c.points.result.now part.made part.rests part.halt old new in
-    let Is : Part → Type 0 = λ part. ToHalt size c.args.stops.now part.halt old new in
+    let Is : Part → Type 0 = λ part. ToHalt size c.args.stops.now c.args.hart part.halt old new in
     ok_more c.stretch.result Was Is (λ part made. (let P : List ℕ → Type 0 = λ points. Stretched size c.args.hart c.args.most points part.made part.rests part.halt old new in stretch_halts size c.args.stops.now c.args.hart c.args.most part.made part.rests part.halt old new (c.watch.ensures c.if-watch.false) (subst P c.points.ensures made))) c.stretch.ensures.made

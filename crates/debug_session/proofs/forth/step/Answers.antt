@@ -1,16 +1,19 @@
-use Rattle.std.proofs.Common.{◌≡◌, Option, refl, subst}
+use Rattle.std.proofs.Common.{◌≡◌, Option, None, Some, refl, sym, ap, ◌∙◌, subst}
 use Rattle.debug_session.specs.declared.halts.Halt.{Halt}
-use Rattle.debug_session.specs.declared.halts.Halt.TheVariants as halts
 use Rattle.debug_session.specs.Firsts.{ToHalt}
-use Rattle.debug_session.proofs.Firsts.{other_halt}
+use Rattle.debug_session.specs.Steps.{IsStep, halt_step}
+use Rattle.debug_session.proofs.Firsts.{step_halts}
+use Rattle.debug_session.proofs.Wents.{step_of}
 use Rattle.debug_session.proofs.forth.step.Goals as goal
 
-pub returns-in-Some-clause-first : goal.returns-in-Some-clause-first
-returns-in-Some-clause-first g c =
-    let P : Option Halt → Type 0 = λ halt. ToHalt c.args.setting.now.shape.now c.args.stops.now halt c.args.timeline.now c.watched_turn.new.timeline in
-    subst P c.in-Some.is c.in_ok-part.ensures.first
+pub returns-clause-step : goal.returns-clause-step
+returns-clause-step g c =
+    let part = c.in_ok-part.part in
+    let P : Halt → Type 0 = λ halt. IsStep c.args.setting.now.shape.now c.args.hart halt c.args.timeline.now c.watched_turn.new.timeline in
+    subst P (sym c.halt_step-halt.ensures) (step_of c.args.setting.now.shape.now c.args.hart c.args.stops.now.points.items part c.args.timeline.now c.watched_turn.new.timeline c.in_ok-part.ensures.made)
 
-pub returns-in-None-clause-first : goal.returns-in-None-clause-first
-returns-in-None-clause-first g c =
-    let P : Option Halt → Type 0 = λ halt. ToHalt c.args.setting.now.shape.now c.args.stops.now halt c.args.timeline.now c.watched_turn.new.timeline in
-    other_halt c.args.setting.now.shape.now c.args.stops.now halts.Stepped c.args.timeline.now c.watched_turn.new.timeline refl (subst P c.in-None.is c.in_ok-part.ensures.first)
+pub returns-clause-first : goal.returns-clause-first
+returns-clause-first g c =
+    let part = c.in_ok-part.part in
+    let P : Halt → Type 0 = λ halt. ToHalt c.args.setting.now.shape.now c.args.stops.now c.args.hart (Some halt) c.args.timeline.now c.watched_turn.new.timeline in
+    subst P (sym c.halt_step-halt.ensures) (step_halts c.args.setting.now.shape.now c.args.stops.now c.args.hart part.made part.halt c.args.timeline.now c.watched_turn.new.timeline c.in_ok-part.ensures.first)

@@ -2,13 +2,11 @@ use Rattle.std.proofs.Common.{None, Some, refl, ◌≡◌, ◌≤◌, ◌+◌, s
 use Rattle.debug_session.specs.declared.halts.Halt.TheVariants as halts
 use Rattle.debug_session.proofs.Firsts.{halt_then, no_halt, other_halt}
 use Rattle.debug_session.proofs.Wents.{few_went, step_more, went_none}
-use Rattle.debug_session.proofs.Withins.{stayed_more, stayed_none, steps_asked, steps_end, steps_halt, steps_off, steps_on, steps_spent}
-use Rattle.debug_timeline.specs.Lives.{machine_of, pc_in}
-use Rattle.debug_session.specs.Withins.{is_in}
+use Rattle.debug_session.proofs.Withins.{stayed_more, stayed_none, steps_asked, steps_halt, steps_idle, steps_out, steps_spent}
 use Rattle.debug_session.proofs.forth.step_within.Goals as goal
 
 pub loop-done-init : goal.loop-done-init
-loop-done-init g c = record { went = (0, omega arith, went_none (λ h. h ≡ c.args.hart) c.args.setting.now.shape.now c.args.timeline.now c.requires.at); first = no_halt c.args.setting.now.shape.now c.args.stops.now c.args.timeline.now; within = stayed_none c.args.setting.now.shape.now c.args.within c.args.hart c.args.timeline.now; few = omega arith }
+loop-done-init g c = record { went = (0, omega arith, went_none (λ h. h ≡ c.args.hart) c.args.setting.now.shape.now c.args.timeline.now c.requires.at); first = no_halt c.args.setting.now.shape.now c.args.stops.now c.args.hart c.args.timeline.now; within = stayed_none c.args.setting.now.shape.now c.args.within c.args.hart c.args.timeline.now; few = omega arith }
 
 pub returns-in-Some-clause-went : goal.returns-in-Some-clause-went
 returns-in-Some-clause-went g c =
@@ -17,8 +15,15 @@ returns-in-Some-clause-went g c =
     let less : c.loop-done.done + 1 ≤ c.args.within.most = omega (arith, c.loop-done-test.true) in
     few_went (λ h. h ≡ c.args.hart) (c.loop-done.done + 1) c.args.within.most size c.args.timeline.now c.watched_turn.new.timeline less (step_more c.args.hart c.loop-done.done part.part.made size c.args.timeline.now c.loop-done.timeline c.watched_turn.new.timeline c.loop-done.invariant.went part.ensures.one part.ensures.went)
 
-pub returns-then-not-steps_on-clause-went : goal.returns-then-not-steps_on-clause-went
-returns-then-not-steps_on-clause-went g c =
+pub returns-then-part-eq0-clause-went : goal.returns-then-part-eq0-clause-went
+returns-then-part-eq0-clause-went g c =
+    let size = c.args.setting.now.shape.now in
+    let part = c.in_ok-part in
+    let less : c.loop-done.done + 1 ≤ c.args.within.most = omega (arith, c.loop-done-test.true) in
+    few_went (λ h. h ≡ c.args.hart) (c.loop-done.done + 1) c.args.within.most size c.args.timeline.now c.watched_turn.new.timeline less (step_more c.args.hart c.loop-done.done part.part.made size c.args.timeline.now c.loop-done.timeline c.watched_turn.new.timeline c.loop-done.invariant.went part.ensures.one part.ensures.went)
+
+pub returns-then-not-stands_within-clause-went : goal.returns-then-not-stands_within-clause-went
+returns-then-not-stands_within-clause-went g c =
     let size = c.args.setting.now.shape.now in
     let part = c.in_ok-part in
     let less : c.loop-done.done + 1 ≤ c.args.within.most = omega (arith, c.loop-done-test.true) in
@@ -34,39 +39,44 @@ returns-then-swap-clause-went g c =
 pub loop-done-preserved : goal.loop-done-preserved
 loop-done-preserved g c =
     let part = c.in_ok-part in
-    record { went = step_more c.args.hart c.loop-done.done part.part.made c.args.setting.now.shape.now c.args.timeline.now c.loop-done.timeline c.watched_turn.new.timeline c.loop-done.invariant.went part.ensures.one part.ensures.went; first = halt_then c.args.setting.now.shape.now c.args.stops.now c.in_ok-part.part.halt None c.args.timeline.now c.loop-done.timeline c.watched_turn.new.timeline c.in_default.is c.loop-done.invariant.first c.in_ok-part.ensures.first; within = (let on = steps_on part.part.rests (is_in c.args.within (pc_in c.args.hart (machine_of c.watched_turn.new.timeline.bench))) (sym c.steps_on.ensures ∙ c.if-not-steps_on.false) in stayed_more c.args.setting.now.shape.now c.args.within c.args.hart c.loop-done.done c.args.stops.now.points.items part.part.rests c.args.timeline.now c.loop-done.timeline c.watched_turn.new.timeline c.loop-done.invariant.within part.part.made part.part.halt part.ensures.made c.in_default.is on.0 on.1); few = omega (arith, c.loop-done-test.true) }
+    let made : part.part.made ≡ 1 = omega (arith, part.ensures.one, c.if-part-eq0.false) in
+    record { went = step_more c.args.hart c.loop-done.done part.part.made c.args.setting.now.shape.now c.args.timeline.now c.loop-done.timeline c.watched_turn.new.timeline c.loop-done.invariant.went part.ensures.one part.ensures.went; first = halt_then c.args.setting.now.shape.now c.args.stops.now c.args.hart c.args.hart c.in_ok-part.part.halt None c.args.timeline.now c.loop-done.timeline c.watched_turn.new.timeline c.in_default.is c.loop-done.invariant.first c.in_ok-part.ensures.first; within = stayed_more c.args.setting.now.shape.now c.args.within c.args.hart c.loop-done.done c.args.stops.now.points.items c.in_ok-part.part c.args.timeline.now c.loop-done.timeline c.watched_turn.new.timeline c.loop-done.invariant.within part.ensures.made made (sym c.stands_within.ensures ∙ c.if-not-stands_within.false); few = omega (arith, c.loop-done-test.true) }
 
 pub returns-in-Some-clause-first : goal.returns-in-Some-clause-first
-returns-in-Some-clause-first g c = halt_then c.args.setting.now.shape.now c.args.stops.now c.in_ok-part.part.halt (Some c.in-Some.halt) c.args.timeline.now c.loop-done.timeline c.watched_turn.new.timeline c.in-Some.is c.loop-done.invariant.first c.in_ok-part.ensures.first
+returns-in-Some-clause-first g c = halt_then c.args.setting.now.shape.now c.args.stops.now c.args.hart c.args.hart c.in_ok-part.part.halt (Some c.in-Some.halt) c.args.timeline.now c.loop-done.timeline c.watched_turn.new.timeline c.in-Some.is c.loop-done.invariant.first c.in_ok-part.ensures.first
 
-pub returns-then-not-steps_on-clause-first : goal.returns-then-not-steps_on-clause-first
-returns-then-not-steps_on-clause-first g c = other_halt c.args.setting.now.shape.now c.args.stops.now halts.Stepped c.args.timeline.now c.watched_turn.new.timeline refl (halt_then c.args.setting.now.shape.now c.args.stops.now c.in_ok-part.part.halt None c.args.timeline.now c.loop-done.timeline c.watched_turn.new.timeline c.in_default.is c.loop-done.invariant.first c.in_ok-part.ensures.first)
+pub returns-then-part-eq0-clause-first : goal.returns-then-part-eq0-clause-first
+returns-then-part-eq0-clause-first g c = other_halt c.args.setting.now.shape.now c.args.stops.now c.args.hart c.args.hart halts.Idle c.args.timeline.now c.watched_turn.new.timeline refl (halt_then c.args.setting.now.shape.now c.args.stops.now c.args.hart c.args.hart c.in_ok-part.part.halt None c.args.timeline.now c.loop-done.timeline c.watched_turn.new.timeline c.in_default.is c.loop-done.invariant.first c.in_ok-part.ensures.first)
+
+pub returns-then-not-stands_within-clause-first : goal.returns-then-not-stands_within-clause-first
+returns-then-not-stands_within-clause-first g c = other_halt c.args.setting.now.shape.now c.args.stops.now c.args.hart c.args.hart halts.Stepped c.args.timeline.now c.watched_turn.new.timeline refl (halt_then c.args.setting.now.shape.now c.args.stops.now c.args.hart c.args.hart c.in_ok-part.part.halt None c.args.timeline.now c.loop-done.timeline c.watched_turn.new.timeline c.in_default.is c.loop-done.invariant.first c.in_ok-part.ensures.first)
 
 pub returns-then-swap-clause-first : goal.returns-then-swap-clause-first
-returns-then-swap-clause-first g c = other_halt c.args.setting.now.shape.now c.args.stops.now halts.Interrupted c.args.timeline.now c.watched_turn.new.timeline refl (halt_then c.args.setting.now.shape.now c.args.stops.now c.in_ok-part.part.halt None c.args.timeline.now c.loop-done.timeline c.watched_turn.new.timeline c.in_default.is c.loop-done.invariant.first c.in_ok-part.ensures.first)
+returns-then-swap-clause-first g c = other_halt c.args.setting.now.shape.now c.args.stops.now c.args.hart c.args.hart halts.Interrupted c.args.timeline.now c.watched_turn.new.timeline refl (halt_then c.args.setting.now.shape.now c.args.stops.now c.args.hart c.args.hart c.in_ok-part.part.halt None c.args.timeline.now c.loop-done.timeline c.watched_turn.new.timeline c.in_default.is c.loop-done.invariant.first c.in_ok-part.ensures.first)
 
 pub returns-clause-went : goal.returns-clause-went
 returns-clause-went g c = few_went (λ h. h ≡ c.args.hart) c.loop-done.done c.args.within.most c.args.setting.now.shape.now c.args.timeline.now c.loop-done.timeline c.loop-done.invariant.few c.loop-done.invariant.went
 
 pub returns-clause-first : goal.returns-clause-first
-returns-clause-first g c = other_halt c.args.setting.now.shape.now c.args.stops.now halts.Stepped c.args.timeline.now c.loop-done.timeline refl c.loop-done.invariant.first
+returns-clause-first g c = other_halt c.args.setting.now.shape.now c.args.stops.now c.args.hart c.args.hart halts.Spent c.args.timeline.now c.loop-done.timeline refl c.loop-done.invariant.first
 
 pub returns-in-Some-clause-within : goal.returns-in-Some-clause-within
-returns-in-Some-clause-within g c =
-    let part = c.in_ok-part in
-    steps_halt c.args.setting.now.shape.now c.args.within c.args.hart c.loop-done.done c.args.stops.now.points.items part.part.rests c.args.timeline.now c.loop-done.timeline c.watched_turn.new.timeline c.loop-done.invariant.within part.part.made part.part.halt c.in-Some.halt part.ensures.made c.in-Some.is
+returns-in-Some-clause-within g c = steps_halt c.args.setting.now.shape.now c.args.within c.args.hart c.loop-done.done c.args.stops.now.points.items c.in_ok-part.part c.args.timeline.now c.loop-done.timeline c.watched_turn.new.timeline c.loop-done.invariant.within c.in-Some.halt c.in_ok-part.ensures.made c.in-Some.is
 
-pub returns-then-not-steps_on-clause-within : goal.returns-then-not-steps_on-clause-within
-returns-then-not-steps_on-clause-within g c =
+pub returns-then-part-eq0-clause-within : goal.returns-then-part-eq0-clause-within
+returns-then-part-eq0-clause-within g c = steps_idle c.args.setting.now.shape.now c.args.within c.args.hart c.loop-done.done c.args.stops.now.points.items c.in_ok-part.part c.args.timeline.now c.loop-done.timeline c.watched_turn.new.timeline c.loop-done.invariant.within c.in_ok-part.ensures.made (omega (arith, c.if-part-eq0.true)) c.in_default.is
+
+pub returns-then-not-stands_within-clause-within : goal.returns-then-not-stands_within-clause-within
+returns-then-not-stands_within-clause-within g c =
     let part = c.in_ok-part in
-    let off = steps_off part.part.rests (is_in c.args.within (pc_in c.args.hart (machine_of c.watched_turn.new.timeline.bench))) (sym c.steps_on.ensures ∙ c.if-not-steps_on.true) in
-    steps_end c.args.setting.now.shape.now c.args.within c.args.hart c.loop-done.done c.args.stops.now.points.items part.part.rests c.args.timeline.now c.loop-done.timeline c.watched_turn.new.timeline c.loop-done.invariant.within part.part.made part.part.halt part.ensures.made c.in_default.is off
+    let made : part.part.made ≡ 1 = omega (arith, part.ensures.one, c.if-part-eq0.false) in
+    steps_out c.args.setting.now.shape.now c.args.within c.args.hart c.loop-done.done c.args.stops.now.points.items c.in_ok-part.part c.args.timeline.now c.loop-done.timeline c.watched_turn.new.timeline c.loop-done.invariant.within part.ensures.made made (sym c.stands_within.ensures ∙ c.if-not-stands_within.true)
 
 pub returns-then-swap-clause-within : goal.returns-then-swap-clause-within
 returns-then-swap-clause-within g c =
     let part = c.in_ok-part in
-    let on = steps_on part.part.rests (is_in c.args.within (pc_in c.args.hart (machine_of c.watched_turn.new.timeline.bench))) (sym c.steps_on.ensures ∙ c.if-not-steps_on.false) in
-    steps_asked c.args.setting.now.shape.now c.args.within c.args.hart (c.loop-done.done + 1) c.args.timeline.now c.watched_turn.new.timeline (stayed_more c.args.setting.now.shape.now c.args.within c.args.hart c.loop-done.done c.args.stops.now.points.items part.part.rests c.args.timeline.now c.loop-done.timeline c.watched_turn.new.timeline c.loop-done.invariant.within part.part.made part.part.halt part.ensures.made c.in_default.is on.0 on.1)
+    let made : part.part.made ≡ 1 = omega (arith, part.ensures.one, c.if-part-eq0.false) in
+    steps_asked c.args.setting.now.shape.now c.args.within c.args.hart (c.loop-done.done + 1) c.args.timeline.now c.watched_turn.new.timeline (stayed_more c.args.setting.now.shape.now c.args.within c.args.hart c.loop-done.done c.args.stops.now.points.items c.in_ok-part.part c.args.timeline.now c.loop-done.timeline c.watched_turn.new.timeline c.loop-done.invariant.within part.ensures.made made (sym c.stands_within.ensures ∙ c.if-not-stands_within.false))
 
 pub returns-clause-within : goal.returns-clause-within
 returns-clause-within g c =

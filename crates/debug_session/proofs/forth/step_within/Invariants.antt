@@ -7,7 +7,7 @@ use Rattle.debug_session.proofs.forth.step_within.Given as goal
 abbrev pub invariant-loop-done : goal.invariant-loop-done
 invariant-loop-done g l = record {
   went : (n : ℕ) × (n ≤ l.done) × Went (λ h. h ≡ l.hart) n l.setting.shape.now l.fn.timeline l.timeline;
-  first : ToHalt l.setting.shape.now l.stops None l.fn.timeline l.timeline;
+  first : ToHalt l.setting.shape.now l.stops l.hart None l.fn.timeline l.timeline;
   within : StayedWithin l.setting.shape.now l.within l.hart l.done l.fn.timeline l.timeline;
   few : l.done ≤ l.within.most;
 }

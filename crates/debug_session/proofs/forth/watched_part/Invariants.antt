@@ -6,7 +6,7 @@ use Rattle.debug_session.proofs.forth.watched_part.Given as goal
 abbrev pub invariant-loop-sum : goal.invariant-loop-sum
 invariant-loop-sum g l = record {
   went : Went (λ h. h ≡ l.hart) l.sum l.setting.shape.now l.fn.timeline l.timeline;
-  first : ToHalt l.setting.shape.now l.stops None l.fn.timeline l.timeline;
+  first : ToHalt l.setting.shape.now l.stops l.hart None l.fn.timeline l.timeline;
   few : l.sum ≤ l.most;
 }
 

@@ -1,27 +1,25 @@
-use Rattle.std.proofs.Common.{◌≡◌, List, ℕ, subst}
+use Rattle.std.proofs.Common.{◌≡◌, List, ℕ, map, subst}
 use Rattle.debug_timeline.specs.declared.debugged.DebuggedBench.{DebuggedBench}
 use Rattle.debug_timeline.specs.Lives.{machine_of}
-use Rattle.debug_session.specs.Firsts.{Stretched, watched_in}
+use Rattle.debug_session.specs.declared.stops.Watch.{Watch}
+use Rattle.debug_session.specs.Firsts.{Stretched, seen_all}
 use Rattle.debug_session.proofs.Firsts.{watched_halts}
-use Rattle.debug_session.proofs.Wents.{step_of}
 use Rattle.debug_session.proofs.Withins.{made_one}
 use Rattle.debug_session.proofs.forth.watched_turn.Goals as goal
-
-pub returns-clause-step : goal.returns-clause-step
-returns-clause-step g c = step_of c.args.setting.now.shape.now c.args.hart c.in_ok-part.part.made c.points.result.now c.in_ok-part.part.rests c.in_ok-part.part.halt c.args.timeline.now c.stretch.new.timeline c.in_ok-part.ensures.made
 
 pub returns-clause-first : goal.returns-clause-first
 returns-clause-first g c =
     let stops = c.args.stops.now in
     let part = c.in_ok-part.part in
-    let told = c.in_ok-changed.ensures in
+    let told = c.change_behind-changed.ensures in
     let P : List ℕ → Type 0 = λ points. Stretched c.args.setting.now.shape.now c.args.hart 1 points part.made part.rests part.halt c.args.timeline.now c.stretch.new.timeline in
-    let Q : DebuggedBench → Type 0 = λ bench. c.in_ok-before.before.items ≡ watched_in stops.watches.items (machine_of bench) in
-    watched_halts c.args.setting.now.shape.now stops c.args.hart part.made part.rests part.halt c.halt_seen-halt.result c.in_ok-changed.changed c.in_ok-before.before.items c.args.timeline.now c.stretch.new.timeline (subst P c.points.ensures c.in_ok-part.ensures.made) c.halt_seen-halt.ensures told.none (subst Q c.bench.ensures c.in_ok-before.ensures.seen) told.told
+    let before : List (Watch × List ℕ) = map (λ was. (was.watch, was.bytes.items)) c.in_ok-before.before.items in
+    let Q : DebuggedBench → Type 0 = λ bench. before ≡ seen_all (machine_of bench) stops.watches.items in
+    watched_halts c.args.setting.now.shape.now stops c.args.hart part.made part.rests part.halt c.halt_seen-halt.result c.change_behind-changed.result before c.args.timeline.now c.stretch.new.timeline (subst P c.points.ensures c.in_ok-part.ensures.made) c.halt_seen-halt.ensures told.none (subst Q c.bench.ensures c.in_ok-before.ensures.seen) told.told
 
 pub returns-clause-made : goal.returns-clause-made
 returns-clause-made g c =
     let part = c.in_ok-part.part in
-    let told = c.in_ok-changed.ensures in
+    let told = c.change_behind-changed.ensures in
     let P : List ℕ → Type 0 = λ points. Stretched c.args.setting.now.shape.now c.args.hart 1 points part.made part.rests part.halt c.args.timeline.now c.stretch.new.timeline in
-    made_one c.args.setting.now.shape.now c.args.hart part.made c.args.stops.now.points.items part.rests part.halt c.halt_seen-halt.result c.in_ok-changed.changed c.args.timeline.now c.stretch.new.timeline (subst P c.points.ensures c.in_ok-part.ensures.made) c.halt_seen-halt.ensures told.none
+    made_one c.args.setting.now.shape.now c.args.hart part.made c.args.stops.now.points.items part.rests part.halt c.halt_seen-halt.result c.change_behind-changed.result c.args.timeline.now c.stretch.new.timeline (subst P c.points.ensures c.in_ok-part.ensures.made) c.halt_seen-halt.ensures told.none

@@ -1,14 +1,21 @@
-use Rattle.std.proofs.Common.{◌≡◌, ◌+◌, List, ℕ, ◌++◌, take, get_or, sym, ap, ◌∙◌}
+use Rattle.std.proofs.Common.{◌≡◌, ◌+◌, List, [], ◌∷◌, ℕ, ◌++◌, map, take, get_or, sym, ap, ◌∙◌}
+use Rattle.std.proofs.lemmas.List.{map-append}
 use Rattle.debug_timeline.specs.Lives.{machine_of}
+use Rattle.debug_session.specs.declared.stops.Seen.{Seen}
 use Rattle.debug_session.specs.declared.stops.Watch.{Watch}
-use Rattle.debug_session.specs.Firsts.{seen_by, watched_in}
-use Rattle.debug_session.proofs.Firsts.{watched_more}
+use Rattle.debug_session.specs.Firsts.{seen_all, seen_by}
+use Rattle.debug_session.proofs.Firsts.{seen_more}
 use Rattle.debug_session.proofs.stops.Stops.watched.Goals as goal
 
 pub loop-watch-preserved : goal.loop-watch-preserved
 loop-watch-preserved c =
     let m = machine_of c.args.bench.now in
+    let pair : Seen → Watch × List ℕ = λ was. (was.watch, was.bytes.items) in
+    let d : Watch = record { address = 0; count = 0 } in
+    let i = c.loop-watch.watch-index in
     let same = c.deref-watch-items.ensures.value in
     let items = c.deref-watch-items.result.now in
-    let was : c.loop-watch.bytes.items ≡ watched_in (take c.loop-watch.watch-index items) m = c.loop-watch.invariant ∙ ap (λ (ws : List Watch). watched_in (take c.loop-watch.watch-index ws) m) (sym same) in
-    c.in_ok-add_seen.ensures ∙ ap (λ (xs : List ℕ). xs ++ seen_by m (get_or items c.loop-watch.watch-index (record { address = 0; count = 0 }))) was ∙ sym (watched_more items c.loop-watch.watch-index (record { address = 0; count = 0 }) m c.loop-watch-test.true) ∙ ap (λ (ws : List Watch). watched_in (take (c.loop-watch.watch-index + 1) ws) m) same
+    let watch = get_or items i d in
+    let was : map pair c.loop-watch.all.items ≡ seen_all m (take i items) = c.loop-watch.invariant ∙ ap (λ (ws : List Watch). seen_all m (take i ws)) (sym same) in
+    let bytes : c.in_ok-bytes.bytes.items ≡ seen_by m watch = c.in_ok-bytes.ensures.items ∙ c.bytes_of.ensures in
+    ap (map pair) c.in_ok-push.ensures.items ∙ map-append pair c.loop-watch.all.items _ ∙ ap (λ (xs : List (Watch × List ℕ)). xs ++ (watch, c.in_ok-bytes.bytes.items) ∷ []) was ∙ ap (λ (bs : List ℕ). seen_all m (take i items) ++ (watch, bs) ∷ []) bytes ∙ sym (seen_more items i d m c.loop-watch-test.true) ∙ ap (λ (ws : List Watch). seen_all m (take (i + 1) ws)) same

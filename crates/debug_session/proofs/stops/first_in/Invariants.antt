@@ -1,0 +1,9 @@
+use Rattle.std.proofs.Common.{◌≡◌, ℕ, List, map, drop}
+use Rattle.debug_timeline.specs.Lives.{machine_of}
+use Rattle.debug_session.specs.Others.{first_other}
+use Rattle.debug_session.proofs.stops.first_in.Given as goal
+
+abbrev pub invariant-loop-was : goal.invariant-loop-was
+invariant-loop-was l =
+    first_other (machine_of l.bench) (map (λ was. (was.watch, was.bytes.items)) l.before)
+    ≡ first_other (machine_of l.bench) (map (λ was. (was.watch, was.bytes.items)) (drop l.was-index l.before))
