@@ -1,4 +1,11 @@
-# To be sourced once in a session of GDB over sbigdb: a line of `monitor` may move the board, and GDB keeps registers that it has read.
+# To be sourced once in a session of GDB over sbigdb. A script may run for minutes before its end is there to be shown, and GDB would ask
+# again after two seconds.
+set remotetimeout 600
+# A line of `monitor` may move the board, and GDB keeps registers that it has read.
 define hookpost-monitor
   maintenance flush register-cache
+end
+# GDB's checkpoints are copies of a process of its own machine.
+define checkpoint
+  echo sbigdb has no checkpoints: monitor when says a number, and monitor goto goes back to it\n
 end

@@ -4,9 +4,25 @@ use Rattle.std.specs.Io.KnownBytes.{Consumes, IsAtEnd}
 use Rattle.std.specs.List.{FoldsTo}
 use Rattle.gdb_packets.specs.Streams.{Hears, Standing}
 use Rattle.gdb_packets.specs.declared.heard.Heard.{Heard}
+use Rattle.gdb_packets.specs.declared.heard.Heard.TheVariants as heards
+use Rattle.gdb_requests.specs.Asked.{request_of}
+use Rattle.gdb_requests.specs.declared.requests.Look.TheVariants as looks
+use Rattle.gdb_requests.specs.declared.requests.Request.{Request}
+use Rattle.gdb_requests.specs.declared.requests.Request.TheVariants as asks
 use Rattle.gdb_packets.specs.declared.heard.Place.TheVariants.{Between}
 use Rattle.sbigdb.specs.declared.listening.Silence.{Silence}
 use Rattle.sbigdb.specs.declared.listening.Silence.TheVariants as silences
+
+-- a request ends the talk
+abbrev pub ends_talk : Request → Bool
+ends_talk (asks.Look looks.Detach) = true
+ends_talk (asks.Look looks.Kill) = true
+ends_talk asked = false
+
+-- nothing is read behind it
+abbrev pub is_last : Heard → Bool
+is_last (heards.Packet packet) = ends_talk (request_of packet.items)
+is_last what = false
 
 -- a reader that has heard nothing yet
 abbrev pub newly : Standing

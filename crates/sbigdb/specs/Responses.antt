@@ -1,5 +1,5 @@
 -- What is sent for all that is heard, in its order.
-use Rattle.std.specs.Prelude.{◌≡◌, ◌⊎◌, ℕ, true, false, List, [], ◌∷◌, ◌++◌, Option, None, if◌then◌else◌}
+use Rattle.std.specs.Prelude.{◌≡◌, ◌⊎◌, ℕ, true, false, List, [], ◌∷◌, ◌++◌, Bool, Option, None, Some, if◌then◌else◌}
 use Rattle.std.specs.Iterator.{Yields}
 use Rattle.board_model.specs.Shapes.{Size}
 use Rattle.script_lang.specs.declared.line.Line.{Line}
@@ -10,18 +10,34 @@ use Rattle.debug_session.specs.declared.session.Plan.{Plan}
 use Rattle.gdb_packets.specs.declared.heard.Heard.{Heard}
 use Rattle.gdb_packets.specs.declared.heard.Heard.TheVariants as heards
 use Rattle.gdb_replies.specs.Replies.{packets_of}
-use Rattle.debug_packets.specs.Answers.{IsAnswer, front_text}
-use Rattle.debug_packets.specs.Talks.{acknowledges_in, hart_in, is_over_in, session_in}
+use Rattle.debug_packets.specs.Answers.{IsReplied, again_text, front_text}
+use Rattle.debug_packets.specs.Talks.{acknowledges_in, hart_in, is_over_in, runner_in, sent_in, session_in}
 use Rattle.debug_packets.specs.declared.talk.Talk.{Talk}
 use lib.Chars.{codes}
 
--- A packet is answered; one that came damaged is wanted again, where packets are acknowledged; nothing else is sent.
+-- the acknowledgement of what was heard: of a packet, where these are wanted
+abbrev pub ack_text : Bool → Heard → List ℕ
+ack_text acknowledges (heards.Packet packet) = front_text acknowledges
+ack_text acknowledges what = []
+
+-- that of the first thing that was heard, if there is one
+abbrev pub first_ack : Option Heard → List ℕ
+first_ack None = []
+first_ack (Some what) = ack_text true what
+
+-- A packet is answered. Where packets are acknowledged one that came damaged is wanted again, and the last answer is sent again
+-- that came so. Nothing else is sent.
+abbrev pub Says : {C : Type 0} → Heard → Talk C → Talk C → List ℕ → Type 0
+Says (heards.Packet packet) old new sent =
+    (payloads : List (List ℕ)) × IsReplied packet.items old new payloads × (sent ≡ packets_of payloads)
+Says heards.Damaged old new sent = (new ≡ old) × (sent ≡ (if acknowledges_in old then codes "-" else []))
+Says heards.Again old new sent = (new ≡ old) × (sent ≡ again_text old)
+Says what old new sent = (new ≡ old) × (sent ≡ [])
+
+-- the same behind its acknowledgement
 abbrev pub Responds : {C : Type 0} → Heard → Talk C → Talk C → List ℕ → Type 0
-Responds (heards.Packet packet) old new sent =
-    (payloads : List (List ℕ)) × IsAnswer packet.items old new payloads
-    × (sent ≡ front_text (acknowledges_in old) ++ packets_of payloads)
-Responds heards.Damaged old new sent = (new ≡ old) × (sent ≡ (if acknowledges_in old then codes "-" else []))
-Responds what old new sent = (new ≡ old) × (sent ≡ [])
+Responds what old new sent =
+    (said : List ℕ) × Says what old new said × (sent ≡ ack_text (acknowledges_in old) what ++ said)
 
 -- Each of these is answered by the talk that the one before left, and none once the talk is over.
 abbrev pub RespondsAll : {C : Type 0} → List Heard → Talk C → Talk C → List ℕ → Type 0
@@ -38,6 +54,18 @@ pub record AnswersAll {I C : Type 0} (gives : I → Option Heard → I → Type 
   pub responses : RespondsAll heard old new sent
   pub ended : (is_over_in new ≡ true) ⊎ ((after : I) × gives last None after)
 
+-- and behind one of them, unless it ended the talk
+abbrev pub AnswersBehind : {I C : Type 0} → (I → Option Heard → I → Type 0) → I → Talk C → Talk C → List ℕ → Type 0
+AnswersBehind gives from mid new rest =
+    ((is_over_in mid ≡ true) × (new ≡ mid) × (rest ≡ [])) ⊎ ((is_over_in mid ≡ false) × AnswersAll gives from mid new rest)
+
+-- The same where the first thing that was heard, if there was one, is acknowledged already.
+abbrev pub AnswersFrom : {I C : Type 0} → Option Heard → (I → Option Heard → I → Type 0) → I → Talk C → Talk C → List ℕ → Type 0
+AnswersFrom None gives from old new sent = (new ≡ old) × (sent ≡ [])
+AnswersFrom {I} {C} (Some what) gives from old new sent =
+    (mid : Talk C) × (said : List ℕ) × (rest : List ℕ) × Says what old mid said × AnswersBehind gives from mid new rest
+    × (sent ≡ said ++ rest)
+
 -- A talk that begins: about the board that these lines leave, with no breakpoint, and hart 0 is shown.
 pub record Begins {C : Type 0} (size : Size) (plan : Plan) (begins : List (List ℕ)) (lines : List Line) (talk : Talk C) : Type 0 where
   pub at : IsAt size (timeline_of (session_in talk))
@@ -48,5 +76,7 @@ pub record Begins {C : Type 0} (size : Size) (plan : Plan) (begins : List (List 
   pub points : points_of (session_in talk) ≡ []
   pub watches : watches_of (session_in talk) ≡ []
   pub hart : hart_in talk ≡ 0
+  pub runner : runner_in talk ≡ None
   pub acknowledges : acknowledges_in talk ≡ true
   pub ongoing : is_over_in talk ≡ false
+  pub sent : sent_in talk ≡ []

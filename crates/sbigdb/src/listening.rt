@@ -1,6 +1,7 @@
 //! Listening: what comes on an input is handed on to the talk.
 
-ghost use Rattle.sbigdb.specs.Hearings.{HandedOn};
+ghost use Rattle.std.specs.Prelude.{◌≡◌, true, false};
+ghost use Rattle.sbigdb.specs.Hearings.{HandedOn, ends_talk, is_last};
 
 use crossbeam_channel::Sender;
 use gdb_packets::{Decoder, Heard};
@@ -23,33 +24,65 @@ pub(crate) enum Silence {
     Unwanted,
 }
 
-/// Whether nothing is to be read behind it: a packet that ends the talk, behind which a debugger may keep its pipe open.
-fn ends_talk(heard: &Heard) -> bool {
-    match heard {
-        Heard::Packet(packet) => {
-            matches!(request_of(packet), Request::Look(Look::Detach | Look::Kill))
+/// What both threads tell one another beside what is handed on.
+#[derive(Drop)]
+pub(crate) struct Signals {
+    /// The debugger asks that what runs stop.
+    pub(crate) interrupt: AtomicBool,
+    /// A packet was handed on, and its answer is still to be sent.
+    pub(crate) answering: AtomicBool,
+}
+
+impl Signals {
+    /// Nothing is asked, and nothing is to be answered.
+    pub(crate) fn new() -> Signals {
+        Signals {
+            interrupt: AtomicBool::new(false),
+            answering: AtomicBool::new(false),
         }
+    }
+}
+
+/// Whether a request ends the talk.
+fn ends_talk(asked: Request) -> bool
+    ensures { result ≡ ends_talk asked }
+{
+    match asked {
+        Request::Look(Look::Detach) => true,
+        Request::Look(Look::Kill) => true,
         _ => false,
     }
 }
 
-/// Hands on what was heard, but for an interrupt, which is told at once: whether more is to be read.
+/// Hands on what was heard, but for an interrupt, which is told at once: whether more is to be read. That an answer came
+/// damaged is passed over while it is still to be sent: the debugger grew impatient.
 pub(crate) fn hand_on<R: Wait>(
     rt: &R,
     what: Heard,
     heard: &Sender<Heard>,
-    interrupt: &AtomicBool,
-) -> bool {
+    signals: &Signals,
+) -> bool
+    // Behind what ends the talk nothing is read.
+    ensures last { is_last what ≡ true → result ≡ false }
+    // An interrupt ends nothing but the run.
+    ensures goes_on { what ≡ Heard.Interrupt → result ≡ true }
+{
     match what {
         Heard::Interrupt => {
-            interrupt.store(true, Ordering::SeqCst);
+            signals.interrupt.store(true, Ordering::SeqCst);
             true
         }
-        Heard::Nothing => true,
-        other => {
-            let last = ends_talk(&other);
-            heard.send(rt, other).is_ok() && !last
+        // That an answer came well says nothing that the talk needs.
+        Heard::Nothing | Heard::Received => true,
+        Heard::Again => {
+            signals.answering.load(Ordering::SeqCst) || heard.send(rt, Heard::Again).is_ok()
         }
+        Heard::Packet(packet) => {
+            let last = ends_talk(request_of(&packet));
+            signals.answering.store(true, Ordering::SeqCst);
+            heard.send(rt, Heard::Packet(packet)).is_ok() && !last
+        }
+        Heard::Damaged => heard.send(rt, Heard::Damaged).is_ok(),
     }
 }
 

@@ -1,6 +1,6 @@
 //! The talk on the process's own streams. One thread reads, so that an interrupt is heard while turns run.
 
-ghost use Rattle.std.specs.Prelude.{◌≡◌, ℕ, false, List, [], All, length, codes, if◌then◌else◌, OnOk};
+ghost use Rattle.std.specs.Prelude.{◌≡◌, ℕ, false, List, [], Some, All, length, codes, if◌then◌else◌, OnOk, OnSome};
 ghost use Rattle.std.specs.Io.KnownBytes.{Appends};
 ghost use Rattle.std.specs.Iterator.{IsFinite};
 ghost use Rattle.debug_timeline.specs.Ats.{IsAt};
@@ -8,23 +8,23 @@ ghost use Rattle.script_lang.specs.Lines.{IsLineInRange};
 ghost use Rattle.debug_session.specs.Sessions.{size_of, timeline_of};
 ghost use Rattle.debug_packets.specs.Talks.{acknowledges_in, is_over_in, session_in};
 ghost use Rattle.debug_packets.specs.declared.talk.Talk.{Talk};
-ghost use Rattle.sbigdb.specs.Responses.{AnswersAll, Begins, Responds};
+ghost use Rattle.sbigdb.specs.Responses.{AnswersAll, AnswersFrom, Begins, Responds, Says, ack_text, first_ack};
 
-use crate::listening::{Silence, hand_on, listen};
+use crate::listening::{Signals, Silence, hand_on, listen};
 use crate::start::Start;
 use crate::told::{Told, told_payloads};
 use bench_report::Setting;
 use board_model::Refusal;
 use crew::{Crew, Sequential};
 use crossbeam_channel::{Receiver, unbounded};
-use debug_packets::{Talk, reply};
+use debug_packets::{Talk, acknowledge, reply, reply_again};
 use debug_session::{Plan, Session};
 use gdb_packets::Heard;
 use script_lang::Script;
 use std::alloc::Global;
 use std::io::{self, BufReader, Write};
 use std::sync::Wait;
-use std::sync::atomic::AtomicBool;
+use std::sync::atomic::Ordering;
 use std::thread::{self, Threads};
 
 /// What is sent for a packet that came damaged.
@@ -38,12 +38,51 @@ fn again<C: Crew>(talk: &Talk<'_, C>) -> &'static [u8]
     }
 }
 
-/// Answers what was heard: a packet, or one that came damaged, where packets are acknowledged.
+/// Acknowledges what was heard, where it is a packet, and that is wanted.
+fn confirm<W: Write>(acknowledges: bool, what: &Heard, out: &mut W) -> Result<(), Refusal>
+    ensures { OnOk result (Appends (W.contents out.old) (W.contents out.new) (ack_text acknowledges what.now)) }
+{
+    match what {
+        Heard::Packet(_) => acknowledge(acknowledges, out),
+        _ => acknowledge(false, out),
+    }
+}
+
+/// Answers what was heard, which is acknowledged already: a packet; and where packets are acknowledged one that came
+/// damaged, and that the last answer did.
 fn respond<C: Crew, W: Write>(
     talk: &mut Talk<'_, C>,
     alloc: Global,
     what: Heard,
-    interrupt: &AtomicBool,
+    signals: &Signals,
+    out: &mut W,
+) -> Result<(), Refusal>
+    requires at { IsAt (size_of (session_in talk.old)) (timeline_of (session_in talk.old)) }
+    ensures at { OnOk result (IsAt (size_of (session_in talk.new)) (timeline_of (session_in talk.new))) }
+    ensures sent { OnOk result ((said : List ℕ) × Says what talk.old talk.new said
+        × Appends (W.contents out.old) (W.contents out.new) said) }
+{
+    match what {
+        Heard::Packet(packet) => {
+            reply(talk, alloc, &packet, &signals.interrupt, out)?;
+            signals.answering.store(false, Ordering::SeqCst);
+            Ok(())
+        }
+        Heard::Damaged => {
+            let again = again(talk);
+            out.write_all(again).map_err(|_| Refusal::Output)
+        }
+        Heard::Again => reply_again(talk, out),
+        _ => Ok(()),
+    }
+}
+
+/// Acknowledges and answers what was heard.
+fn take_up<C: Crew, W: Write>(
+    talk: &mut Talk<'_, C>,
+    alloc: Global,
+    what: Heard,
+    signals: &Signals,
     out: &mut W,
 ) -> Result<(), Refusal>
     requires at { IsAt (size_of (session_in talk.old)) (timeline_of (session_in talk.old)) }
@@ -51,14 +90,8 @@ fn respond<C: Crew, W: Write>(
     ensures sent { OnOk result ((sent : List ℕ) × Responds what talk.old talk.new sent
         × Appends (W.contents out.old) (W.contents out.new) sent) }
 {
-    match what {
-        Heard::Packet(packet) => reply(talk, alloc, &packet, interrupt, out),
-        Heard::Damaged => {
-            let again = again(talk);
-            out.write_all(again).map_err(|_| Refusal::Output)
-        }
-        _ => Ok(()),
-    }
+    confirm(talk.acknowledges(), &what, out)?;
+    respond(talk, alloc, what, signals, out)
 }
 
 /// Answers whatever is heard, in its order, until the talk is over or no more is heard.
@@ -66,7 +99,7 @@ fn answers<I: Iterator<Item = Heard>, C: Crew, W: Write>(
     alloc: Global,
     talk: &mut Talk<'_, C>,
     heard: I,
-    interrupt: &AtomicBool,
+    signals: &Signals,
     out: &mut W,
 ) -> Result<(), Refusal>
     requires at { IsAt (size_of (session_in talk.old)) (timeline_of (session_in talk.old)) }
@@ -78,7 +111,7 @@ fn answers<I: Iterator<Item = Heard>, C: Crew, W: Write>(
         × Appends (W.contents out.old) (W.contents out.new) sent) }
 {
     for what in heard {
-        respond(talk, alloc, what, interrupt, out)?;
+        take_up(talk, alloc, what, signals, out)?;
         if talk.is_over() {
             return Ok(());
         }
@@ -86,13 +119,67 @@ fn answers<I: Iterator<Item = Heard>, C: Crew, W: Write>(
     Ok(())
 }
 
-/// The talk about the board that a script's lines leave.
+/// Answers one thing that was heard, which is acknowledged already, and then whatever is heard.
+fn answers_behind<I: Iterator<Item = Heard>, C: Crew, W: Write>(
+    alloc: Global,
+    talk: &mut Talk<'_, C>,
+    what: Heard,
+    heard: I,
+    signals: &Signals,
+    out: &mut W,
+) -> Result<(), Refusal>
+    requires at { IsAt (size_of (session_in talk.old)) (timeline_of (session_in talk.old)) }
+    requires can { I.can_next heard }
+    requires ends { IsFinite (I.remaining heard) }
+    ensures sent { OnOk result ((sent : List ℕ) × AnswersFrom (Some what) I.next_gives heard talk.old talk.new sent
+        × Appends (W.contents out.old) (W.contents out.new) sent) }
+{
+    respond(talk, alloc, what, signals, out)?;
+    if talk.is_over() {
+        return Ok(());
+    }
+    answers(alloc, talk, heard, signals, out)
+}
+
+/// The same where the first thing may be missing, and then nothing is heard.
+fn answers_from<I: Iterator<Item = Heard>, C: Crew, W: Write>(
+    alloc: Global,
+    talk: &mut Talk<'_, C>,
+    first: Option<Heard>,
+    heard: I,
+    signals: &Signals,
+    out: &mut W,
+) -> Result<(), Refusal>
+    requires at { IsAt (size_of (session_in talk.old)) (timeline_of (session_in talk.old)) }
+    requires can { OnSome first (I.can_next heard) }
+    requires ends { IsFinite (I.remaining heard) }
+    ensures sent { OnOk result ((sent : List ℕ) × AnswersFrom first I.next_gives heard talk.old talk.new sent
+        × Appends (W.contents out.old) (W.contents out.new) sent) }
+{
+    match first {
+        Some(what) => answers_behind(alloc, talk, what, heard, signals, out),
+        None => Ok(()),
+    }
+}
+
+/// Acknowledges the first thing that was heard, if there is one: packets are acknowledged then.
+fn confirm_first<W: Write>(first: &Option<Heard>, out: &mut W) -> Result<(), Refusal>
+    ensures { OnOk result (Appends (W.contents out.old) (W.contents out.new) (first_ack first.now)) }
+{
+    match first {
+        Some(what) => confirm(true, what, out),
+        None => acknowledge(false, out),
+    }
+}
+
+/// The talk about the board that a script's lines leave. The first packet is acknowledged before the lines are run, since
+/// a debugger asks again where that takes long.
 fn discuss<I: Iterator<Item = Heard>, C: Crew, W: Write>(
     setting: Setting<'_, C>,
     plan: Plan,
     told: Told,
     heard: I,
-    interrupt: &AtomicBool,
+    signals: &Signals,
     out: &mut W,
 ) -> Result<(), Refusal>
     requires ranges { All (IsLineInRange setting.shape.now) told.lines.items }
@@ -105,9 +192,12 @@ fn discuss<I: Iterator<Item = Heard>, C: Crew, W: Write>(
         × AnswersAll I.next_gives heard first last sent × Appends (W.contents out.old) (W.contents out.new) sent) }
 {
     let Told { lines, begins } = told;
+    let mut heard = heard;
+    let first = heard.next();
+    confirm_first(&first, out)?;
     let session = Session::new(setting, plan, begins, lines)?;
     let mut talk = Talk::new(session)?;
-    answers(setting.alloc, &mut talk, heard, interrupt, out)
+    answers_from(setting.alloc, &mut talk, first, heard, signals, out)
 }
 
 /// The session and its talk.
@@ -117,7 +207,7 @@ fn serve<R: Threads + Wait + Sync>(
     start: Start,
     plan: Plan,
     heard: &Receiver<Heard>,
-    interrupt: &AtomicBool,
+    signals: &Signals,
 ) -> Result<(), Refusal>
     requires ranges { All (IsLineInRange start.script.shape) start.script.lines.items }
     requires four { length start.payloads ≡ 4 }
@@ -133,7 +223,7 @@ fn serve<R: Threads + Wait + Sync>(
         shape: &shape,
     };
     let mut out = io::writer(host);
-    discuss(setting, plan, told, heard.iter(rt), interrupt, &mut out)
+    discuss(setting, plan, told, heard.iter(rt), signals, &mut out)
 }
 
 /// The whole talk. Refused `Memory`, to what listens too, and `Output` where the debugger does not read.
@@ -147,8 +237,8 @@ pub fn converse<R: Threads + Wait + Sync>(
     requires four { length start.payloads ≡ 4 }
 {
     let alloc = host.alloc();
-    let interrupt = AtomicBool::new(false);
-    let interrupt = &interrupt;
+    let signals = Signals::new();
+    let signals = &signals;
     let Ok((sender, receiver)) = unbounded::<Heard, _>(alloc) else {
         return Err(Refusal::Memory);
     };
@@ -162,12 +252,12 @@ pub fn converse<R: Threads + Wait + Sync>(
                 let Ok(input) = BufReader::new(alloc, host.stdin()) else {
                     return Silence::Memory;
                 };
-                listen(alloc, input, |what| hand_on(rt, what, &sender, interrupt))
+                listen(alloc, input, |what| hand_on(rt, what, &sender, signals))
             });
             let Ok(reader) = reader else {
                 return Err(Refusal::Memory);
             };
-            serve(rt, host, start, plan, &receiver, interrupt)?;
+            serve(rt, host, start, plan, &receiver, signals)?;
             match reader.join(rt) {
                 Silence::Memory => Err(Refusal::Memory),
                 _ => Ok(()),

@@ -10,7 +10,7 @@ loop-what-init g c = record { at = c.requires.at; ongoing = c.requires.ongoing; 
 pub loop-what-preserved : goal.loop-what-preserved
 loop-what-preserved g c =
     let was = c.loop-what.invariant in
-    let did = c.in_ok-respond.ensures in
+    let did = c.in_ok-take_up.ensures in
     record {
       at = did.at;
       ongoing = sym c.is_over.ensures ∙ c.if-is_over.false;
@@ -20,7 +20,7 @@ loop-what-preserved g c =
 pub returns-then-is_over : goal.returns-then-is_over
 returns-then-is_over g c =
     let was = c.loop-what.invariant in
-    let did = c.in_ok-respond.ensures in
+    let did = c.in_ok-take_up.ensures in
     record {
       sent = (
         was.sent.0 ++ did.sent.0,

@@ -1,11 +1,24 @@
+use Rattle.std.proofs.Common.{◌++◌, ◌≡◌, ◌∙◌, List, ℕ, Option, Some, None, refl, sym, ap, subst}
 use Rattle.std.proofs.lemmas.Result.{on_ok_weaker}
-use Rattle.sbigdb.proofs.Responses.{begun}
+use Rattle.report_lines.proofs.Written.{appended}
+use Rattle.gdb_packets.specs.declared.heard.Heard.{Heard}
+use Rattle.debug_packets.specs.Talks.{acknowledges_in, is_over_in}
+use Rattle.debug_packets.specs.declared.talk.Talk.{Talk}
+use Rattle.sbigdb.specs.Responses.{AnswersAll, AnswersFrom, ack_text, first_ack}
+use Rattle.sbigdb.proofs.Responses.{begun, finite_on, from_given}
 use Rattle.sbigdb.proofs.streams.discuss.Goals as goal
+
+pub answers_from-requires-clause-ends : goal.answers_from-requires-clause-ends
+answers_from-requires-clause-ends g c = finite_on g.I.Iterator.can_next g.I.Iterator.remaining _ _ c.next-first.result c.requires.ends c.next-first.ensures.goes
 
 pub returns : goal.returns
 returns g c =
     let told = c.args.told in
     let session = c.in_ok-session.ensures in
     let talk = c.in_ok-talk.ensures in
-    let first = begun c.args.setting.shape.now c.args.plan told.begins told.lines.items c.in_ok-session.session c.in_ok-talk.talk talk.session session.at session.size session.noted session.begins session.plan session.points session.watches talk.first talk.acknowledges talk.ongoing in
-    record { sent = on_ok_weaker c.answers.result (λ did. (c.in_ok-talk.talk, c.answers.new.talk, did.0, first, did.1, did.2)) c.answers.ensures.sent }
+    let first = begun c.args.setting.shape.now c.args.plan told.begins told.lines.items c.in_ok-session.session c.in_ok-talk.talk talk.session session.at session.size session.noted session.begins session.plan session.points session.watches talk.first talk.runner talk.acknowledges talk.ongoing talk.sent in
+    record {
+      sent = on_ok_weaker c.answers_from.result
+          (λ did. (c.in_ok-talk.talk, c.answers_from.new.talk, first_ack c.next-first.result ++ did.0, first, from_given g.I.Iterator.next_gives _ _ c.next-first.result c.in_ok-talk.talk c.answers_from.new.talk did.0 talk.ongoing talk.acknowledges c.next-first.ensures.steps did.1, appended _ _ _ (first_ack c.next-first.result) did.0 c.in_ok-confirm_first.ensures did.2))
+          c.answers_from.ensures.sent;
+    }
