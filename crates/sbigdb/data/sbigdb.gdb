@@ -6,6 +6,10 @@ define hookpost-monitor
   maintenance flush register-cache
 end
 # GDB's checkpoints are copies of a process of its own machine.
-define checkpoint
+define hook-checkpoint
   echo sbigdb has no checkpoints: monitor when says a number, and monitor goto goes back to it\n
+end
+# Behind detach nothing is left of a session.
+define hook-detach
+  echo what was done is lost, unless monitor script has printed it: a new session begins at the end of its script\n
 end

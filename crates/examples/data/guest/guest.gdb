@@ -1,7 +1,17 @@
 # To be sourced once in a session of GDB over sbigdb (docs/DEBUGGING.md): gdb-multiarch own.elf -x guest/guest.gdb ..
+# A script may run for minutes, and GDB would ask again after two seconds.
+set remotetimeout 600
 # A line of `monitor` may move the board, and GDB keeps registers that it has read.
 define hookpost-monitor
   maintenance flush register-cache
+end
+# GDB's checkpoints are copies of a process of its own machine.
+define hook-checkpoint
+  echo sbigdb has no checkpoints: monitor when says a number, and monitor goto goes back to it\n
+end
+# Behind detach nothing is left of a session.
+define hook-detach
+  echo what was done is lost, unless monitor script has printed it: a new session begins at the end of its script\n
 end
 
 python
