@@ -6,6 +6,11 @@ use Rattle.bench_judge.specs.declared.judges.Sweep.{Sweep}
 use Rattle.bench_sweep.specs.declared.points.Bench.{Bench}
 use Rattle.bench_sweep.specs.Swept.{IsBenchOf}
 use Rattle.bench_sweep.proofs.Written.{handed_on}
+use Rattle.script_lang.specs.Scripts.{script_of, Script as Said}
+use Rattle.bench_schedules.specs.Numbers.{numbers_of}
+use Rattle.bench_preemptions.specs.Preemptions.{WrotePreemptions}
+use Rattle.bench_preemptions.specs.declared.benches.Within.{Within}
+use Rattle.bench_program.specs.Written.{IsPreempted}
 
 pub wrote_on : (bench : Bench) (start : List (List ℕ)) (script : List ℕ) (a b c : Option (List ℕ)) (sweep : Sweep) → IsBenchOf bench start script a b sweep → Keeps b c → IsBenchOf bench start script a c sweep
 wrote_on bench start script a b c sweep (said, is, w) keeps = (
@@ -25,6 +30,26 @@ wrote_on bench start script a b c sweep (said, is, w) keeps = (
     points = w.points;
     runs = w.runs;
     right = w.right;
+  },
+)
+
+pub preempted_on : (within : Within) (start : List (List ℕ)) (script : List ℕ) (a b c : Option (List ℕ)) (orders differ : ℕ)
+    → ((said : Said) × (script_of script ≡ Ok said) × WrotePreemptions said start (numbers_of script) within.most within.first a b orders differ) → Keeps b c → IsPreempted within start script a c differ
+preempted_on within start script a b c orders differ (said, is, w) keeps = (
+  said,
+  is,
+  orders,
+  record {
+    own = w.own;
+    ran = w.ran;
+    runs = w.runs;
+    last = w.last;
+    wrote = w.wrote;
+    count = w.count;
+    others = w.others;
+    all = w.all;
+    alike = w.alike;
+    ended = handed_on w.last b c _ w.ended keeps;
   },
 )
 

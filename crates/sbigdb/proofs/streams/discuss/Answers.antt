@@ -9,7 +9,7 @@ use Rattle.sbigdb.proofs.Responses.{begun, finite_on, from_given}
 use Rattle.sbigdb.proofs.streams.discuss.Goals as goal
 
 pub answers_from-requires-clause-ends : goal.answers_from-requires-clause-ends
-answers_from-requires-clause-ends g c = finite_on g.I.Iterator.can_next g.I.Iterator.remaining _ _ c.next-first.result c.requires.ends c.next-first.ensures.goes
+answers_from-requires-clause-ends g c κs within = finite_on g.I.Iterator.can_next g.I.Iterator.remaining _ _ c.next-first.result c.requires.ends c.next-first.ensures.goes
 
 pub returns : goal.returns
 returns g c =
