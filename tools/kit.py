@@ -38,7 +38,7 @@ def rt():
 
 def keep_sums(kind):
     """Has each crate's stamp, and the list of those below it, computed once. To kit 13b both are computed anew for each path down the graph
-    of crates, of which a crate at the top has two hundred thousand: minutes of processor at each check."""
+    of crates, of which a crate at the top has over a hundred thousand: minutes of processor at each check."""
     stamp, below = kind.stamp, kind.below
 
     def stamp_once(crate):

@@ -20,8 +20,8 @@ use Rattle.bench_report.specs.Turns.{GuestTurn, GuestTurns}
 use Rattle.bench_report.specs.Views.{SimStore, SimBoard, store_in, machine_in, store_fault_state}
 use Rattle.bench_report.proofs.Lines.{on_turns}
 use Rattle.bench_live.specs.Lives.{WentInPlace}
-use Rattle.bench_rows.specs.Rows.{IdleTurnStays, is_idle}
-use Rattle.bench_rows.proofs.Turns.{went_in}
+use Rattle.bench_live.specs.Rows.{IdleTurnStays, is_idle}
+use Rattle.bench_live.proofs.Turns.{went_in}
 
 -- one idle turn, as often as wanted
 idle_guest : (h : ℕ) (b x : Bench) (word : Word) (count : ℕ) → x ≡ b → ends word ≡ false → b.fault_state.struck ≡ false → 1 ≤ count → GuestTurns h 1 b 1 word x → GuestTurns h count b count word b

@@ -15,8 +15,8 @@ use Rattle.bench_report.specs.Happens.{shows, unpowered}
 use Rattle.bench_report.specs.Steps.{Moves}
 use Rattle.bench_report.specs.declared.power.Power.{Power}
 use Rattle.bench_report.specs.declared.power.Power.TheVariants.{Off, On}
-use Rattle.bench_rows.specs.Rows.{RowMoves, row_answer}
-use Rattle.bench_rows.specs.declared.rows.Row.TheVariants as rows
+use Rattle.bench_live.specs.Rows.{RowMoves, row_answer}
+use Rattle.bench_live.specs.declared.rows.Row.TheVariants as rows
 use Rattle.bench_live.proofs.InPlace.{lost_of, row_of, step_of}
 use Rattle.report_lines.specs.declared.printed.Answer.{Answer}
 use Rattle.bench_live.specs.Lives.{IsAfter, IsCutIn, LineDid, PowerShows, WentInPlace, stays_on}

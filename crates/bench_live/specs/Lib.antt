@@ -1,1 +1,4 @@
+pub mod Pasts
+pub mod Rows
+pub mod Notes
 pub mod Lives

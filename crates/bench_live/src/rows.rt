@@ -1,99 +1,104 @@
-//! Turns of a hart of a board that is not moved.
+//! A row of turns of a hart, by what it did.
 
-ghost use Rattle.std.specs.Prelude.{◌≡◌, ◌≤◌, true, false, IfSome, IfNone, MatchOption};
-ghost use Rattle.board_model.specs.Shapes.{Size};
-ghost use Rattle.bench_report.specs.Agree.{Agrees, IsUnstruck};
-ghost use Rattle.bench_report.specs.Bench.{Bench};
-ghost use Rattle.bench_report.specs.Happens.{shows};
-ghost use Rattle.bench_report.specs.Steps.{TurnStep};
-ghost use Rattle.bench_report.specs.Views.{machine_in, store_in, store_fault_state};
-ghost use Rattle.bench_live.specs.Lives.{IsOn, stays_on, WentInPlace};
-ghost use Rattle.machine_lines.specs.Shows.{HasHart};
-ghost use Rattle.machine_lines.specs.declared.line.MachineLine.TheVariants as shown;
+ghost use Rattle.std.specs.Prelude.{◌≡◌, ◌<◌, ◌+◌, ◌^◌};
+ghost use Rattle.bench_live.specs.Rows.{goes_on, is_idle, is_idle_row, is_off, last_of, made_in, row_answer, row_then};
 
-use bench_report::{Power, Setting, struck};
-use bench_rows::{idle_turns_change_nothing, is_idle};
-use board::Board;
+use bench_report::{Answer, Printed};
 use board_model::HartId;
-use crew::Crew;
-use machine::Word;
-use simdisk::SimDisk;
-use std::alloc::Global;
+use machine::{Did, Word};
+use machine_lines::MachineLine;
 
-/// Whether the board is still on after a turn, by the turn's word.
-fn stays_on(word: Word) -> bool
-    ensures { result ≡ stays_on word }
-{
-    match word {
-        Word::Goes(_) => true,
-        Word::Over(_) => false,
-    }
+/// What a row of turns of a hart did.
+#[derive(Clone, Copy, PartialEq, Eq, Drop)]
+pub enum Row {
+    /// The board is off, or has no such hart, and nothing was done.
+    Off,
+    /// So many turns were made. The word says what the last one did.
+    Made(u32, Word),
+    /// So many turns were made. In the last one an armed cut struck, and power is lost.
+    Lost(u32),
 }
 
-/// Makes turns of a hart of a board that is on. Answers how many, and the word of the last. An idle turn changes nothing: so a
-/// row that begins with one is idle to its end, and its other turns need not be made.
-fn row_on<C: Crew>(
-    alloc: Global,
-    crew: &C,
-    board: &mut Board<SimDisk>,
-    hart: HartId,
-    count: u32,
-) -> (u32, Word)
-    requires hart { HasHart (machine_in board.old) hart }
-    requires some { 1 ≤ count }
-    requires calm { (store_fault_state (store_in board.old)).struck ≡ false }
-    ensures reported { (size : Size) (b : Bench) → Agrees size b (Power.On board.old)
-        → WentInPlace size hart count b result.0 result.1 (Power.On board.new) }
-    ensures range { (1 ≤ result.0) × (result.0 ≤ count) }
-{
-    idle_turns_change_nothing();
-    let (first, said) = board.turns(alloc, crew, hart, 1);
-    let struck = board.struck();
-    if is_idle(said) && !struck {
-        return (count, said);
+impl Row {
+    /// What the line `turn` of these turns answers.
+    pub fn answer(self, hart: HartId) -> Answer
+        ensures { result ≡ row_answer hart self }
+    {
+        let line = match self {
+            Row::Off => Printed::Shown(MachineLine::Off),
+            Row::Made(count, word) => Printed::Shown(MachineLine::Turn(hart, count, word)),
+            Row::Lost(_) => Printed::PowerLost,
+        };
+        Answer { found: None, line }
     }
-    if count == 1 || said.ends_row() || struck {
-        return (first, said);
-    }
-    let (more, word) = board.turns(alloc, crew, hart, count - 1);
-    (first + more, word)
-}
 
-/// Makes turns of a hart without moving the board. Answers how many, and the word of the last. None where the board is off or
-/// lacks the hart, and then nothing has changed.
-pub fn in_place<C: Crew>(
-    setting: &Setting<'_, C>,
-    power: &mut Power,
-    hart: HartId,
-    count: u32,
-) -> Option<(u32, Word)>
-    requires some { 1 ≤ count }
-    requires calm { IsUnstruck power.old }
-    ensures reported { (size : Size) (b : Bench) → Agrees size b power.old → MatchOption result
-        (TurnStep b.power hart count b (shows shown.Off) b)
-        (λ did. WentInPlace size hart count b did.0 did.1 power.new) }
-    ensures range { IfSome result (λ did. (1 ≤ did.0) × (did.0 ≤ count)) }
-    ensures on { IfSome result (λ did. IsOn power.new) }
-    ensures none { IfNone result (power.new ≡ power.old) }
-{
-    match power {
-        Power::Off(_) => None,
-        Power::On(board) => {
-            if board.machine().has(hart) {
-                Some(row_on(setting.alloc, setting.crew, board, hart, count))
-            } else {
-                None
-            }
+    /// Whether no turn was made.
+    pub fn is_off(self) -> bool
+        ensures { result ≡ is_off self }
+    {
+        match self {
+            Row::Off => true,
+            Row::Made(_, _) | Row::Lost(_) => false,
+        }
+    }
+
+    /// Whether the last turn was idle.
+    pub fn is_idle(self) -> bool
+        ensures { result ≡ is_idle_row self }
+    {
+        match self {
+            Row::Made(_, word) => is_idle(word),
+            Row::Off | Row::Lost(_) => false,
+        }
+    }
+
+    /// Whether a further turn of the hart belongs to this row: the row has not ended.
+    pub fn goes_on(self) -> bool
+        ensures { result ≡ goes_on self }
+    {
+        match self {
+            Row::Made(_, word) => !word.ends_row(),
+            Row::Off | Row::Lost(_) => false,
+        }
+    }
+
+    /// The last of these turns alone.
+    pub fn last(self) -> Row
+        ensures { result ≡ last_of self }
+    {
+        match self {
+            Row::Off => Row::Off,
+            Row::Made(_, word) => Row::Made(1, word),
+            Row::Lost(_) => Row::Lost(1),
+        }
+    }
+
+    /// This row and the next one, as one row.
+    pub fn then(self, next: Row) -> Row
+        requires { made_in self + made_in next < 2 ^ 32 }
+        ensures { result ≡ row_then self next }
+    {
+        match next {
+            Row::Off => self,
+            Row::Made(count, word) => Row::Made(self.made() + count, word),
+            Row::Lost(count) => Row::Lost(self.made() + count),
+        }
+    }
+
+    /// How many turns were made.
+    pub fn made(self) -> u32
+        ensures { result ≡ made_in self }
+    {
+        match self {
+            Row::Off => 0,
+            Row::Made(count, _) | Row::Lost(count) => count,
         }
     }
 }
 
-/// Whether the board is still on after a turn, by the turn's word, and no armed cut struck in that turn.
-pub fn is_still_on(power: &Power, word: Word) -> bool
-    ensures on { result ≡ true → stays_on word ≡ true }
-    ensures calm { result ≡ true → IsUnstruck power.now }
-    ensures reported { result ≡ true → (size : Size) (b : Bench) → Agrees size b power.now → b.fault_state.struck ≡ false }
+/// Whether a hart had nothing to do, and its turn changed nothing.
+pub fn is_idle(word: Word) -> bool
+    ensures { result ≡ is_idle word }
 {
-    let hit = struck(power);
-    stays_on(word) && !hit
+    word == Word::Goes(Did::Idle)
 }

@@ -7,7 +7,7 @@ use Rattle.script_lang.specs.declared.line.Line.TheVariants as lines
 use Rattle.report_lines.specs.declared.printed.Answer.{Answer}
 use Rattle.bench_report.specs.Bench.{Bench}
 use Rattle.bench_report.specs.Steps.{Moves}
-use Rattle.bench_rows.specs.declared.rows.Row.{Row}
+use Rattle.bench_live.specs.declared.rows.Row.{Row}
 use Rattle.bench_schedules.specs.Schedules.{IsMemoryRefused}
 use Rattle.bench_preemptions.specs.Stepped.{BusyTurns, LineDid, Stepped, TurnMoves, is_busy}
 

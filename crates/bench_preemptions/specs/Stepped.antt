@@ -6,9 +6,9 @@ use Rattle.script_lang.specs.declared.line.Line.TheVariants as lines
 use Rattle.report_lines.specs.declared.printed.Answer.{Answer}
 use Rattle.bench_report.specs.Bench.{Bench, bench_with}
 use Rattle.bench_report.specs.Steps.{Moves}
-use Rattle.bench_rows.specs.Rows.{is_idle, row_answer}
-use Rattle.bench_rows.specs.declared.rows.Row.{Row}
-use Rattle.bench_rows.specs.declared.rows.Row.TheVariants as rows
+use Rattle.bench_live.specs.Rows.{is_idle, row_answer}
+use Rattle.bench_live.specs.declared.rows.Row.{Row}
+use Rattle.bench_live.specs.declared.rows.Row.TheVariants as rows
 use Rattle.bench_schedules.specs.Schedules.{IsMemoryRefused}
 
 -- a turn that was asked alone did something: it was made, and its word is not `idle`
@@ -28,7 +28,7 @@ BusyTurns size h (suc c) b new =
     (mid : Bench) × (row : Row) × TurnMoves size h row b mid × (is_busy row ≡ true) × BusyTurns size h c mid new
 
 -- Of n turns of hart h the first c did something: all of them; or the next one did nothing. That changes nothing
--- (`idle_turns_change_nothing` of bench_rows), so those behind it do nothing either, and are not asked.
+-- (`idle_turns_change_nothing` of bench_live), so those behind it do nothing either, and are not asked.
 abbrev pub RowDid : Size → ℕ → ℕ → ℕ → Bench → Bench → Type 0
 RowDid size h n c b new =
     ((c ≡ n) × BusyTurns size h c b new)

@@ -7,9 +7,8 @@ ghost use Rattle.bench_report.specs.Bench.{Bench};
 ghost use Rattle.bench_live.specs.Lives.{IsSound, Shows};
 ghost use Rattle.bench_preemptions.specs.Stepped.{LineDid, RanByTurns, RowDid, is_busy};
 
-use bench_live::LiveBench;
+use bench_live::{LiveBench, Row, is_idle};
 use bench_report::Setting;
-use bench_rows::{Row, is_idle};
 use bench_schedules::{end_run, run_line};
 use board::Payloads;
 use board_model::{HartId, Refusal};

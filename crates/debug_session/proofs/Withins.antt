@@ -5,11 +5,11 @@ use Rattle.std.proofs.lemmas.List.{append-nil, replicate-append-replicate}
 use Rattle.board_model.specs.Shapes.{Size}
 use Rattle.machine.specs.Machine.{Machine}
 use Rattle.script_lang.specs.declared.line.Line.{Line}
-use Rattle.bench_history.specs.Pasts.{moments}
+use Rattle.bench_live.specs.Pasts.{moments}
 use Rattle.bench_report.specs.Bench.{Bench}
-use Rattle.bench_rows.specs.declared.rows.Row.{Row}
-use Rattle.bench_rows.specs.declared.rows.Row.TheVariants as rows
-use Rattle.bench_rows.specs.Rows.{IsWithin, RowMoves, is_off, made_in}
+use Rattle.bench_live.specs.declared.rows.Row.{Row}
+use Rattle.bench_live.specs.declared.rows.Row.TheVariants as rows
+use Rattle.bench_live.specs.Rows.{IsWithin, RowMoves, is_off, made_in}
 use Rattle.debug_timeline.specs.declared.timeline.Timeline.{Timeline}
 use Rattle.debug_timeline.specs.Ats.{IsLeft, MadeTurns}
 use Rattle.debug_timeline.specs.Lives.{Rests, machine_of, pc_in}

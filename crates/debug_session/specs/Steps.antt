@@ -3,11 +3,11 @@ use Rattle.std.specs.Prelude.{◌≡◌, ◌⊎◌, ℕ, Bool, true, false, List
 use Rattle.board_model.specs.Shapes.{Size}
 use Rattle.script_lang.specs.declared.line.Line.{Line}
 use Rattle.script_lang.specs.declared.line.Line.TheVariants as lines
-use Rattle.bench_history.specs.Pasts.{moments}
+use Rattle.bench_live.specs.Pasts.{moments}
 use Rattle.report_lines.specs.declared.printed.Answer.{Answer}
-use Rattle.bench_rows.specs.declared.rows.Row.{Row}
-use Rattle.bench_rows.specs.declared.rows.Row.TheVariants as rows
-use Rattle.bench_rows.specs.Rows.{IsWithin}
+use Rattle.bench_live.specs.declared.rows.Row.{Row}
+use Rattle.bench_live.specs.declared.rows.Row.TheVariants as rows
+use Rattle.bench_live.specs.Rows.{IsWithin}
 use Rattle.debug_timeline.specs.declared.timeline.Timeline.{Timeline}
 use Rattle.debug_timeline.specs.Ats.{IsAt, IsNoted, MadeTurns}
 use Rattle.debug_timeline.specs.Lives.{machine_of, pc_in}

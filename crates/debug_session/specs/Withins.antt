@@ -1,11 +1,11 @@
 -- Stepping while the pc lies within addresses.
 use Rattle.std.specs.Prelude.{◌≡◌, ◌⊎◌, ℕ, zero, suc, ◌+◌, Bool, true, false, List, ◌++◌, Option, Some, None, IfSome, nat_le, nat_lt, ◌&&◌, replicate, if◌then◌else◌, ⊤}
 use Rattle.board_model.specs.Shapes.{Size}
-use Rattle.bench_history.specs.Pasts.{moments}
+use Rattle.bench_live.specs.Pasts.{moments}
 use Rattle.bench_report.specs.Bench.{Bench}
-use Rattle.bench_rows.specs.declared.rows.Row.{Row}
-use Rattle.bench_rows.specs.declared.rows.Row.TheVariants as rows
-use Rattle.bench_rows.specs.Rows.{IsWithin, RowMoves, made_in}
+use Rattle.bench_live.specs.declared.rows.Row.{Row}
+use Rattle.bench_live.specs.declared.rows.Row.TheVariants as rows
+use Rattle.bench_live.specs.Rows.{IsWithin, RowMoves, made_in}
 use Rattle.debug_timeline.specs.declared.timeline.Timeline.{Timeline}
 use Rattle.debug_timeline.specs.Ats.{IsLeft, MadeTurns}
 use Rattle.debug_timeline.specs.Lives.{Rests, machine_of, pc_in}

@@ -3,8 +3,8 @@
 ghost use Rattle.std.specs.Prelude.{◌≡◌, ◌⊎◌, ◌<◌, All, replicate, take, IfOk, IfErr, IfSome, IfNone, OnOk};
 ghost use Rattle.board_model.specs.Shapes.{Size};
 ghost use Rattle.board_model.specs.declared.refusal.Refusal.TheVariants.{Memory};
-ghost use Rattle.bench_rows.specs.Notes.{AreInRange};
-ghost use Rattle.bench_history.specs.Pasts.{moments, singles};
+ghost use Rattle.bench_live.specs.Notes.{AreInRange};
+ghost use Rattle.bench_live.specs.Pasts.{moments, singles};
 ghost use Rattle.bench_report.specs.Bench.{Bench, bench_with};
 ghost use Rattle.debug_timeline.specs.Ats.{IsAt, IsPlace};
 ghost use Rattle.debug_session.specs.Backs.{BackTo, FoundIn, FoundOf, IfEnded, IsEnd, IsRowPast, IsSeen, MayMove, StaysBack, halt_back, later_place, later_turn};

@@ -2,8 +2,8 @@
 
 ghost use Rattle.std.specs.Prelude.{◌≡◌, ◌⊎◌, ◌≤◌, ◌<◌, ◌+◌, ℕ, Bool, true, false, slice_index_or, map, None, Some, IfOk, IfErr, IfSome, OnOk};
 ghost use Rattle.board_model.specs.declared.refusal.Refusal.TheVariants.{Memory};
-ghost use Rattle.bench_rows.specs.declared.rows.Row.{Row};
-ghost use Rattle.bench_rows.specs.Rows.{IsWithin, is_off, made_in};
+ghost use Rattle.bench_live.specs.declared.rows.Row.{Row};
+ghost use Rattle.bench_live.specs.Rows.{IsWithin, is_off, made_in};
 ghost use Rattle.debug_timeline.specs.Ats.{IsAt, MadeTurns};
 ghost use Rattle.debug_session.specs.Steps.{IsStep, Went, halt_step};
 ghost use Rattle.debug_session.specs.Withins.{MadeOne, StepsWithin, is_in};
@@ -12,8 +12,8 @@ ghost use Rattle.debug_timeline.specs.Lives.{machine_of, pc_in, stands_in};
 
 use crate::halts::{Halt, Stop};
 use crate::stops::{Seen, Stops, first_changed};
+use bench_live::Row;
 use bench_report::{Answer, Setting};
-use bench_rows::Row;
 use board_model::{HartId, Refusal, Shape};
 use crew::Crew;
 use debug_timeline::Timeline;

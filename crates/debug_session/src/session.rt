@@ -2,19 +2,18 @@
 
 ghost use Rattle.std.specs.Prelude.{◌≡◌, ◌⊎◌, ◌≤◌, ◌<◌, ℕ, [], All, length, slice_index_or, true, false, string_bytes, Ok, Some, IfOk, IfErr, OnErr, OnOk};
 ghost use Rattle.board_model.specs.declared.refusal.Refusal.TheVariants.{Memory};
-ghost use Rattle.bench_history.specs.Pasts.{IsBack, NoRow};
+ghost use Rattle.bench_live.specs.Pasts.{IsBack, NoRow};
 ghost use Rattle.bench_report.specs.Bench.{no_payloads};
-ghost use Rattle.bench_rows.specs.Notes.{AreInRange};
+ghost use Rattle.bench_live.specs.Notes.{AreInRange};
 ghost use Rattle.debug_timeline.specs.Ats.{IsAt, Ran};
 ghost use Rattle.debug_session.specs.Steps.{AreNoted, IsStep, Went};
 ghost use Rattle.debug_timeline.specs.Lives.{register_in};
-ghost use Rattle.debug_session.specs.Texts.{state_text};
+ghost use Rattle.debug_session.specs.Texts.{state_text, history_text};
 ghost use Rattle.debug_session.specs.Sessions.{begins_of, bench_of, history_of, machine_of_session, plan_of, points_of, size_of, stops_of, timeline_of, watches_of};
 ghost use Rattle.debug_session.specs.Backs.{BackTo, StaysBack};
 ghost use Rattle.debug_session.specs.Firsts.{ToHalt};
 ghost use Rattle.debug_session.specs.Points.{with_point, with_watch, without_point, without_watch};
 ghost use Rattle.debug_session.specs.Withins.{StepsWithin, within_plan};
-ghost use Rattle.debug_session.specs.Texts.{history_text};
 ghost use Rattle.debug_session.specs.Turns.{WentTo, lives_begun, turns_told};
 ghost use Rattle.script_lang.specs.Lines.{IsLineInRange};
 ghost use Rattle.script_lang.specs.Scripts.{script_of};

@@ -9,11 +9,11 @@ use Rattle.script_lang.specs.declared.line.Line.TheVariants as lines
 use Rattle.report_lines.specs.declared.printed.Answer.{Answer}
 use Rattle.bench_report.specs.Bench.{Bench, bench_with}
 use Rattle.bench_report.specs.Steps.{Moves}
-use Rattle.bench_rows.specs.declared.rows.Row.{Row}
-use Rattle.bench_rows.specs.declared.rows.Row.TheVariants as rows
-use Rattle.bench_rows.specs.Rows.{RowMoves, goes_on, made_in}
-use Rattle.bench_rows.specs.Notes.{Joins, Leaves, NotesRow}
-use Rattle.bench_rows.proofs.Noted.{leaves_more}
+use Rattle.bench_live.specs.declared.rows.Row.{Row}
+use Rattle.bench_live.specs.declared.rows.Row.TheVariants as rows
+use Rattle.bench_live.specs.Rows.{RowMoves, goes_on, made_in}
+use Rattle.bench_live.specs.Notes.{Joins, Leaves, NotesRow}
+use Rattle.bench_live.proofs.Noted.{leaves_more}
 use Rattle.debug_timeline.specs.declared.debugged.DebuggedBench.{DebuggedBench}
 use Rattle.debug_timeline.specs.Ats.{GoesOnBy}
 use Rattle.debug_timeline.specs.Lives.{Shows}

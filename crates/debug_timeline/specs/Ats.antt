@@ -6,15 +6,15 @@ use Rattle.sbi.specs.declared.words.Word.{Word}
 use Rattle.script_lang.specs.declared.line.Line.{Line}
 use Rattle.script_lang.specs.declared.line.Line.TheVariants as lines
 use Rattle.simdisk.specs.declared.fill.Fill.TheVariants as fills
-use Rattle.bench_history.specs.Pasts.{moments}
+use Rattle.bench_live.specs.Pasts.{moments}
 use Rattle.report_lines.specs.declared.printed.Answer.{Answer}
 use Rattle.bench_report.specs.Bench.{Bench, bench_with}
 use Rattle.bench_report.specs.Agree.{fills_after}
 use Rattle.bench_report.specs.Steps.{Moves}
-use Rattle.bench_rows.specs.declared.rows.Row.{Row}
-use Rattle.bench_rows.specs.declared.rows.Row.TheVariants as rows
-use Rattle.bench_rows.specs.Rows.{IsWithin, RowMoves, is_idle_row, made_in, row_answer}
-use Rattle.bench_rows.specs.Notes.{AreInRange, Joins, Leaves}
+use Rattle.bench_live.specs.declared.rows.Row.{Row}
+use Rattle.bench_live.specs.declared.rows.Row.TheVariants as rows
+use Rattle.bench_live.specs.Rows.{IsWithin, RowMoves, is_idle_row, made_in, row_answer}
+use Rattle.bench_live.specs.Notes.{AreInRange, Joins, Leaves}
 use Rattle.debug_timeline.specs.declared.timeline.Timeline.{Timeline}
 use Rattle.debug_timeline.specs.Lives.{IsSound, Rests, Shows}
 use Rattle.debug_timeline.specs.Passes.{GoesTo}

@@ -18,8 +18,8 @@ use Rattle.bench_report.specs.Bench.{Bench}
 use Rattle.bench_report.specs.Happens.{shows}
 use Rattle.bench_report.specs.Steps.{Moves}
 use Rattle.bench_report.specs.Views.{machine_in}
-use Rattle.bench_rows.specs.declared.rows.Row.{Row}
-use Rattle.bench_rows.specs.Rows.{goes_on, is_idle, is_off}
+use Rattle.bench_live.specs.declared.rows.Row.{Row}
+use Rattle.bench_live.specs.Rows.{goes_on, is_idle, is_off}
 use Rattle.bench_live.specs.Lives as live
 use Rattle.debug_timeline.specs.declared.debugged.DebuggedBench.{DebuggedBench}
 

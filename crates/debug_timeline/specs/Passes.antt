@@ -5,9 +5,9 @@ use Rattle.machine.specs.Machine.{Machine}
 use Rattle.sbi.specs.Words.{ends}
 use Rattle.sbi.specs.declared.words.Word.{Word}
 use Rattle.bench_report.specs.Bench.{Bench, BenchLife}
-use Rattle.bench_rows.specs.declared.rows.Row.{Row}
-use Rattle.bench_rows.specs.declared.rows.Row.TheVariants as rows
-use Rattle.bench_rows.specs.Rows.{RowMoves, last_of, made_in}
+use Rattle.bench_live.specs.declared.rows.Row.{Row}
+use Rattle.bench_live.specs.declared.rows.Row.TheVariants as rows
+use Rattle.bench_live.specs.Rows.{RowMoves, last_of, made_in}
 use Rattle.debug_timeline.specs.Lives.{pc_in, stands_in}
 
 -- the machine of a board that is on

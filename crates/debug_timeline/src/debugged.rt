@@ -8,14 +8,13 @@ ghost use Rattle.bench_report.specs.Bench.{Bench, bench_with};
 ghost use Rattle.bench_report.specs.Steps.{Moves};
 ghost use Rattle.debug_timeline.specs.Lives.{HasHalted, IsSound, Rests, Shows, machine_of, pc_in, stands_in};
 ghost use Rattle.debug_timeline.specs.Passes.{GoesTo, machine_left};
-ghost use Rattle.bench_rows.specs.Rows.{IsOpenRow, IsWithin, RowMoves, is_idle_row, is_off, made_in, row_answer};
+ghost use Rattle.bench_live.specs.Rows.{IsOpenRow, IsWithin, RowMoves, is_idle_row, is_off, made_in, row_answer};
 ghost use Rattle.script_lang.specs.Lines.{IsLineInRange};
 ghost use Rattle.script_lang.specs.declared.line.Line.TheVariants as lines;
 ghost use Rattle.simdisk.specs.declared.fill.Fill.TheVariants as fills;
 
-use bench_live::LiveBench;
+use bench_live::{LiveBench, Row, idle_turns_change_nothing, rows_join};
 use bench_report::{Answer, Power, Setting};
-use bench_rows::{Row, idle_turns_change_nothing, rows_join};
 use board::Payloads;
 use board_model::{HartId, Refusal, Shape};
 use crew::Crew;

@@ -7,7 +7,7 @@ mod looks;
 mod replays;
 mod timeline;
 
-pub use bench_rows::Row;
+pub use bench_live::Row;
 pub use debugged::DebuggedBench;
 pub use looks::{PC, REGISTERS};
 pub use replays::replay;

@@ -6,7 +6,7 @@ ghost use Rattle.bench_report.specs.Agree.{fill_after, fills_after};
 ghost use Rattle.bench_report.specs.Bench.{Bench, bench_with};
 ghost use Rattle.bench_report.specs.Steps.{Moves};
 ghost use Rattle.report_lines.specs.declared.printed.Answer.{Answer};
-ghost use Rattle.bench_rows.specs.Notes.{AreInRange, Joins, Leaves};
+ghost use Rattle.bench_live.specs.Notes.{AreInRange, Joins, Leaves};
 ghost use Rattle.debug_timeline.specs.Ats.{GoesOnBy};
 ghost use Rattle.debug_timeline.specs.Lives.{IsSound, Shows};
 ghost use Rattle.script_lang.specs.Lines.{IsLineInRange};

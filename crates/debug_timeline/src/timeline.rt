@@ -3,21 +3,20 @@
 ghost use Rattle.std.specs.Prelude.{◌≡◌, ◌⊎◌, ◌≤◌, ◌<◌, ◌++◌, ◌∷◌, [], ℕ, true, false, take, replicate, IfOk, OnOk, IfErr, MatchResult, ⊤};
 ghost use Rattle.std.specs.Bool.{MatchBool};
 ghost use Rattle.board_model.specs.declared.refusal.Refusal.TheVariants.{Memory};
-ghost use Rattle.bench_history.specs.Pasts.{IsBack, NoRow, moments, some_turns};
+ghost use Rattle.bench_live.specs.Pasts.{IsBack, NoRow, moments, some_turns};
 ghost use Rattle.bench_report.specs.Bench.{Bench};
 ghost use Rattle.bench_report.specs.Steps.{Moves};
-ghost use Rattle.bench_rows.specs.Notes.{AreInRange};
+ghost use Rattle.bench_live.specs.Notes.{AreInRange};
 ghost use Rattle.debug_timeline.specs.Ats.{IsAt, IsBefore, IsLeft, IsPlace, MadeTurns, Ran};
 ghost use Rattle.debug_timeline.specs.Lives.{HasHalted, machine_of, register_in, state_in};
-ghost use Rattle.bench_rows.specs.Rows.{IsWithin, made_in, row_answer};
+ghost use Rattle.bench_live.specs.Rows.{IsWithin, made_in, row_answer};
 ghost use Rattle.script_lang.specs.Lines.{IsLineInRange};
 ghost use Rattle.script_lang.specs.declared.line.Line.TheVariants as lines;
 
 use crate::debugged::DebuggedBench;
 use crate::replays::replayed;
-use bench_history::History;
+use bench_live::{History, Row, note};
 use bench_report::{Answer, Setting};
-use bench_rows::{Row, note};
 use board::Payloads;
 use board_model::{HartId, Refusal, Shape};
 use crew::Crew;

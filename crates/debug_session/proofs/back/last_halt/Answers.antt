@@ -2,9 +2,9 @@ use Rattle.std.proofs.Common.{◌≡◌, ◌+◌, ℕ, List, Option, take, get_o
 use Rattle.std.specs.Prelude.{All, IfSome}
 use Rattle.std.proofs.lemmas.List.{take_all}
 use Rattle.std.proofs.lemmas.List.Elements.{All-get_or}
-use Rattle.bench_history.specs.Pasts.{moments, singles}
+use Rattle.bench_live.specs.Pasts.{moments, singles}
 use Rattle.bench_report.specs.Bench.{Bench, bench_with}
-use Rattle.bench_rows.specs.Notes.{AreInRange}
+use Rattle.bench_live.specs.Notes.{AreInRange}
 use Rattle.script_lang.specs.Lines.{IsLineInRange}
 use Rattle.script_lang.specs.declared.line.Line.{Line}
 use Rattle.debug_timeline.specs.Ats.{IsPlace}

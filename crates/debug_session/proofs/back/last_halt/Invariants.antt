@@ -1,6 +1,6 @@
 use Rattle.std.proofs.Common.{take}
 use Rattle.std.specs.Prelude.{IfSome}
-use Rattle.bench_history.specs.Pasts.{moments}
+use Rattle.bench_live.specs.Pasts.{moments}
 use Rattle.bench_report.specs.Bench.{Bench, bench_with}
 use Rattle.debug_timeline.specs.Ats.{IsPlace}
 use Rattle.debug_timeline.specs.Lives.{IsSound, Shows}

@@ -1,7 +1,7 @@
 use Rattle.std.proofs.Common.{◌≡◌, ◌<◌, ℕ, Option, sym, subst}
 use Rattle.std.specs.Prelude.{IfSome, replicate}
 use Rattle.board_model.specs.Shapes.{Size}
-use Rattle.bench_history.specs.Pasts.{singles}
+use Rattle.bench_live.specs.Pasts.{singles}
 use Rattle.bench_report.specs.Bench.{Bench}
 use Rattle.script_lang.specs.declared.line.Line.{Line}
 use Rattle.debug_timeline.specs.Lives.{Shows}

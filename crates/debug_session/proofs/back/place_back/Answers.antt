@@ -1,6 +1,6 @@
 use Rattle.std.proofs.Common.{◌≡◌, List, Option, take, subst}
 use Rattle.std.specs.Prelude.{All, IfSome}
-use Rattle.bench_history.specs.Pasts.{moments}
+use Rattle.bench_live.specs.Pasts.{moments}
 use Rattle.bench_report.specs.Bench.{bench_with}
 use Rattle.script_lang.specs.declared.line.Line.{Line}
 use Rattle.debug_timeline.specs.Ats.{IsPlace}

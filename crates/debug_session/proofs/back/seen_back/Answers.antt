@@ -1,6 +1,6 @@
 use Rattle.std.proofs.Common.{◌≡◌, List, ℕ, Option, sym, ap, ◌∙◌, subst}
 use Rattle.machine.specs.Machine.{Machine}
-use Rattle.bench_rows.specs.Rows.{row_answer}
+use Rattle.bench_live.specs.Rows.{row_answer}
 use Rattle.debug_timeline.specs.Lives.{machine_of, pc_in, stands_in}
 use Rattle.debug_timeline.specs.Passes.{machine_left}
 use Rattle.debug_timeline.proofs.Passed.{shown_machine}

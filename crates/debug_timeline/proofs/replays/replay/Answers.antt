@@ -3,7 +3,7 @@ use Rattle.std.proofs.lemmas.Bool.Decides.{nat_tests}
 use Rattle.report_lines.specs.declared.printed.Answer.{Answer}
 use Rattle.bench_report.specs.Bench.{Bench}
 use Rattle.bench_report.specs.Steps.{Moves}
-use Rattle.bench_rows.specs.Rows.{row_answer}
+use Rattle.bench_live.specs.Rows.{row_answer}
 use Rattle.script_lang.specs.declared.line.Line.{Line}
 use Rattle.debug_timeline.specs.Ats.{GoesOnBy}
 use Rattle.debug_timeline.specs.Lives.{Shows}

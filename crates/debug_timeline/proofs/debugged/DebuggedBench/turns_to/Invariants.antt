@@ -1,7 +1,7 @@
 use Rattle.std.proofs.Common.{◌≡◌, ◌-◌, false}
 use Rattle.board_model.specs.Shapes.{Size}
 use Rattle.bench_report.specs.Bench.{Bench}
-use Rattle.bench_rows.specs.Rows.{IsOpenRow, IsWithin, RowMoves, is_idle_row, is_off, made_in}
+use Rattle.bench_live.specs.Rows.{IsOpenRow, IsWithin, RowMoves, is_idle_row, is_off, made_in}
 use Rattle.debug_timeline.specs.Lives.{IsSound, Shows, pc_in, stands_in}
 use Rattle.debug_timeline.specs.Passes.{GoesTo, machine_left}
 use Rattle.debug_timeline.proofs.debugged.DebuggedBench.turns_to.Given as goal

@@ -1,6 +1,6 @@
 use Rattle.std.proofs.Common.{◌≡◌, Bool, subst}
 use Rattle.std.specs.Bool.{MatchBool}
-use Rattle.bench_history.specs.Pasts.{IsRowCut}
+use Rattle.bench_live.specs.Pasts.{IsRowCut}
 use Rattle.debug_timeline.proofs.Histories.{row_cut_ranges}
 use Rattle.debug_timeline.proofs.timeline.Timeline.step_back.Goals as goal
 

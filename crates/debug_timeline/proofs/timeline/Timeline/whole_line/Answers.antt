@@ -1,8 +1,8 @@
 use Rattle.std.proofs.Common.{false, List, sym, ap, ◌∙◌, subst}
 use Rattle.bench_report.specs.Agree.{fill_after, fills_after}
-use Rattle.bench_rows.specs.Notes.{AreInRange}
+use Rattle.bench_live.specs.Notes.{AreInRange}
 use Rattle.bench_report.proofs.RunLines.{fills_snoc}
-use Rattle.bench_rows.proofs.Noted.{ranges_more}
+use Rattle.bench_live.proofs.Noted.{ranges_more}
 use Rattle.script_lang.specs.declared.line.Line.{Line}
 use Rattle.simdisk.specs.declared.fill.Fill.TheVariants as fills
 use Rattle.debug_timeline.proofs.Timelines.{Left, line_left}

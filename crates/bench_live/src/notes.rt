@@ -1,0 +1,35 @@
+//! A row of turns becomes part of a history.
+
+ghost use Rattle.std.specs.Prelude.{◌≡◌, ◌<◌, ◌++◌, replicate, IfOk, IfErr, OnOk};
+ghost use Rattle.board_model.specs.Shapes.{Size};
+ghost use Rattle.board_model.specs.declared.refusal.Refusal.TheVariants.{Memory};
+ghost use Rattle.bench_live.specs.Pasts.{moments};
+ghost use Rattle.bench_report.specs.Agree.{fills_after};
+ghost use Rattle.bench_live.specs.Notes.{AreInRange, NotesRow};
+ghost use Rattle.bench_live.specs.Rows.{IsWithin, made_in};
+ghost use Rattle.script_lang.specs.declared.line.Line.TheVariants as lines;
+ghost use Rattle.simdisk.specs.declared.fill.Fill.{Fill};
+
+use crate::past::History;
+use crate::rows::Row;
+use board_model::{HartId, Refusal};
+
+/// Notes a row of turns of a hart in a history. `joins` says that the history's last line is a row of the same hart that has not
+/// ended: then the two become one line. Answers the same of the history after it: whether a further turn of the hart would
+/// join its last line. A row of no turns notes nothing. Refused `Memory` alone: the history is then of no further use.
+pub fn note(history: &mut History, joins: bool, hart: HartId, row: Row) -> Result<bool, Refusal>
+    requires within { IsWithin 1000000 row }
+    // Its lines may leave the bench as it is after the turns.
+    ensures left { IfOk result (λ next. (size : Size) → NotesRow size hart row joins next history.old history.new) }
+    // It has as many more moments, each a turn of that hart.
+    ensures moments { OnOk result (moments history.new ≡ moments history.old ++ replicate (made_in row) (lines.Turn hart 1)) }
+    ensures ranges { OnOk result ((size : Size) → hart < size.harts → AreInRange size history.old → AreInRange size history.new) }
+    ensures fill { OnOk result ((fill : Fill) → fills_after history.new fill ≡ fills_after history.old fill) }
+    ensures refused { IfErr result (λ e. e ≡ Memory) }
+{
+    if row.is_off() {
+        return Ok(joins);
+    }
+    history.add_turns(hart, row.made(), joins)?;
+    Ok(row.goes_on())
+}

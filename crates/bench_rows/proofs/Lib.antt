@@ -1,4 +1,0 @@
-pub mod Turns
-pub mod Joins
-pub mod Idles
-pub mod Noted
