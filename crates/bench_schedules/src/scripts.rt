@@ -9,8 +9,7 @@ ghost use Rattle.bench_schedules.specs.Schedules.{lines_text};
 
 use board_model::{Refusal, Shape};
 use report_lines::unwritten;
-use script_lang::Line;
-use script_text::LineText;
+use script_lang::{Line, LineText};
 use std::io::Write;
 
 /// Writes the board line.

@@ -10,8 +10,7 @@ ghost use Rattle.script_lang.specs.Spellings.{IsWritable, board_text};
 
 use board::Payloads;
 use board_model::{Refusal, Shape, Slot};
-use script_lang::{Line, scripts_read_as_written};
-use script_text::LineText;
+use script_lang::{Line, LineText, scripts_read_as_written};
 use std::alloc::{AllocError, Global};
 
 /// The board line.

@@ -1,3 +1,4 @@
+pub mod Pairs
 pub mod Words
 pub mod Commands
 pub mod Looks

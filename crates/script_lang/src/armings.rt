@@ -1,13 +1,16 @@
 //! The lines that arm a fault of the disk.
 
-ghost use Rattle.std.specs.Prelude.{◌≡◌, ◌<◌, map, IfSome};
+ghost use Rattle.std.specs.Prelude.{◌≡◌, ◌<◌, map, IfSome, Some};
+ghost use Rattle.std.specs.List.{join_with_byte};
 ghost use Rattle.board_model.specs.Shapes.{Size};
 ghost use Rattle.script_lang.specs.Words.{ranged};
-ghost use Rattle.script_lang.specs.Armings.{cutat_of, cutlane_of, failat_of, faillane_of, arming_said, IsArmingInRange};
+ghost use Rattle.script_lang.specs.Armings.{cutat_of, cutlane_of, failat_of, faillane_of, arming_said, IsArmingInRange, arming_spelling};
 
+use crate::pairs::FillText;
 use crate::words::{calls, fill, in_range, one, three, two};
 use board_model::Shape;
 use simdisk::Fill;
+use std::fmt;
 
 /// A fault of the disk that a line arms; of several cuts that are armed the newest says what a cut leaves.
 #[derive(Clone, Copy, Drop)]
@@ -87,4 +90,27 @@ pub fn arming_said(shape: &Shape, keyword: &[u8], words: &[&[u8]]) -> Option<Arm
         return faillane(shape, words);
     }
     None
+}
+
+/// An armed fault as the language writes it.
+#[derive(Drop)]
+pub struct ArmingText(pub Arming);
+
+impl fmt::Display for ArmingText {
+    ghost output = { λ a. Some (join_with_byte 32 (arming_spelling a.0)) };
+
+    fn fmt<W: fmt::Write>(&self, f: &mut fmt::Formatter<W>) -> fmt::Result {
+        match self.0 {
+            Arming::CutAt(calls, fill) => {
+                let fill = FillText(fill);
+                write!(f, "cutat {calls} {fill}")
+            }
+            Arming::CutLane(lane, calls, fill) => {
+                let fill = FillText(fill);
+                write!(f, "cutlane {lane} {calls} {fill}")
+            }
+            Arming::FailAt(calls) => write!(f, "failat {calls}"),
+            Arming::FailLane(lane, calls) => write!(f, "faillane {lane} {calls}"),
+        }
+    }
 }

@@ -1,10 +1,12 @@
 //! The lines that ask the operator's console for a durable command.
 
-ghost use Rattle.std.specs.Prelude.{◌≡◌, map, IfSome};
-ghost use Rattle.script_lang.specs.Commands.{slot_of, tries_of, command_said, IsCommandInRange};
+ghost use Rattle.std.specs.Prelude.{◌≡◌, map, IfSome, Some};
+ghost use Rattle.std.specs.List.{join_with_byte};
+ghost use Rattle.script_lang.specs.Commands.{slot_of, tries_of, command_said, IsCommandInRange, command_spelling};
 
 use crate::words::{alone, in_range, one, two};
 use board_model::ConsoleCommand;
+use std::fmt;
 
 /// `slot S`: any number below 2^32.
 fn slot(words: &[&[u8]]) -> Option<ConsoleCommand>
@@ -42,4 +44,21 @@ pub fn command_said(keyword: &[u8], words: &[&[u8]]) -> Option<ConsoleCommand>
         return alone(ConsoleCommand::Good, words);
     }
     None
+}
+
+/// A command as the language writes it.
+#[derive(Drop)]
+pub struct CommandText(pub ConsoleCommand);
+
+impl fmt::Display for CommandText {
+    ghost output = { λ c. Some (join_with_byte 32 (command_spelling c.0)) };
+
+    fn fmt<W: fmt::Write>(&self, f: &mut fmt::Formatter<W>) -> fmt::Result {
+        match self.0 {
+            ConsoleCommand::Slot(slot) => write!(f, "slot {slot}"),
+            ConsoleCommand::Discard => f.write_str("discard"),
+            ConsoleCommand::Tries(slot, boots) => write!(f, "tries {slot} {boots}"),
+            ConsoleCommand::Good => f.write_str("good"),
+        }
+    }
 }

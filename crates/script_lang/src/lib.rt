@@ -1,4 +1,4 @@
-//! The script language of the bench: bytes to lines, or the first fault.
+//! The script language of the bench: bytes to lines, or the first fault, and lines as the language writes them.
 #![tactic(auto)]
 
 mod armings;
@@ -6,8 +6,10 @@ mod commands;
 mod laws;
 mod line;
 mod looks;
+mod pairs;
 mod rows;
 mod scripts;
+mod texts;
 mod words;
 
 pub use armings::Arming;
@@ -16,4 +18,5 @@ pub use line::Line;
 pub use looks::Look;
 pub use rows::mode;
 pub use scripts::{Script, parse_script};
+pub use texts::LineText;
 pub use words::{in_range, number};

@@ -1,10 +1,12 @@
 //! The lines that show memory or harts.
 
-ghost use Rattle.std.specs.Prelude.{◌≡◌, map, IfSome};
-ghost use Rattle.script_lang.specs.Looks.{reg_of, pc_of, csr_number_of, csr_of, mem_of, look_said, IsCsr, IsLookInRange};
+ghost use Rattle.std.specs.Prelude.{◌≡◌, map, IfSome, Some};
+ghost use Rattle.std.specs.List.{join_with_byte};
+ghost use Rattle.script_lang.specs.Looks.{reg_of, pc_of, csr_number_of, csr_of, mem_of, look_said, IsCsr, IsLookInRange, look_spelling};
 
 use crate::words::{alone, hart, in_range, number, one, two};
 use board_model::{HartId, RAM_BASE, Shape};
+use std::fmt;
 
 /// What a line shows of a board that is on.
 #[derive(Clone, Copy, Drop)]
@@ -96,4 +98,31 @@ pub fn look_said(shape: &Shape, keyword: &[u8], words: &[&[u8]]) -> Option<Look>
         return mem(shape, words);
     }
     None
+}
+
+/// A look as the language writes it.
+#[derive(Drop)]
+pub struct LookText(pub Look);
+
+impl fmt::Display for LookText {
+    ghost output = { λ l. Some (join_with_byte 32 (look_spelling l.0)) };
+
+    fn fmt<W: fmt::Write>(&self, f: &mut fmt::Formatter<W>) -> fmt::Result {
+        match self.0 {
+            Look::Reg(hart, register) => {
+                let number = hart.number();
+                write!(f, "reg {number} {register}")
+            }
+            Look::Pc(hart) => {
+                let number = hart.number();
+                write!(f, "pc {number}")
+            }
+            Look::Csr(hart, csr) => {
+                let number = hart.number();
+                write!(f, "csr {number} {csr}")
+            }
+            Look::Pending => f.write_str("pending"),
+            Look::Mem(address, count) => write!(f, "mem {address} {count}"),
+        }
+    }
 }
