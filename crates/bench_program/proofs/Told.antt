@@ -1,5 +1,5 @@
 -- Which faults a work may have.
-use Rattle.std.proofs.Common.{◌≡◌, ◌∙◌, ◌⊎◌, inl, inr, ℕ, List, ap, Option, None, Some, IsSome, get_or, sym, subst, String}
+use Rattle.std.proofs.Common.{◌≡◌, ◌∙◌, ◌⊎◌, inl, inr, ℕ, List, ap, Option, None, Some, Err, IsSome, get_or, refl, sym, subst}
 use Rattle.board_model.specs.declared.refusal.Refusal.{Refusal}
 use Rattle.board_model.specs.declared.refusal.Refusal.TheVariants.{Memory, Output}
 use Rattle.script_lang.specs.Scripts.{script_of}
@@ -41,9 +41,12 @@ unread_by_cause : (options : Options) (why : ProgramFault) (fault : BenchFault) 
 unread_by_cause options why fault e (inl is) some = inl (inl (e ∙ ap unread_by is, inr some))
 unread_by_cause options why fault e (inr is) some = inr (e ∙ ap unread_by is)
 
-pub unread_script : (options : Options) (why : ProgramFault) (kind : ErrorKind) (fault : BenchFault) (path : String) → fault ≡ unread_by why → why ≡ fault_of_kind kind → options.script ≡ Some path
-    → IsUnread options fault ⊎ (fault ≡ Refused Memory)
-unread_script options why kind fault path e is some = unread_by_cause options why fault e (file_fault why kind is) (subst (λ (o : Option String). IsSome o) (sym some) tt)
+is_some : {A : Type 0} (option : Option A) (value : A) → option ≡ Some value → IsSome option
+is_some {A} option value is = subst (λ (o : Option A). IsSome o) (sym is) refl
+
+pub unread_script : (options : Options) {A : Type 0} (option : Option A) (value : A) (why : ProgramFault) (kind : ErrorKind) (fault : BenchFault) → fault ≡ unread_by why → why ≡ fault_of_kind kind
+    → (IsSome option → IsSome options.script) → option ≡ Some value → IsUnread options fault ⊎ (fault ≡ Refused Memory)
+unread_script options {A} option value why kind fault e is same some = unread_by_cause options why fault e (file_fault why kind is) (same (is_some option value some))
 
 -- the input was not read
 pub unread_input : (options : Options) (fault : BenchFault) → options.script ≡ None → (fault ≡ Input) ⊎ (fault ≡ Refused Memory) → IsUnread options fault ⊎ (fault ≡ Refused Memory)

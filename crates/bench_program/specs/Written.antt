@@ -1,5 +1,5 @@
 -- What the program writes, by the work that its words ask for. Source: docs/SCRIPT.md, "The program".
-use Rattle.std.specs.Prelude.{◌≡◌, ◌⊎◌, ◌<◌, ⊤, ℕ, Bool, List, Option, None, Ok, Err, IfSome, IsSome, get_or, take}
+use Rattle.std.specs.Prelude.{◌≡◌, ◌⊎◌, ◌<◌, ⊤, ℕ, Bool, List, Option, None, Some, Ok, Err, IfSome, IsSome, get_or, take}
 use Rattle.board_model.specs.declared.refusal.Refusal.{Refusal}
 use Rattle.board_model.specs.declared.refusal.Refusal.TheVariants.{Memory, Output, NotPlain}
 use Rattle.std.specs.Io.KnownBytes.{Appends}
