@@ -1,12 +1,14 @@
 -- Which faults a work may have.
-use Rattle.std.proofs.Common.{◌≡◌, ◌∙◌, ◌⊎◌, inl, inr, ℕ, suc, List, [], ◌∷◌, length, ap, Option, None, Some, Result, Ok, Err, IfErr, IsSome, get_or, refl, sym, subst}
+use Rattle.std.proofs.Common.{◌≡◌, ◌∙◌, ◌⊎◌, inl, inr, ℕ, List, ap, Option, None, Some, Err, IsSome, get_or, refl, sym, subst}
 use Rattle.board_model.specs.declared.refusal.Refusal.{Refusal}
 use Rattle.board_model.specs.declared.refusal.Refusal.TheVariants.{Memory, Output}
 use Rattle.script_lang.specs.Scripts.{script_of}
-use Rattle.bench_program.specs.Written.{IsNotTaken, MayTellWrong, IsFaultIn, IsFaultOf, IsUnread, IsFault}
+use Rattle.bench_program.specs.Written.{IsNotTaken, IsFaultIn, IsFaultOf, IsUnread, IsFault, source_of}
 use Rattle.command_line.specs.declared.NoWork.{NoWork}
 use Rattle.command_line.specs.declared.NoWork.TheVariants as whys
-use Rattle.payload_files.specs.Named.{AreFilesOf}
+use Rattle.payload_files.proofs.FaultKinds.{file_fault}
+use Rattle.std.specs.declared.io.ErrorKind.{ErrorKind}
+use Rattle.command_line.specs.Faults.{fault_of_kind}
 use Rattle.command_line.specs.declared.fault.ProgramFault.{ProgramFault}
 use Rattle.command_line.specs.declared.fault.ProgramFault.TheVariants as causes
 use Rattle.bench_program.specs.Faults.{unread_by, without_work}
@@ -27,20 +29,33 @@ no_bench script e work (inl x) = inl x
 no_bench script e work (inr (inl x)) = inr (inl x)
 no_bench script e work (inr (inr x)) = inr (inr (inl x))
 
--- the input was not read
-pub unread : (work : Work) (input : Option (List ℕ)) (fault : BenchFault) → (fault ≡ Input) ⊎ (fault ≡ Refused Memory) → IsFaultOf work input fault
-unread work input fault (inl is) = inl is
-unread work None fault (inr is) = let P : BenchFault → Type 0 = λ f. IsFaultOf work None f in subst P (sym is) (inr ([], tt, inl refl))
-unread work (Some bytes) fault (inr is) = let P : BenchFault → Type 0 = λ f. IsFaultOf work (Some bytes) f in subst P (sym is) (inr (bytes, refl, inl refl))
-
 -- a payload file was not read
 pub unread_named : (options : Options) (why : ProgramFault) (fault : BenchFault) → fault ≡ unread_by why → (why ≡ causes.File) ⊎ (why ≡ causes.Refused Memory)
     → (slot : ℕ) × IsSome (get_or options.payloads slot None) → IsUnread options fault ⊎ (fault ≡ Refused Memory)
-unread_named options why fault e (inl is) some = inl (e ∙ ap unread_by is, some)
+unread_named options why fault e (inl is) some = inl (inl (e ∙ ap unread_by is, inl some))
 unread_named options why fault e (inr is) some = inr (e ∙ ap unread_by is)
 
+-- the script's file was not read
+unread_by_cause : (options : Options) (why : ProgramFault) (fault : BenchFault) → fault ≡ unread_by why → (why ≡ causes.File) ⊎ (why ≡ causes.Refused Memory) → IsSome options.script
+    → IsUnread options fault ⊎ (fault ≡ Refused Memory)
+unread_by_cause options why fault e (inl is) some = inl (inl (e ∙ ap unread_by is, inr some))
+unread_by_cause options why fault e (inr is) some = inr (e ∙ ap unread_by is)
+
+is_some : {A : Type 0} (option : Option A) (value : A) → option ≡ Some value → IsSome option
+is_some {A} option value is = subst (λ (o : Option A). IsSome o) (sym is) refl
+
+pub unread_script : (options : Options) {A : Type 0} (option : Option A) (value : A) (why : ProgramFault) (kind : ErrorKind) (fault : BenchFault) → fault ≡ unread_by why → why ≡ fault_of_kind kind
+    → (IsSome option → IsSome options.script) → option ≡ Some value → IsUnread options fault ⊎ (fault ≡ Refused Memory)
+unread_script options {A} option value why kind fault e is same some = unread_by_cause options why fault e (file_fault why kind is) (same (is_some option value some))
+
+-- the input was not read
+pub unread_input : (options : Options) (fault : BenchFault) → options.script ≡ None → (fault ≡ Input) ⊎ (fault ≡ Refused Memory) → IsUnread options fault ⊎ (fault ≡ Refused Memory)
+unread_input options fault none (inl is) = inl (inr (is, none))
+unread_input options fault none (inr is) = inr is
+
 -- a fault of options that the words name
-pub of_options : (words : List (List ℕ)) (input : Option (List ℕ)) (fault : BenchFault) (options : Options) → IsNamedBy words options → IsUnread options fault ⊎ (fault ≡ Refused Memory) ⊎ IsFaultOf options.work input fault → IsFault words input fault
-of_options words input fault options named (inl is) = inl (options, named, inl is)
-of_options words input fault options named (inr (inl memory)) = inr (inr memory)
-of_options words input fault options named (inr (inr is)) = inl (options, named, inr is)
+pub of_options : (words : List (List ℕ)) (bytes_at : List ℕ → Option (List ℕ)) (input : Option (List ℕ)) (fault : BenchFault) (options : Options) → IsNamedBy words options
+    → IsUnread options fault ⊎ (fault ≡ Refused Memory) ⊎ IsFaultOf options.work (source_of options bytes_at input) fault → IsFault words bytes_at input fault
+of_options words bytes_at input fault options named (inl is) = inl (options, named, inl is)
+of_options words bytes_at input fault options named (inr (inl memory)) = inr (inr memory)
+of_options words bytes_at input fault options named (inr (inr is)) = inl (options, named, inr is)

@@ -6,11 +6,11 @@ use Rattle.clap.specs.declared.builder.action.ArgAction.TheVariants.{Set}
 use Rattle.clap.specs.declared.error.kind.ErrorKind.{ErrorKind}
 use Rattle.clap.specs.declared.parser.matches.Found.{Found}
 use Rattle.clap.specs.declared.builder.value_parser.ValueParser.{ValueParser}
-use Rattle.clap.specs.declared.builder.value_parser.ValueParser.TheVariants.{Unsigned}
+use Rattle.clap.specs.declared.builder.value_parser.ValueParser.TheVariants.{NonEmptyString, Unsigned}
 use Rattle.script_lang.specs.Words.{number_of}
 use Rattle.command_line.specs.Flags.{flag_rule}
 use Rattle.command_line.specs.Kinds.{no_work}
-use Rattle.command_line.specs.Options.{option_rule, payload_paths, value_rule, with_payloads}
+use Rattle.command_line.specs.Options.{option_rule, path_named, payload_paths, value_rule, with_payloads}
 use Rattle.command_line.specs.Parses.{AreParsed}
 use Rattle.command_line.specs.Programs.{named_app}
 use Rattle.command_line.specs.declared.NoWork.{NoWork}
@@ -41,6 +41,10 @@ count_rule id = value_rule id (Unsigned 1 1000000)
 abbrev pub jobs_rule : Rule
 jobs_rule = value_rule (codes "jobs") (Unsigned 1 64)
 
+-- the word that names the script's file
+abbrev pub script_rule : Rule
+script_rule = record (new_rule (codes "SCRIPT")) { action = Some Set; parser = Some NonEmptyString }
+
 abbrev pub with_schedules : App → App
 with_schedules app =
     with_rule (with_rule (with_rule app (count_rule (codes "schedules"))) (option_rule (codes "seed"))) (count_rule (codes "show"))
@@ -54,12 +58,17 @@ sbibench crews =
     (with_preemptions
     (with_schedules
     (with_rule
-    (with_rule (with_rule (with_rule (named_app (codes "sbibench")) (crew_rule crews)) (flag_rule (codes "sweep"))) (flag_rule (codes "faults")))
+    (with_rule (with_rule (with_rule (with_rule (named_app (codes "sbibench")) script_rule) (crew_rule crews)) (flag_rule (codes "sweep")))
+    (flag_rule (codes "faults")))
     jobs_rule)))
 
 -- the payload files, by their paths
 abbrev pub payload_files : Options → List (Option (List ℕ))
 payload_files options = map (option_map string_bytes) options.payloads
+
+-- the script's file, by its path
+abbrev pub script_file : Options → Option (List ℕ)
+script_file options = option_map string_bytes options.script
 
 -- the crew of a word
 abbrev pub savers_of : Option (List ℕ) → Savers
@@ -165,7 +174,7 @@ IsNamedBy words options = (crews : ValueParser) × (f : Found) × (sweep faults 
     × AreParsed (sbibench crews) words f
     × IsFlag f (codes "sweep") sweep × IsFlag f (codes "faults") faults × IsFlag f (codes "first") first
     × (work_asked f sweep faults first ≡ Some options.work)
-    × (payload_files options ≡ payload_paths f)
+    × (payload_files options ≡ payload_paths f) × (script_file options ≡ path_named (first_value f (codes "SCRIPT")))
 
 -- The words name no work, for that reason: the command's parser refuses them, by an error that shows what they ask to be shown
 -- or says a fault.

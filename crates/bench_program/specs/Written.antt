@@ -1,5 +1,5 @@
 -- What the program writes, by the work that its words ask for. Source: docs/SCRIPT.md, "The program".
-use Rattle.std.specs.Prelude.{◌≡◌, ◌⊎◌, ◌<◌, ⊤, ℕ, Bool, List, Option, None, Ok, Err, IfSome, IsSome, get_or, take}
+use Rattle.std.specs.Prelude.{◌≡◌, ◌⊎◌, ◌<◌, ⊤, ℕ, Bool, List, Option, None, Some, Ok, Err, IfSome, IsSome, get_or, take}
 use Rattle.board_model.specs.declared.refusal.Refusal.{Refusal}
 use Rattle.board_model.specs.declared.refusal.Refusal.TheVariants.{Memory, Output, NotPlain}
 use Rattle.std.specs.Io.KnownBytes.{Appends}
@@ -18,7 +18,7 @@ use Rattle.bench_judge.specs.declared.judges.Sweep.{Sweep as Counts}
 use Rattle.bench_program.specs.Benches.{judged}
 use Rattle.command_line.specs.declared.NoWork.TheVariants as whys
 use Rattle.payload_files.specs.Named.{AreFilesOf}
-use Rattle.bench_program.specs.Usage.{payload_files, IsNamedBy, NamesNoWork, NamesConflict}
+use Rattle.bench_program.specs.Usage.{payload_files, script_file, IsNamedBy, NamesNoWork, NamesConflict}
 use Rattle.bench_program.specs.declared.fault.BenchFault.{BenchFault}
 use Rattle.bench_program.specs.declared.fault.BenchFault.TheVariants.{Usage, Input, File, Refused, Closed, Wrong}
 use Rattle.bench_program.specs.declared.usage.Options.{Options}
@@ -61,28 +61,36 @@ TellsWrong (Compare drawn) payloads script old now = (differ : ℕ) × (0 < diff
 TellsWrong (Preempt within) payloads script old now = (differ : ℕ) × (0 < differ) × IsPreempted within payloads script old now differ
 TellsWrong work payloads script old now = ⊥
 
--- what is read of an input of these bytes: all of them, but for what is more than any script has
+-- what is read of a source of these bytes: all of them, but for what is more than any script has
 abbrev pub IsReadOf : List ℕ → List ℕ → Type 0
 IsReadOf script bytes = script ≡ take 268500993 bytes
 
--- the work was done over an input of which these bytes are known
+-- the work was done over a source of which these bytes are known
 abbrev pub IsWorked : Work → List (List ℕ) → Option (List ℕ) → Option (List ℕ) → Option (List ℕ) → Type 0
-IsWorked work payloads input old now = (script : List ℕ) × IfSome input (λ bytes. script_of script ≡ script_of bytes)
-    × IfSome input (IsReadOf script) × IsWritten work payloads script old now
+IsWorked work payloads source old now = (script : List ℕ) × IfSome source (λ bytes. script_of script ≡ script_of bytes)
+    × IfSome source (IsReadOf script) × IsWritten work payloads script old now
 
 abbrev pub IsWrongOver : Work → List (List ℕ) → Option (List ℕ) → Option (List ℕ) → Option (List ℕ) → Type 0
-IsWrongOver work payloads input old now = (script : List ℕ) × IfSome input (λ bytes. script_of script ≡ script_of bytes)
-    × IfSome input (IsReadOf script) × TellsWrong work payloads script old now
+IsWrongOver work payloads source old now = (script : List ℕ) × IfSome source (λ bytes. script_of script ≡ script_of bytes)
+    × IfSome source (IsReadOf script) × TellsWrong work payloads script old now
+
+-- the bytes that the script is read from: those of the file that is named, or else the input's
+abbrev pub source_at : Option (List ℕ) → (List ℕ → Option (List ℕ)) → Option (List ℕ) → Option (List ℕ)
+source_at None bytes_at input = input
+source_at (Some path) bytes_at input = bytes_at path
+
+abbrev pub source_of : Options → (List ℕ → Option (List ℕ)) → Option (List ℕ) → Option (List ℕ)
+source_of options bytes_at input = source_at (script_file options) bytes_at input
 
 -- The options were done over it and over files of which these bytes are known: each slot begins with the file that is
 -- named for it.
 abbrev pub AreDone : Options → (List ℕ → Option (List ℕ)) → Option (List ℕ) → Option (List ℕ) → Option (List ℕ) → Type 0
 AreDone options bytes_at input old now = (payloads : List (List ℕ)) × AreFilesOf bytes_at (payload_files options) payloads
-    × IsWorked options.work payloads input old now
+    × IsWorked options.work payloads (source_of options bytes_at input) old now
 
 abbrev pub AreWrong : Options → (List ℕ → Option (List ℕ)) → Option (List ℕ) → Option (List ℕ) → Option (List ℕ) → Type 0
 AreWrong options bytes_at input old now = (payloads : List (List ℕ)) × AreFilesOf bytes_at (payload_files options) payloads
-    × IsWrongOver options.work payloads input old now
+    × IsWrongOver options.work payloads (source_of options bytes_at input) old now
 
 -- the work that the words name was done over both
 abbrev pub IsDone : List (List ℕ) → (List ℕ → Option (List ℕ)) → Option (List ℕ) → Option (List ℕ) → Option (List ℕ) → Type 0
@@ -119,18 +127,21 @@ IsFaultIn work script File = ⊥
 IsFaultIn work script Usage = ⊥
 IsFaultIn work script Wrong = MayTellWrong work
 
--- the same over an input of which these bytes are known, which may fail
+-- the same over a source of which these bytes are known
 abbrev pub IsFaultOf : Work → Option (List ℕ) → BenchFault → Type 0
-IsFaultOf work input fault = (fault ≡ Input)
-    ⊎ ((script : List ℕ) × IfSome input (λ bytes. script_of script ≡ script_of bytes) × IsFaultIn work script fault)
+IsFaultOf work source fault =
+    (script : List ℕ) × IfSome source (λ bytes. script_of script ≡ script_of bytes) × IsFaultIn work script fault
 
--- a payload file could not be read, of those that are named
+-- a file could not be read, of those that are named; or the input failed, where none of them is the script's
 abbrev pub IsUnread : Options → BenchFault → Type 0
-IsUnread options fault = (fault ≡ File) × ((slot : ℕ) × IsSome (get_or options.payloads slot None))
+IsUnread options fault =
+    ((fault ≡ File) × (((slot : ℕ) × IsSome (get_or options.payloads slot None)) ⊎ IsSome options.script))
+    ⊎ ((fault ≡ Input) × (options.script ≡ None))
 
 -- a fault of the work that the words name, or of their files; or they name none, or no one work; or memory was refused
 -- to the command line or a file
-abbrev pub IsFault : List (List ℕ) → Option (List ℕ) → BenchFault → Type 0
-IsFault words input fault =
-    ((options : Options) × IsNamedBy words options × (IsUnread options fault ⊎ IsFaultOf options.work input fault))
+abbrev pub IsFault : List (List ℕ) → (List ℕ → Option (List ℕ)) → Option (List ℕ) → BenchFault → Type 0
+IsFault words bytes_at input fault =
+    ((options : Options) × IsNamedBy words options
+    × (IsUnread options fault ⊎ IsFaultOf options.work (source_of options bytes_at input) fault))
     ⊎ ((fault ≡ Usage) × (NamesNoWork words whys.Usage ⊎ NamesConflict words)) ⊎ (fault ≡ Refused Memory)

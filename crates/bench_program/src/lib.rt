@@ -277,7 +277,7 @@ fn run_words<R: Threads + Sync, S: AsStr>(rt: &HostRuntime, threads: &R, words: 
     }
 }
 
-/// The whole program: reads a script from standard input and writes its report to standard output
+/// The whole program: reads a script from a file or from standard input and writes its report to standard output
 /// (docs/SCRIPT.md), or says why not on standard error. Answers the status that docs/SCRIPT.md, "The program",
 /// has. The second handle makes the threads of lanes, where the command line asks for these.
 pub fn bench<R: Threads + Sync>(rt: &HostRuntime, threads: &R) -> ExitCode

@@ -7,9 +7,9 @@ ghost use Rattle.bench_program.specs.Faults.{status_after, unread_by, without_wo
 ghost use Rattle.command_line.specs.Pipes.{pipe_contents};
 ghost use Rattle.payload_files.specs.Named.{AreFilesOf};
 ghost use Rattle.bench_program.specs.Usage.{payload_files, IsBounded, NamesNoWork};
-ghost use Rattle.bench_program.specs.Written.{AreDone, AreWrong, IsDone, IsFault, IsFaultIn, IsFaultOf, IsReadOf, IsReported, IsUnread, IsWorked, IsWritten, IsWrong, IsWrongOver, TellsWrong};
+ghost use Rattle.bench_program.specs.Written.{AreDone, AreWrong, IsDone, IsFault, IsFaultIn, IsFaultOf, IsReadOf, IsReported, IsUnread, IsWorked, IsWritten, IsWrong, IsWrongOver, TellsWrong, source_of};
 ghost use Rattle.bench_program.specs.declared.fault.BenchFault.{BenchFault};
-ghost use Rattle.bench_program.specs.declared.fault.BenchFault.TheVariants.{Closed, Input, Refused, Wrong};
+ghost use Rattle.bench_program.specs.declared.fault.BenchFault.TheVariants.{Closed, File, Input, Refused, Wrong};
 ghost use Rattle.bench_program.specs.declared.usage.Savers.{Savers};
 ghost use Rattle.bench_program.specs.declared.usage.Work.TheVariants.{Compare, Judge, Report, Show, Preempt};
 ghost use Rattle.script_lang.specs.Scripts.{script_of};
@@ -17,18 +17,21 @@ ghost use Rattle.script_lang.specs.Scripts.{script_of};
 use crate::fault::{BenchFault, status_of};
 use crate::usage::{Bench, Drawn, MOST_JOBS, Options, Savers, Work, options_of};
 use crate::{
-    read_script, write_bench, write_preemptions, write_report, write_schedule, write_schedules,
+    READ_AT_MOST, read_script, write_bench, write_preemptions, write_report, write_schedule,
+    write_schedules,
 };
 use bench_preemptions::Within;
 use board::Payloads;
 use board_model::Refusal;
-use command_line::{FileFault, NoWork, Pipe, ProgramFault, explain_fault, show_on, tell_fault};
+use command_line::{
+    FileFault, NoWork, Pipe, ProgramFault, explain_fault, read_at_most, show_on, tell_fault,
+};
 use crew::{Crew, Sequential};
 use jobs::Jobs;
 use payload_files::{PayloadFiles, read_payloads};
 use std::alloc::Global;
 use std::convert::AsStr;
-use std::io::{BufReader, BufWriter, IsTerminal, Read, Write};
+use std::io::{self, BufReader, BufWriter, IsTerminal, Read, Write};
 use std::thread;
 use std::thread::Threads;
 
@@ -244,42 +247,66 @@ fn named_payloads<P: PayloadFiles, F: Write>(
     }
 }
 
-/// Does the work over the script of an input, which begins with these payloads.
-fn run_work<R: Threads + Sync, I: Read + Drop, O: Write + Drop>(
+/// The script of the file at that path, or as much of it as its first fault takes.
+fn file_script<P: PayloadFiles>(alloc: Global, files: &P, path: &str) -> io::Result<Vec<u8>>
+    ensures bytes { IfOk result (λ script. IfSome (P.bytes_at files.now path.now) (IsReadOf script.items)) }
+{
+    read_at_most(alloc, files.open(path)?, READ_AT_MOST)
+}
+
+/// The script: of the file that the command line names, or else of the input. A file that cannot be read is told.
+fn named_script<P: PayloadFiles, I: Read + Drop, F: Write>(
+    alloc: Global,
+    files: &P,
+    options: &Options,
+    input: I,
+    faults: &mut F,
+) -> Result<Vec<u8>, BenchFault>
+    ensures bytes { IfOk result (λ script. IfSome (source_of options.now (P.bytes_at files.now) (I.remaining input))
+        (IsReadOf script.items)) }
+    ensures failed { IfErr result (λ fault. IsUnread options.now fault ⊎ (fault ≡ Refused Memory)) }
+{
+    match &options.script {
+        None => input_script(alloc, input),
+        Some(path) => match file_script(alloc, files, path) {
+            Ok(script) => Ok(script),
+            Err(error) => Err(unread(&FileFault::new(alloc, path, error), faults)),
+        },
+    }
+}
+
+/// Does the work over the script, which begins with these payloads.
+fn run_work<R: Threads + Sync, O: Write + Drop>(
     alloc: Global,
     threads: &R,
     work: Work,
     jobs: Option<usize>,
     payloads: Payloads,
-    input: I,
+    script: &[u8],
     out: &mut BufWriter<Pipe<O>>,
 ) -> Result<(), BenchFault>
     requires most { IsBounded work }
-    ensures worked { OnOk result (IsWorked work payloads (I.remaining input)
+    ensures worked { OnOk result (IsWritten work payloads script.now
         (writer_contents (pipe_contents O.contents) out.old) (writer_contents (pipe_contents O.contents) out.new)) }
     ensures flushed { OnOk result (writer_buffer out.new ≡ []) }
-    ensures wrong { result ≡ Err Wrong → IsWrongOver work payloads (I.remaining input)
+    ensures wrong { result ≡ Err Wrong → TellsWrong work payloads script.now
         (writer_contents (pipe_contents O.contents) out.old) (writer_contents (pipe_contents O.contents) out.new) }
     ensures told { result ≡ Err Wrong → writer_buffer out.new ≡ [] }
-    ensures faults { IfErr result (λ fault. IsFaultOf work (I.remaining input) fault) }
+    ensures faults { IfErr result (IsFaultIn work script.now) }
 {
-    let script = match input_script(alloc, input) {
-        Ok(script) => script,
-        Err(fault) => return Err(fault),
-    };
     match work {
-        Work::Report(savers) => report(alloc, threads, savers, &script, payloads, out),
+        Work::Report(savers) => report(alloc, threads, savers, script, payloads, out),
         Work::Judge(bench) => {
             let jobs = Jobs::new(threads, jobs_of(threads, jobs));
-            judge(&jobs, alloc, bench, &script, payloads, out)
+            judge(&jobs, alloc, bench, script, payloads, out)
         }
-        Work::Compare(drawn) => compare::<R, O>(alloc, drawn, &script, &payloads, out),
-        Work::Show(drawn) => show_schedule::<R, O>(alloc, drawn, &script, &payloads, out),
-        Work::Preempt(within) => preempt::<R, O>(alloc, within, &script, &payloads, out),
+        Work::Compare(drawn) => compare::<R, O>(alloc, drawn, script, &payloads, out),
+        Work::Show(drawn) => show_schedule::<R, O>(alloc, drawn, script, &payloads, out),
+        Work::Preempt(within) => preempt::<R, O>(alloc, within, script, &payloads, out),
     }
 }
 
-/// Does what the options ask for. The payload files are read before the input.
+/// Does what the options ask for. The payload files are read before the script.
 fn run_options<R: Threads + Sync, P: PayloadFiles, I: Read + Drop, O: Write + Drop, F: Write>(
     alloc: Global,
     threads: &R,
@@ -297,16 +324,17 @@ fn run_options<R: Threads + Sync, P: PayloadFiles, I: Read + Drop, O: Write + Dr
         (writer_contents (pipe_contents O.contents) out.old) (writer_contents (pipe_contents O.contents) out.new) }
     ensures told { result ≡ Err Wrong → writer_buffer out.new ≡ [] }
     ensures faults { IfErr result (λ fault. IsUnread options.now fault ⊎ (fault ≡ Refused Memory)
-        ⊎ IsFaultOf options.now.work (I.remaining input) fault) }
+        ⊎ IsFaultOf options.now.work (source_of options.now (P.bytes_at files.now) (I.remaining input)) fault) }
 {
     let payloads = named_payloads(alloc, files, options, faults)?;
+    let script = named_script(alloc, files, options, input, faults)?;
     run_work(
         alloc,
         threads,
         options.work,
         options.jobs,
         payloads,
-        input,
+        &script,
         out,
     )
 }
@@ -335,7 +363,7 @@ fn run_words<
     ensures wrong { result ≡ Err Wrong → IsWrong (map S.text words.now) (P.bytes_at files.now) (I.remaining input)
         (writer_contents (pipe_contents O.contents) out.old) (writer_contents (pipe_contents O.contents) out.new) }
     ensures told { result ≡ Err Wrong → writer_buffer out.new ≡ [] }
-    ensures faults { IfErr result (λ fault. IsFault (map S.text words.now) (I.remaining input) fault) }
+    ensures faults { IfErr result (λ fault. IsFault (map S.text words.now) (P.bytes_at files.now) (I.remaining input) fault) }
 {
     match options_of(alloc, words) {
         Ok(options) => run_options(alloc, threads, files, &options, input, out, faults),
@@ -364,8 +392,8 @@ pub fn end<F: Write + IsTerminal>(done: &Result<(), BenchFault>, faults: &mut F)
 }
 
 /// The program over files and streams: does what the words of a command line ask for, the program's name first, with
-/// the payload files that they name and the script of the input, read in that order. The report, the lines of a bench,
-/// or what the words ask to be shown goes to `out`, and a fault to `faults`. Answers the status that docs/SCRIPT.md,
+/// the payload files that they name and the script, read in that order: it is the file that they name, or else the input. The report,
+/// the lines of a bench, or what the words ask to be shown goes to `out`, and a fault to `faults`. Answers the status that docs/SCRIPT.md,
 /// "The program", has. The handle makes the threads of lanes, where the words ask for these.
 pub fn run_on<
     R: Threads + Sync,
@@ -392,7 +420,7 @@ pub fn run_on<
         (writer_contents (pipe_contents O.contents) out.new)
         × (writer_buffer out.new ≡ []))
         ⊎ NamesNoWork (map S.text words.now) NoWork.Shown)
-        × IfErr done (λ fault. IsFault (map S.text words.now) (I.remaining input) fault)
+        × IfErr done (λ fault. IsFault (map S.text words.now) (P.bytes_at files.now) (I.remaining input) fault)
         × (done ≡ Err Wrong → IsWrong (map S.text words.now) (P.bytes_at files.now) (I.remaining input)
         (writer_contents (pipe_contents O.contents) out.old)
         (writer_contents (pipe_contents O.contents) out.new)

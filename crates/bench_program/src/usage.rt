@@ -7,25 +7,26 @@ ghost use Rattle.clap.specs.Words.{app_of, first_value, found_of, kind_of, rule_
 ghost use Rattle.clap.specs.declared.builder.value_parser.ValueParser.{ValueParser};
 ghost use Rattle.command_line.specs.Kinds.{no_work};
 ghost use Rattle.command_line.specs.Parses.{AreParsed};
-ghost use Rattle.bench_program.specs.Usage.{number_up_to, count_rule, crew_rule, jobs_rule, work_of_flags, schedules_named, preemptions_named, without_options, savers_of, sbibench, seed_of, IsBounded, compare_or_show, without_benches, with_preemptions, with_schedules, work_asked, work_by, work_without, IsFlag, IsNamedBy, NamesConflict, NamesNoWork};
+ghost use Rattle.bench_program.specs.Usage.{number_up_to, count_rule, crew_rule, jobs_rule, work_of_flags, schedules_named, preemptions_named, without_options, savers_of, sbibench, script_rule, seed_of, IsBounded, compare_or_show, without_benches, with_preemptions, with_schedules, work_asked, work_by, work_without, IsFlag, IsNamedBy, NamesConflict, NamesNoWork};
 
 use bench_preemptions::Within;
 use board_model::refusal_lines;
 use clap::builder::ValueParser;
 use clap::error::ErrorKind;
 use clap::{Arg, ArgAction, ArgMatches, Command, Error};
-use command_line::{flag, option, parse, payload_paths, program, with_payloads};
+use command_line::{flag, option, parse, path_given, payload_paths, program, with_payloads};
 use script_lang::number;
 use std::alloc::{AllocError, Global};
 use std::convert::AsStr;
 
 /// How the program is called.
-pub const USAGE: &str = "sbibench [--crew CREW] [--sweep | --faults | --schedules N] < SCRIPT";
+pub const USAGE: &str = "sbibench [--crew CREW] [--sweep | --faults | --schedules N] [SCRIPT]";
 
 const ABOUT: &str = "\
 Runs a script of programs, commands and power cuts on a modelled RISC-V board.
 
-The script comes on standard input, and its report goes to standard output.
+The script is the file SCRIPT, or comes on standard input where none is named,
+and its report goes to standard output.
 With --sweep or --faults a bench runs in place of the report: the script again
 and again, with a power cut or a failure at each call of the disk, and after
 each run a power-on that must find what the disk was told to keep.
@@ -49,8 +50,8 @@ Status:
      report
   1  the script did not run, or its report was not written: standard error has
      'sbibench: refusal N', for a malformed script 'sbibench: refusal 14 line K',
-     for failed input 'sbibench: input', for a payload file that could not be
-     read 'sbibench: file', and nothing where no one reads the report
+     for failed input 'sbibench: input', for a file that could not be read
+     'sbibench: file', and nothing where no one reads the report
   2  a fault of the command line
   3  a bench found something wrong, or a schedule or an order another report:
      its last line counts how often
@@ -77,6 +78,9 @@ and crates/examples/data more scripts, each with its report.",
 }
 
 const NUMBERS: &str = refusal_lines!(numbers);
+
+/// The script's file.
+const SCRIPT: &str = "SCRIPT";
 
 /// The option that chooses the crew.
 const CREW: &str = "crew";
@@ -149,6 +153,8 @@ pub struct Options {
     pub work: Work,
     /// How many threads make the runs of a bench, where it is said.
     pub jobs: Option<usize>,
+    /// The script's file. Where none is named, the script is the input.
+    pub script: Option<String>,
     /// The file of each boot slot's payload, where one is named. The others are empty.
     pub payloads: [Option<String>; 4],
 }
@@ -169,6 +175,17 @@ pub enum Savers {
     Turns,
     /// For each lane a thread of its own.
     Threads,
+}
+
+/// The word that names the script's file.
+fn script<'a>(alloc: Global) -> Arg<'a>
+    ensures rule { rule_of result ≡ script_rule }
+    ensures local { result.global ≡ false }
+{
+    Arg::new(alloc, SCRIPT)
+        .value_parser(ValueParser::NonEmptyString)
+        .action(ArgAction::Set)
+        .help("The script's file; where none is named, the script is standard input")
 }
 
 /// The option that chooses the crew.
@@ -233,6 +250,7 @@ fn command<'a>(alloc: Global) -> Result<Command<'a>, AllocError>
     let sweep = "Cuts power at each call of the disk, and judges what is found";
     let faults = "Fails each call of the disk in turn, and judges what is found";
     let command = program(alloc, "sbibench", USAGE, ABOUT, NUMBERS)
+        .arg(script(alloc))?
         .arg(crew(alloc))?
         .arg(flag(alloc, SWEEP, sweep))?
         .arg(flag(alloc, FAULTS, faults))?
@@ -496,10 +514,12 @@ pub fn options_of<'a, S: AsStr>(alloc: Global, words: &'a [S]) -> Result<Options
         Err(error) => return Err(error),
     };
     let jobs = jobs_asked(&matches);
+    let script = path_given(alloc, &matches, SCRIPT)?;
     let payloads = payload_paths(alloc, &matches)?;
     Ok(Options {
         work,
         jobs,
+        script,
         payloads,
     })
 }

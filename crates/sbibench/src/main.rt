@@ -1,5 +1,5 @@
-//! `sbibench`: reads a script from standard input, and writes its report to standard output (docs/SCRIPT.md).
-//! Status 0; 1 where the input failed, the script was refused or its report was not written; 2 for a fault of
+//! `sbibench`: reads a script from a file or from standard input, and writes its report to standard output (docs/SCRIPT.md).
+//! Status 0; 1 where the script could not be read, it was refused or its report was not written; 2 for a fault of
 //! the command line.
 #![tactic(auto)]
 
