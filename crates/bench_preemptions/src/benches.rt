@@ -9,7 +9,7 @@ ghost use Rattle.script_lang.specs.Views.{view};
 ghost use Rattle.bench_schedules.specs.Numbers.{numbers_of};
 ghost use Rattle.bench_preemptions.specs.Preemptions.{WrotePreemptions};
 
-use crate::orders::{Preempted, Runner, try_depths};
+use crate::orders::{Preempted, Runner, Search, try_depths};
 use crate::written::write_count;
 use bench_report::Setting;
 use bench_schedules::{confirmed_own_run, line_numbers};
@@ -53,11 +53,11 @@ fn try_lines<'a, C: Crew, W: Write>(
         numbers,
         own: &own.answers,
         most: within.most,
-        first: within.first,
+        enough: u64::from(within.first),
     };
-    let done = try_depths(&runner, out)?;
-    write_count(out, within.most, done.orders, done.differ)?;
-    Ok(done)
+    let Search { orders, differ, .. } = try_depths(&runner, out)?;
+    write_count(out, within.most, orders, differ)?;
+    Ok(Preempted { orders, differ })
 }
 
 /// Runs a script that was read as it stands, and then all orders of it with few preemptions.

@@ -7,6 +7,7 @@ returns-clause-tried g c =
     let r = c.args.runner.now in
     let node = c.args.node.now in
     let b = basis r.setting.shape.now r.payloads.now r.lines.now r.own.now r.numbers.now r.most in
-    one_counted b node.ones.items c.in_ok-differs.differs (g.W.Write.contents c.args.out.now) (g.W.Write.contents c.write_run.new.out) c.args.done c.in_ok-more.more c.counted.result
+    one_counted b r.enough node.ones.items c.in_ok-differs.differs (g.W.Write.contents c.args.out.now) (g.W.Write.contents c.write_run.new.out) c.args.done c.in_ok-more.more c.counted.result
     (record { some = c.requires.most.0; few = c.requires.most.1; made = c.requires.made.made; ran = c.in_ok-differs.ensures.ran })
     c.in_ok-more.ensures.ok c.counted.ensures.orders c.counted.ensures.differ
+    c.counted.ensures.kept
