@@ -1,9 +1,8 @@
 -- Orders with few preemptions that were run and told, one after another.
-use Rattle.std.proofs.Common.{◌≡◌, ◌∙◌, ◌⊎◌, inl, inr, ℕ, zero, suc, ◌+◌, ◌<◌, ◌≤◌, Bool, true, false, List, [], ◌∷◌, ◌++◌, Option, Some, None, Result, Ok, Err, IfOk, All, length, take, slice_index_or, refl, sym, ap, subst, arith, append_assoc, length-append}
+use Rattle.std.proofs.Common.{◌≡◌, ◌∙◌, ◌⊎◌, inl, inr, ℕ, zero, suc, ◌+◌, ◌<◌, ◌≤◌, Bool, true, false, if◌then◌else◌, List, [], ◌∷◌, ◌++◌, Option, Some, None, Result, Ok, Err, IfOk, All, length, take, slice_index_or, refl, sym, ap, subst, arith, append_assoc, length-append}
 use Rattle.std.proofs.lemmas.Bool.{cases_lt}
 use Rattle.std.proofs.lemmas.List.{take_all}
 use Rattle.std.proofs.lemmas.List.Elements.{All-append, All-cons, All-head, All-nil, All-tail}
-use Rattle.core.specs.Int.{from_bool}
 use Rattle.std.specs.Io.KnownBytes.{Appends}
 use Rattle.board_model.specs.Shapes.{Size}
 use Rattle.board_model.specs.declared.refusal.Refusal.{Refusal}
@@ -92,7 +91,7 @@ both_more b enough runs more old mid new o1 d1 k1 o2 d2 k2 o3 d3 k3 first second
       counted = omega (arith, first.counted, second.counted, long);
       others = omega (arith, first.others, second.others, others);
       last = second.last ∙ ap (λ k. kept_after enough d2 k more) first.last ∙ ap (λ d. kept_after enough d (kept_after enough d1 k1 runs) more) first.others
-      ∙ sym (kept_both enough d1 k1 runs more);
+          ∙ sym (kept_both enough d1 k1 runs more);
     }
 
 -- one order was run
@@ -290,13 +289,13 @@ own_alike size start those own ran =
       like = ap (λ (ls : List Line). other_answers ls ran.answers) (sym whole) ∙ sym ran.told;
     }
 
-whole_open : (first : Bool) (differ enough : ℕ) → enough ≡ from_bool first → IsWhole first differ → IsOpen enough differ
+whole_open : (first : Bool) (differ enough : ℕ) → enough ≡ (if first then 1 else 0) → IsWhole first differ → IsOpen enough differ
 whole_open true differ enough is (inl all) = absurd (let never : ⊥ = cc all in never)
 whole_open true differ enough is (inr none) = inr (omega (arith, is, none))
 whole_open false differ enough is whole = inl is
 
 pub wrote_all : (size : Size) (start : List (List ℕ)) (those : List Line) (own : List Answer) (numbers : List ℕ) (most : ℕ) (first : Bool) (enough : ℕ) (old last new : Option (List ℕ)) (orders differ : ℕ) (kept : List Preemption)
-    → enough ≡ from_bool first → RanOwn size start those own → RanDepths (basis size start those own numbers most) enough most old last orders differ kept
+    → enough ≡ (if first then 1 else 0) → RanOwn size start those own → RanDepths (basis size start those own numbers most) enough most old last orders differ kept
     → Appends last new (count_text most orders differ) → WrotePreemptions (record { size = size; lines = those }) start numbers most first old new orders differ
 wrote_all size start those own numbers most first enough old last new orders differ kept is ran done ended = record {
   own = own;

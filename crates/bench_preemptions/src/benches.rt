@@ -1,6 +1,6 @@
 //! The whole bench.
 
-ghost use Rattle.std.specs.Prelude.{◌≡◌, ◌⊎◌, ◌≤◌, length, All, IfErr, IfOk, Ok, Err};
+ghost use Rattle.std.specs.Prelude.{if◌then◌else◌, ◌≡◌, ◌⊎◌, ◌≤◌, length, All, IfErr, IfOk, Ok, Err};
 ghost use Rattle.board_model.specs.declared.refusal.Refusal.{Refusal as Refused};
 ghost use Rattle.board_model.specs.declared.refusal.Refusal.TheVariants.{Memory, Output};
 ghost use Rattle.script_lang.specs.Lines.{IsLineInRange};
@@ -29,6 +29,13 @@ pub struct Within {
     pub first: bool,
 }
 
+/// How many orders that differ are enough: one, or 0 where all are run.
+fn enough_of(first: bool) -> u64
+    ensures { result ≡ (if first then 1 else 0) }
+{
+    if first { 1 } else { 0 }
+}
+
 /// Runs lines as they stand, and then all orders of them with few preemptions.
 fn try_lines<'a, C: Crew, W: Write>(
     setting: Setting<'a, C>,
@@ -53,7 +60,7 @@ fn try_lines<'a, C: Crew, W: Write>(
         numbers,
         own: &own.answers,
         most: within.most,
-        enough: u64::from(within.first),
+        enough: enough_of(within.first),
     };
     let Search { orders, differ, .. } = try_depths(&runner, out)?;
     write_count(out, within.most, orders, differ)?;
