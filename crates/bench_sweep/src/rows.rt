@@ -3,10 +3,12 @@
 ghost use Rattle.std.specs.Prelude.{◌≡◌, ◌⊎◌, ◌++◌, ◌∷◌, [], Some, OnOk, IfErr};
 ghost use Rattle.std.specs.Io.KnownBytes.{Appends};
 ghost use Rattle.board_model.specs.declared.refusal.Refusal.TheVariants.{Memory, Output};
-ghost use Rattle.bench_sweep.specs.Rows.{caller_text, fill_part, left_text, row_text, sweep_text};
+ghost use Rattle.bench_sweep.specs.Rows.{call_text, caller_text, differing_rows, differs_text, fill_part, left_text, recovered_text, row_lines, row_text, sweep_text, told_part};
 ghost use Rattle.bench_sweep.specs.Swept.{rows_text};
 
 use crate::points::Caller;
+use crate::recovery::Differs;
+use crate::sweeps::Recovered;
 use bench_judge::Sweep;
 use board_console::StateText;
 use board_model::Refusal;
@@ -26,6 +28,8 @@ pub struct Row {
     pub fill: Option<Fill>,
     /// What the power-on after it said.
     pub left: Answer,
+    /// The first look of the recovery over it that said something else than behind the run that nothing cuts.
+    pub recovered: Option<Differs>,
 }
 
 impl fmt::Display for Caller {
@@ -78,29 +82,92 @@ impl fmt::Display for LeftText {
     }
 }
 
+/// At whose call power was cut, or failed a call; the call's number; and what the cut left.
+#[derive(Clone, Copy, Drop)]
+struct CallText {
+    caller: Caller,
+    number: u64,
+    fill: Option<Fill>,
+}
+
+impl fmt::Display for CallText {
+    ghost output = { λ call. Some (call_text call.caller call.number call.fill) };
+
+    fn fmt<W: fmt::Write>(&self, f: &mut fmt::Formatter<W>) -> fmt::Result {
+        let CallText {
+            caller,
+            number,
+            fill,
+        } = *self;
+        let fill = FillPart(fill);
+        write!(f, "{caller} {number}{fill}")
+    }
+}
+
+impl Row {
+    /// Which run it was.
+    fn call(&self) -> CallText
+        ensures { result ≡ record { caller = self.now.caller; number = self.now.number; fill = self.now.fill } }
+    {
+        CallText {
+            caller: self.caller,
+            number: self.number,
+            fill: self.fill,
+        }
+    }
+}
+
 impl fmt::Display for Row {
     ghost output = { λ row. Some (row_text row) };
 
     fn fmt<W: fmt::Write>(&self, f: &mut fmt::Formatter<W>) -> fmt::Result {
-        let Row {
-            caller,
-            number,
-            fill,
-            left,
-        } = *self;
-        let fill = FillPart(fill);
-        let left = LeftText(left);
-        write!(f, "{caller} {number}{fill} {left}")
+        let call = self.call();
+        let left = LeftText(self.left);
+        write!(f, "{call} {left}")
     }
 }
 
-/// Writes a line of a bench, and hands it on: whoever reads sees it at once.
-#[tactic(auto, using(crate::proofs::Written::handed_on))]
+/// What is told behind a row of which a look differs.
+#[derive(Drop)]
+struct DiffersText {
+    row: Row,
+    differs: Differs,
+}
+
+impl fmt::Display for DiffersText {
+    ghost output = { λ text. Some (differs_text text.row text.differs) };
+
+    fn fmt<W: fmt::Write>(&self, f: &mut fmt::Formatter<W>) -> fmt::Result {
+        let call = self.row.call();
+        let Differs { line, said, own } = self.differs;
+        write!(f, "{call} recover {line} {said} own {own}")
+    }
+}
+
+/// Writes what is told behind a row: a line, where a look of its recovery differs.
+#[tactic(auto, using(crate::proofs::Written::told_none, crate::proofs::Written::told_some))]
+fn write_told<W: Write>(out: &mut W, row: Row) -> Result<(), Refusal>
+    ensures ok { OnOk result (Appends (W.contents out.old) (W.contents out.new) (told_part row row.recovered)) }
+    ensures err { IfErr result (λ e. (e ≡ Memory) ⊎ (e ≡ Output)) }
+{
+    let Row { recovered, .. } = row;
+    match recovered {
+        None => Ok(()),
+        Some(differs) => {
+            let text = DiffersText { row, differs };
+            writeln!(out, "{text}").map_err(|error| unwritten(error))
+        }
+    }
+}
+
+/// Writes the lines of a run, and hands them on: whoever reads sees them at once.
+#[tactic(auto, using(crate::proofs::Written::row_handed))]
 fn write_row<W: Write>(out: &mut W, row: Row) -> Result<(), Refusal>
-    ensures ok { OnOk result (Appends (W.contents out.old) (W.contents out.new) (row_text row ++ 10 ∷ [])) }
+    ensures ok { OnOk result (Appends (W.contents out.old) (W.contents out.new) (row_lines row)) }
     ensures err { IfErr result (λ e. (e ≡ Memory) ⊎ (e ≡ Output)) }
 {
     writeln!(out, "{row}").map_err(|error| unwritten(error))?;
+    write_told(out, row)?;
     out.flush().map_err(|error| unwritten(error))
 }
 
@@ -113,6 +180,40 @@ pub fn write_rows<W: Write>(out: &mut W, rows: &[Row]) -> Result<(), Refusal>
         write_row(out, *row)?;
     }
     Ok(())
+}
+
+/// How many of these rows have a look that differs.
+#[tactic(auto, using(crate::proofs::Written::differing_yes, crate::proofs::Written::differing_no, crate::proofs::Written::differing_all))]
+pub fn differing(rows: &[Row]) -> u64
+    ensures { result ≡ differing_rows rows.now }
+{
+    let mut count = 0;
+    for row in rows {
+        if row.recovered.is_some() {
+            count += 1;
+        }
+    }
+    count
+}
+
+/// Writes the last line of a bench with a recovery.
+#[tactic(auto, using(crate::proofs::Written::handed_on))]
+pub fn write_recovered<W: Write>(out: &mut W, done: Recovered) -> Result<(), Refusal>
+    ensures ok { OnOk result (Appends (W.contents out.old) (W.contents out.new) (recovered_text done.sweep done.differ ++ 10 ∷ [])) }
+    ensures err { IfErr result (λ e. (e ≡ Memory) ⊎ (e ≡ Output)) }
+{
+    let Recovered { sweep, differ } = done;
+    let Sweep {
+        points,
+        runs,
+        wrong,
+    } = sweep;
+    writeln!(
+        out,
+        "points {points} runs {runs} wrong {wrong} differ {differ}",
+    )
+    .map_err(|error| unwritten(error))?;
+    out.flush().map_err(|error| unwritten(error))
 }
 
 /// Writes the last line of a bench.
