@@ -24,9 +24,6 @@ use Rattle.bench_preemptions.specs.SoFar.{RanDepths, kept_after}
 use Rattle.bench_preemptions.specs.declared.points.Preemption.{Preemption}
 
 -- ---- the order that is kept
-run_of : List Preemption → Option Difference → OrderRun
-run_of ones d = record { ones = ones; differs = d }
-
 not_yet : (n d : ℕ) → (n ≡ d → ⊥) → (b : Bool) → (n == d) ≡ b → b ≡ false
 not_yet n d not true is = absurd (not ((Decides-eqb n d).0 is))
 not_yet n d not false is = refl

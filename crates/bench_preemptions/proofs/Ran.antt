@@ -18,7 +18,6 @@ use Rattle.bench_preemptions.specs.Points.{IsBusyAt, number_in, script_points}
 use Rattle.bench_preemptions.specs.Preemptions.{Basis, IsWhole, OrderRun, OrderText, OrdersText, Tried, WasRun, WrotePreemptions, basis, count_text, differences_of, differs_text, points_text}
 use Rattle.bench_preemptions.specs.SoFar.{IsOpen, RanAll, RanDepths, RanMore, RanPoints, kept_after, kept_behind}
 use Rattle.bench_preemptions.specs.Stepped.{RanByTurns}
-use Rattle.bench_preemptions.specs.declared.orders.Search.{Search}
 use Rattle.bench_preemptions.specs.declared.points.Preemption.{Preemption}
 use Rattle.bench_preemptions.proofs.Numbers.{before_row, index_within, least_row, same_point}
 
@@ -118,29 +117,6 @@ one_more b enough ones d old new text orders differ kept more_orders more_differ
     nil_behind [] = refl
     nil_behind (x ∷ xs) = ap (λ t. x ∷ t) (nil_behind xs)
 
-pub one_counted : (b : Basis) (enough : ℕ) (ones : List Preemption) (d : Option Difference) (old new : Option (List ℕ)) (done : Search) (m : ℕ) (result : Result Search Refusal)
-    → (let run : OrderRun = record { ones = ones; differs = d } in Tried b run) → (text : List ℕ) × OrderText b ones d text × Appends old new text × (m ≡ differing (d ∷ []))
-    → IfOk result (λ now. now.orders ≡ done.orders + 1) → IfOk result (λ now. now.differ ≡ done.differ + m)
-    → IfOk result (λ now. now.kept.items ≡ kept_behind enough m (done.differ + m) done.kept.items ones)
-    → IfOk result (λ now. (differs : Option Difference) × RanMore b enough ((let run : OrderRun = record { ones = ones; differs = differs } in run) ∷ []) old new
-    done.orders done.differ done.kept.items now.orders now.differ now.kept.items)
-one_counted b enough ones d old new done m (Ok now) tried wrote counted others last =
-    (d, one_more b enough ones d old new wrote.0 done.orders done.differ done.kept.items now.orders now.differ now.kept.items m tried wrote.1 wrote.2 wrote.3 counted others last)
-one_counted b enough ones d old new done m (Err e) tried wrote counted others last = tt
-
--- the line of an order that differs
-pub order_told : (b : Basis) (ones points : List Preemption) (d : Difference) (old new : Option (List ℕ)) → points ≡ script_points b.those ones
-    → (own said : List ℕ) × IsFirstApart (told_lines d.own) (told_lines d.answer) own said
-    × Appends old new (differs_text (points_text b.numbers points) (slice_index_or b.numbers (1 + place_of_other d.place b.those) 0) said own)
-    → (text : List ℕ) × OrderText b ones (Some d) text × Appends old new text × (1 ≡ differing (Some d ∷ []))
-order_told b ones points d old new are wrote =
-    let number = slice_index_or b.numbers (1 + place_of_other d.place b.those) 0 in (
-      differs_text (points_text b.numbers points) number wrote.1 wrote.0,
-      (wrote.0, wrote.1, wrote.2, ap (λ ps. differs_text (points_text b.numbers ps) number wrote.1 wrote.0) are),
-      wrote.3,
-      refl,
-    )
-
 -- ---- which orders were run
 of_weaker : (P Q : List Preemption → Type 0) (size : Size) (start : List (List ℕ)) (those : List Line) (k : ℕ) (ones : List Preemption)
     → ((os : List Preemption) → P os → Q os) → OfAll P size start those k ones → OfAll Q size start those k ones
@@ -223,6 +199,11 @@ leaf b enough more ones old new o1 d1 k1 o2 d2 k2 none ran =
     let run : OrderRun = record { ones = ones; differs = ran.0 } in
     let P : ℕ → Type 0 = λ n. OfAll (WasRun (run ∷ [])) b.size b.start b.those n ones in
     record { runs = run ∷ []; ran = ran.1; all = λ whole. subst P (sym none) (inl refl) }
+
+-- those with one more were run
+pub depth_one : (b : Basis) (enough : ℕ) (more : ℕ) (ones : List Preemption) (old new : Option (List ℕ)) (o1 d1 : ℕ) (k1 : List Preemption) (o2 d2 : ℕ) (k2 : List Preemption) → more ≡ 1
+    → RanAll b enough 1 ones old new o1 d1 k1 o2 d2 k2 → RanAll b enough more ones old new o1 d1 k1 o2 d2 k2
+depth_one b enough more ones old new o1 d1 k1 o2 d2 k2 is ran = let P : ℕ → Type 0 = λ n. RanAll b enough n ones old new o1 d1 k1 o2 d2 k2 in subst P (sym is) ran
 
 -- ---- with one, with two, with three
 pub no_depths : (b : Basis) (enough : ℕ) (now : Option (List ℕ)) → RanDepths b enough 0 now now 0 0 []

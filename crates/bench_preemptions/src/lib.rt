@@ -4,6 +4,8 @@
 
 mod benches;
 mod counts;
+mod next_runs;
+mod nodes;
 mod orders;
 mod points;
 mod script_points;

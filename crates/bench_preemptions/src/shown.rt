@@ -11,7 +11,8 @@ ghost use Rattle.bench_schedules.specs.Numbers.{numbers_of};
 ghost use Rattle.bench_preemptions.specs.Orders.{ArePreemptions, order_of};
 ghost use Rattle.bench_preemptions.specs.Shown.{FewerDiffer, HasNoOrder, IsNthThatDiffers, IsWritten, ShownOrder, order_script};
 
-use crate::orders::{Runner, Search, try_depths};
+use crate::nodes::{Runner, Search};
+use crate::orders::try_depths;
 use crate::points::Preemption;
 use bench_orders::{copied_row, parted, preemptions_are_orders};
 use bench_report::Setting;
@@ -19,6 +20,7 @@ use bench_schedules::{confirmed_own_run, fits, line_numbers, shape_in_range, wri
 use board::Payloads;
 use board_model::{Refusal, Shape};
 use crew::{Crew, Sequential};
+use jobs::Jobs;
 use script_lang::{Line, Script, parse_script, scripts_read_as_written};
 use std::alloc::Global;
 use std::io::{Write, sink};
@@ -78,7 +80,8 @@ fn write_made<W: Write>(
 }
 
 /// Runs orders of the lines up to the one that is wanted, and answers its preemptions. Refused `BadShape` where fewer differ.
-fn find_order<'a, C: Crew>(
+fn find_order<'a, R: Threads + Sync, C: Crew + Sync>(
+    jobs: &Jobs<'_, R>,
     setting: Setting<'a, C>,
     lines: &'a [Line],
     payloads: &'a Payloads,
@@ -103,7 +106,7 @@ fn find_order<'a, C: Crew>(
         most: wanted.most,
         enough: wanted.number,
     };
-    let Search { kept, .. } = try_depths(&runner, &mut sink())?;
+    let Search { kept, .. } = try_depths(jobs, &runner, &mut sink())?;
     if kept.is_empty() {
         return Err(Refusal::BadShape);
     }
@@ -111,7 +114,8 @@ fn find_order<'a, C: Crew>(
 }
 
 /// Writes the order of the lines that is wanted.
-fn show_lines<C: Crew, W: Write>(
+fn show_lines<R: Threads + Sync, C: Crew + Sync, W: Write>(
+    jobs: &Jobs<'_, R>,
     setting: Setting<'_, C>,
     lines: &[Line],
     payloads: &Payloads,
@@ -130,12 +134,13 @@ fn show_lines<C: Crew, W: Write>(
 {
     let alloc = setting.alloc;
     let shape = setting.shape;
-    let ones = find_order(setting, lines, payloads, numbers, wanted)?;
+    let ones = find_order(jobs, setting, lines, payloads, numbers, wanted)?;
     write_made(alloc, shape, lines, &ones, out)
 }
 
 /// Writes the order of a script that was read which is wanted.
 fn show_script<R: Threads + Sync, W: Write>(
+    jobs: &Jobs<'_, R>,
     alloc: Global,
     script: &Script,
     payloads: &Payloads,
@@ -159,6 +164,7 @@ fn show_script<R: Threads + Sync, W: Write>(
         shape: &script.shape,
     };
     show_lines(
+        jobs,
         setting,
         script.lines.as_slice(),
         payloads,
@@ -169,11 +175,12 @@ fn show_script<R: Threads + Sync, W: Write>(
 }
 
 /// Writes, as a script, an order of which `preemptions` writes a line: the order of that number among those that differ. It runs the
-/// orders up to that one, with these payloads in the slots. The payloads are no part of what is written.
+/// orders up to that one by the threads of these jobs, with these payloads in the slots. The payloads are no part of what is written.
 ///
 /// Refused as `preemptions` is; and `BadShape` where fewer orders differ, or where the order has more lines than a script may have. Then
 /// nothing is written.
 pub fn show_order<R: Threads + Sync, W: Write>(
+    jobs: &Jobs<'_, R>,
     alloc: Global,
     script: &[u8],
     payloads: &Payloads,
@@ -197,5 +204,5 @@ pub fn show_order<R: Threads + Sync, W: Write>(
 {
     let read = parse_script(alloc, script)?;
     let numbers = line_numbers(alloc, script)?;
-    show_script::<R, W>(alloc, &read, payloads, &numbers, wanted, out)
+    show_script(jobs, alloc, &read, payloads, &numbers, wanted, out)
 }

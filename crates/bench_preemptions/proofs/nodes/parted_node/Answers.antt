@@ -3,7 +3,7 @@ use Rattle.script_lang.specs.declared.line.Line.{Line}
 use Rattle.bench_preemptions.specs.Points.{order_by}
 use Rattle.bench_preemptions.specs.Preemptions.{basis}
 use Rattle.bench_preemptions.proofs.Made.{parted_more, place_within}
-use Rattle.bench_preemptions.proofs.orders.parted_node.Goals as goal
+use Rattle.bench_preemptions.proofs.nodes.parted_node.Goals as goal
 
 pub parted-requires : goal.parted-requires
 parted-requires g c =

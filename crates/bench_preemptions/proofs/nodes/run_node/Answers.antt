@@ -4,7 +4,7 @@ use Rattle.script_lang.specs.Lines.{IsLineInRange}
 use Rattle.script_lang.specs.declared.line.Line.{Line}
 use Rattle.bench_orders.specs.Orders.{other_count}
 use Rattle.bench_schedules.specs.Schedules.{RanLike}
-use Rattle.bench_preemptions.proofs.orders.run_node.Goals as goal
+use Rattle.bench_preemptions.proofs.nodes.run_node.Goals as goal
 
 pub run_confirmed-requires-clause-ranges : goal.run_confirmed-requires-clause-ranges
 run_confirmed-requires-clause-ranges g c = λ lives within.
