@@ -3,3 +3,4 @@ pub mod Numbers
 pub mod Rows
 pub mod Ran
 pub mod Made
+pub mod Kept

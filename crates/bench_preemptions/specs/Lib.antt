@@ -3,3 +3,4 @@ pub mod Points
 pub mod Orders
 pub mod Preemptions
 pub mod SoFar
+pub mod Shown

@@ -1,6 +1,6 @@
 //! The whole bench.
 
-ghost use Rattle.std.specs.Prelude.{◌≡◌, ◌⊎◌, ◌≤◌, length, All, IfErr, IfOk, Ok, Err};
+ghost use Rattle.std.specs.Prelude.{if◌then◌else◌, ◌≡◌, ◌⊎◌, ◌≤◌, length, All, IfErr, IfOk, Ok, Err};
 ghost use Rattle.board_model.specs.declared.refusal.Refusal.{Refusal as Refused};
 ghost use Rattle.board_model.specs.declared.refusal.Refusal.TheVariants.{Memory, Output};
 ghost use Rattle.script_lang.specs.Lines.{IsLineInRange};
@@ -9,7 +9,7 @@ ghost use Rattle.script_lang.specs.Views.{view};
 ghost use Rattle.bench_schedules.specs.Numbers.{numbers_of};
 ghost use Rattle.bench_preemptions.specs.Preemptions.{WrotePreemptions};
 
-use crate::orders::{Preempted, Runner, try_depths};
+use crate::orders::{Preempted, Runner, Search, try_depths};
 use crate::written::write_count;
 use bench_report::Setting;
 use bench_schedules::{confirmed_own_run, line_numbers};
@@ -27,6 +27,13 @@ pub struct Within {
     /// 1 to 3.
     pub most: u64,
     pub first: bool,
+}
+
+/// How many orders that differ are enough: one, or 0 where all are run.
+fn enough_of(first: bool) -> u64
+    ensures { result ≡ (if first then 1 else 0) }
+{
+    if first { 1 } else { 0 }
 }
 
 /// Runs lines as they stand, and then all orders of them with few preemptions.
@@ -53,11 +60,11 @@ fn try_lines<'a, C: Crew, W: Write>(
         numbers,
         own: &own.answers,
         most: within.most,
-        first: within.first,
+        enough: enough_of(within.first),
     };
-    let done = try_depths(&runner, out)?;
-    write_count(out, within.most, done.orders, done.differ)?;
-    Ok(done)
+    let Search { orders, differ, .. } = try_depths(&runner, out)?;
+    write_count(out, within.most, orders, differ)?;
+    Ok(Preempted { orders, differ })
 }
 
 /// Runs a script that was read as it stands, and then all orders of it with few preemptions.

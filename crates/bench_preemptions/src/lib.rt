@@ -7,8 +7,10 @@ mod counts;
 mod orders;
 mod points;
 mod script_points;
+mod shown;
 mod written;
 
 pub use benches::{Within, preemptions};
 pub use orders::Preempted;
 pub use points::Preemption;
+pub use shown::{Wanted, show_order};

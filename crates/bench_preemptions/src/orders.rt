@@ -1,6 +1,6 @@
 //! The orders of a script: each is run, and told where it answers other than the script's own run.
 
-ghost use Rattle.std.specs.Prelude.{◌≡◌, ◌⊎◌, ◌+◌, ◌++◌, ◌∷◌, [], ◌≤◌, ℕ, List, Option, length, All, IfErr, IfOk};
+ghost use Rattle.std.specs.Prelude.{◌≡◌, ◌⊎◌, ◌+◌, ◌++◌, ◌∷◌, [], ◌≤◌, ℕ, true, List, Option, length, All, IfErr, IfOk};
 ghost use Rattle.std.specs.Io.KnownBytes.{Appends};
 ghost use Rattle.board_model.specs.declared.refusal.Refusal.TheVariants.{Memory, Output};
 ghost use Rattle.script_lang.specs.Lines.{IsLineInRange};
@@ -10,7 +10,7 @@ ghost use Rattle.bench_schedules.specs.declared.runs.Difference.{Difference as F
 ghost use Rattle.bench_preemptions.specs.Orders.{ArePreemptions, order_of, place_behind};
 ghost use Rattle.bench_preemptions.specs.Points.{IsBusyAt, behind};
 ghost use Rattle.bench_preemptions.specs.Preemptions.{OrderText, basis};
-ghost use Rattle.bench_preemptions.specs.SoFar.{IsMade, RanAll, RanDepths, RanMore};
+ghost use Rattle.bench_preemptions.specs.SoFar.{IsMade, IsOpen, RanAll, RanDepths, RanMore, kept_behind};
 ghost use Rattle.bench_preemptions.specs.Stepped.{RanByTurns};
 
 use crate::counts::confirmed_counts;
@@ -51,8 +51,19 @@ pub struct Runner<'a, C> {
     pub own: &'a [Answer],
     /// How many preemptions an order has at most: 1 to 3.
     pub most: u64,
-    /// Whether the first order that differs is the last.
-    pub first: bool,
+    /// So many orders that differ are enough: none is run behind them, and the last of them is kept. 0: all are run.
+    pub enough: u64,
+}
+
+/// The orders that were run so far.
+#[derive(Drop)]
+pub struct Search {
+    /// How many they are.
+    pub orders: u64,
+    /// How many of them gave another report than the script's own run.
+    pub differ: u64,
+    /// The preemptions of the order that is kept; none where there is none.
+    pub kept: Vec<Preemption>,
 }
 
 /// An order of the script.
@@ -146,61 +157,106 @@ fn write_run<C, W: Write>(
     }
 }
 
-/// The counts with one order more, of which so many differ. Refused `Memory` where that is more than 2^64 orders, which no machine runs.
-fn counted(done: Preempted, differ: u64) -> Result<Preempted, Refusal>
-    ensures orders { IfOk result (λ now. now.orders ≡ done.orders + 1) }
-    ensures differ { IfOk result (λ now. now.differ ≡ done.differ + differ) }
-    ensures refused { IfErr result (λ e. e ≡ Memory) }
+/// Whether no more orders are to be run.
+fn is_enough<C>(runner: &Runner<'_, C>, done: &Search) -> bool
+    ensures { result ≡ true → IsOpen runner.now.enough done.now.differ → ⊥ }
 {
-    let Some(orders) = done.orders.checked_add(1) else {
-        return Err(Refusal::Memory);
-    };
-    let Some(differ) = done.differ.checked_add(differ) else {
-        return Err(Refusal::Memory);
-    };
-    Ok(Preempted { orders, differ })
+    0 < runner.enough && runner.enough <= done.differ
 }
 
-/// Runs an order, and writes its line where its run differs. Answers the counts with it.
+/// The preemptions that are kept behind an order of these preemptions: its own, where it differs, and as many as are enough then do.
+/// Refused `Memory` alone.
+fn kept_behind<C>(
+    runner: &Runner<'_, C>,
+    ones: &[Preemption],
+    more: u64,
+    differ: u64,
+    kept: Vec<Preemption>,
+) -> Result<Vec<Preemption>, Refusal>
+    ensures kept { IfOk result (λ now. now.items ≡ kept_behind runner.now.enough more differ kept.items ones.now) }
+    ensures refused { IfErr result (λ e. e ≡ Memory) }
+{
+    if more == 0 || differ != runner.enough {
+        return Ok(kept);
+    }
+    let mut last = Vec::new(runner.setting.alloc);
+    last.extend_from_slice(ones)?;
+    Ok(last)
+}
+
+/// The orders that were run with one more, of these preemptions, of which so many differ: 1, or 0. Refused `Memory` also where that is
+/// more than 2^64 orders, which no machine runs.
+fn counted<C>(
+    runner: &Runner<'_, C>,
+    ones: &[Preemption],
+    done: Search,
+    more: u64,
+) -> Result<Search, Refusal>
+    ensures orders { IfOk result (λ now. now.orders ≡ done.orders + 1) }
+    ensures differ { IfOk result (λ now. now.differ ≡ done.differ + more) }
+    ensures kept { IfOk result (λ now. now.kept.items
+        ≡ kept_behind runner.now.enough more (done.differ + more) done.kept.items ones.now) }
+    ensures refused { IfErr result (λ e. e ≡ Memory) }
+{
+    let Search {
+        orders,
+        differ,
+        kept,
+    } = done;
+    let Some(orders) = orders.checked_add(1) else {
+        return Err(Refusal::Memory);
+    };
+    let Some(differ) = differ.checked_add(more) else {
+        return Err(Refusal::Memory);
+    };
+    let kept = kept_behind(runner, ones, more, differ, kept)?;
+    Ok(Search {
+        orders,
+        differ,
+        kept,
+    })
+}
+
+/// Runs an order, and writes its line where its run differs. Answers what was run, with it.
 fn try_order<C: Crew, W: Write>(
     runner: &Runner<'_, C>,
     node: &Node,
-    done: Preempted,
+    done: Search,
     out: &mut W,
-) -> Result<Preempted, Refusal>
+) -> Result<Search, Refusal>
     requires few { (length runner.now.lines.now ≤ 65535) × (length node.now.ones.items ≤ 3) }
     requires count { length runner.now.own.now ≡ other_count runner.now.lines.now }
     requires most { (1 ≤ length node.now.ones.items) × (length node.now.ones.items ≤ runner.now.most) }
     requires made { IsMade (basis runner.now.setting.shape.now runner.now.payloads.now runner.now.lines.now runner.now.own.now
         runner.now.numbers.now runner.now.most) node.now.lines.items node.now.ones.items node.now.from }
     ensures tried { IfOk result (λ now. (differs : Option Found) × RanMore (basis runner.now.setting.shape.now runner.now.payloads.now
-        runner.now.lines.now runner.now.own.now runner.now.numbers.now runner.now.most)
+        runner.now.lines.now runner.now.own.now runner.now.numbers.now runner.now.most) runner.now.enough
         (record { ones = node.now.ones.items; differs = differs } ∷ []) (W.contents out.old) (W.contents out.new)
-        done.orders done.differ now.orders now.differ) }
+        done.orders done.differ done.kept.items now.orders now.differ now.kept.items) }
     ensures err { IfErr result (λ e. (e ≡ Memory) ⊎ (e ≡ Output)) }
 {
     let differs = run_node(runner, node)?;
     let more = write_run(runner, node, differs, out)?;
-    counted(done, more)
+    counted(runner, &node.ones, done, more)
 }
 
-/// Runs all orders with so many preemptions more than this one has, and writes those that differ; or as many as there are up to the
-/// first that does. Answers the counts with them.
+/// Runs all orders with so many preemptions more than this one has, and writes those that differ; or fewer, where that is enough.
 fn try_orders<C: Crew, W: Write>(
     runner: &Runner<'_, C>,
     node: &Node,
     more: u64,
-    done: Preempted,
+    done: Search,
     out: &mut W,
-) -> Result<Preempted, Refusal>
+) -> Result<Search, Refusal>
     requires few { (length runner.now.lines.now ≤ 65535) × (runner.now.most ≤ 3) }
     requires count { length runner.now.own.now ≡ other_count runner.now.lines.now }
     requires most { (1 ≤ length node.now.ones.items + more) × (length node.now.ones.items + more ≤ runner.now.most) }
     requires made { IsMade (basis runner.now.setting.shape.now runner.now.payloads.now runner.now.lines.now runner.now.own.now
         runner.now.numbers.now runner.now.most) node.now.lines.items node.now.ones.items node.now.from }
     ensures tried { IfOk result (λ now. RanAll (basis runner.now.setting.shape.now runner.now.payloads.now runner.now.lines.now
-        runner.now.own.now runner.now.numbers.now runner.now.most) runner.now.first more node.now.ones.items
-        (W.contents out.old) (W.contents out.new) done.orders done.differ now.orders now.differ) }
+        runner.now.own.now runner.now.numbers.now runner.now.most) runner.now.enough more node.now.ones.items
+        (W.contents out.old) (W.contents out.new)
+        done.orders done.differ done.kept.items now.orders now.differ now.kept.items) }
     ensures err { IfErr result (λ e. (e ≡ Memory) ⊎ (e ≡ Output)) }
 {
     if more == 0 {
@@ -211,7 +267,7 @@ fn try_orders<C: Crew, W: Write>(
     let end = points_before(&counts, counts.len());
     let mut now = done;
     for number in begin..end {
-        if runner.first && 0 < now.differ {
+        if is_enough(runner, &now) {
             return Ok(now);
         }
         let next = parted_node(runner, node, &counts, point_at(&counts, number))?;
@@ -221,17 +277,14 @@ fn try_orders<C: Crew, W: Write>(
 }
 
 /// Runs all orders with at least one preemption, and at most as many as they may have: first those with one, then those with two.
-/// Answers the counts.
-pub fn try_depths<C: Crew, W: Write>(
-    runner: &Runner<'_, C>,
-    out: &mut W,
-) -> Result<Preempted, Refusal>
+/// Or fewer, where that is enough.
+pub fn try_depths<C: Crew, W: Write>(runner: &Runner<'_, C>, out: &mut W) -> Result<Search, Refusal>
     requires few { (length runner.now.lines.now ≤ 65535) × (runner.now.most ≤ 3) }
     requires ranges { All (IsLineInRange runner.now.setting.shape.now) runner.now.lines.now }
     requires count { length runner.now.own.now ≡ other_count runner.now.lines.now }
     ensures tried { IfOk result (λ now. RanDepths (basis runner.now.setting.shape.now runner.now.payloads.now runner.now.lines.now
-        runner.now.own.now runner.now.numbers.now runner.now.most) runner.now.first runner.now.most
-        (W.contents out.old) (W.contents out.new) now.orders now.differ) }
+        runner.now.own.now runner.now.numbers.now runner.now.most) runner.now.enough runner.now.most
+        (W.contents out.old) (W.contents out.new) now.orders now.differ now.kept.items) }
     ensures err { IfErr result (λ e. (e ≡ Memory) ⊎ (e ≡ Output)) }
 {
     let alloc = runner.setting.alloc;
@@ -240,12 +293,13 @@ pub fn try_depths<C: Crew, W: Write>(
         ones: Vec::new(alloc),
         from: 0,
     };
-    let mut now = Preempted {
+    let mut now = Search {
         orders: 0,
         differ: 0,
+        kept: Vec::new(alloc),
     };
     for fewer in 0..runner.most {
-        if runner.first && 0 < now.differ {
+        if is_enough(runner, &now) {
             return Ok(now);
         }
         now = try_orders(runner, &root, fewer + 1, now, out)?;

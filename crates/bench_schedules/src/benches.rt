@@ -170,7 +170,7 @@ fn write_all_tight<W: Write>(numbers: &[u64], tight: &[usize], out: &mut W) -> R
 }
 
 /// Each number of a shape is within its range.
-fn shape_in_range(shape: &Shape)
+pub fn shape_in_range(shape: &Shape)
     ensures { IsSize shape.now }
 {
     let _harts = shape.harts();
