@@ -152,10 +152,12 @@ pub fn write_bench<R: Threads + Sync, W: Write + Drop>(
     Ok(done)
 }
 
-/// Runs schedules of the script, with these payloads in the slots, and writes which differ, to the end.
+/// Runs schedules of the script, with these payloads in the slots, and writes which differ, to the end. The threads of these
+/// jobs run them.
 ///
 /// Refused as `bench_schedules::schedules` is, and `Output` also where what the writer held back could not be written.
 pub fn write_schedules<R: Threads + Sync, W: Write + Drop>(
+    jobs: &Jobs<'_, R>,
     alloc: Global,
     script: &[u8],
     drawn: Drawn,
@@ -176,6 +178,7 @@ pub fn write_schedules<R: Threads + Sync, W: Write + Drop>(
         × ((result ≡ Err e) ⊎ (result ≡ Err Refusal.Memory)) }
 {
     let count = schedules::<R, BufWriter<W>>(
+        jobs,
         alloc,
         script,
         payloads,

@@ -138,8 +138,9 @@ fn judge<R: Threads + Sync, O: Write + Drop>(
     }
 }
 
-/// Runs schedules of the script, and writes which differ. Each line is handed on as it is made.
+/// Runs schedules of the script by the threads of these jobs, and writes which differ. Each line is handed on as it comes.
 fn compare<R: Threads + Sync, O: Write + Drop>(
+    jobs: &Jobs<'_, R>,
     alloc: Global,
     drawn: Drawn,
     script: &[u8],
@@ -155,7 +156,7 @@ fn compare<R: Threads + Sync, O: Write + Drop>(
     ensures told { result ≡ Err Wrong → writer_buffer out.new ≡ [] }
     ensures faults { IfErr result (λ fault. IsFaultIn (Compare drawn) payloads.now script.now fault) }
 {
-    match write_schedules::<R, Pipe<O>>(alloc, script, drawn, payloads, out) {
+    match write_schedules::<R, Pipe<O>>(jobs, alloc, script, drawn, payloads, out) {
         Ok(count) if count.differ == 0 => Ok(()),
         Ok(_) => Err(BenchFault::Wrong),
         Err(e) => Err(fault_of(e, out)),
@@ -321,7 +322,10 @@ fn run_work<R: Threads + Sync, O: Write + Drop>(
             let jobs = Jobs::new(threads, jobs_of(threads, jobs));
             judge(&jobs, alloc, bench, script, payloads, out)
         }
-        Work::Compare(drawn) => compare::<R, O>(alloc, drawn, script, &payloads, out),
+        Work::Compare(drawn) => {
+            let jobs = Jobs::new(threads, jobs_of(threads, jobs));
+            compare(&jobs, alloc, drawn, script, &payloads, out)
+        }
         Work::Show(drawn) => show_schedule::<R, O>(alloc, drawn, script, &payloads, out),
         Work::Preempt(within) => preempt::<R, O>(alloc, within, script, &payloads, out),
         Work::ShowOrder(wanted) => show_differing::<R, O>(alloc, wanted, script, &payloads, out),
