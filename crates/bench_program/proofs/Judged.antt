@@ -57,12 +57,10 @@ preempted_on within start script a b c orders differ (said, is, w) keeps = (
 
 pub order_on : (wanted : Wanted) (start : List (List ℕ)) (script : List ℕ) (a b c : Option (List ℕ))
     → ((said : Said) × (script_of script ≡ Ok said) × ShownOrder said start (numbers_of script) wanted.most wanted.number a b) → Keeps b c → IsOrderShown wanted start script a c
-order_on wanted start script a b c (said, is, ones, nth, w) keeps = (
+order_on wanted start script a b c (said, is, (ones, nth, w)) keeps = (
   said,
   is,
-  ones,
-  nth,
-  record { order = w.order; writable = w.writable; reads = w.reads; text = handed_on a b c _ w.text keeps },
+  (ones, nth, record { order = w.order; writable = w.writable; reads = w.reads; text = handed_on a b c _ w.text keeps }),
 )
 
 -- a bench that was run to its end was not refused
