@@ -272,7 +272,7 @@ pub fn write_order<R: Threads + Sync, W: Write + Drop>(
     // A refusal is the script's fault, or out of memory, or the writer's, or there is no such order.
     ensures refused { IfErr result (λ e. (e ≡ Refusal.Memory) ⊎ (e ≡ Refusal.Output) ⊎ (script_of script.now ≡ Err e)
         ⊎ ((e ≡ BadShape) × (said : Said) × (script_of script.now ≡ Ok said)
-          × HasNoOrder said payloads.now (numbers_of script.now) wanted.most wanted.number)) }
+        × HasNoOrder said payloads.now (numbers_of script.now) wanted.most wanted.number)) }
     // A script with a fault writes nothing.
     ensures nothing { (e : Refusal) → script_of script.now ≡ Err e
         → (writer_contents W.contents out.new ≡ writer_contents W.contents out.old)
