@@ -243,7 +243,8 @@ fn jobs<'a>(alloc: Global) -> Arg<'a>
     ensures rule { rule_of result ≡ jobs_rule }
     ensures local { result.global ≡ false }
 {
-    let help = "How many threads make the runs of --sweep, --faults or --schedules, all processors if not said";
+    let help =
+        "How many threads make the runs of --sweep, --faults or --schedules, all processors if not said";
     option(alloc, JOBS, "N", help).value_parser(ValueParser::unsigned(1, MOST_JOBS))
 }
 
