@@ -3,7 +3,7 @@ use Rattle.std.proofs.Common.{◌≡◌, ◌∙◌, ◌⊎◌, inl, inr, ℕ, Li
 use Rattle.board_model.specs.declared.refusal.Refusal.{Refusal}
 use Rattle.board_model.specs.declared.refusal.Refusal.TheVariants.{Memory, Output}
 use Rattle.script_lang.specs.Scripts.{script_of}
-use Rattle.bench_program.specs.Written.{IsNotTaken, IsFaultIn, IsFaultOf, IsUnread, IsFault, source_of}
+use Rattle.bench_program.specs.Written.{IsNotTaken, IsFaultIn, IsFaultOf, IsUnread, IsFault}
 use Rattle.command_line.specs.declared.NoWork.{NoWork}
 use Rattle.command_line.specs.declared.NoWork.TheVariants as whys
 use Rattle.payload_files.proofs.FaultKinds.{file_fault}
@@ -19,15 +19,17 @@ use Rattle.bench_program.specs.declared.usage.Options.{Options}
 use Rattle.bench_program.specs.declared.usage.Work.{Work}
 
 -- a refused work, whose reader may be gone
-pub told : (work : Work) (script : List ℕ) (e : Refusal) (fault : BenchFault) → (fault ≡ Closed) ⊎ (fault ≡ Refused e) → (e ≡ Memory) ⊎ (e ≡ Output) ⊎ (script_of script ≡ Err e) ⊎ IsNotTaken work script e → IsFaultIn work script fault
-told work script e fault (inl is) why = let P : BenchFault → Type 0 = λ f. IsFaultIn work script f in subst P (sym is) tt
-told work script e fault (inr is) why = let P : BenchFault → Type 0 = λ f. IsFaultIn work script f in subst P (sym is) why
+pub told : (work : Work) (payloads : List (List ℕ)) (script : List ℕ) (e : Refusal) (fault : BenchFault) → (fault ≡ Closed) ⊎ (fault ≡ Refused e)
+    → (e ≡ Memory) ⊎ (e ≡ Output) ⊎ (script_of script ≡ Err e) ⊎ IsNotTaken work payloads script e → IsFaultIn work payloads script fault
+told work payloads script e fault (inl is) why = let P : BenchFault → Type 0 = λ f. IsFaultIn work payloads script f in subst P (sym is) tt
+told work payloads script e fault (inr is) why = let P : BenchFault → Type 0 = λ f. IsFaultIn work payloads script f in subst P (sym is) why
 
 -- a report has no fault of a bench
-pub no_bench : (script : List ℕ) (e : Refusal) (work : Work) → (e ≡ Memory) ⊎ (e ≡ Output) ⊎ (script_of script ≡ Err e) → (e ≡ Memory) ⊎ (e ≡ Output) ⊎ (script_of script ≡ Err e) ⊎ IsNotTaken work script e
-no_bench script e work (inl x) = inl x
-no_bench script e work (inr (inl x)) = inr (inl x)
-no_bench script e work (inr (inr x)) = inr (inr (inl x))
+pub no_bench : (payloads : List (List ℕ)) (script : List ℕ) (e : Refusal) (work : Work) → (e ≡ Memory) ⊎ (e ≡ Output) ⊎ (script_of script ≡ Err e)
+    → (e ≡ Memory) ⊎ (e ≡ Output) ⊎ (script_of script ≡ Err e) ⊎ IsNotTaken work payloads script e
+no_bench payloads script e work (inl x) = inl x
+no_bench payloads script e work (inr (inl x)) = inr (inl x)
+no_bench payloads script e work (inr (inr x)) = inr (inr (inl x))
 
 -- a payload file was not read
 pub unread_named : (options : Options) (why : ProgramFault) (fault : BenchFault) → fault ≡ unread_by why → (why ≡ causes.File) ⊎ (why ≡ causes.Refused Memory)
@@ -55,7 +57,7 @@ unread_input options fault none (inr is) = inr is
 
 -- a fault of options that the words name
 pub of_options : (words : List (List ℕ)) (bytes_at : List ℕ → Option (List ℕ)) (input : Option (List ℕ)) (fault : BenchFault) (options : Options) → IsNamedBy words options
-    → IsUnread options fault ⊎ (fault ≡ Refused Memory) ⊎ IsFaultOf options.work (source_of options bytes_at input) fault → IsFault words bytes_at input fault
+    → IsUnread options fault ⊎ (fault ≡ Refused Memory) ⊎ IsFaultOf options bytes_at input fault → IsFault words bytes_at input fault
 of_options words bytes_at input fault options named (inl is) = inl (options, named, inl is)
 of_options words bytes_at input fault options named (inr (inl memory)) = inr (inr memory)
 of_options words bytes_at input fault options named (inr (inr is)) = inl (options, named, inr is)
