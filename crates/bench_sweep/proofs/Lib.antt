@@ -15,3 +15,5 @@ pub mod Ran
 pub mod Made
 pub mod Scripts
 pub mod Rowed
+pub mod Looked
+pub mod Compared

@@ -1,5 +1,5 @@
 -- Rows of runs that were made.
-use Rattle.std.proofs.Common.{◌≡◌, ◌≤◌, ◌<◌, ◌+◌, ◌-◌, ◌⊎◌, ◌++◌, ◌∷◌, [], ℕ, suc, List, None, true, false, inl, inr, length, take, drop, refl, sym, ◌∙◌, ap, subst, arith}
+use Rattle.std.proofs.Common.{◌≡◌, ◌≤◌, ◌<◌, ◌+◌, ◌-◌, ◌⊎◌, ◌++◌, ◌∷◌, [], ℕ, suc, List, Option, None, true, false, inl, inr, length, take, drop, refl, sym, ◌∙◌, ap, subst, arith}
 use Rattle.std.proofs.lemmas.List.{take-append-drop, take-take, take_all, drop_all, drop-take, length-drop, length-take-le, append-nil}
 use Rattle.std.proofs.lemmas.Bool.{cases_lt}
 use Rattle.std.proofs.lemmas.Grind.{flat_map-append}
@@ -20,16 +20,19 @@ use Rattle.bench_sweep.specs.declared.points.Caller.{Caller}
 use Rattle.bench_sweep.specs.declared.points.Point.{Point}
 use Rattle.bench_sweep.specs.declared.rows.Row.{Row}
 use Rattle.bench_sweep.specs.declared.site.Site.{Site}
-use Rattle.bench_sweep.specs.Made.{LooksAt, Lives, ComesTo, IsPlainRun, EndsAs, RunsWith}
+use Rattle.bench_sweep.specs.Made.{LooksAt, Lives, ComesTo, IsPlainRun, Recovers, IsUncut, IsToldOf, EndsAs, RunsWith}
+use Rattle.bench_sweep.specs.Recovers.{Compared}
+use Rattle.report_lines.specs.declared.printed.Printed.{Printed}
 use Rattle.bench_sweep.specs.Points.{fault_at}
 use Rattle.bench_sweep.specs.Reports.{IsLeft, RunsRow, IsRow}
-use Rattle.bench_sweep.specs.Runs.{RunsAt, RanTo, IsLife}
+use Rattle.bench_sweep.specs.Runs.{RunsAt, RanTo, IsEnd, IsLife}
 
 -- ---- a run with a fault armed
 module _ (size : Size) (kind : Kind) (at : Point) (b : Bench) (lines : List Line) (count : ℕ) (power : Power) (slots : List (List ℕ)) (ledger : Ledger) (few : count ≤ length lines) (ran : RanTo size (armed_with (fault_at kind at.caller at.call) b) (take count lines) power slots ledger) where
-  made : (row : Row) → row.caller ≡ at.caller → row.number ≡ at.number → unpowered ran.bench ≡ unpowered ran.end → EndsAs kind lines count ran.answers → ran.bench.fault_state.own ≡ 0 → IsLeft size (off ran.bench) row → RunsRow size kind at.before b lines row
-  made row caller number same ends none ((after, said), finds) =
+  made : (rest : Compared) (row : Row) → row.caller ≡ at.caller → row.number ≡ at.number → unpowered ran.bench ≡ unpowered ran.end → EndsAs kind lines count ran.answers → ran.bench.fault_state.own ≡ 0 → IsLeft size (off ran.bench) rest row → RunsRow size kind at.before b lines rest row
+  made rest row caller number same ends none ((after, said), finds, recovered) =
       let P : Bench → Type 0 = λ x. LooksAt size x row.left after in
+      let T : Bench → Type 0 = λ x. IsToldOf rest.own size x rest.lines rest.numbers row.left row.recovered in
       let Q : Caller → Type 0 = λ who. Run size (armed_with (fault_at kind who at.call) b) (take count lines) ran.answers ran.end in record {
         call = at.call;
         counts = number ∙ at.counts;
@@ -43,21 +46,22 @@ module _ (size : Size) (kind : Kind) (at : Point) (b : Bench) (lines : List Line
         after = after;
         says = subst P same said;
         finds = finds;
+        recovered = subst T same recovered;
       }
 
 -- up to the line in which a cut struck
 pub to_cut : (size : Size) (at : Point) (b : Bench) (lines : List Line) (count : ℕ) (power : Power) (slots : List (List ℕ)) (ledger : Ledger) → count ≤ length lines → (ran : RanTo size (armed_with (fault_at Cuts at.caller at.call) b) (take count lines) power slots ledger)
-    → ran.bench.fault_state.struck ≡ true → ran.bench.fault_state.own ≡ 0 → (row : Row) → row.caller ≡ at.caller → row.number ≡ at.number → IsLeft size (off ran.bench) row → RunsRow size Cuts at.before b lines row
-to_cut size at b lines count power slots ledger few ran hit none row caller number left = let s = ran.struck hit in made size Cuts at b lines count power slots ledger few ran row caller number (ap (λ (x : Bench). unpowered x) s.0) s.1 none left
+    → ran.bench.fault_state.struck ≡ true → ran.bench.fault_state.own ≡ 0 → (rest : Compared) (row : Row) → row.caller ≡ at.caller → row.number ≡ at.number → IsLeft size (off ran.bench) rest row → RunsRow size Cuts at.before b lines rest row
+to_cut size at b lines count power slots ledger few ran hit none rest row caller number left = let s = ran.struck hit in made size Cuts at b lines count power slots ledger few ran rest row caller number (ap (λ (x : Bench). unpowered x) s.0) s.1 none left
 
 -- or to the last of them
 pub past_failure : (size : Size) (at : Point) (b : Bench) (lines : List Line) (count : ℕ) (power : Power) (slots : List (List ℕ)) (ledger : Ledger) → count ≡ length lines → (ran : RanTo size (armed_with (fault_at Fails at.caller at.call) b) (take count lines) power slots ledger)
-    → ran.bench.fault_state.struck ≡ false → ran.bench.fault_state.own ≡ 0 → (row : Row) → row.caller ≡ at.caller → row.number ≡ at.number → IsLeft size (off ran.bench) row → RunsRow size Fails at.before b lines row
-past_failure size at b lines count power slots ledger all ran calm none row caller number left = made size Fails at b lines count power slots ledger (omega (arith, all)) ran row caller number (ap (λ (x : Bench). unpowered x) (ran.calm calm)) all none left
+    → ran.bench.fault_state.struck ≡ false → ran.bench.fault_state.own ≡ 0 → (rest : Compared) (row : Row) → row.caller ≡ at.caller → row.number ≡ at.number → IsLeft size (off ran.bench) rest row → RunsRow size Fails at.before b lines rest row
+past_failure size at b lines count power slots ledger all ran calm none rest row caller number left = made size Fails at b lines count power slots ledger (omega (arith, all)) ran rest row caller number (ap (λ (x : Bench). unpowered x) (ran.calm calm)) all none left
 
 -- over the first of some lines, of which a cut ended it
-pub over_all : (size : Size) (before : ℕ) (b : Bench) (lines : List Line) (n : ℕ) → n ≤ length lines → (row : Row) → RunsRow size Cuts before b (take n lines) row → RunsRow size Cuts before b lines row
-over_all size before b lines n few row r =
+pub over_all : (size : Size) (before : ℕ) (b : Bench) (lines : List Line) (n : ℕ) → n ≤ length lines → (rest : Compared) (row : Row) → RunsRow size Cuts before b (take n lines) rest row → RunsRow size Cuts before b lines rest row
+over_all size before b lines n few rest row r =
     let long = length-take-le n lines few in
     let P : List Line → Type 0 = λ ls. Run size (armed_with (fault_at Cuts row.caller r.call) b) ls r.answers r.end in record {
       call = r.call;
@@ -72,6 +76,7 @@ over_all size before b lines n few row r =
       after = r.after;
       says = r.says;
       finds = r.finds;
+      recovered = r.recovered;
     }
 
 -- ---- lives
@@ -160,8 +165,8 @@ went_more size first lines rest n m at next is few f l = by (cases_lt m (length 
     by (inr all) = inr (let long = long_rest n lines rest is few in omega (arith, all, long), last_life size first lines rest n m at next is all f l)
 
 -- the last of them was run
-pub plain_run : (size : Size) (first : Bench) (lines : List Line) (n : ℕ) (at : Site) → length lines ≤ n → (fault_state at.off.disk).own ≡ 0 → Went size first lines n at → IsPlainRun size first lines
-plain_run size first lines n at all none (inl f) = record {
+pub ends_at : (size : Size) (first : Bench) (lines : List Line) (n : ℕ) (at : Site) → length lines ≤ n → (fault_state at.off.disk).own ≡ 0 → Went size first lines n at → IsEnd size first lines at
+ends_at size first lines n at all none (inl f) = record {
   before = n;
   bench = f.bench;
   lives = f.comes;
@@ -169,8 +174,11 @@ plain_run size first lines n at all none (inl f) = record {
   end = unpowered f.bench;
   run = let P : List Line → Type 0 = λ ls. Run size (unpowered f.bench) ls [] (unpowered f.bench) in subst P (sym (drop_all n lines all)) refl;
   refused_none = (f.site.follows.enough, ap (λ (m : FaultState). m.own) f.site.agrees.2.0 ∙ none);
+  at = f.bench;
+  stands = f.site;
+  same = refl;
 }
-plain_run size first lines n at all none (inr (long, f)) = record {
+ends_at size first lines n at all none (inr (long, f)) = record {
   before = f.before;
   bench = f.bench;
   lives = f.lives;
@@ -178,13 +186,25 @@ plain_run size first lines n at all none (inr (long, f)) = record {
   end = f.end;
   run = f.run;
   refused_none = (f.site.follows.enough, ap (λ (m : FaultState). m.own) f.site.agrees.2.0 ∙ none);
+  at = off f.end;
+  stands = f.site;
+  same = refl;
 }
 
+pub plain_run : (size : Size) (first : Bench) (lines : List Line) (site : Site) → IsEnd size first lines site → IsPlainRun size first lines
+plain_run size first lines site e = record { before = e.before; bench = e.bench; lives = e.lives; answers = e.answers; end = e.end; run = e.run; refused_none = e.refused_none }
+
+-- and then the recovery
+pub uncut_run : (size : Size) (first : Bench) (lines rest : List Line) (own : List Printed) (site : Site) → (e : IsEnd size first lines site) → Recovers size (unpowered e.at) rest own → IsUncut size first lines rest own
+uncut_run size first lines rest own site e recovers =
+    let P : Bench → Type 0 = λ x. Recovers size x rest own in
+    record { before = e.before; bench = e.bench; lives = e.lives; answers = e.answers; end = e.end; run = e.run; recovers = subst P e.same recovers }
+
 -- a row behind so many lines
-pub row_of : (size : Size) (kind : Kind) (before : ℕ) (first : Bench) (lines rest : List Line) (n : ℕ) (at : Site) → rest ≡ drop n lines → (f : SoFar size first (take n lines) at) → (row : Row) → RunsRow size kind before (unpowered f.bench) rest row
-    → IsRow size kind first lines row
-row_of size kind before first lines rest n at is f row r =
-    let P : List Line → Type 0 = λ ls. RunsWith size kind row.caller before row.number (unpowered f.bench) ls row.left in record { before = n; bench = f.bench; plain = f.comes; made = before; run = subst P is r }
+pub row_of : (size : Size) (kind : Kind) (before : ℕ) (first : Bench) (lines rest : List Line) (n : ℕ) (at : Site) → rest ≡ drop n lines → (f : SoFar size first (take n lines) at) → (then : Compared) (row : Row) → RunsRow size kind before (unpowered f.bench) rest then row
+    → IsRow size kind first lines then row
+row_of size kind before first lines rest n at is f then row r =
+    let P : List Line → Type 0 = λ ls. RunsWith size kind row.caller before row.number (unpowered f.bench) ls then row.left row.recovered in record { before = n; bench = f.bench; plain = f.comes; made = before; run = subst P is r }
 
 -- ---- counts of callers
 pub zip_long : {A B : Type 0} (R : A → B → Type 0) (xs : List A) (ys : List B) → AllZip R xs ys → length ys ≡ length xs

@@ -16,6 +16,8 @@ use Rattle.bench_sweep.specs.declared.rows.Row.{Row}
 use Rattle.bench_sweep.specs.declared.site.Site.{Site}
 use Rattle.bench_sweep.specs.declared.sweeps.Report.{Report}
 use Rattle.bench_sweep.specs.Reports.{Keeps, Judged, IsOfCall, TakesPoint, Reports, RunsRow}
+use Rattle.bench_sweep.specs.Recovers.{Compared}
+use Rattle.bench_sweep.specs.Rows.{differing_rows}
 use Rattle.bench_sweep.specs.Runs.{RunsAt}
 use Rattle.bench_sweep.specs.Swept.{Cell, cell_of, runs_of, runs_from, rows_text, GoesOn}
 use Rattle.bench_sweep.proofs.Written.{cells_more, each_at, next_call}
@@ -60,6 +62,9 @@ none_more m n same k e = omega (arith, same, e)
 some_more : (m n some long : ℕ) → n ≡ counted m some → some ≡ counted 0 long → GoesOn m n long
 some_more m n some long is few k e = omega (arith, is, few, e)
 
+differ_more : (m n k : ℕ) → n ≡ counted m k → GoesOn m n k
+differ_more m n k same i e = omega (arith, same, e)
+
 -- the rows of one point
 pub reports_point : {W : Type 0} (contents : W → Option (List ℕ)) (Is : Row → Type 0) (old new : Report W) (rows : PointRows) (cells : List Cell) → Judged Is rows cells → TakesPoint contents old rows new → Reports contents Is old new cells 0
 reports_point contents Is old new rows cells j t = record {
@@ -69,26 +74,27 @@ reports_point contents Is old new rows cells j t = record {
     each = j.each;
     text = t.text;
     cells = j.cells;
-    points = none_more old.sweep.points new.sweep.points t.points;
-    runs = some_more old.sweep.runs new.sweep.runs rows.sweep.runs (length rows.rows.items) t.runs j.runs;
+    points = none_more old.done.sweep.points new.done.sweep.points t.points;
+    runs = some_more old.done.sweep.runs new.done.sweep.runs rows.sweep.runs (length rows.rows.items) t.runs j.runs;
     right = t.right j.right;
+    differ = differ_more old.done.differ new.done.differ (differing_rows rows.rows.items) t.differ;
   };
 }
 
 -- the points of calls in a row
-module _ {W : Type 0} (contents : W → Option (List ℕ)) (size : Size) (kind : Kind) (caller : Caller) (before : ℕ) (lines : List Line) (site : Site) (b : Bench) (r : RunsAt size b site) (first : Report W) where
+module _ {W : Type 0} (contents : W → Option (List ℕ)) (size : Size) (kind : Kind) (caller : Caller) (before : ℕ) (lines : List Line) (rest : Compared) (site : Site) (b : Bench) (r : RunsAt size b site) (first : Report W) where
   abbrev Is : Row → Type 0
-  Is = RunsRow size kind before (unpowered b) lines
+  Is = RunsRow size kind before (unpowered b) lines rest
 
   abbrev Wrote : Report W → ℕ → Type 0
   Wrote now done = Reports contents Is first now (runs_from kind caller (before + 1) done) 0
 
-  one_point : (done : ℕ) (rows : PointRows) (old new : Report W) → before + done + 1 < 2 ^ 64 → IsOfCall size kind caller before lines site done rows → TakesPoint contents old rows new → Wrote old done → Wrote new (done + 1)
+  one_point : (done : ℕ) (rows : PointRows) (old new : Report W) → before + done + 1 < 2 ^ 64 → IsOfCall size kind caller before lines rest site done rows → TakesPoint contents old rows new → Wrote old done → Wrote new (done + 1)
   one_point done rows old new room is took so_far =
       reports_as contents Is first new _ _ 0 0 (next_call kind caller (before + 1) done (before + done + 1) (omega (arith, room))) refl
       (reports_more contents Is first old new _ _ 0 0 so_far (reports_point contents Is old new rows (runs_of kind caller (before + done + 1)) (is b r) took))
 
-  go : (done : ℕ) (points : List PointRows) (old new : Report W) → before + (done + length points) < 2 ^ 64 → AreRows (IsOfCall size kind caller before lines site) done points → TakesAll (TakesPoint contents) old points new → Wrote old done
+  go : (done : ℕ) (points : List PointRows) (old new : Report W) → before + (done + length points) < 2 ^ 64 → AreRows (IsOfCall size kind caller before lines rest site) done points → TakesAll (TakesPoint contents) old points new → Wrote old done
       → Wrote new (done + length points)
   go done [] old new room each taken so_far =
       let same : done ≡ done + 0 = omega arith in
@@ -98,7 +104,7 @@ module _ {W : Type 0} (contents : W → Option (List ℕ)) (size : Size) (kind :
       let same : done + 1 + length points ≡ done + length (point ∷ points) = omega (arith, long) in
       subst (λ (n : ℕ). Wrote new n) same (go (done + 1) points taken.0 new (omega (arith, room, long)) each.1 taken.2 (one_point done point old taken.0 (omega (arith, room, long)) each.0 taken.1 so_far))
 
-  pub all_points : (count : ℕ) (last : Report W) → before + count < 2 ^ 64 → Handed (IsOfCall size kind caller before lines site) (TakesPoint contents) 0 count first last → Wrote last count
+  pub all_points : (count : ℕ) (last : Report W) → before + count < 2 ^ 64 → Handed (IsOfCall size kind caller before lines rest site) (TakesPoint contents) 0 count first last → Wrote last count
   all_points count last room handed =
       let many : 0 + length handed.rows ≡ count = omega (arith, handed.many) in
       subst (λ (n : ℕ). Wrote last n) many (go 0 handed.rows first last (omega (arith, room, handed.many)) handed.each handed.taken (reports_none contents Is first))

@@ -7,3 +7,4 @@ pub mod Runs
 pub mod Lines
 pub mod Resumes
 pub mod Reports
+pub mod Recovers

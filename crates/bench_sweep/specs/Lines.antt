@@ -1,11 +1,12 @@
 -- What a line that moves harts does, by the steps of the model, and that the ledger follows it.
-use Rattle.std.specs.Prelude.{◌≡◌, ℕ, List, Option, None, Some}
+use Rattle.std.specs.Prelude.{◌≡◌, ◌++◌, ℕ, List, Option, None, Some}
 use Rattle.board_model.specs.Shapes.{Size}
 use Rattle.board_model.specs.declared.boot_mode.BootMode.{BootMode}
 use Rattle.sbi.specs.declared.words.Word.{Word}
 use Rattle.script_lang.specs.declared.line.Line.{Line}
 use Rattle.script_lang.specs.declared.line.Line.TheVariants as lines
 use Rattle.report_lines.specs.declared.printed.Answer.{Answer}
+use Rattle.report_lines.specs.declared.printed.Printed.{Printed}
 use Rattle.bench_report.specs.declared.power.Power.{Power}
 use Rattle.bench_report.specs.Bench.{BenchLife, Bench}
 use Rattle.bench_report.specs.Steps.{Step}
@@ -13,6 +14,7 @@ use Rattle.bench_report.specs.Turns.{GuestTurn, GuestTurns}
 use Rattle.bench_report.specs.Agree.{OnIs, BoardAfter, Agrees}
 use Rattle.bench_report.specs.Views.{SimBoard}
 use Rattle.bench_judge.specs.declared.ledgers.Ledger.{Ledger}
+use Rattle.bench_sweep.specs.Recovers.{look_said}
 use Rattle.bench_sweep.specs.Resumes.{power_resumes, Resumes}
 use Rattle.bench_sweep.specs.Runs.{Follows, Runs}
 
@@ -48,6 +50,24 @@ pub record LineMoves (size : Size) (line : Line) (b : Bench) (power : Power) (sl
     : Type 0 where
   pub bench : Bench
   pub does : DoesLine size line b bench
+  pub runs : Runs size bench power slots ledger
+
+-- The same, and the line said that.
+pub record LineSays (size : Size) (line : Line) (b : Bench) (said : Printed) (power : Power) (slots : List (List ℕ)) (ledger : Ledger)
+    : Type 0 where
+  pub bench : Bench
+  pub answer : Answer
+  pub does : Step size line b answer bench
+  pub says : answer.line ≡ said
+  pub runs : Runs size bench power slots ledger
+
+-- The same, and what the line says where it looks is kept behind what was kept before.
+pub record LineAdds (size : Size) (line : Line) (b : Bench) (old new : List Printed) (power : Power) (slots : List (List ℕ)) (ledger : Ledger)
+    : Type 0 where
+  pub bench : Bench
+  pub answer : Answer
+  pub does : Step size line b answer bench
+  pub adds : new ≡ old ++ look_said line answer
   pub runs : Runs size bench power slots ledger
 
 -- A line that powers a board on by that mode was run, and the ledger has the serial of the image that it resumed besides.

@@ -1,20 +1,26 @@
 -- Which runs of a script a bench makes, and what each row of it tells. Source: docs/SCRIPT.md, "The benches".
-use Rattle.std.specs.Prelude.{◌≡◌, ◌≤◌, ◌+◌, ℕ, List, [], ◌∷◌, ◌++◌, None, Some, length, take, drop}
+use Rattle.std.specs.Prelude.{◌≡◌, ◌≤◌, ◌+◌, ℕ, List, [], ◌∷◌, ◌++◌, Option, None, Some, length, take, drop}
 use Rattle.std.specs.List.{flat_map}
+use Rattle.board_model.specs.Durable.{Change}
+use Rattle.board_model.specs.Kept.{MayKeep, found_of}
 use Rattle.board_model.specs.Shapes.{Size}
+use Rattle.board_model.specs.Views.{durable_of}
 use Rattle.board_model.specs.declared.boot_mode.BootMode.TheVariants as modes
 use Rattle.board_model.specs.declared.durable.Durable.{Durable}
 use Rattle.script_lang.specs.declared.line.Line.{Line}
 use Rattle.report_lines.specs.declared.printed.Answer.{Answer}
+use Rattle.report_lines.specs.declared.printed.Printed.{Printed}
 use Rattle.report_lines.specs.declared.printed.Printed.TheVariants as printed
 use Rattle.bench_report.specs.Bench.{Bench, bench_with, no_payloads}
-use Rattle.bench_report.specs.Happens.{says, off, unpowered, armed_with}
+use Rattle.bench_report.specs.Happens.{says, off, unpowered, settled, armed_with}
 use Rattle.bench_report.specs.PowerOns.{PowersOn}
 use Rattle.bench_report.specs.Steps.{Run}
 use Rattle.bench_sweep.specs.declared.points.Bench.{Bench as Kind}
 use Rattle.bench_sweep.specs.declared.points.Bench.TheVariants.{Cuts, Fails}
 use Rattle.bench_sweep.specs.declared.points.Caller.{Caller}
 use Rattle.bench_sweep.specs.Points.{fault_at}
+use Rattle.bench_sweep.specs.Recovers.{Compared, looks_of, TellsFirst}
+use Rattle.bench_sweep.specs.declared.recovery.Differs.{Differs}
 
 -- ---- the script as it is
 -- The first lines of a script that begins with these payloads, the last of which formatted the disk, come to that bench.
@@ -51,6 +57,25 @@ pub record IsPlainRun (size : Size) (first : Bench) (lines : List Line) : Type 0
   pub run : Run size (unpowered bench) (drop before lines) answers end
   pub refused_none : WasRefusedNoMemory end
 
+-- ---- the operator's recovery
+-- The lines run from that bench on to their end, and no memory is refused. Their looks say that.
+pub record Recovers (size : Size) (b : Bench) (lines : List Line) (said : List Printed) : Type 0 where
+  pub answers : List Answer
+  pub end : Bench
+  pub run : Run size b lines answers end
+  pub refused_none : WasRefusedNoMemory end
+  pub says : said ≡ looks_of lines answers
+
+-- The script's lines are run as they are to their end, and then power is cut: the looks of the recovery say that.
+pub record IsUncut (size : Size) (first : Bench) (lines rest : List Line) (own : List Printed) : Type 0 where
+  pub before : ℕ
+  pub bench : Bench
+  pub lives : ComesTo size first (take before lines) bench
+  pub answers : List Answer
+  pub end : Bench
+  pub run : Run size (unpowered bench) (drop before lines) answers end
+  pub recovers : Recovers size (unpowered (off end)) rest own
+
 -- ---- a row
 -- a power-on that looks what a run left: its slots are empty, and it keeps the image
 abbrev pub LooksAt : Size → Bench → Answer → Bench → Type 0
@@ -64,6 +89,25 @@ shows d = record { found = Some d; line = printed.On modes.Keep }
 abbrev pub ShowsState : Answer → Type 0
 ShowsState left = (d : Durable) × (left ≡ shows d)
 
+-- A cut left that bench, and a power-on said that of it, which settles the command in doubt: the recovery runs from the bench
+-- with the state that was found, and its looks say that.
+pub record RecoversFrom (size : Size) (cut : Bench) (left : Answer) (lines : List Line) (said : List Printed) : Type 0 where
+  pub changes : List Change
+  pub may : MayKeep cut.kept changes
+  pub found : left.found ≡ Some (durable_of (found_of changes))
+  pub recovers : Recovers size (settled changes cut) lines said
+
+-- What is told behind a run that a cut left at that bench, of which a power-on said that: where the own looks are some, of a
+-- recovery that runs from there; where there are none, nothing.
+abbrev pub IsToldOf : List Printed → Size → Bench → List Line → List ℕ → Answer → Option Differs → Type 0
+IsToldOf [] size cut lines numbers left differs = differs ≡ None
+IsToldOf (o ∷ own) size cut lines numbers left differs =
+    (said : List Printed) × RecoversFrom size cut left lines said × TellsFirst numbers (o ∷ own) said differs
+
+-- the same of a run that ended at that bench
+abbrev pub IsRecovered : Size → Bench → Compared → Answer → Option Differs → Type 0
+IsRecovered size end rest left differs = IsToldOf rest.own size (unpowered end) rest.lines rest.numbers left differs
+
 -- a run with a cut ends with the line within which it struck, and one with a failure with the script
 abbrev pub EndsAs : Kind → List Line → ℕ → List Answer → Type 0
 EndsAs Cuts lines count answers = (before : List Answer) × (answers ≡ before ++ says printed.PowerLost ∷ [])
@@ -72,8 +116,8 @@ EndsAs Fails lines count answers = count ≡ length lines
 -- Lines are run on a bench that is off, on whose disk that is armed: at the call of that caller that has that number,
 -- where so many were made before. No memory is refused. Then power is cut, and a power-on that keeps the image says that:
 -- it found a state.
-pub record RunsWith (size : Size) (kind : Kind) (caller : Caller) (made number : ℕ) (b : Bench) (lines : List Line) (left : Answer)
-    : Type 0 where
+pub record RunsWith (size : Size) (kind : Kind) (caller : Caller) (made number : ℕ) (b : Bench) (lines : List Line) (rest : Compared)
+    (left : Answer) (differs : Option Differs) : Type 0 where
   pub call : ℕ
   pub counts : number ≡ made + call
   pub count : ℕ
@@ -86,11 +130,13 @@ pub record RunsWith (size : Size) (kind : Kind) (caller : Caller) (made number :
   pub after : Bench
   pub says : LooksAt size (unpowered end) left after
   pub finds : ShowsState left
+  pub recovered : IsRecovered size end rest left differs
 
 -- A row that says that is such a run: some first lines are run as they are, and those behind them with that armed.
-pub record IsRunOf (size : Size) (kind : Kind) (caller : Caller) (number : ℕ) (first : Bench) (lines : List Line) (left : Answer) : Type 0 where
+pub record IsRunOf (size : Size) (kind : Kind) (caller : Caller) (number : ℕ) (first : Bench) (lines : List Line) (rest : Compared)
+    (left : Answer) (differs : Option Differs) : Type 0 where
   pub before : ℕ
   pub bench : Bench
   pub plain : ComesTo size first (take before lines) bench
   pub made : ℕ
-  pub run : RunsWith size kind caller made number (unpowered bench) (drop before lines) left
+  pub run : RunsWith size kind caller made number (unpowered bench) (drop before lines) rest left differs

@@ -12,8 +12,11 @@ use Rattle.bench_sweep.specs.declared.rows.Row.{Row}
 use Rattle.bench_sweep.specs.declared.judging.PointRows.{PointRows}
 use Rattle.bench_sweep.specs.declared.site.Site.{Site}
 use Rattle.bench_sweep.specs.declared.sweeps.Report.{Report}
-use Rattle.bench_sweep.specs.Made.{LooksAt, ShowsState, IsFormatted, IsPlainRun, RunsWith, IsRunOf}
+use Rattle.bench_sweep.specs.Made.{LooksAt, ShowsState, IsFormatted, IsPlainRun, IsUncut, IsRecovered, RunsWith, IsRunOf}
+use Rattle.bench_sweep.specs.Recovers.{Compared}
+use Rattle.bench_sweep.specs.Rows.{differing_rows}
 use Rattle.bench_sweep.specs.Runs.{RunsAt, Sits}
+use Rattle.report_lines.specs.declared.printed.Printed.{Printed}
 use Rattle.bench_sweep.specs.Swept.{Cell, Writes, AreSwept, cell_of, rows_text, runs_of, all_runs, callers, total}
 
 -- The report goes on in the same writer: these runs were made at so many points, one line was written for each, and
@@ -21,20 +24,22 @@ use Rattle.bench_sweep.specs.Swept.{Cell, Writes, AreSwept, cell_of, rows_text, 
 pub record Reports {W : Type 0} (contents : W → Option (List ℕ)) (Is : Row → Type 0) (old new : Report W) (made : List Cell)
     (n : ℕ) : Type 0 where
   pub same : new.out.ghost_name ≡ old.out.ghost_name
-  pub wrote : Writes Is (contents old.out.now) (contents new.out.now) old.sweep new.sweep made n
+  pub wrote : Writes Is (contents old.out.now) (contents new.out.now) old.done new.done made n
 
 -- ---- rows so far
 -- a row whose run ended at that bench, where a state was found
-abbrev pub IsLeft : Size → Bench → Row → Type 0
-IsLeft size end row = ((after : Bench) × LooksAt size (unpowered end) row.left after) × ShowsState row.left
+abbrev pub IsLeft : Size → Bench → Compared → Row → Type 0
+IsLeft size end rest row =
+    ((after : Bench) × LooksAt size (unpowered end) row.left after) × ShowsState row.left
+    × IsRecovered size end rest row.left row.recovered
 
 -- a row whose run begins at that bench, which is off, where its caller had made so many calls
-abbrev pub RunsRow : Size → Kind → ℕ → Bench → List Line → Row → Type 0
-RunsRow size kind made b lines row = RunsWith size kind row.caller made row.number b lines row.left
+abbrev pub RunsRow : Size → Kind → ℕ → Bench → List Line → Compared → Row → Type 0
+RunsRow size kind made b lines rest row = RunsWith size kind row.caller made row.number b lines rest row.left row.recovered
 
 -- a row of a bench over those lines, of which the first begin at that bench
-abbrev pub IsRow : Size → Kind → Bench → List Line → Row → Type 0
-IsRow size kind first lines row = IsRunOf size kind row.caller row.number first lines row.left
+abbrev pub IsRow : Size → Kind → Bench → List Line → Compared → Row → Type 0
+IsRow size kind first lines rest row = IsRunOf size kind row.caller row.number first lines rest row.left row.recovered
 
 -- ---- the rows of a point, before they are written
 -- One row more was kept, of that run, and counted as right; of it that holds.
@@ -55,39 +60,43 @@ pub record Judged (Is : Row → Type 0) (rows : PointRows) (made : List Cell) : 
 
 -- A bench may run those lines from that site on, up to the next one at most, with the call armed before which so many were
 -- made from there.
-pub record HasCall (size : Size) (lines : List Line) (count : ℕ) (site : Site) (before done : ℕ) : Type 0 where
+pub record HasCall (size : Size) (lines after : List Line) (count : ℕ) (site : Site) (before done : ℕ) : Type 0 where
   pub few : count ≤ length lines
   pub swept : AreSwept size lines
+  pub recovery : AreSwept size after
   pub sits : Sits size site
   pub room : before + done + 1 < 2 ^ 64
 
 -- those are the rows of that call
-abbrev pub IsOfCall : Size → Kind → Caller → ℕ → List Line → Site → ℕ → PointRows → Type 0
-IsOfCall size kind caller before lines site done rows =
+abbrev pub IsOfCall : Size → Kind → Caller → ℕ → List Line → Compared → Site → ℕ → PointRows → Type 0
+IsOfCall size kind caller before lines rest site done rows =
     (b : Bench) → RunsAt size b site
-    → Judged (RunsRow size kind before (unpowered b) lines) rows (runs_of kind caller (before + done + 1))
+    → Judged (RunsRow size kind before (unpowered b) lines rest) rows (runs_of kind caller (before + done + 1))
 
 -- The lines of these rows were written, and their runs are counted with those before.
 pub record TakesPoint {W : Type 0} (contents : W → Option (List ℕ)) (old : Report W) (rows : PointRows) (new : Report W) : Type 0 where
   pub same : new.out.ghost_name ≡ old.out.ghost_name
   pub text : Appends (contents old.out.now) (contents new.out.now) (rows_text rows.rows.items)
-  pub points : new.sweep.points ≡ old.sweep.points
-  pub runs : new.sweep.runs ≡ counted old.sweep.runs rows.sweep.runs
-  pub right : rows.sweep.wrong ≡ 0 → new.sweep.wrong ≡ old.sweep.wrong
+  pub points : new.done.sweep.points ≡ old.done.sweep.points
+  pub runs : new.done.sweep.runs ≡ counted old.done.sweep.runs rows.sweep.runs
+  pub right : rows.sweep.wrong ≡ 0 → new.done.sweep.wrong ≡ old.done.sweep.wrong
+  pub differ : new.done.differ ≡ counted old.done.differ (differing_rows rows.rows.items)
 
 -- ---- all rows
 -- All lines from that bench on are run as they are, and then the runs at the points of each caller are made.
 pub record ReportsAll {W : Type 0} (contents : W → Option (List ℕ)) (size : Size) (kind : Kind) (first : Bench) (lines : List Line)
-    (old new : Report W) : Type 0 where
+    (after : List Line) (numbers : List ℕ) (old new : Report W) : Type 0 where
   pub plain : IsPlainRun size first lines
   pub counts : List ℕ
   pub five : length counts ≡ 5
-  pub runs : Reports contents (IsRow size kind first lines) old new (all_runs kind callers counts) (total counts)
+  pub own : List Printed
+  pub uncut : IsUncut size first lines after own
+  pub runs : Reports contents (IsRow size kind first lines (record { lines = after; numbers = numbers; own = own })) old new (all_runs kind callers counts) (total counts)
 
 -- the same of the lines of a script behind its first format, where it begins with these payloads
 pub record ReportsScript {W : Type 0} (contents : W → Option (List ℕ)) (size : Size) (kind : Kind) (start : List (List ℕ)) (lines : List Line)
-    (old new : Report W) : Type 0 where
+    (after : List Line) (numbers : List ℕ) (old new : Report W) : Type 0 where
   pub begin : ℕ
   pub first : Bench
   pub format : IsFormatted size start (take begin lines) first
-  pub all : ReportsAll contents size kind (unpowered first) (drop begin lines) old new
+  pub all : ReportsAll contents size kind (unpowered first) (drop begin lines) after numbers old new

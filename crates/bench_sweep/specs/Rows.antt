@@ -1,5 +1,5 @@
 -- The lines of a bench. Source: docs/SCRIPT.md, "The benches".
-use Rattle.std.specs.Prelude.{ℕ, List, [], ◌∷◌, ◌++◌, Option, Some, None}
+use Rattle.std.specs.Prelude.{ℕ, List, [], ◌∷◌, ◌++◌, Option, Some, None, is_some}
 use Rattle.std.specs.Fmt.{decimal}
 use Rattle.board_model.specs.declared.durable.Durable.{Durable}
 use Rattle.simdisk.specs.declared.fill.Fill.{Fill}
@@ -12,6 +12,8 @@ use Rattle.bench_judge.specs.declared.judges.Sweep.{Sweep}
 use Rattle.bench_sweep.specs.declared.points.Caller.{Caller}
 use Rattle.bench_sweep.specs.declared.points.Caller.TheVariants.{Disk, Lane}
 use Rattle.bench_sweep.specs.declared.rows.Row.{Row}
+use Rattle.bench_sweep.specs.declared.recovery.Differs.{Differs}
+use Rattle.std.specs.List.{count_by}
 use lib.Chars.{codes}
 
 abbrev pub caller_text : Caller → List ℕ
@@ -34,6 +36,28 @@ left_text a = told_text a.found a.line
 abbrev pub row_text : Row → List ℕ
 row_text r = caller_text r.caller ++ codes " " ++ decimal r.number ++ fill_part r.fill ++ codes " " ++ left_text r.left
 
+-- what is told behind a row of which a look differs
+abbrev pub differs_text : Row → Differs → List ℕ
+differs_text r d =
+    caller_text r.caller ++ codes " " ++ decimal r.number ++ fill_part r.fill ++ codes " recover " ++ decimal d.line ++ codes " "
+    ++ line_text d.said ++ codes " own " ++ line_text d.own
+
+-- a row, and what is told behind it
+abbrev pub told_part : Row → Option Differs → List ℕ
+told_part r None = []
+told_part r (Some d) = differs_text r d ++ 10 ∷ []
+
+abbrev pub row_lines : Row → List ℕ
+row_lines r = row_text r ++ 10 ∷ told_part r r.recovered
+
+-- of how many rows a look differs
+abbrev pub differing_rows : List Row → ℕ
+differing_rows rows = count_by (λ (r : Row). is_some r.recovered) rows
+
 -- the last line
 abbrev pub sweep_text : Sweep → List ℕ
 sweep_text s = codes "points " ++ decimal s.points ++ codes " runs " ++ decimal s.runs ++ codes " wrong " ++ decimal s.wrong
+
+-- the last line of a bench with a recovery
+abbrev pub recovered_text : Sweep → ℕ → List ℕ
+recovered_text s differ = sweep_text s ++ codes " differ " ++ decimal differ

@@ -1,7 +1,7 @@
 -- A run that is under way, and the bench of the model that it stands for.
-use Rattle.std.specs.Prelude.{◌≡◌, ◌≤◌, ◌<◌, ◌⊎◌, ◌∷◌, ◌++◌, [], ℕ, List, false, true, Option, None, Some, length, take}
+use Rattle.std.specs.Prelude.{◌≡◌, ◌≤◌, ◌<◌, ◌⊎◌, ◌∷◌, ◌++◌, [], ℕ, List, false, true, Option, None, Some, length, take, drop}
 use Rattle.board_model.specs.Durable.{DurableState, Change, IsWhole, CarriesWhole}
-use Rattle.board_model.specs.Kept.{Kept, MayFind, nothing_kept, found_of}
+use Rattle.board_model.specs.Kept.{Kept, MayFind, MayKeep, nothing_kept, found_of}
 use Rattle.board_model.specs.Plains.{state_in}
 use Rattle.board_model.specs.declared.plain.Plain.{Plain}
 use Rattle.board_model.specs.Shapes.{Size, IsSize}
@@ -18,7 +18,7 @@ use Rattle.bench_report.specs.declared.power.OffDisk.{OffDisk}
 use Rattle.bench_report.specs.declared.power.Power.{Power}
 use Rattle.bench_report.specs.declared.power.Power.TheVariants.{Off, On}
 use Rattle.bench_report.specs.Bench.{Formatted, Bench, bench_with}
-use Rattle.bench_report.specs.Happens.{off, unpowered}
+use Rattle.bench_report.specs.Happens.{off, unpowered, settled}
 use Rattle.bench_report.specs.Steps.{Run}
 use Rattle.bench_report.specs.Agree.{OffIs, BoardAfter, Agrees, IsBench}
 use Rattle.bench_report.specs.Views.{SimStore, SimBoard, machine_in, fault_state, store_in, store_size, store_now, store_fault_state}
@@ -27,7 +27,7 @@ use Rattle.bench_judge.specs.Ledgers.{Tells}
 use Rattle.bench_judge.specs.declared.ledgers.Ledger.{Ledger}
 use Rattle.bench_sweep.specs.declared.points.Bench.TheVariants.{Cuts}
 use Rattle.bench_sweep.specs.declared.site.Site.{Site}
-use Rattle.bench_sweep.specs.Made.{IsFormatted, EndsAs, shows}
+use Rattle.bench_sweep.specs.Made.{IsFormatted, EndsAs, WasRefusedNoMemory, ComesTo, shows}
 use Rattle.bench_sweep.specs.Told.{HartTold}
 
 -- The ledger tells the commands kept; an image that stands, or is in doubt, has the memory of a board of that size.
@@ -97,6 +97,28 @@ pub record IsLife (size : Size) (b : Bench) (lines : List Line) (count : ℕ) (s
   pub run : Run size (unpowered b) (take count lines) answers end
   pub stops : count < length lines → end.power ≡ None
   pub left : RunsAt size (off end) site
+
+-- All lines were run as they are, those of the last life to their end, and the board was turned off: it stands for a bench of
+-- which a power cut leaves what it leaves of that end. No memory was refused.
+pub record IsEnd (size : Size) (first : Bench) (lines : List Line) (site : Site) : Type 0 where
+  pub before : ℕ
+  pub bench : Bench
+  pub lives : ComesTo size first (take before lines) bench
+  pub answers : List Answer
+  pub end : Bench
+  pub run : Run size (unpowered bench) (drop before lines) answers end
+  pub refused_none : WasRefusedNoMemory end
+  pub at : Bench
+  pub stands : RunsAt size at site
+  pub same : unpowered at ≡ unpowered (off end)
+
+-- A power-on found that state on what a cut left of the bench, which settles the command in doubt: the site stands for the
+-- bench with the state.
+pub record SettlesAt (size : Size) (cut : Bench) (found : Durable) (site : Site) : Type 0 where
+  pub changes : List Change
+  pub may : MayKeep cut.kept changes
+  pub is : found ≡ durable_of (found_of changes)
+  pub left : LeftAt size (settled changes cut) site
 
 -- a board that stands for a bench in which no cut has struck is off
 abbrev pub StopsOff : Power → Type 0

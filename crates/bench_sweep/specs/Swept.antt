@@ -1,11 +1,13 @@
 -- What a bench wrote and counted. Source: docs/SCRIPT.md, "The benches".
-use Rattle.std.specs.Prelude.{◌≡◌, ◌⊎◌, ◌+◌, ℕ, zero, suc, List, [], ◌∷◌, ◌++◌, ⊤, Option, None, Some, Ok, All, length, map, take, drop}
+use Rattle.std.specs.Prelude.{◌≡◌, ◌≢◌, ◌⊎◌, ◌+◌, ℕ, zero, suc, List, [], ◌∷◌, ◌++◌, ⊤, Option, None, Some, Ok, All, length, map, take, drop}
 use Rattle.std.specs.List.{flat_map}
 use Rattle.std.specs.Io.KnownBytes.{Appends}
 use Rattle.disk.specs.Facts.{counted}
 use Rattle.simdisk.specs.declared.fill.Fill.{Fill}
 use Rattle.simdisk.specs.declared.fill.Fill.TheVariants.{Byte, Alternating, Old, New}
 use Rattle.board_model.specs.Shapes.{Size}
+use Rattle.board_model.specs.declared.refusal.Refusal.{Refusal}
+use Rattle.board_model.specs.declared.refusal.Refusal.TheVariants.{NotPlain}
 use Rattle.script_lang.specs.Lines.{IsLineInRange}
 use Rattle.script_lang.specs.Scripts.{script_of, Script}
 use Rattle.script_lang.specs.declared.line.Line.{Line}
@@ -18,8 +20,11 @@ use Rattle.bench_sweep.specs.declared.points.Bench.TheVariants.{Cuts, Fails}
 use Rattle.bench_sweep.specs.declared.points.Caller.{Caller}
 use Rattle.bench_sweep.specs.declared.points.Caller.TheVariants.{Disk, Lane}
 use Rattle.bench_sweep.specs.declared.rows.Row.{Row}
-use Rattle.bench_sweep.specs.Made.{IsFormatted, IsPlainRun, IsRunOf}
-use Rattle.bench_sweep.specs.Rows.{row_text, sweep_text}
+use Rattle.bench_sweep.specs.Made.{IsFormatted, IsPlainRun, IsUncut, IsRunOf}
+use Rattle.bench_sweep.specs.Recovers.{look_numbers, nothing_compared, IsFaulty, Says}
+use Rattle.bench_sweep.specs.Rows.{differing_rows, row_lines, recovered_text, sweep_text}
+use Rattle.bench_sweep.specs.declared.sweeps.Recovered.{Recovered}
+use Rattle.report_lines.specs.declared.printed.Printed.{Printed}
 
 -- a deed that a bench has done: it cuts nothing, lets nothing fail, and leaves the disk to the firmware
 abbrev pub IsSweptDeed : Deed → Type 0
@@ -86,22 +91,23 @@ all_runs bench (caller ∷ more) (n ∷ ns) = runs_from bench caller 1 n ++ all_
 
 -- ---- what was written
 abbrev pub rows_text : List Row → List ℕ
-rows_text rows = flat_map (λ (r : Row). row_text r ++ 10 ∷ []) rows
+rows_text rows = flat_map row_lines rows
 
 -- a count went on by so many
 abbrev pub GoesOn : ℕ → ℕ → ℕ → Type 0
 GoesOn before after n = (k : ℕ) → before ≡ counted 0 k → after ≡ counted 0 (k + n)
 
--- These runs were made at so many points, one line was written for each, and each was counted. None was wrong.
--- Of each row that holds.
-pub record Writes (Is : Row → Type 0) (old now : Option (List ℕ)) (s t : Sweep) (made : List Cell) (n : ℕ) : Type 0 where
+-- These runs were made at so many points, the lines of each were written, and each was counted, and each of which a look
+-- differs. None was wrong. Of each row that holds.
+pub record Writes (Is : Row → Type 0) (old now : Option (List ℕ)) (s t : Recovered) (made : List Cell) (n : ℕ) : Type 0 where
   pub rows : List Row
   pub each : All Is rows
   pub text : Appends old now (rows_text rows)
   pub cells : map cell_of rows ≡ made
-  pub points : GoesOn s.points t.points n
-  pub runs : GoesOn s.runs t.runs (length rows)
-  pub right : t.wrong ≡ s.wrong
+  pub points : GoesOn s.sweep.points t.sweep.points n
+  pub runs : GoesOn s.sweep.runs t.sweep.runs (length rows)
+  pub right : t.sweep.wrong ≡ s.sweep.wrong
+  pub differ : GoesOn s.differ t.differ (differing_rows rows)
 
 abbrev pub total : List ℕ → ℕ
 total [] = 0
@@ -118,17 +124,59 @@ pub record WroteAll (bench : Bench) (size : Size) (start : List (List ℕ)) (lin
   pub counts : List ℕ
   pub five : length counts ≡ 5
   pub rows : List Row
-  pub each : All (λ (row : Row). IsRunOf size bench row.caller row.number (unpowered first) (drop begin lines) row.left) rows
+  pub each : All (λ (row : Row). IsRunOf size bench row.caller row.number (unpowered first) (drop begin lines) nothing_compared row.left row.recovered) rows
   pub cells : map cell_of rows ≡ all_runs bench callers counts
   pub text : Appends old now (rows_text rows ++ (sweep_text sweep ++ 10 ∷ []))
   pub points : sweep.points ≡ counted 0 (total counts)
   pub runs : sweep.runs ≡ counted 0 (length rows)
   pub right : sweep.wrong ≡ 0
 
+-- The rows of a bench with a recovery of these lines, of which the looks have those numbers: it runs behind the script's own
+-- end, and over what each run left; behind the line of a run of which a look says something else than behind that end there
+-- stands a line that tells the first, and those runs are counted.
+pub record WroteRows (bench : Bench) (size : Size) (start : List (List ℕ)) (lines after : List Line) (numbers : List ℕ)
+    (old now : Option (List ℕ)) (done : Recovered) : Type 0 where
+  pub begin : ℕ
+  pub first : ModelBench
+  pub format : IsFormatted size start (take begin lines) first
+  pub plain : IsPlainRun size (unpowered first) (drop begin lines)
+  pub own : List Printed
+  pub uncut : IsUncut size (unpowered first) (drop begin lines) after own
+  pub counts : List ℕ
+  pub five : length counts ≡ 5
+  pub rows : List Row
+  pub each : All (λ (row : Row). IsRunOf size bench row.caller row.number (unpowered first) (drop begin lines)
+      (record { lines = after; numbers = numbers; own = own }) row.left row.recovered) rows
+  pub cells : map cell_of rows ≡ all_runs bench callers counts
+  pub text : Appends old now (rows_text rows)
+  pub points : done.sweep.points ≡ counted 0 (total counts)
+  pub runs : done.sweep.runs ≡ counted 0 (length rows)
+  pub right : done.sweep.wrong ≡ 0
+  pub differ : done.differ ≡ counted 0 (differing_rows rows)
+
+-- and then the line of the counts
+abbrev pub WroteRecovered : Bench → Size → List (List ℕ) → List Line → List Line → List ℕ → Option (List ℕ) → Option (List ℕ) → Recovered → Type 0
+WroteRecovered bench size start lines after numbers old now done =
+    (mid : Option (List ℕ)) × WroteRows bench size start lines after numbers old mid done
+    × Appends mid now (recovered_text done.sweep done.differ ++ 10 ∷ [])
+
 -- what a bench of that kind makes of a script that begins with these payloads
 abbrev pub IsBenchOf : Bench → List (List ℕ) → List ℕ → Option (List ℕ) → Option (List ℕ) → Sweep → Type 0
 IsBenchOf bench start script old now sweep =
     (said : Script) × (script_of script ≡ Ok said) × WroteAll bench said.size start said.lines old now sweep
+
+-- what it makes of a script with that recovery, of whose lines these are the numbers
+abbrev pub IsRecoveredBenchOf : Bench → List (List ℕ) → List ℕ → List ℕ → List ℕ → Option (List ℕ) → Option (List ℕ) → Recovered → Type 0
+IsRecoveredBenchOf bench start script recovery numbers old now done =
+    (said : Script) × (after : List Line) × (script_of script ≡ Ok said) × Says said.size recovery after
+    × All IsPlainLine after × All IsNoFormat after × (look_numbers after numbers ≢ [])
+    × WroteRecovered bench said.size start said.lines after (look_numbers after numbers) old now done
+
+-- no bench runs a recovery of the script, which has no fault: for that fault of its bytes, or since a line of it is not plain or
+-- formats a disk, or none looks
+abbrev pub NoRecoveryRuns : List ℕ → List ℕ → Refusal → Type 0
+NoRecoveryRuns script recovery e =
+    (said : Script) × (script_of script ≡ Ok said) × ((e ≡ NotPlain) ⊎ IsFaulty said.size recovery e)
 
 -- no bench runs the script, which has no fault
 abbrev pub NoBenchRuns : List ℕ → Type 0

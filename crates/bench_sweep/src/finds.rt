@@ -15,7 +15,8 @@ ghost use Rattle.report_lines.specs.declared.printed.Printed.{Printed as Said};
 ghost use Rattle.report_lines.specs.declared.printed.Printed.TheVariants.{OnRefused};
 ghost use Rattle.bench_report.specs.Agree.{OffIs};
 ghost use Rattle.bench_report.specs.Bench.{Bench, Formatted};
-ghost use Rattle.bench_report.specs.Views.{fault_state, store_in, store_size, store_now, store_fault_state};
+ghost use Rattle.bench_report.specs.Examined.{OpensOf};
+ghost use Rattle.bench_report.specs.Views.{facts, fault_state, store_in, store_size, store_now, store_fault_state};
 ghost use Rattle.bench_sweep.specs.Made.{LooksAt};
 ghost use Rattle.bench_sweep.specs.Runs.{LeftOff, Finds, FindsState, IsJudged, IsSpoilt, PowerFinds};
 
@@ -140,6 +141,7 @@ fn look_at(alloc: Global, shape: &Shape, off: OffDisk) -> Result<Found, Refusal>
         → LeftOff shape.now b off slots ledger → Finds ledger found.plain found.left) }
     ensures says { IfOk result (λ found. (b : Bench) → OffIs shape.now b off.disk
         → (after : Bench) × LooksAt shape.now b found.left after) }
+    ensures exact { IfOk result (λ found. OpensOf (facts off.disk).content found.left) }
     ensures refused { IfErr result (λ e. e ≡ Memory) }
 {
     sizes(shape);
@@ -160,6 +162,7 @@ pub fn count_run(
     requires { (slots : List (List ℕ)) × (b : Bench) × LeftOff shape.now b off slots ledger.now }
     ensures says { IfOk result (λ left. (b : Bench) → OffIs shape.now b off.disk
         → (after : Bench) × LooksAt shape.now b left after) }
+    ensures exact { IfOk result (λ left. OpensOf (facts off.disk).content left) }
     ensures judged { IfOk result (λ left. IsJudged ledger.now left) }
     ensures points { sweep.new.points ≡ sweep.old.points }
     ensures runs { OnOk result (sweep.new.runs ≡ counted sweep.old.runs 1) }

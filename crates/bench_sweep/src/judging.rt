@@ -9,15 +9,22 @@ ghost use Rattle.bench_report.specs.Happens.{off, unpowered};
 ghost use Rattle.bench_sweep.specs.Runs.{Runs, RunsAt, LeftAt, Sits, SitsLeft};
 ghost use Rattle.bench_sweep.specs.Swept.{AreSwept, cell, runs_of};
 ghost use Rattle.bench_sweep.specs.Reports.{Keeps, Judged, IsLeft, RunsRow};
+ghost use Rattle.bench_sweep.specs.Recovers.{compared};
+ghost use Rattle.bench_sweep.specs.Made.{IsRecovered};
+ghost use Rattle.bench_report.specs.Examined.{OpensOf};
+ghost use Rattle.bench_report.specs.Views.{sim_log_of};
+ghost use Rattle.simdisk.specs.Views.{left_by_fill};
+ghost use Rattle.write_log.specs.WriteLog.{synced};
 
 use crate::finds::count_run;
 use crate::points::{Bench, Caller, FILLS, Point};
+use crate::recovery::Differs;
 use crate::rows::Row;
 use crate::runner::Runner;
 use crate::site::{Going, Site};
 use crate::sites::{Went, cut_by, run_lines};
 use bench_judge::Sweep;
-use bench_report::Setting;
+use bench_report::Answer;
 use board_model::Refusal;
 use crew::Crew;
 use disk::Disk;
@@ -50,34 +57,67 @@ impl PointRows {
     }
 }
 
-/// Cuts power, powers a board on over what that leaves of the disk, counts the run, and keeps what it told. What was not
-/// synced is left by the run's fill; where a run has none, behind a failure, with zeros.
+/// Runs the recovery over what a cut of that fill leaves, where it has a look, and tells the first that differs. A power-on
+/// over it said that, and found a state: refused `Memory` where it did not.
+fn recovered<C: Crew>(
+    runner: &Runner<'_, C>,
+    site: &Site,
+    fill: Fill,
+    left: &Answer,
+) -> Result<Option<Differs>, Refusal>
+    requires lines { AreSwept runner.now.setting.shape.now runner.now.recovery.lines.now }
+    requires sits { Sits runner.now.setting.shape.now site.now }
+    requires exact { OpensOf (left_by_fill fill (synced (sim_log_of site.now.off.disk)) (sim_log_of site.now.off.disk).written)
+        left.now }
+    ensures tells { IfOk result (λ differs. (b : ModelBench)
+        → RunsAt runner.now.setting.shape.now b site.now
+        → IsRecovered runner.now.setting.shape.now b (compared runner.now.recovery) left.now differs) }
+    ensures refused { IfErr result (λ e. e ≡ Memory) }
+{
+    if runner.recovery.own.is_empty() {
+        return Ok(None);
+    }
+    match &left.found {
+        None => Err(Refusal::Memory),
+        Some(found) => {
+            let settled = site.settled(runner.setting.alloc, fill, found)?;
+            runner.recovery.compare(&runner.setting, settled)
+        }
+    }
+}
+
+/// Cuts power, powers a board on over what that leaves of the disk, counts the run, and keeps what it told, and what the
+/// recovery then told. What was not synced is left by the run's fill; where a run has none, behind a failure, with zeros.
 fn judge_run<C: Crew>(
-    setting: &Setting<'_, C>,
+    runner: &Runner<'_, C>,
     site: &Site,
     point: Point,
     fill: Option<Fill>,
     made: &mut PointRows,
 ) -> Result<(), Refusal>
-    requires sits { Sits setting.now.shape.now site.now }
+    requires lines { AreSwept runner.now.setting.shape.now runner.now.recovery.lines.now }
+    requires sits { Sits runner.now.setting.shape.now site.now }
     ensures kept { OnOk result ((b : ModelBench)
-        → RunsAt setting.now.shape.now b site.now
-        → Keeps (IsLeft setting.now.shape.now b) made.old made.new (cell point.caller point.number fill)) }
+        → RunsAt runner.now.setting.shape.now b site.now
+        → Keeps (IsLeft runner.now.setting.shape.now b (compared runner.now.recovery)) made.old made.new (cell point.caller point.number fill)) }
     ensures refused { IfErr result (λ e. e ≡ Memory) }
 {
-    let off = cut_by(&site.off, fill.unwrap_or(Fill::Byte(0)))?;
+    let bytes = fill.unwrap_or(Fill::Byte(0));
+    let off = cut_by(&site.off, bytes)?;
     let left = count_run(
-        setting.alloc,
-        setting.shape,
+        runner.setting.alloc,
+        runner.setting.shape,
         off,
         &site.ledger,
         &mut made.sweep,
     )?;
+    let recovered = recovered(runner, site, bytes, &left)?;
     let row = Row {
         caller: point.caller,
         number: point.number,
         fill,
         left,
+        recovered,
     };
     made.rows.push(row)?;
     Ok(())
@@ -85,19 +125,20 @@ fn judge_run<C: Crew>(
 
 /// Judges what a run that a cut ended leaves by each fill.
 fn judge_each_fill<C: Crew>(
-    setting: &Setting<'_, C>,
+    runner: &Runner<'_, C>,
     site: &Site,
     point: Point,
 ) -> Result<PointRows, Refusal>
-    requires sits { Sits setting.now.shape.now site.now }
+    requires lines { AreSwept runner.now.setting.shape.now runner.now.recovery.lines.now }
+    requires sits { Sits runner.now.setting.shape.now site.now }
     ensures judged { IfOk result (λ made. (b : ModelBench)
-        → RunsAt setting.now.shape.now b site.now
-        → Judged (IsLeft setting.now.shape.now b) made (runs_of Bench.Cuts point.caller point.number)) }
+        → RunsAt runner.now.setting.shape.now b site.now
+        → Judged (IsLeft runner.now.setting.shape.now b (compared runner.now.recovery)) made (runs_of Bench.Cuts point.caller point.number)) }
     ensures refused { IfErr result (λ e. e ≡ Memory) }
 {
-    let mut made = PointRows::none(setting.alloc);
+    let mut made = PointRows::none(runner.setting.alloc);
     for fill in FILLS {
-        judge_run(setting, site, point, Some(fill), &mut made)?;
+        judge_run(runner, site, point, Some(fill), &mut made)?;
     }
     Ok(made)
 }
@@ -110,10 +151,11 @@ fn run_to_cut<C: Crew>(
     point: Point,
 ) -> Result<PointRows, Refusal>
     requires lines { AreSwept runner.now.setting.shape.now runner.now.lines.now }
+    requires recovery { AreSwept runner.now.setting.shape.now runner.now.recovery.lines.now }
     requires sits { SitsLeft runner.now.setting.shape.now site }
     ensures judged { IfOk result (λ made. (b : ModelBench)
         → LeftAt runner.now.setting.shape.now b site
-        → Judged (RunsRow runner.now.setting.shape.now Bench.Cuts point.before b runner.now.lines.now) made
+        → Judged (RunsRow runner.now.setting.shape.now Bench.Cuts point.before b runner.now.lines.now (compared runner.now.recovery)) made
         (runs_of Bench.Cuts point.caller point.number)) }
     ensures refused { IfErr result (λ e. e ≡ Memory) }
 {
@@ -121,7 +163,7 @@ fn run_to_cut<C: Crew>(
     let went = run_lines(&runner.setting, runner.lines, false, armed)?;
     // The plain run made the call. Only one that was refused memory can have missed it.
     let left = turn_off(went.going, true)?;
-    judge_each_fill(&runner.setting, &left, point)
+    judge_each_fill(runner, &left, point)
 }
 
 /// Runs the lines to their end with a failure armed at that call, cuts power, and judges what is left.
@@ -131,10 +173,11 @@ fn run_past_failure<C: Crew>(
     point: Point,
 ) -> Result<PointRows, Refusal>
     requires lines { AreSwept runner.now.setting.shape.now runner.now.lines.now }
+    requires recovery { AreSwept runner.now.setting.shape.now runner.now.recovery.lines.now }
     requires sits { SitsLeft runner.now.setting.shape.now site }
     ensures judged { IfOk result (λ made. (b : ModelBench)
         → LeftAt runner.now.setting.shape.now b site
-        → Judged (RunsRow runner.now.setting.shape.now Bench.Fails point.before b runner.now.lines.now) made
+        → Judged (RunsRow runner.now.setting.shape.now Bench.Fails point.before b runner.now.lines.now (compared runner.now.recovery)) made
         (runs_of Bench.Fails point.caller point.number)) }
     ensures refused { IfErr result (λ e. e ≡ Memory) }
 {
@@ -143,7 +186,7 @@ fn run_past_failure<C: Crew>(
     let went = run_lines(&runner.setting, runner.lines, false, armed)?;
     let left = turn_off_failed(went, runner.lines.len(), failed)?;
     let mut made = PointRows::none(runner.setting.alloc);
-    judge_run(&runner.setting, &left, point, None, &mut made)?;
+    judge_run(runner, &left, point, None, &mut made)?;
     Ok(made)
 }
 
@@ -195,10 +238,11 @@ fn run_at_point<C: Crew>(
 ) -> Result<PointRows, Refusal>
     requires few { count ≤ length runner.now.lines.now }
     requires lines { AreSwept runner.now.setting.shape.now runner.now.lines.now }
+    requires recovery { AreSwept runner.now.setting.shape.now runner.now.recovery.lines.now }
     requires sits { SitsLeft runner.now.setting.shape.now site }
     ensures judged { IfOk result (λ made. (b : ModelBench)
         → LeftAt runner.now.setting.shape.now b site
-        → Judged (RunsRow runner.now.setting.shape.now runner.now.bench point.before b runner.now.lines.now) made
+        → Judged (RunsRow runner.now.setting.shape.now runner.now.bench point.before b runner.now.lines.now (compared runner.now.recovery)) made
         (runs_of runner.now.bench point.caller point.number)) }
     ensures refused { IfErr result (λ e. e ≡ Memory) }
 {
@@ -208,6 +252,7 @@ fn run_at_point<C: Crew>(
                 setting: runner.setting,
                 bench: runner.bench,
                 lines: &runner.lines[..count],
+                recovery: runner.recovery,
             };
             run_to_cut(&front, site, point)
         }
@@ -233,11 +278,12 @@ impl<'a, 'b, C: Crew + Sync> Task for RunsAtCalls<'a, 'b, C> {
 
     type Row = PointRows;
 
-    ghost has = { λ task done. HasCall task.runner.now.setting.shape.now task.runner.now.lines.now task.count task.site.now task.before done
+    ghost has = { λ task done. HasCall task.runner.now.setting.shape.now task.runner.now.lines.now
+        task.runner.now.recovery.lines.now task.count task.site.now task.before done
         × IsSync C.Handle.row };
 
     ghost is_row = { λ task done made. IsOfCall task.runner.now.setting.shape.now task.runner.now.bench task.caller task.before
-        task.runner.now.lines.now task.site.now done made };
+        task.runner.now.lines.now (compared task.runner.now.recovery) task.site.now done made };
 
     /// Makes the runs at the call before which so many were made from the site on.
     fn row(&self, done: u64) -> Result<PointRows, Refusal> {

@@ -8,6 +8,7 @@ mod follows;
 mod harts;
 mod judging;
 mod points;
+mod recovery;
 mod rows;
 mod runner;
 mod site;
@@ -16,4 +17,5 @@ mod sweeps;
 
 pub use bench_judge::{Sweep, judge};
 pub use points::Bench;
-pub use sweeps::run_bench;
+pub use recovery::RecoveryFile;
+pub use sweeps::{Recovered, run_bench, run_bench_recovered};

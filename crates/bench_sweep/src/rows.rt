@@ -3,10 +3,12 @@
 ghost use Rattle.std.specs.Prelude.{◌≡◌, ◌⊎◌, ◌++◌, ◌∷◌, [], Some, OnOk, IfErr};
 ghost use Rattle.std.specs.Io.KnownBytes.{Appends};
 ghost use Rattle.board_model.specs.declared.refusal.Refusal.TheVariants.{Memory, Output};
-ghost use Rattle.bench_sweep.specs.Rows.{caller_text, fill_part, left_text, row_text, sweep_text};
+ghost use Rattle.bench_sweep.specs.Rows.{caller_text, differing_rows, differs_text, fill_part, left_text, recovered_text, row_lines, row_text, sweep_text, told_part};
 ghost use Rattle.bench_sweep.specs.Swept.{rows_text};
 
 use crate::points::Caller;
+use crate::recovery::Differs;
+use crate::sweeps::Recovered;
 use bench_judge::Sweep;
 use board_console::StateText;
 use board_model::Refusal;
@@ -26,6 +28,8 @@ pub struct Row {
     pub fill: Option<Fill>,
     /// What the power-on after it said.
     pub left: Answer,
+    /// The first look of the recovery over it that said something else than behind the run that nothing cuts.
+    pub recovered: Option<Differs>,
 }
 
 impl fmt::Display for Caller {
@@ -87,6 +91,7 @@ impl fmt::Display for Row {
             number,
             fill,
             left,
+            recovered: _,
         } = *self;
         let fill = FillPart(fill);
         let left = LeftText(left);
@@ -94,13 +99,56 @@ impl fmt::Display for Row {
     }
 }
 
-/// Writes a line of a bench, and hands it on: whoever reads sees it at once.
-#[tactic(auto, using(crate::proofs::Written::handed_on))]
+/// What is told behind a row of which a look differs.
+#[derive(Drop)]
+struct DiffersText {
+    row: Row,
+    differs: Differs,
+}
+
+impl fmt::Display for DiffersText {
+    ghost output = { λ text. Some (differs_text text.row text.differs) };
+
+    fn fmt<W: fmt::Write>(&self, f: &mut fmt::Formatter<W>) -> fmt::Result {
+        let Row {
+            caller,
+            number,
+            fill,
+            ..
+        } = self.row;
+        let Differs { line, said, own } = self.differs;
+        let fill = FillPart(fill);
+        write!(
+            f,
+            "{caller} {number}{fill} recover {line} {said} own {own}",
+        )
+    }
+}
+
+/// Writes what is told behind a row: a line, where a look of its recovery differs.
+#[tactic(auto, using(crate::proofs::Written::told_none, crate::proofs::Written::told_some))]
+fn write_told<W: Write>(out: &mut W, row: Row) -> Result<(), Refusal>
+    ensures ok { OnOk result (Appends (W.contents out.old) (W.contents out.new) (told_part row row.recovered)) }
+    ensures err { IfErr result (λ e. (e ≡ Memory) ⊎ (e ≡ Output)) }
+{
+    let Row { recovered, .. } = row;
+    match recovered {
+        None => Ok(()),
+        Some(differs) => {
+            let text = DiffersText { row, differs };
+            writeln!(out, "{text}").map_err(|error| unwritten(error))
+        }
+    }
+}
+
+/// Writes the lines of a run, and hands them on: whoever reads sees them at once.
+#[tactic(auto, using(crate::proofs::Written::row_handed))]
 fn write_row<W: Write>(out: &mut W, row: Row) -> Result<(), Refusal>
-    ensures ok { OnOk result (Appends (W.contents out.old) (W.contents out.new) (row_text row ++ 10 ∷ [])) }
+    ensures ok { OnOk result (Appends (W.contents out.old) (W.contents out.new) (row_lines row)) }
     ensures err { IfErr result (λ e. (e ≡ Memory) ⊎ (e ≡ Output)) }
 {
     writeln!(out, "{row}").map_err(|error| unwritten(error))?;
+    write_told(out, row)?;
     out.flush().map_err(|error| unwritten(error))
 }
 
@@ -113,6 +161,33 @@ pub fn write_rows<W: Write>(out: &mut W, rows: &[Row]) -> Result<(), Refusal>
         write_row(out, *row)?;
     }
     Ok(())
+}
+
+/// How many of these rows have a look that differs.
+pub fn differing(rows: &[Row]) -> u64
+    ensures { result ≡ differing_rows rows.now }
+{
+    rows.iter().filter(|row| row.recovered.is_some()).count() as u64
+}
+
+/// Writes the last line of a bench with a recovery.
+#[tactic(auto, using(crate::proofs::Written::handed_on))]
+pub fn write_recovered<W: Write>(out: &mut W, done: Recovered) -> Result<(), Refusal>
+    ensures ok { OnOk result (Appends (W.contents out.old) (W.contents out.new) (recovered_text done.sweep done.differ ++ 10 ∷ [])) }
+    ensures err { IfErr result (λ e. (e ≡ Memory) ⊎ (e ≡ Output)) }
+{
+    let Recovered { sweep, differ } = done;
+    let Sweep {
+        points,
+        runs,
+        wrong,
+    } = sweep;
+    writeln!(
+        out,
+        "points {points} runs {runs} wrong {wrong} differ {differ}",
+    )
+    .map_err(|error| unwritten(error))?;
+    out.flush().map_err(|error| unwritten(error))
 }
 
 /// Writes the last line of a bench.

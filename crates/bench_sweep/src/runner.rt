@@ -1,6 +1,7 @@
 //! How a bench runs the lines of its script, over and over.
 
 use crate::points::Bench;
+use crate::recovery::Recovery;
 use bench_report::Setting;
 use script_lang::Line;
 
@@ -10,4 +11,6 @@ pub struct Runner<'a, C> {
     pub setting: Setting<'a, C>,
     pub bench: Bench,
     pub lines: &'a [Line],
+    /// What runs behind each run, over what it left.
+    pub recovery: Recovery<'a>,
 }

@@ -1,20 +1,24 @@
 //! How a run goes on from a site.
 
 ghost use Rattle.std.specs.Prelude.{◌≡◌, ◌≤◌, ◌<◌, Some, None, true, false, length, take, All, IfOk, IfErr, OnOk, MatchOption};
+ghost use Rattle.board_model.specs.Durable.{DurableState};
 ghost use Rattle.board_model.specs.Shapes.{Size};
+ghost use Rattle.board_model.specs.Views.{durable_of};
 ghost use Rattle.board_model.specs.declared.refusal.Refusal.TheVariants.{Memory};
 ghost use Rattle.script_lang.specs.Lines.{IsLineInRange};
 ghost use Rattle.script_lang.specs.declared.line.Line.TheVariants as lines;
+ghost use Rattle.disk.specs.Facts.{Only};
 ghost use Rattle.simdisk.specs.Views.{left_by_fill};
+ghost use Rattle.store.specs.Standing.{StandsFor};
 ghost use Rattle.write_log.specs.WriteLog.{synced};
 ghost use Rattle.bench_report.specs.declared.power.Power.TheVariants.{Off};
 ghost use Rattle.bench_report.specs.Agree.{Agrees, OffIs, IsUnstruck};
 ghost use Rattle.bench_report.specs.Bench.{Bench};
 ghost use Rattle.bench_report.specs.Happens.{armed_with, off, unpowered};
 ghost use Rattle.bench_report.specs.Views.{arms, facts, sim_log_of};
-ghost use Rattle.bench_sweep.specs.Lines.{LineMoves, PowerMoves};
+ghost use Rattle.bench_sweep.specs.Lines.{LineMoves, LineSays, PowerMoves};
 ghost use Rattle.bench_sweep.specs.Points.{calls_of, fault_at};
-ghost use Rattle.bench_sweep.specs.Runs.{Runs, RunsAt, RunsCalm, LeftAt, RanTo, StopsOff};
+ghost use Rattle.bench_sweep.specs.Runs.{Runs, RunsAt, RunsCalm, LeftAt, RanTo, SettlesAt, StopsOff};
 ghost use Rattle.bench_sweep.specs.Swept.{IsPlainLine};
 ghost use Rattle.bench_sweep.specs.Told.{moves_harts, powers_on};
 ghost use Rattle.bench_sweep.specs.declared.points.Caller.{Caller};
@@ -25,15 +29,15 @@ use crate::points::{Bench as Kind, Point};
 use crate::site::{Going, Site};
 use bench_judge::Ledger;
 use bench_report::{
-    OffDisk, Power, Setting, arm_disk, console, disk_left, line_alone, power_on, struck,
+    OffDisk, Power, Printed, Setting, arm_disk, console, disk_left, line_alone, power_on, struck,
 };
 use board::Payloads;
-use board_model::{BootMode, ConsoleCommand, Refusal, Shape};
+use board_model::{BootMode, ConsoleCommand, Durable, Refusal, Shape};
 use crew::Crew;
 use script_lang::Line;
 use simdisk::{Fill, SimDisk};
 use std::alloc::Global;
-use store::kept_disks;
+use store::{kept_disks, one_standing};
 
 /// The disk that a power cut leaves of that one, with that fill in the place of what was written since the last sync.
 /// That one stays as it is.
@@ -42,6 +46,7 @@ pub fn cut_by(off: &OffDisk, fill: Fill) -> Result<OffDisk, Refusal>
         → OffIs size (unpowered b) left.disk) }
     ensures exact { IfOk result (λ left. (facts left.disk).content
         ≡ left_by_fill fill (synced (sim_log_of off.now.disk)) (sim_log_of off.now.disk).written) }
+    ensures durable { IfOk result (λ left. Only (facts left.disk).content (facts left.disk).may_leave) }
     ensures calls { IfOk result (λ left. (caller : Caller) → calls_of caller left.disk ≡ calls_of caller off.now.disk) }
     ensures refused { IfErr result (λ e. e ≡ Memory) }
 {
@@ -61,7 +66,45 @@ pub fn is_off(power: &Power) -> bool
 }
 
 impl Site {
-    /// A site to run from: its disk is the one that a power cut leaves of this one's, of which all is durable.
+    /// A site to run from: its disk is the one that a power cut leaves of this one's, with that fill in the place of what
+    /// was written since the last sync.
+    pub fn left(&self, alloc: Global, fill: Fill) -> Result<Site, Refusal>
+        ensures runs { IfOk result (λ left. (size : Size) (b : Bench) → RunsAt size b self.now
+            → LeftAt size (unpowered b) left) }
+        ensures exact { IfOk result (λ left. (facts left.off.disk).content
+            ≡ left_by_fill fill (synced (sim_log_of self.now.off.disk)) (sim_log_of self.now.off.disk).written) }
+        ensures durable { IfOk result (λ left. Only (facts left.off.disk).content (facts left.off.disk).may_leave) }
+        ensures calls { IfOk result (λ left. (caller : Caller)
+            → calls_of caller left.off.disk ≡ calls_of caller self.now.off.disk) }
+        ensures resumed { IfOk result (λ left. left.ledger.resumed.items ≡ self.now.ledger.resumed.items) }
+        ensures refused { IfErr result (λ e. e ≡ Memory) }
+    {
+        let off = cut_by(&self.off, fill)?;
+        let payloads = self.payloads.copy()?;
+        let ledger = self.ledger.copy(alloc)?;
+        Ok(Site {
+            off,
+            payloads,
+            ledger,
+        })
+    }
+
+    /// The same, where a power-on over what the cut leaves found that state, which settles the command in doubt.
+    pub fn settled(&self, alloc: Global, fill: Fill, found: &Durable) -> Result<Site, Refusal>
+        requires { (size : Size) × (s : DurableState)
+            × StandsFor (left_by_fill fill (synced (sim_log_of self.now.off.disk)) (sim_log_of self.now.off.disk).written) size s
+            × (found.now ≡ durable_of s) }
+        ensures settles { IfOk result (λ left. (size : Size) (b : Bench) → RunsAt size b self.now
+            → SettlesAt size (unpowered b) found.now left) }
+        ensures refused { IfErr result (λ e. e ≡ Memory) }
+    {
+        one_standing();
+        let mut left = self.left(alloc, fill)?;
+        left.ledger.settles(found);
+        Ok(left)
+    }
+
+    /// The same of a site of whose disk all is durable.
     pub fn copy(&self, alloc: Global) -> Result<Site, Refusal>
         ensures runs { IfOk result (λ copy. (size : Size) (b : Bench) → RunsAt size b self.now
             → LeftAt size (unpowered b) copy) }
@@ -70,14 +113,7 @@ impl Site {
         ensures resumed { IfOk result (λ copy. copy.ledger.resumed.items ≡ self.now.ledger.resumed.items) }
         ensures refused { IfErr result (λ e. e ≡ Memory) }
     {
-        let off = cut_by(&self.off, Fill::Old)?;
-        let payloads = self.payloads.copy()?;
-        let ledger = self.ledger.copy(alloc)?;
-        Ok(Site {
-            off,
-            payloads,
-            ledger,
-        })
+        self.left(alloc, Fill::Old)
     }
 
     /// The site with what a bench of that kind does at the point armed on its disk.
@@ -179,7 +215,33 @@ fn run_power_on(
     }
 }
 
-/// Runs a line that moves no hart and powers no board on, and the ledger follows it.
+/// Runs a line that moves no hart and powers no board on, and the ledger follows it. Answers also what the line said.
+pub fn say_still_line<C: Crew>(
+    setting: &Setting<'_, C>,
+    line: &Line,
+    power: Power,
+    payloads: &mut Payloads,
+    ledger: &mut Ledger,
+) -> Result<(Power, Printed), Refusal>
+    requires range { IsLineInRange setting.now.shape.now line.now }
+    requires plain { IsPlainLine line.now }
+    requires of_none { moves_harts line.now ≡ false }
+    requires no_boot { powers_on line.now ≡ false }
+    requires calm { IsUnstruck power }
+    ensures says { IfOk result (λ did. (b : Bench) → RunsCalm setting.now.shape.now b power payloads.old ledger.old
+        → LineSays setting.now.shape.now line.now b did.1 did.0 payloads.new ledger.new) }
+    ensures resumed { ledger.new.resumed ≡ ledger.old.resumed }
+    ensures refused { IfErr result (λ e. e ≡ Memory) }
+{
+    let (power, answer) = line_alone(setting, line, power, payloads);
+    record_answered(ledger, setting.alloc, line, answer)?;
+    match &answer {
+        Ok(said) => Ok((power, said.line)),
+        Err(refusal) => Err(*refusal),
+    }
+}
+
+/// The same of a line of which nobody asks what it said.
 fn run_still_line<C: Crew>(
     setting: &Setting<'_, C>,
     line: &Line,
@@ -197,8 +259,7 @@ fn run_still_line<C: Crew>(
     ensures resumed { ledger.new.resumed ≡ ledger.old.resumed }
     ensures refused { IfErr result (λ e. e ≡ Memory) }
 {
-    let (power, answer) = line_alone(setting, line, power, payloads);
-    record_answered(ledger, setting.alloc, line, answer)?;
+    let (power, _said) = say_still_line(setting, line, power, payloads, ledger)?;
     Ok(power)
 }
 
@@ -243,7 +304,11 @@ fn run_on_power<C: Crew>(
 /// Runs one line, and the ledger follows it. An armed cut that struck within it is not made yet.
 ///
 /// Refused `Memory` where the line was, or the ledger.
-fn run_line<C: Crew>(setting: &Setting<'_, C>, line: &Line, going: Going) -> Result<Going, Refusal>
+pub fn run_line<C: Crew>(
+    setting: &Setting<'_, C>,
+    line: &Line,
+    going: Going,
+) -> Result<Going, Refusal>
     requires range { IsLineInRange setting.now.shape.now line.now }
     requires plain { IsPlainLine line.now }
     requires calm { IsUnstruck going.power }

@@ -9,16 +9,17 @@ ghost use Rattle.script_lang.specs.Lines.{IsLineInRange};
 ghost use Rattle.script_lang.specs.Scripts.{script_of, Script as Said};
 ghost use Rattle.bench_report.specs.Bench.{Bench as ModelBench};
 ghost use Rattle.bench_report.specs.Happens.{off, unpowered};
-ghost use Rattle.bench_sweep.specs.Made.{IsPlainRun};
 ghost use Rattle.bench_sweep.specs.Points.{calls_of, MadeCalls};
-ghost use Rattle.bench_sweep.specs.Runs.{Runs, RunsAt, LeftAt, Sits, SitsLeft, IsLife};
-ghost use Rattle.bench_sweep.specs.Swept.{IsPlainLine, IsNoFormat, IsNotPlain, NoBenchRuns, AreSwept, cell, runs_of, runs_from, all_runs, callers, total, WroteAll, IsBenchOf};
+ghost use Rattle.bench_sweep.specs.Runs.{Runs, RunsAt, LeftAt, Sits, SitsLeft, IsEnd, IsLife};
+ghost use Rattle.bench_sweep.specs.Swept.{IsPlainLine, IsNoFormat, IsNotPlain, NoBenchRuns, NoRecoveryRuns, AreSwept, cell, runs_of, runs_from, all_runs, callers, total, WroteRows, IsBenchOf, IsRecoveredBenchOf};
+ghost use Rattle.bench_sweep.specs.Recovers.{compared};
 ghost use Rattle.bench_sweep.specs.Reports.{Reports, ReportsAll, ReportsScript, IsLeft, RunsRow, IsRow};
 
 use crate::begins::run_to_format;
 use crate::judging::{PointRows, RunsAtCalls, turn_off};
 use crate::points::{Bench, CALLERS, Caller};
-use crate::rows::{write_rows, write_sweep};
+use crate::recovery::{Recovery, RecoveryFile, looks_of, numbers_of_looks, recovery_lines};
+use crate::rows::{differing, write_recovered, write_rows, write_sweep};
 use crate::runner::Runner;
 use crate::site::Site;
 use crate::sites::run_lines;
@@ -37,7 +38,7 @@ use std::thread::Threads;
 #[derive(Drop)]
 struct Report<'a, W> {
     out: &'a mut W,
-    sweep: Sweep,
+    done: Recovered,
 }
 
 impl<'a, W: Write> Sink<PointRows> for Report<'a, W> {
@@ -49,8 +50,9 @@ impl<'a, W: Write> Sink<PointRows> for Report<'a, W> {
     fn take(&mut self, made: PointRows) -> Result<(), Refusal> {
         let PointRows { rows, sweep } = made;
         write_rows(self.out, rows.as_slice())?;
-        self.sweep.runs = self.sweep.runs.saturating_add(sweep.runs);
-        self.sweep.wrong = self.sweep.wrong.saturating_add(sweep.wrong);
+        self.done.differ = self.done.differ.saturating_add(differing(rows.as_slice()));
+        self.done.sweep.runs = self.done.sweep.runs.saturating_add(sweep.runs);
+        self.done.sweep.wrong = self.done.sweep.wrong.saturating_add(sweep.wrong);
         Ok(())
     }
 }
@@ -77,10 +79,11 @@ fn run_at_calls<R: Threads + Sync, C: Crew + Sync, W: Write>(
     requires few { count ≤ length runner.now.lines.now }
     requires numbers { calls.made + calls.count < 2 ^ 64 }
     requires lines { AreSwept runner.now.setting.shape.now runner.now.lines.now }
+    requires recovery { AreSwept runner.now.setting.shape.now runner.now.recovery.lines.now }
     requires sits { Sits runner.now.setting.shape.now site.now }
     ensures wrote { OnOk result ((b : ModelBench)
         → RunsAt runner.now.setting.shape.now b site.now
-        → Reports W.contents (RunsRow runner.now.setting.shape.now runner.now.bench calls.made (unpowered b) runner.now.lines.now)
+        → Reports W.contents (RunsRow runner.now.setting.shape.now runner.now.bench calls.made (unpowered b) runner.now.lines.now (compared runner.now.recovery))
         report.old report.new (runs_from runner.now.bench calls.caller (calls.made + 1) calls.count) 0) }
     ensures refused { IfErr result (λ e. (e ≡ Memory) ⊎ (e ≡ Output)) }
 {
@@ -148,6 +151,7 @@ fn sweep_stretch<R: Threads + Sync, C: Crew + Sync, W: Write>(
     report: &mut Report<'_, W>,
 ) -> Result<(usize, u64), Refusal>
     requires lines { AreSwept runner.now.setting.shape.now runner.now.lines.now }
+    requires recovery { AreSwept runner.now.setting.shape.now runner.now.recovery.lines.now }
     requires sits { Sits runner.now.setting.shape.now site.old }
     requires made { made ≤ calls_of caller site.old.off.disk }
     ensures few { IfOk result (λ did. did.0 ≤ length runner.now.lines.now) }
@@ -160,7 +164,7 @@ fn sweep_stretch<R: Threads + Sync, C: Crew + Sync, W: Write>(
         → IsLife runner.now.setting.shape.now b runner.now.lines.now did.0 site.new) }
     ensures wrote { IfOk result (λ did. (b : ModelBench)
         → RunsAt runner.now.setting.shape.now b site.old
-        → Reports W.contents (RunsRow runner.now.setting.shape.now runner.now.bench made (unpowered b) runner.now.lines.now)
+        → Reports W.contents (RunsRow runner.now.setting.shape.now runner.now.bench made (unpowered b) runner.now.lines.now (compared runner.now.recovery))
         report.old report.new (runs_from runner.now.bench caller (made + 1) did.1) 0) }
     ensures refused { IfErr result (λ e. (e ≡ Memory) ⊎ (e ≡ Output)) }
 {
@@ -186,10 +190,11 @@ fn sweep_caller<R: Threads + Sync, C: Crew + Sync, W: Write>(
     report: &mut Report<'_, W>,
 ) -> Result<u64, Refusal>
     requires lines { AreSwept runner.now.setting.shape.now runner.now.lines.now }
+    requires recovery { AreSwept runner.now.setting.shape.now runner.now.recovery.lines.now }
     requires sits { Sits runner.now.setting.shape.now begin.now }
     ensures wrote { IfOk result (λ n. (b : ModelBench)
         → RunsAt runner.now.setting.shape.now b begin.now
-        → Reports W.contents (IsRow runner.now.setting.shape.now runner.now.bench (unpowered b) runner.now.lines.now)
+        → Reports W.contents (IsRow runner.now.setting.shape.now runner.now.bench (unpowered b) runner.now.lines.now (compared runner.now.recovery))
         report.old report.new (runs_from runner.now.bench caller 1 n) n) }
     ensures refused { IfErr result (λ e. (e ≡ Memory) ⊎ (e ≡ Output)) }
 {
@@ -201,12 +206,13 @@ fn sweep_caller<R: Threads + Sync, C: Crew + Sync, W: Write>(
             setting: runner.setting,
             bench: runner.bench,
             lines: &runner.lines[from..],
+            recovery: runner.recovery,
         };
         let (count, calls) = sweep_stretch(jobs, &rest, &mut site, caller, made, report)?;
         from += count;
         made += calls;
     }
-    report.sweep.points = report.sweep.points.saturating_add(made);
+    report.done.sweep.points = report.done.sweep.points.saturating_add(made);
     Ok(made)
 }
 
@@ -215,9 +221,9 @@ fn sweep_caller<R: Threads + Sync, C: Crew + Sync, W: Write>(
 fn run_plain<C: Crew>(runner: &Runner<'_, C>, begin: &Site) -> Result<Site, Refusal>
     requires lines { AreSwept runner.now.setting.shape.now runner.now.lines.now }
     requires sits { Sits runner.now.setting.shape.now begin.now }
-    ensures plain { IfOk result (λ end. (b : ModelBench)
+    ensures ends { IfOk result (λ end. (b : ModelBench)
         → RunsAt runner.now.setting.shape.now b begin.now
-        → IsPlainRun runner.now.setting.shape.now (unpowered b) runner.now.lines.now) }
+        → IsEnd runner.now.setting.shape.now (unpowered b) runner.now.lines.now end) }
     ensures refused { IfErr result (λ e. e ≡ Memory) }
 {
     let mut site = begin.copy(runner.setting.alloc)?;
@@ -227,6 +233,7 @@ fn run_plain<C: Crew>(runner: &Runner<'_, C>, begin: &Site) -> Result<Site, Refu
             setting: runner.setting,
             bench: runner.bench,
             lines: &runner.lines[from..],
+            recovery: runner.recovery,
         };
         let Stretch { count, next } = stretch_of(&rest, &site)?;
         from += count;
@@ -249,11 +256,12 @@ fn sweep_all_callers<R: Threads + Sync, C: Crew + Sync, W: Write>(
     report: &mut Report<'_, W>,
 ) -> Result<(), Refusal>
     requires lines { AreSwept runner.now.setting.shape.now runner.now.lines.now }
+    requires recovery { AreSwept runner.now.setting.shape.now runner.now.recovery.lines.now }
     requires sits { Sits runner.now.setting.shape.now site.now }
     ensures wrote { OnOk result ((b : ModelBench)
         → RunsAt runner.now.setting.shape.now b site.now
         → (counts : List ℕ) × AllZip (MadeCalls site.now.off.disk end.now.off.disk) callers counts
-        × Reports W.contents (IsRow runner.now.setting.shape.now runner.now.bench (unpowered b) runner.now.lines.now)
+        × Reports W.contents (IsRow runner.now.setting.shape.now runner.now.bench (unpowered b) runner.now.lines.now (compared runner.now.recovery))
         report.old report.new (all_runs runner.now.bench callers counts) (total counts)) }
     ensures refused { IfErr result (λ e. (e ≡ Memory) ⊎ (e ≡ Output)) }
 {
@@ -275,15 +283,29 @@ fn sweep_site<R: Threads + Sync, C: Crew + Sync, W: Write>(
     report: &mut Report<'_, W>,
 ) -> Result<(), Refusal>
     requires lines { AreSwept runner.now.setting.shape.now runner.now.lines.now }
+    requires recovery { AreSwept runner.now.setting.shape.now runner.now.recovery.lines.now }
     requires sits { Sits runner.now.setting.shape.now site.now }
     ensures wrote { OnOk result ((b : ModelBench)
         → RunsAt runner.now.setting.shape.now b site.now
         → ReportsAll W.contents runner.now.setting.shape.now runner.now.bench (unpowered b) runner.now.lines.now
-        report.old report.new) }
+        runner.now.recovery.lines.now runner.now.recovery.numbers.now report.old report.new) }
     ensures refused { IfErr result (λ e. (e ≡ Memory) ⊎ (e ≡ Output)) }
 {
     let end = run_plain(runner, site)?;
-    sweep_all_callers(jobs, runner, site, &end, report)
+    let left = end.copy(runner.setting.alloc)?;
+    let own = looks_of(&runner.setting, runner.recovery.lines, left)?;
+    let recovery = Recovery {
+        lines: runner.recovery.lines,
+        numbers: runner.recovery.numbers,
+        own: &own,
+    };
+    let compared = Runner {
+        setting: runner.setting,
+        bench: runner.bench,
+        lines: runner.lines,
+        recovery,
+    };
+    sweep_all_callers(jobs, &compared, site, &end, report)
 }
 
 /// Whether a bench runs the line: it cuts nothing, lets nothing fail, and leaves the disk to the firmware.
@@ -335,18 +357,39 @@ fn check_plain(lines: &[Line]) -> Result<(), Refusal>
     Ok(())
 }
 
+/// Refused `NotPlain` exactly where these lines are no recovery: one of them is not plain, or formats a disk.
+fn check_recovery(lines: &[Line]) -> Result<(), Refusal>
+    ensures plain { OnOk result (All IsPlainLine lines.now × All IsNoFormat lines.now) }
+    ensures refused { IfErr result (λ e. e ≡ NotPlain) }
+{
+    if !are_plain(lines) || !format_none(lines) {
+        return Err(Refusal::NotPlain);
+    }
+    Ok(())
+}
+
+/// What a bench with a recovery made.
+#[derive(Clone, Copy, Drop)]
+pub struct Recovered {
+    pub sweep: Sweep,
+    /// Of how many runs a look of the recovery said something else than behind the run that nothing cuts.
+    pub differ: u64,
+}
+
 /// Goes over the points of those lines, which stand in a script that begins with these payloads.
 fn sweep_lines<'a, R: Threads + Sync, C: Crew + Sync, W: Write>(
     jobs: &Jobs<'_, R>,
     setting: &Setting<'a, C>,
     bench: Bench,
     lines: &'a [Line],
+    recovery: Recovery<'a>,
     payloads: &Payloads,
     report: &mut Report<'_, W>,
 ) -> Result<(), Refusal>
     requires lines { AreSwept setting.now.shape.now lines.now }
-    ensures wrote { OnOk result (ReportsScript W.contents setting.now.shape.now bench payloads.now lines.now report.old
-        report.new) }
+    requires recovery { AreSwept setting.now.shape.now recovery.lines.now }
+    ensures wrote { OnOk result (ReportsScript W.contents setting.now.shape.now bench payloads.now lines.now
+        recovery.entry.lines.now recovery.entry.numbers.now report.old report.new) }
     ensures refused { IfErr result (λ e. (e ≡ Memory) ⊎ (e ≡ Output)) }
 {
     let (count, site) = run_to_format(setting, lines, payloads)?;
@@ -354,22 +397,25 @@ fn sweep_lines<'a, R: Threads + Sync, C: Crew + Sync, W: Write>(
         setting: *setting,
         bench,
         lines: &lines[count..],
+        recovery,
     };
     sweep_site(jobs, &runner, &site, report)
 }
 
-/// Writes what that bench makes of those lines, and the line of its counts.
+/// Writes the rows that the bench makes of those lines, and answers their counts.
 fn write_swept<'a, R: Threads + Sync, C: Crew + Sync, W: Write>(
     jobs: &Jobs<'_, R>,
     setting: &Setting<'a, C>,
     bench: Bench,
     lines: &'a [Line],
+    recovery: Recovery<'a>,
     payloads: &Payloads,
     out: &mut W,
-) -> Result<Sweep, Refusal>
+) -> Result<Recovered, Refusal>
     requires lines { AreSwept setting.now.shape.now lines.now }
-    ensures wrote { IfOk result (λ sweep. WroteAll bench setting.now.shape.now payloads.now lines.now
-        (W.contents out.old) (W.contents out.new) sweep) }
+    requires recovery { AreSwept setting.now.shape.now recovery.lines.now }
+    ensures wrote { IfOk result (λ done. WroteRows bench setting.now.shape.now payloads.now lines.now recovery.entry.lines.now
+        recovery.entry.numbers.now (W.contents out.old) (W.contents out.new) done) }
     ensures refused { IfErr result (λ e. (e ≡ Memory) ⊎ (e ≡ Output)) }
 {
     let sweep = Sweep {
@@ -377,26 +423,27 @@ fn write_swept<'a, R: Threads + Sync, C: Crew + Sync, W: Write>(
         runs: 0,
         wrong: 0,
     };
-    let mut report = Report { out, sweep };
-    sweep_lines(jobs, setting, bench, lines, payloads, &mut report)?;
-    let Report { out, sweep } = report;
-    write_sweep(out, sweep)?;
-    Ok(sweep)
+    let done = Recovered { sweep, differ: 0 };
+    let mut report = Report { out, done };
+    sweep_lines(jobs, setting, bench, lines, recovery, payloads, &mut report)?;
+    Ok(report.done)
 }
 
-/// Runs that bench over a script whose lines are all plain.
+/// Runs that bench over a script whose lines are all plain, with a recovery of which they are too.
 fn sweep_plain_script<R: Threads + Sync, W: Write>(
     jobs: &Jobs<'_, R>,
     alloc: Global,
     bench: Bench,
     script: &Script,
+    recovery: Recovery<'_>,
     payloads: &Payloads,
     out: &mut W,
-) -> Result<Sweep, Refusal>
+) -> Result<Recovered, Refusal>
     requires ranges { All (IsLineInRange script.now.shape) script.now.lines.items }
     requires plain { All IsPlainLine script.now.lines.items }
-    ensures wrote { IfOk result (λ sweep. WroteAll bench script.now.shape payloads.now script.now.lines.items
-        (W.contents out.old) (W.contents out.new) sweep) }
+    requires recovery { AreSwept script.now.shape recovery.lines.now }
+    ensures wrote { IfOk result (λ done. WroteRows bench script.now.shape payloads.now script.now.lines.items recovery.entry.lines.now
+        recovery.entry.numbers.now (W.contents out.old) (W.contents out.new) done) }
     ensures refused { IfErr result (λ e. (e ≡ Memory) ⊎ (e ≡ Output)) }
 {
     let crew = Sequential::<R>::new([0, 1, 2, 3])?;
@@ -405,7 +452,15 @@ fn sweep_plain_script<R: Threads + Sync, W: Write>(
         crew: &crew,
         shape: &script.shape,
     };
-    write_swept(jobs, &setting, bench, &script.lines, payloads, out)
+    write_swept(
+        jobs,
+        &setting,
+        bench,
+        &script.lines,
+        recovery,
+        payloads,
+        out,
+    )
 }
 
 /// A bench (docs/SCRIPT.md, "The benches") over the script that begins with these payloads: a slot boots its own until a
@@ -443,5 +498,53 @@ pub fn run_bench<R: Threads + Sync, W: Write>(
 {
     let script = parse_script(alloc, script)?;
     check_plain(&script.lines)?;
-    sweep_plain_script::<R, W>(jobs, alloc, bench, &script, &payloads, out)
+    let nothing = Recovery {
+        lines: &[],
+        numbers: &[],
+        own: &[],
+    };
+    let done = sweep_plain_script::<R, W>(jobs, alloc, bench, &script, nothing, &payloads, out)?;
+    write_sweep(out, done.sweep)?;
+    Ok(done.sweep)
+}
+
+/// The same bench, with an operator's recovery: lines that follow a power-off, for the board of the script, whose slots
+/// boot what they boot at the cut. They run behind the script's own end, with power cut there, and over what each run left;
+/// what the looks among them say (`mem`, `reg`, `csr`, `pc`, `pending` and `inspect`) is compared. Behind the line of a run
+/// of which a look says something else a line tells the first, and the line of the counts ends with how many runs those are.
+///
+/// Refused as `run_bench` is, and `BadScript` or `NotPlain` also for a line of the recovery that is none, or that formats,
+/// arms, cuts power or pokes; `NotPlain` also where none of them looks.
+pub fn run_bench_recovered<R: Threads + Sync, W: Write>(
+    jobs: &Jobs<'_, R>,
+    alloc: Global,
+    bench: Bench,
+    script: &[u8],
+    recovery: RecoveryFile<'_>,
+    payloads: Payloads,
+    out: &mut W,
+) -> Result<Recovered, Refusal>
+    ensures wrote { IfOk result (λ done. IsRecoveredBenchOf bench payloads script.now recovery.entry.bytes.now recovery.entry.numbers.now
+        (W.contents out.old) (W.contents out.new) done) }
+    // A refusal is want of memory, or the writer's, or the script's fault, or no bench runs the script, or its recovery.
+    ensures refused { IfErr result (λ e. (e ≡ Memory) ⊎ (e ≡ Output) ⊎ (script_of script.now ≡ Err e)
+        ⊎ ((e ≡ NotPlain) × NoBenchRuns script.now) ⊎ NoRecoveryRuns script.now recovery.entry.bytes.now e) }
+{
+    let script = parse_script(alloc, script)?;
+    check_plain(&script.lines)?;
+    let lines = recovery_lines(alloc, &script.shape, recovery.bytes)?;
+    check_recovery(&lines)?;
+    let numbers = numbers_of_looks(alloc, &lines, recovery.numbers)?;
+    // Nothing would be compared.
+    if numbers.is_empty() {
+        return Err(Refusal::NotPlain);
+    }
+    let behind = Recovery {
+        lines: &lines,
+        numbers: &numbers,
+        own: &[],
+    };
+    let done = sweep_plain_script::<R, W>(jobs, alloc, bench, &script, behind, &payloads, out)?;
+    write_recovered(out, done)?;
+    Ok(done)
 }

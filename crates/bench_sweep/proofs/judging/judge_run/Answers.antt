@@ -1,22 +1,29 @@
-use Rattle.std.proofs.Common.{◌≡◌, refl, OnOk}
+use Rattle.std.proofs.Common.{◌≡◌, refl, subst, OnOk}
 use Rattle.board_model.specs.Plains.{state_in}
 use Rattle.board_model.specs.Views.{durable_of}
+use Rattle.disk.specs.Facts.{Content}
+use Rattle.bench_report.specs.Examined.{OpensOf}
 use Rattle.bench_report.specs.Happens.{unpowered}
 use Rattle.bench_sweep.proofs.Left.{left_by}
 use Rattle.bench_sweep.proofs.judging.judge_run.Goals as goal
 
 pub count_run-requires : goal.count_run-requires
 count_run-requires g c =
-    let size = c.args.setting.now.shape.now in
+    let size = c.args.runner.now.setting.shape.now in
     let sits = c.requires.sits in
     (c.args.site.now.payloads, unpowered sits.0, left_by size sits.0 c.args.site.now.off c.in_ok-off.off c.args.site.now.payloads _ c.args.site.now.ledger c.args.site.now.ledger sits.1 (c.in_ok-off.ensures.left size sits.0 sits.1.agrees) refl (λ k t. t))
 
+pub recovered-requires-clause-exact : goal.recovered-requires-clause-exact
+recovered-requires-clause-exact g c κs within =
+    let P : Content → Type 0 = λ content. OpensOf content c.in_ok-left.left in
+    subst P c.in_ok-off.ensures.exact c.in_ok-left.ensures.exact
+
 pub returns-clause-kept : goal.returns-clause-kept
 returns-clause-kept g c = λ b r.
-    let size = c.args.setting.now.shape.now in
+    let size = c.args.runner.now.setting.shape.now in
     let did = c.in_ok-left.ensures in record {
-      row = record { caller = c.args.point.caller; number = c.args.point.number; fill = c.args.fill; left = c.in_ok-left.left };
-      is = (did.says (unpowered b) (c.in_ok-off.ensures.left size b r.agrees), (durable_of (state_in did.judged.plain), did.judged.says));
+      row = record { caller = c.args.point.caller; number = c.args.point.number; fill = c.args.fill; left = c.in_ok-left.left; recovered = c.in_ok-recovered.recovered };
+      is = (did.says (unpowered b) (c.in_ok-off.ensures.left size b r.agrees), (durable_of (state_in did.judged.plain), did.judged.says), c.in_ok-recovered.ensures.tells b r);
       cell = refl;
       rows = c.in_ok-push.ensures.items;
       runs = did.runs;

@@ -2,6 +2,7 @@ use Rattle.std.proofs.Common.{◌≡◌, ℕ, [], refl, arith, length}
 use Rattle.bench_sweep.specs.declared.points.Bench.TheVariants.{Fails}
 use Rattle.bench_sweep.specs.Points.{fault_at}
 use Rattle.bench_report.specs.Happens.{armed_with, off}
+use Rattle.bench_sweep.specs.Recovers.{compared}
 use Rattle.bench_sweep.proofs.Made.{past_failure}
 use Rattle.bench_sweep.proofs.Rowed.{judged_none, judged_more, judged_at}
 use Rattle.bench_sweep.proofs.judging.run_past_failure.Goals as goal
@@ -25,5 +26,5 @@ returns-clause-judged g c = λ b l.
     let all : c.in_ok-went.went.count ≡ length lines = omega (arith, c.in_ok-went.ensures.few, c.in_ok-left.ensures.whole) in
     let none = c.none-made.ensures in
     judged_at Fails c.args.point.caller c.args.point.number _ _ _
-    (past_failure size c.args.point b lines c.in_ok-went.went.count _ _ _ all ran left.0 left.1)
+    (past_failure size c.args.point b lines c.in_ok-went.went.count _ _ _ all ran left.0 left.1 (compared c.args.runner.now.recovery))
     (judged_more _ _ _ [] _ (judged_none _ _ none.rows none.runs none.right) (c.in_ok-judge_run.ensures.kept (off ran.bench) left.2))

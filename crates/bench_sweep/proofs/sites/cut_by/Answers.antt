@@ -11,3 +11,6 @@ returns-clause-left c = λ size b off. left_off c.kept_disks.ensures.goes_on siz
 
 pub returns-clause-calls : goal.returns-clause-calls
 returns-clause-calls c = λ caller. same_calls caller c.args.off.now.disk c.in_ok-disk.disk c.in_ok-disk.ensures.left.calls c.in_ok-disk.ensures.lane_calls
+
+pub returns-clause-durable : goal.returns-clause-durable
+returns-clause-durable c = c.in_ok-disk.ensures.left.fresh.durable

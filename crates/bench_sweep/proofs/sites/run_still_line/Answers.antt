@@ -1,7 +1,5 @@
-use Rattle.bench_sweep.proofs.Left.{answered_runs}
+use Rattle.bench_sweep.proofs.Left.{says_moves}
 use Rattle.bench_sweep.proofs.sites.run_still_line.Goals as goal
 
 pub returns-clause-runs : goal.returns-clause-runs
-returns-clause-runs g c = λ b r.
-    answered_runs c.args.setting.now.shape.now c.args.line.now b c.args.power c.line_alone-power.result.0 c.args.payloads.now c.line_alone-power.new.payloads c.line_alone-power.result.1 c.args.ledger.now _ c.requires.plain c.requires.of_none c.requires.no_boot r
-    (c.line_alone-power.ensures.reported b (r.agrees, r.same, r.calm)) c.in_ok-record_answered.ensures.kept
+returns-clause-runs g c = λ b r. says_moves _ _ b _ _ _ _ (c.in_ok-power.ensures.says b r)

@@ -1,5 +1,6 @@
 use Rattle.std.proofs.Common.{arith}
 use Rattle.std.proofs.lemmas.Result.{on_ok_weaker}
+use Rattle.bench_sweep.specs.Recovers.{compared}
 use Rattle.bench_sweep.proofs.Rowed.{all_points}
 use Rattle.bench_sweep.proofs.sweeps.run_at_calls.Goals as goal
 
@@ -8,6 +9,7 @@ hand_on_all-requires-clause-has g c κs within = λ i less. (
   record {
     few = c.requires.few;
     swept = c.requires.lines;
+    recovery = c.requires.recovery;
     sits = c.requires.sits;
     room = omega (arith, c.requires.numbers, less);
   },
@@ -18,5 +20,5 @@ pub returns-clause-wrote : goal.returns-clause-wrote
 returns-clause-wrote g c = on_ok_weaker c.hand_on_all.result (λ handed b r.
     (let runner = c.args.runner.now in
     let calls = c.args.calls in
-    all_points g.W.Write.contents runner.setting.shape.now runner.bench calls.caller calls.made runner.lines.now c.args.site.now b r _ calls.count _ c.requires.numbers handed))
+    all_points g.W.Write.contents runner.setting.shape.now runner.bench calls.caller calls.made runner.lines.now (compared runner.recovery) c.args.site.now b r _ calls.count _ c.requires.numbers handed))
     c.hand_on_all.ensures.handed

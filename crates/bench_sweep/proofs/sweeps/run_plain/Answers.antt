@@ -1,7 +1,7 @@
 use Rattle.std.proofs.Common.{◌≡◌, ◌∙◌, arith, sym}
 use Rattle.bench_report.specs.Happens.{unpowered}
 use Rattle.bench_sweep.proofs.Left.{off_sits}
-use Rattle.bench_sweep.proofs.Made.{none_yet, sits_at, went_more, rest_is, plain_run}
+use Rattle.bench_sweep.proofs.Made.{none_yet, sits_at, went_more, rest_is, ends_at}
 use Rattle.bench_sweep.proofs.Reported.{swept_take, swept_drop, stays_within}
 use Rattle.bench_sweep.proofs.sweeps.run_plain.Goals as goal
 
@@ -34,6 +34,6 @@ loop-from-preserved g c =
           went_more size (unpowered b) lines _ from did.field-0.count c.loop-from.site did.field-0.next (rest_is from lines) i.within f (did.ensures.lives f.bench f.site));
     }
 
-pub returns-clause-plain : goal.returns-clause-plain
-returns-clause-plain g c = λ b r.
-    plain_run c.args.runner.now.setting.shape.now (unpowered b) c.args.runner.now.lines.now c.loop-from.from c.loop-from.site (omega arith) (sym c.refused.ensures ∙ c.if-refused-ne0.false) (c.loop-from.invariant.lives b r)
+pub returns-clause-ends : goal.returns-clause-ends
+returns-clause-ends g c = λ b r.
+    ends_at c.args.runner.now.setting.shape.now (unpowered b) c.args.runner.now.lines.now c.loop-from.from c.loop-from.site (omega arith) (sym c.refused.ensures ∙ c.if-refused-ne0.false) (c.loop-from.invariant.lives b r)

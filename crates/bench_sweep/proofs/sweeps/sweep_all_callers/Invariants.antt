@@ -4,6 +4,7 @@ use Rattle.bench_report.specs.Bench.{Bench}
 use Rattle.bench_report.specs.Happens.{unpowered}
 use Rattle.bench_sweep.specs.Points.{MadeCalls}
 use Rattle.bench_sweep.specs.Reports.{Reports, IsRow}
+use Rattle.bench_sweep.specs.Recovers.{compared}
 use Rattle.bench_sweep.specs.Runs.{RunsAt}
 use Rattle.bench_sweep.specs.Swept.{all_runs, total}
 use Rattle.bench_sweep.proofs.sweeps.sweep_all_callers.Given as goal
@@ -13,4 +14,4 @@ abbrev pub invariant-loop-caller : goal.invariant-loop-caller
 invariant-loop-caller g l =
     (b : Bench) → RunsAt l.runner.setting.shape.now b l.site
     → (counts : List ℕ) × AllZip (MadeCalls l.site.off.disk l.end.off.disk) (take l.caller-index l.caller-items) counts
-    × Reports g.W.Write.contents (IsRow l.runner.setting.shape.now l.runner.bench (unpowered b) l.runner.lines.now) l.fn.report l.report (all_runs l.runner.bench (take l.caller-index l.caller-items) counts) (total counts)
+    × Reports g.W.Write.contents (IsRow l.runner.setting.shape.now l.runner.bench (unpowered b) l.runner.lines.now (compared l.runner.recovery)) l.fn.report l.report (all_runs l.runner.bench (take l.caller-index l.caller-items) counts) (total counts)

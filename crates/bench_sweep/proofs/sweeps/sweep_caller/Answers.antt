@@ -1,5 +1,6 @@
 use Rattle.std.proofs.Common.{◌≡◌, ◌+◌, arith, refl}
 use Rattle.bench_report.specs.Happens.{unpowered}
+use Rattle.bench_sweep.specs.Recovers.{compared}
 use Rattle.bench_sweep.proofs.Left.{off_sits}
 use Rattle.bench_sweep.proofs.Made.{none_yet, sits_at, went_more, rest_is, row_of}
 use Rattle.bench_sweep.proofs.Reported.{reports_none, reports_more, reports_as, reports_points, reports_weaker, swept_take, swept_drop, stays_within}
@@ -47,10 +48,10 @@ loop-from-preserved g c =
       wrote = λ b r.
           (let f = sits_at size (unpowered b) lines from _ c.loop-from-test.true (i.lives b r) in
           reports_as _ _ _ _ _ _ _ _ (next_exact kind c.args.caller made calls (omega (arith, i.counts, did.ensures.calls, did.ensures.below))) refl
-          (reports_more _ _ _ _ _ _ _ _ _ (i.wrote b r) (reports_weaker _ _ _ _ _ _ _ (row_of size kind made (unpowered b) lines _ from c.loop-from.site rest f) (did.ensures.wrote f.bench f.site))));
+          (reports_more _ _ _ _ _ _ _ _ _ (i.wrote b r) (reports_weaker _ _ _ _ _ _ _ (row_of size kind made (unpowered b) lines _ from c.loop-from.site rest f (compared c.args.runner.now.recovery)) (did.ensures.wrote f.bench f.site))));
     }
 
 pub returns-clause-wrote : goal.returns-clause-wrote
 returns-clause-wrote g c = λ b r.
     let i = c.loop-from.invariant in
-    reports_points _ _ _ c.loop-from.report _ _ c.loop-from.made (i.wrote b r) refl refl (omega (arith, c.saturating_add-report.ensures)) refl refl
+    reports_points _ _ _ c.loop-from.report _ _ c.loop-from.made (i.wrote b r) refl refl (omega (arith, c.saturating_add-report.ensures)) refl refl refl

@@ -3,6 +3,7 @@ use Rattle.bench_report.specs.Bench.{Bench}
 use Rattle.bench_report.specs.Happens.{unpowered}
 use Rattle.bench_sweep.specs.Points.{calls_of}
 use Rattle.bench_sweep.specs.Reports.{Reports, IsRow}
+use Rattle.bench_sweep.specs.Recovers.{compared}
 use Rattle.bench_sweep.specs.Runs.{RunsAt, Sits}
 use Rattle.bench_sweep.specs.Swept.{runs_from}
 use Rattle.bench_sweep.proofs.Made.{Went}
@@ -16,7 +17,7 @@ invariant-loop-from g l = record {
   counts : calls_of l.caller l.site.off.disk ≡ calls_of l.caller l.begin.off.disk + l.made;
   lives : (b : Bench) → RunsAt l.runner.setting.shape.now b l.begin → Went l.runner.setting.shape.now (unpowered b) l.runner.lines.now l.from l.site;
   wrote : (b : Bench) → RunsAt l.runner.setting.shape.now b l.begin
-      → Reports g.W.Write.contents (IsRow l.runner.setting.shape.now l.runner.bench (unpowered b) l.runner.lines.now) l.fn.report l.report (runs_from l.runner.bench l.caller 1 l.made) 0;
+      → Reports g.W.Write.contents (IsRow l.runner.setting.shape.now l.runner.bench (unpowered b) l.runner.lines.now (compared l.runner.recovery)) l.fn.report l.report (runs_from l.runner.bench l.caller 1 l.made) 0;
 }
 
 abbrev pub decreases-loop-from : goal.decreases-loop-from
