@@ -23,7 +23,9 @@ use crate::{
 use bench_preemptions::Within;
 use board::Payloads;
 use board_model::Refusal;
-use command_line::{FileFault, NoWork, Pipe, ProgramFault, explain_fault, read_at_most, show_on, tell_fault};
+use command_line::{
+    FileFault, NoWork, Pipe, ProgramFault, explain_fault, read_at_most, show_on, tell_fault,
+};
 use crew::{Crew, Sequential};
 use jobs::Jobs;
 use payload_files::{PayloadFiles, read_payloads};
