@@ -1,7 +1,8 @@
 -- What is told of a recovery that was run.
-use Rattle.std.proofs.Common.{◌≡◌, ◌<◌, ◌≤◌, ◌⊎◌, ◌+◌, ◌++◌, ◌∷◌, [], ℕ, zero, suc, inl, inr, ⊎_elim, Bool, true, false, if◌then◌else◌, List, Option, None, Some, length, take, drop, get_or, refl, sym, ◌∙◌, ap, subst, add-one, arith}
-use Rattle.std.specs.Prelude.{IfSome, ◌≢◌}
+use Rattle.std.proofs.Common.{◌≡◌, ◌<◌, ◌≤◌, ◌⊎◌, ◌+◌, ◌++◌, ◌∷◌, [], ℕ, zero, suc, inl, inr, ⊎_elim, Bool, true, false, if◌then◌else◌, List, Option, None, Some, length, map, min, take, drop, get_or, refl, sym, ◌∙◌, ap, subst, add-one, arith}
+use Rattle.std.specs.Prelude.{IfSome, IsTrue, ◌≢◌}
 use Rattle.std.proofs.Math.Seq.{drop-cons}
+use Rattle.std.proofs.lemmas.Bool.{cases_lt}
 use Rattle.std.proofs.lemmas.List.{append-nil, take-append-drop, take_all, take_more, length-take-le}
 use Rattle.board_model.specs.Durable.{DurableState}
 use Rattle.board_model.specs.Shapes.{Size}
@@ -10,6 +11,7 @@ use Rattle.board_model.specs.declared.durable.Durable.{Durable}
 use Rattle.disk.specs.Facts.{Content}
 use Rattle.store.specs.Standing.{StandsFor}
 use Rattle.script_lang.specs.declared.line.Line.{Line}
+use Rattle.report_lines.specs.Texts.{line_text}
 use Rattle.report_lines.specs.declared.printed.Answer.{Answer}
 use Rattle.report_lines.specs.declared.printed.Printed.{Printed}
 use Rattle.bench_report.specs.Bench.{Bench}
@@ -17,6 +19,7 @@ use Rattle.bench_report.specs.Examined.{OpensOf}
 use Rattle.bench_sweep.specs.Made.{RecoversFrom, IsToldOf}
 use Rattle.bench_sweep.specs.Recovers.{is_look, look_numbers, TellsFirst}
 use Rattle.bench_sweep.specs.declared.recovery.Differs.{Differs}
+use Rattle.bench_sweep.proofs.Written.{map_more}
 
 -- a power-on found what the content stands for
 pub opened_as : (content : Content) (left : Answer) (d : Durable) → left.found ≡ Some d → OpensOf content left → (size : Size) × (s : DurableState) × StandsFor content size s × (d ≡ durable_of s)
@@ -35,7 +38,7 @@ no_place (b ∷ before) later o e = cc
 
 pub told_of : (own : List Printed) (size : Size) (cut : Bench) (lines : List Line) (numbers : List ℕ) (left : Answer) (differs : Option Differs) (said : List Printed) → RecoversFrom size cut left lines said → TellsFirst numbers own said differs → IsToldOf own size cut lines numbers left differs
 told_of [] size cut lines numbers left None said r t = refl
-told_of [] size cut lines numbers left (Some d) said r t = absurd (no_place t.0 t.2 d.own t.3)
+told_of [] size cut lines numbers left (Some d) said r t = absurd (no_place t.0 t.2 d.own t.4)
 told_of (o ∷ own) size cut lines numbers left differs said r t = (said, r, t)
 
 -- ---- the first look that differs
@@ -43,41 +46,49 @@ told_of (o ∷ own) size cut lines numbers left differs said r t = (said, r, t)
 pub around : (xs : List Printed) (i : ℕ) (d : Printed) → i < length xs → xs ≡ take i xs ++ get_or xs i d ∷ drop (suc i) xs
 around xs i d less = sym (take-append-drop i xs) ∙ ap (λ (ys : List Printed). take i xs ++ ys) (drop-cons xs i d less)
 
-pub tells_first : (numbers : List ℕ) (own said : List Printed) (i line : ℕ) (mine other d : Printed) → i < length own → length said ≡ length own → take i said ≡ take i own → mine ≡ get_or own i d → other ≡ get_or said i d → (other ≡ mine → ⊥) → line ≡ get_or numbers i 0
-    → TellsFirst numbers own said (Some (record { line = line; said = other; own = mine }))
-tells_first numbers own said i line mine other d less long same mine_is other_is apart numbered =
+pub tells_first : (numbers : List ℕ) (own said : List Printed) (i line : ℕ) (mine other d e : Printed) → i < length own → length said ≡ length own → map line_text (take i said) ≡ map line_text (take i own) → mine ≡ get_or own i d → other ≡ get_or said i e
+    → (line_text other ≡ line_text mine → ⊥) → line ≡ get_or numbers i 0 → TellsFirst numbers own said (Some (record { line = line; said = other; own = mine }))
+tells_first numbers own said i line mine other d e less long same mine_is other_is apart numbered =
     let fits = length-take-le i own (omega (arith, less)) in (
       take i own,
-      drop (suc i) said,
+      take i said,
       drop (suc i) own,
+      drop (suc i) said,
       around own i d less ∙ ap (λ (x : Printed). take i own ++ x ∷ drop (suc i) own) (sym mine_is),
-      around said i d (omega (arith, less, long)) ∙ ap (λ (front : List Printed). front ++ get_or said i d ∷ drop (suc i) said) same ∙ ap (λ (x : Printed). take i own ++ x ∷ drop (suc i) said) (sym other_is),
+      around said i e (omega (arith, less, long)) ∙ ap (λ (x : Printed). take i said ++ x ∷ drop (suc i) said) (sym other_is),
+      same,
       apart,
       numbered ∙ ap (λ (k : ℕ). get_or numbers k 0) (sym fits),
     )
 
--- one more that is the same
-pub same_more : (own said : List Printed) (i : ℕ) (mine other d : Printed) → i < length own → length said ≡ length own → take i said ≡ take i own → mine ≡ get_or own i d → other ≡ get_or said i d → other ≡ mine → take (i + 1) said ≡ take (i + 1) own
-same_more own said i mine other d less long same mine_is other_is alike =
-    take_more said i d (omega (arith, less, long)) ∙ ap (λ (front : List Printed). front ++ get_or said i d ∷ []) same
-    ∙ ap (λ (x : Printed). take i own ++ x ∷ []) (sym other_is ∙ alike ∙ mine_is) ∙ sym (take_more own i d less)
+-- what does not hold is not said
+pub unsaid : (said : Bool) → said ≡ false → IsTrue said → ⊥
+unsaid true e t = let no : ⊥ = cc in no
+unsaid false e t = let no : ⊥ = cc in no
 
-pub same_all : (own said : List Printed) (i : ℕ) → length own ≡ i → length said ≡ length own → take i said ≡ take i own → said ≡ own
-same_all own said i all long same = sym (take_all i said (omega (arith, all, long))) ∙ same ∙ take_all i own (omega (arith, all))
+-- one more that is the same
+pub same_more : (own said : List Printed) (i : ℕ) (mine other d : Printed) → i < length own → length said ≡ length own → map line_text (take i said) ≡ map line_text (take i own) → mine ≡ get_or own i d → other ≡ get_or said i d → line_text other ≡ line_text mine
+    → map line_text (take (i + 1) said) ≡ map line_text (take (i + 1) own)
+same_more own said i mine other d less long same mine_is other_is alike =
+    map_more line_text said i other d (omega (arith, less, long)) other_is ∙ ap (λ (front : List (List ℕ)). front ++ line_text other ∷ []) same
+    ∙ ap (λ (x : List ℕ). map line_text (take i own) ++ x ∷ []) alike ∙ sym (map_more line_text own i mine d less mine_is)
+
+pub same_all : (own said : List Printed) (i : ℕ) → length own ≤ i → length said ≡ length own → map line_text (take i said) ≡ map line_text (take i own) → map line_text said ≡ map line_text own
+same_all own said i all long same =
+    ap (λ (xs : List Printed). map line_text xs) (sym (take_all i said (omega (arith, all, long)))) ∙ same ∙ ap (λ (xs : List Printed). map line_text xs) (take_all i own all)
 
 -- ---- numbers of looks
+-- a line before the others
+one_before : (look : Bool) (m : ℕ) (xs ys more : List ℕ) → xs ≡ ys ++ more → (if look then (m ∷ xs) else xs) ≡ (if look then (m ∷ ys) else ys) ++ more
+one_before true m xs ys more e = ap (λ (zs : List ℕ). m ∷ zs) e
+one_before false m xs ys more e = e
+
 look_numbers-snoc : (ls : List Line) (ns : List ℕ) (l : Line) (n : ℕ) → length ls ≡ length ns → look_numbers (ls ++ l ∷ []) (ns ++ n ∷ []) ≡ look_numbers ls ns ++ (if is_look l then (n ∷ []) else [])
 look_numbers-snoc [] [] l n e = refl
 look_numbers-snoc [] (m ∷ ns) l n e = cc
 look_numbers-snoc (k ∷ ls) [] l n e = cc
-look_numbers-snoc (k ∷ ls) (m ∷ ns) l n e = by (is_look k)
-  where
-    later : look_numbers (ls ++ l ∷ []) (ns ++ n ∷ []) ≡ look_numbers ls ns ++ (if is_look l then (n ∷ []) else [])
-    later = look_numbers-snoc ls ns l n (let f : length ls ≡ length ns = omega (arith, e) in f)
-
-    by : (look : Bool) → (if look then (m ∷ look_numbers (ls ++ l ∷ []) (ns ++ n ∷ [])) else look_numbers (ls ++ l ∷ []) (ns ++ n ∷ [])) ≡ (if look then (m ∷ look_numbers ls ns) else look_numbers ls ns) ++ (if is_look l then (n ∷ []) else [])
-    by true = ap (λ (xs : List ℕ). m ∷ xs) later
-    by false = later
+look_numbers-snoc (k ∷ ls) (m ∷ ns) l n e =
+    one_before (is_look k) m (look_numbers (ls ++ l ∷ []) (ns ++ n ∷ [])) (look_numbers ls ns) (if is_look l then (n ∷ []) else []) (look_numbers-snoc ls ns l n (let f : length ls ≡ length ns = omega (arith, e) in f))
 
 -- one line more
 pub look_numbers-more : (ls : List Line) (ns found : List ℕ) (i : ℕ) (d : Line) → i < length ls → i < length ns → found ≡ look_numbers (take i ls) (take i ns) → found ++ (if is_look (get_or ls i d) then (get_or ns i 0 ∷ []) else []) ≡ look_numbers (take (i + 1) ls) (take (i + 1) ns)
@@ -98,23 +109,26 @@ look_less ls ns found i d less fits so_far look =
     sym (append-nil found) ∙ ap (λ (b : Bool). found ++ (if b then (get_or ns i 0 ∷ []) else [])) (sym look) ∙ look_numbers-more ls ns found i d less fits so_far
 
 -- all that have both
+no_numbers : (xs : List Line) → look_numbers xs [] ≡ []
+no_numbers [] = refl
+no_numbers (x ∷ xs) = refl
+
+same_before : (look : Bool) (n : ℕ) (xs ys : List ℕ) → xs ≡ ys → (if look then (n ∷ xs) else xs) ≡ (if look then (n ∷ ys) else ys)
+same_before true n xs ys e = ap (λ (zs : List ℕ). n ∷ zs) e
+same_before false n xs ys e = e
+
+one_less : (ls : List Line) (l : Line) (ns : List ℕ) (n i : ℕ) → (length (l ∷ ls) ≤ suc i) ⊎ (length (n ∷ ns) ≤ suc i) → (length ls ≤ i) ⊎ (length ns ≤ i)
+one_less ls l ns n i e = ⊎_elim (λ few. inl (omega (arith, few))) (λ few. inr (omega (arith, few))) e
+
 pub look_numbers-all : (ls : List Line) (ns : List ℕ) (i : ℕ) → (length ls ≤ i) ⊎ (length ns ≤ i) → look_numbers (take i ls) (take i ns) ≡ look_numbers ls ns
 look_numbers-all [] ns i e = ap (λ (xs : List Line). look_numbers xs (take i ns)) (take_all i [] (omega arith))
-look_numbers-all (l ∷ ls) [] i e = ap (λ (ys : List ℕ). look_numbers (take i (l ∷ ls)) ys) (take_all i [] (omega arith)) ∙ none (take i (l ∷ ls))
-  where
-    none : (xs : List Line) → look_numbers xs [] ≡ []
-    none [] = refl
-    none (x ∷ xs) = refl
+look_numbers-all (l ∷ ls) [] i e = ap (λ (ys : List ℕ). look_numbers (take i (l ∷ ls)) ys) (take_all i [] (omega arith)) ∙ no_numbers (take i (l ∷ ls))
 look_numbers-all (l ∷ ls) (n ∷ ns) zero (inl e) = absurd (omega (arith, e))
 look_numbers-all (l ∷ ls) (n ∷ ns) zero (inr e) = absurd (omega (arith, e))
-look_numbers-all (l ∷ ls) (n ∷ ns) (suc i) e = by (is_look l)
-  where
-    less : (length ls ≤ i) ⊎ (length ns ≤ i)
-    less = ⊎_elim (λ few. inl (omega (arith, few))) (λ few. inr (omega (arith, few))) e
+look_numbers-all (l ∷ ls) (n ∷ ns) (suc i) e = same_before (is_look l) n (look_numbers (take i ls) (take i ns)) (look_numbers ls ns) (look_numbers-all ls ns i (one_less ls l ns n i e))
 
-    by : (look : Bool) → (if look then (n ∷ look_numbers (take i ls) (take i ns)) else look_numbers (take i ls) (take i ns)) ≡ (if look then (n ∷ look_numbers ls ns) else look_numbers ls ns)
-    by true = ap (λ (xs : List ℕ). n ∷ xs) (look_numbers-all ls ns i less)
-    by false = look_numbers-all ls ns i less
+pub min_reached : (a b i : ℕ) → min a b ≤ i → (a ≤ i) ⊎ (b ≤ i)
+min_reached a b i e = ⊎_elim (λ less. inl (omega (arith, less, e))) (λ more. inr (omega (arith, more, e))) (cases_lt a b)
 
 pub looks_all : (ls : List Line) (ns found : List ℕ) (i : ℕ) → found ≡ look_numbers (take i ls) (take i ns) → (length ls ≤ i) ⊎ (length ns ≤ i) → found ≡ look_numbers ls ns
 looks_all ls ns found i so_far all = so_far ∙ look_numbers-all ls ns i all

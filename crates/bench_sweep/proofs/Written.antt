@@ -1,9 +1,8 @@
 -- Rows that are written one after another, and counted.
-use Rattle.std.proofs.Common.{◌≡◌, ◌^◌, ◌<◌, ◌≤◌, ℕ, zero, suc, ◌+◌, List, [], ◌∷◌, ◌++◌, Option, None, Some, length, map, take, drop, get_or, refl, sym, ◌∙◌, ap, subst, append_assoc, add_assoc, length-append, zero-add, add-one, arith, cond}
-use Rattle.std.proofs.lemmas.List.{append-nil, take_more, length-take-le}
+use Rattle.std.proofs.Common.{◌≡◌, ◌^◌, true, false, ◌<◌, ◌≤◌, ℕ, zero, suc, ◌+◌, List, [], ◌∷◌, ◌++◌, Option, None, Some, length, map, take, drop, get_or, refl, sym, ◌∙◌, ap, subst, append_assoc, add_assoc, length-append, zero-add, add-one, arith, cond}
+use Rattle.std.proofs.lemmas.List.{append-nil, take_more, take_all, length-take-le}
 use Rattle.std.proofs.lemmas.Grind.{flat_map-append}
-use Rattle.std.proofs.lemmas.List.Sums.{count_by-append}
-use Rattle.std.proofs.lemmas.List.Sums.{sum_by-append}
+use Rattle.std.proofs.lemmas.List.Sums.{sum_by-append, count_by_more_yes, count_by_more_no}
 use Rattle.std.proofs.lemmas.List.Elements.{All-nil, All-cons, All-head, All-tail, All-append, All-weaker}
 use Rattle.std.specs.List.{flat_map, All}
 use Rattle.std.specs.Option.{is_some}
@@ -59,6 +58,16 @@ text_more rows more = flat_map-append row_lines rows more
 -- of how many of two lists of rows a look differs
 differing_more : (rows more : List Row) → differing_rows (rows ++ more) ≡ differing_rows rows + differing_rows more
 differing_more rows more = sum_by-append (λ (r : Row). cond (is_some r.recovered) 1 0) rows more
+
+-- one row more, of which a look differs or none does
+pub differing_yes : (rows : List Row) (i : ℕ) (d : Row) → i < length rows → is_some (get_or rows i d).recovered ≡ true → differing_rows (take (i + 1) rows) ≡ differing_rows (take i rows) + 1
+differing_yes rows i d less some = count_by_more_yes (λ (r : Row). is_some r.recovered) rows i d less some
+
+pub differing_no : (rows : List Row) (i : ℕ) (d : Row) → i < length rows → is_some (get_or rows i d).recovered ≡ false → differing_rows (take (i + 1) rows) ≡ differing_rows (take i rows)
+differing_no rows i d less none = count_by_more_no (λ (r : Row). is_some r.recovered) rows i d less none
+
+pub differing_all : (rows : List Row) (i count : ℕ) → length rows ≤ i → count ≡ differing_rows (take i rows) → count ≡ differing_rows rows
+differing_all rows i count all is = is ∙ ap differing_rows (take_all i rows all)
 
 pub cells_more : (rows more : List Row) → map cell_of (rows ++ more) ≡ map cell_of rows ++ map cell_of more
 cells_more [] more = refl

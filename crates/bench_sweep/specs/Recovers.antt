@@ -1,11 +1,12 @@
 -- What is compared of an operator's recovery. Source: `sbibench --help`, and docs/SCRIPT.md, "The benches".
-use Rattle.std.specs.Prelude.{◌≡◌, ◌≢◌, ◌-◌, ℕ, Bool, true, false, List, [], ◌∷◌, ◌++◌, Option, None, Some, Ok, Err, length, if◌then◌else◌, slice_index_or}
+use Rattle.std.specs.Prelude.{◌≡◌, ◌≢◌, ◌-◌, ℕ, Bool, true, false, List, [], ◌∷◌, ◌++◌, Option, None, Some, Ok, Err, length, map, if◌then◌else◌, slice_index_or}
 use Rattle.board_model.specs.Shapes.{Size}
 use Rattle.board_model.specs.declared.refusal.Refusal.{Refusal}
 use Rattle.board_model.specs.declared.refusal.Refusal.TheVariants.{BadScript}
 use Rattle.script_lang.specs.Scripts.{script_of}
 use Rattle.script_lang.specs.Spellings.{board_text}
 use Rattle.script_lang.specs.declared.line.Line.{Line}
+use Rattle.report_lines.specs.Texts.{line_text}
 use Rattle.report_lines.specs.declared.printed.Answer.{Answer}
 use Rattle.report_lines.specs.declared.printed.Printed.{Printed}
 use Rattle.bench_report.specs.Deeds.{Ask, Deed, deed_of}
@@ -36,14 +37,14 @@ looks_of [] answers = []
 looks_of (line ∷ more) [] = []
 looks_of (line ∷ more) (a ∷ answers) = look_said line a ++ looks_of more answers
 
--- What is told of looks with those numbers, which have to say what the own ones say: nothing where each does; else the first
--- that does not, by its number (0 where it has none), and by what it says and had to say.
+-- What is told of looks with those numbers, which have to say what the own ones say, as it is written: nothing where each does;
+-- else the first that does not, by its number (0 where it has none), and by what it says and had to say.
 abbrev pub TellsFirst : List ℕ → List Printed → List Printed → Option Differs → Type 0
-TellsFirst numbers own said None = said ≡ own
+TellsFirst numbers own said None = map line_text said ≡ map line_text own
 TellsFirst numbers own said (Some d) =
-    (before other later : List Printed)
-    × (own ≡ before ++ d.own ∷ later) × (said ≡ before ++ d.said ∷ other) × (d.said ≢ d.own)
-    × (d.line ≡ slice_index_or numbers (length before) 0)
+    (before front later other : List Printed)
+    × (own ≡ before ++ d.own ∷ later) × (said ≡ front ++ d.said ∷ other) × (map line_text front ≡ map line_text before)
+    × (line_text d.said ≢ line_text d.own) × (d.line ≡ slice_index_or numbers (length before) 0)
 
 -- lines that run behind each run, the numbers of the looks among them, and what these have to say
 pub record Compared : Type 0 where

@@ -33,14 +33,17 @@ told_text (Some d) line = codes "found " ++ state_text d
 abbrev pub left_text : Answer → List ℕ
 left_text a = told_text a.found a.line
 
+-- at whose call, its number, and what the cut left
+abbrev pub call_text : Caller → ℕ → Option Fill → List ℕ
+call_text caller number fill = caller_text caller ++ codes " " ++ decimal number ++ fill_part fill
+
 abbrev pub row_text : Row → List ℕ
-row_text r = caller_text r.caller ++ codes " " ++ decimal r.number ++ fill_part r.fill ++ codes " " ++ left_text r.left
+row_text r = call_text r.caller r.number r.fill ++ codes " " ++ left_text r.left
 
 -- what is told behind a row of which a look differs
 abbrev pub differs_text : Row → Differs → List ℕ
 differs_text r d =
-    caller_text r.caller ++ codes " " ++ decimal r.number ++ fill_part r.fill ++ codes " recover " ++ decimal d.line ++ codes " "
-    ++ line_text d.said ++ codes " own " ++ line_text d.own
+    call_text r.caller r.number r.fill ++ codes " recover " ++ decimal d.line ++ codes " " ++ line_text d.said ++ codes " own " ++ line_text d.own
 
 -- a row, and what is told behind it
 abbrev pub told_part : Row → Option Differs → List ℕ

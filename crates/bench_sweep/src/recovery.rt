@@ -1,9 +1,10 @@
 //! The operator's recovery behind a run: lines that follow a power-off, run over what the run left.
 
-ghost use Rattle.std.specs.Prelude.{◌≡◌, ◌⊎◌, ◌++◌, ◌∷◌, [], List, length, true, slice_index_or, All, IfOk, IfErr};
+ghost use Rattle.std.specs.Prelude.{◌≡◌, ◌⊎◌, ◌↔◌, ◌++◌, ◌∷◌, [], List, length, true, slice_index_or, All, IsTrue, IfOk, IfErr};
 ghost use Rattle.board_model.specs.declared.refusal.Refusal.TheVariants.{Memory};
 ghost use Rattle.bench_report.specs.Agree.{IsUnstruck};
 ghost use Rattle.bench_report.specs.Bench.{Bench};
+ghost use Rattle.report_lines.specs.Texts.{line_text};
 ghost use Rattle.report_lines.specs.declared.printed.Printed.{Printed as Said};
 ghost use Rattle.script_lang.specs.Lines.{IsLineInRange};
 ghost use Rattle.script_lang.specs.Spellings.{board_text};
@@ -42,7 +43,7 @@ pub struct RecoveryFile<'a> {
     pub numbers: &'a [u64],
 }
 
-/// The first look that said something else than behind the run that nothing cuts.
+/// The first look whose line reads otherwise than behind the run that nothing cuts.
 #[derive(Clone, Copy, Drop)]
 pub struct Differs {
     /// The number that it has in its file.
@@ -61,14 +62,14 @@ fn is_look(line: &Line) -> bool
     }
 }
 
-/// The board line of that shape.
+/// The board line of that shape, without a line feed.
 fn board_line(alloc: Global, shape: &Shape) -> Result<String, AllocError>
-    ensures { IfOk result (λ text. string_bytes text ≡ board_text shape.now ++ 10 ∷ []) }
+    ensures { IfOk result (λ text. string_bytes text ≡ board_text shape.now) }
 {
     let harts = shape.harts();
     let pages = shape.pages();
     let lanes = shape.lanes();
-    format!(in alloc; "board {harts} {pages} {lanes}\n")
+    format!(in alloc; "board {harts} {pages} {lanes}")
 }
 
 /// The bytes of a script whose board line names that shape, and whose other lines are these.
@@ -76,6 +77,7 @@ fn behind_board(alloc: Global, shape: &Shape, lines: &[u8]) -> Result<Vec<u8>, A
     ensures { IfOk result (λ v. v.items ≡ behind_board shape.now lines.now) }
 {
     let mut bytes = board_line(alloc, shape)?.into_bytes();
+    bytes.push(b'\n')?;
     bytes.extend_from_slice(lines)?;
     Ok(bytes)
 }
@@ -209,6 +211,15 @@ pub fn looks_of<C: Crew>(
     Ok(said)
 }
 
+/// Whether both write the same line.
+fn says_same(alloc: Global, one: Printed, other: Printed) -> Result<bool, AllocError>
+    ensures { IfOk result (λ same. IsTrue same ↔ (line_text one ≡ line_text other)) }
+{
+    let one = format!(in alloc; "{one}")?;
+    let other = format!(in alloc; "{other}")?;
+    Ok(one.as_bytes() == other.as_bytes())
+}
+
 impl<'a> Recovery<'a> {
     /// The number of the look at that place, 0 where it has none.
     fn number_at(&self, place: usize) -> u64
@@ -221,20 +232,21 @@ impl<'a> Recovery<'a> {
     }
 
     /// The first look that says something else.
-    fn first_apart(&self, said: &[Printed]) -> Option<Differs>
+    fn first_apart(&self, alloc: Global, said: &[Printed]) -> Result<Option<Differs>, AllocError>
         requires { length said.now ≡ length self.now.own.now }
-        ensures { TellsFirst self.now.numbers.now self.now.own.now said.now result }
+        ensures { IfOk result (λ differs. TellsFirst self.now.numbers.now self.now.own.now said.now differs) }
     {
         for (i, own) in self.own.iter().enumerate() {
-            if said[i] != *own {
-                return Some(Differs {
+            let here = said[i];
+            if !says_same(alloc, here, *own)? {
+                return Ok(Some(Differs {
                     line: self.number_at(i),
-                    said: said[i],
+                    said: here,
                     own: *own,
-                });
+                }));
             }
         }
-        None
+        Ok(None)
     }
 
     /// Runs behind a run that left that site, whose disk is the one that its cut left, and compares what the looks say.
@@ -256,6 +268,7 @@ impl<'a> Recovery<'a> {
         if said.len() != self.own.len() {
             return Err(Refusal::Memory);
         }
-        Ok(self.first_apart(&said))
+        let differs = self.first_apart(setting.alloc, said.as_slice())?;
+        Ok(differs)
     }
 }

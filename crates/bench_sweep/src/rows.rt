@@ -3,7 +3,7 @@
 ghost use Rattle.std.specs.Prelude.{◌≡◌, ◌⊎◌, ◌++◌, ◌∷◌, [], Some, OnOk, IfErr};
 ghost use Rattle.std.specs.Io.KnownBytes.{Appends};
 ghost use Rattle.board_model.specs.declared.refusal.Refusal.TheVariants.{Memory, Output};
-ghost use Rattle.bench_sweep.specs.Rows.{caller_text, differing_rows, differs_text, fill_part, left_text, recovered_text, row_lines, row_text, sweep_text, told_part};
+ghost use Rattle.bench_sweep.specs.Rows.{call_text, caller_text, differing_rows, differs_text, fill_part, left_text, recovered_text, row_lines, row_text, sweep_text, told_part};
 ghost use Rattle.bench_sweep.specs.Swept.{rows_text};
 
 use crate::points::Caller;
@@ -82,20 +82,48 @@ impl fmt::Display for LeftText {
     }
 }
 
+/// At whose call power was cut, or failed a call; the call's number; and what the cut left.
+#[derive(Clone, Copy, Drop)]
+struct CallText {
+    caller: Caller,
+    number: u64,
+    fill: Option<Fill>,
+}
+
+impl fmt::Display for CallText {
+    ghost output = { λ call. Some (call_text call.caller call.number call.fill) };
+
+    fn fmt<W: fmt::Write>(&self, f: &mut fmt::Formatter<W>) -> fmt::Result {
+        let CallText {
+            caller,
+            number,
+            fill,
+        } = *self;
+        let fill = FillPart(fill);
+        write!(f, "{caller} {number}{fill}")
+    }
+}
+
+impl Row {
+    /// Which run it was.
+    fn call(&self) -> CallText
+        ensures { result ≡ record { caller = self.now.caller; number = self.now.number; fill = self.now.fill } }
+    {
+        CallText {
+            caller: self.caller,
+            number: self.number,
+            fill: self.fill,
+        }
+    }
+}
+
 impl fmt::Display for Row {
     ghost output = { λ row. Some (row_text row) };
 
     fn fmt<W: fmt::Write>(&self, f: &mut fmt::Formatter<W>) -> fmt::Result {
-        let Row {
-            caller,
-            number,
-            fill,
-            left,
-            recovered: _,
-        } = *self;
-        let fill = FillPart(fill);
-        let left = LeftText(left);
-        write!(f, "{caller} {number}{fill} {left}")
+        let call = self.call();
+        let left = LeftText(self.left);
+        write!(f, "{call} {left}")
     }
 }
 
@@ -110,18 +138,9 @@ impl fmt::Display for DiffersText {
     ghost output = { λ text. Some (differs_text text.row text.differs) };
 
     fn fmt<W: fmt::Write>(&self, f: &mut fmt::Formatter<W>) -> fmt::Result {
-        let Row {
-            caller,
-            number,
-            fill,
-            ..
-        } = self.row;
+        let call = self.row.call();
         let Differs { line, said, own } = self.differs;
-        let fill = FillPart(fill);
-        write!(
-            f,
-            "{caller} {number}{fill} recover {line} {said} own {own}",
-        )
+        write!(f, "{call} recover {line} {said} own {own}")
     }
 }
 
@@ -164,10 +183,17 @@ pub fn write_rows<W: Write>(out: &mut W, rows: &[Row]) -> Result<(), Refusal>
 }
 
 /// How many of these rows have a look that differs.
+#[tactic(auto, using(crate::proofs::Written::differing_yes, crate::proofs::Written::differing_no, crate::proofs::Written::differing_all))]
 pub fn differing(rows: &[Row]) -> u64
     ensures { result ≡ differing_rows rows.now }
 {
-    rows.iter().filter(|row| row.recovered.is_some()).count() as u64
+    let mut count = 0;
+    for row in rows {
+        if row.recovered.is_some() {
+            count += 1;
+        }
+    }
+    count
 }
 
 /// Writes the last line of a bench with a recovery.

@@ -14,10 +14,10 @@ returns-then-is_empty-clause-tells g c = λ b r.
     let none : length own ≡ 0 = grind (arith, nat_tests, c.is_empty.ensures, c.if-is_empty.true) in
     nothing_told own c.args.runner.now.setting.shape.now (unpowered b) _ _ c.args.left.now none
 
-pub returns-in-Some-clause-tells : goal.returns-in-Some-clause-tells
-returns-in-Some-clause-tells g c = IfOk-weaker c.compare.result _ _ (λ differs did b r.
+pub returns-in_ok-settled-in-Some-clause-tells : goal.returns-in_ok-settled-in-Some-clause-tells
+returns-in_ok-settled-in-Some-clause-tells g c = IfOk-weaker c.compare.result _ _ (λ differs did b r.
     (let size = c.args.runner.now.setting.shape.now in
-    let at = c.in_ok-settled.ensures.settles size b r in
+    let at = c.in_ok-settled-in-Some.ensures.settles size b r in
     let told = did (settled at.changes (unpowered b)) at.left in
     told_of c.args.runner.now.recovery.own.now size (unpowered b) _ _ c.args.left.now differs told.0
     (record { changes = at.changes; may = at.may; found = c.in-Some.is ∙ ap Some at.is; recovers = told.1 }) told.2))

@@ -14,6 +14,12 @@ returns-in_err-check_plain-clause-refused g c =
 pub returns-clause-plain : goal.returns-clause-plain
 returns-clause-plain g c = λ said is none. swept c.args.script.now (view c.in_ok-script.script) said c.deref.result.now c.in_ok-script.ensures.value is c.deref.ensures.value c.in_ok-check_plain.ensures.runs none
 
+pub returns-in_err-done-clause-plain : goal.returns-in_err-done-clause-plain
+returns-in_err-done-clause-plain g c = λ said is none. swept c.args.script.now (view c.in_ok-script.script) said c.deref.result.now c.in_ok-script.ensures.value is c.deref.ensures.value c.in_ok-check_plain.ensures.runs none
+
+pub returns-in_err-write_sweep-clause-plain : goal.returns-in_err-write_sweep-clause-plain
+returns-in_err-write_sweep-clause-plain g c = λ said is none. swept c.args.script.now (view c.in_ok-script.script) said c.deref.result.now c.in_ok-script.ensures.value is c.deref.ensures.value c.in_ok-check_plain.ensures.runs none
+
 pub returns-clause-wrote : goal.returns-clause-wrote
 returns-clause-wrote g c =
     let script = c.in_ok-script.script in
