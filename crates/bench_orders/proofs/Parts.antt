@@ -89,16 +89,21 @@ part_made said made rest new n so_far takes =
     (order_twice said (made ++ (take n rest ++ drop n rest)) (made ++ (new ++ drop n rest)) (subst P (sym (take-append-drop n rest)) so_far) (takes made (drop n rest)))
 
 -- all that is left behind so many lines
-left_behind : (rest : List Line) (n : ℕ) → take (length rest - n) (drop n rest) ≡ drop n rest
+pub left_behind : (rest : List Line) (n : ℕ) → take (length rest - n) (drop n rest) ≡ drop n rest
 left_behind rest n = ap (λ k. take k (drop n rest)) (sym (length-drop n rest)) ∙ take-length (drop n rest)
+
+pub part_placed : (said made rest new_made : List Line) (n : ℕ) → IsOrderFor said (made ++ rest)
+    → ((new : List Line) × (new_made ≡ made ++ new) × TakesPlaceOf (take n rest) new)
+    → IsOrderFor said (new_made ++ take (length rest - n) (drop n rest))
+part_placed said made rest new_made n so_far added =
+    let P : List Line → Type 0 = λ m. IsOrderFor said (m ++ take (length rest - n) (drop n rest)) in
+    let Q : List Line → Type 0 = λ r. IsOrderFor said ((made ++ added.0) ++ r) in
+    subst P (sym added.1) (subst Q (sym (left_behind rest n)) (part_made said made rest added.0 n so_far added.2))
 
 pub part_added : (said made rest new_made : List Line) (n more : ℕ) → IsOrderFor said (made ++ rest)
     → ((new : List Line) × (new_made ≡ made ++ new) × TakesPlaceOf (take n rest) new × (length new ≤ n + more))
     → IsOrderFor said (new_made ++ take (length rest - n) (drop n rest))
-part_added said made rest new_made n more so_far added =
-    let P : List Line → Type 0 = λ m. IsOrderFor said (m ++ take (length rest - n) (drop n rest)) in
-    let Q : List Line → Type 0 = λ r. IsOrderFor said ((made ++ added.0) ++ r) in
-    subst P (sym added.1) (subst Q (sym (left_behind rest n)) (part_made said made rest added.0 n so_far added.2))
+part_added said made rest new_made n more so_far added = part_placed said made rest new_made n so_far (added.0, added.1, added.2)
 
 pub part_few : (made rest new_made : List Line) (n more left : ℕ) → length made + length rest + left ≤ 65535 → n ≤ length rest → more ≤ left
     → ((new : List Line) × (new_made ≡ made ++ new) × TakesPlaceOf (take n rest) new × (length new ≤ n + more))

@@ -3,3 +3,5 @@ pub mod Numbers
 pub mod Rows
 pub mod Ran
 pub mod Made
+pub mod Handing
+pub mod Kept

@@ -1,5 +1,5 @@
 -- Orders with few preemptions that were run and told, one after another.
-use Rattle.std.proofs.Common.{◌≡◌, ◌∙◌, ◌⊎◌, inl, inr, ℕ, zero, suc, ◌+◌, ◌<◌, ◌≤◌, Bool, true, List, [], ◌∷◌, ◌++◌, Option, Some, None, Result, Ok, Err, IfOk, All, length, take, slice_index_or, refl, sym, ap, subst, arith, append_assoc, length-append}
+use Rattle.std.proofs.Common.{◌≡◌, ◌∙◌, ◌⊎◌, inl, inr, ℕ, zero, suc, ◌+◌, ◌<◌, ◌≤◌, Bool, true, false, if◌then◌else◌, List, [], ◌∷◌, ◌++◌, Option, Some, None, Result, Ok, Err, IfOk, All, length, take, slice_index_or, refl, sym, ap, subst, arith, append_assoc, length-append}
 use Rattle.std.proofs.lemmas.Bool.{cases_lt}
 use Rattle.std.proofs.lemmas.List.{take_all}
 use Rattle.std.proofs.lemmas.List.Elements.{All-append, All-cons, All-head, All-nil, All-tail}
@@ -16,9 +16,8 @@ use Rattle.bench_schedules.specs.Schedules.{RanLike, RanOwn, RanWell, differing,
 use Rattle.bench_preemptions.specs.Orders.{AllAlike, OfAll, order_of, place_behind}
 use Rattle.bench_preemptions.specs.Points.{IsBusyAt, number_in, script_points}
 use Rattle.bench_preemptions.specs.Preemptions.{Basis, IsWhole, OrderRun, OrderText, OrdersText, Tried, WasRun, WrotePreemptions, basis, count_text, differences_of, differs_text, points_text}
-use Rattle.bench_preemptions.specs.SoFar.{RanAll, RanDepths, RanMore, RanPoints}
+use Rattle.bench_preemptions.specs.SoFar.{IsOpen, RanAll, RanDepths, RanMore, RanPoints, kept_after, kept_behind}
 use Rattle.bench_preemptions.specs.Stepped.{RanByTurns}
-use Rattle.bench_preemptions.specs.declared.orders.Preempted.{Preempted}
 use Rattle.bench_preemptions.specs.declared.points.Preemption.{Preemption}
 use Rattle.bench_preemptions.proofs.Numbers.{before_row, index_within, least_row, same_point}
 
@@ -51,16 +50,34 @@ was_right : (runs more : List OrderRun) (ones : List Preemption) → WasRun more
 was_right [] more ones was = was
 was_right (r ∷ runs) more ones was = inr (was_right runs more ones was)
 
-pub none_more : (b : Basis) (now : Option (List ℕ)) (orders differ : ℕ) → RanMore b [] now now orders differ orders differ
-none_more b now orders differ = record {
+pub none_more : (b : Basis) (enough : ℕ) (now : Option (List ℕ)) (orders differ : ℕ) (kept : List Preemption) → RanMore b enough [] now now orders differ kept orders differ kept
+none_more b enough now orders differ kept = record {
   wrote = record { each = All-nil (Tried b); text = []; tells = refl; written = unwritten now };
   counted = omega arith;
   others = omega arith;
+  last = refl;
 }
 
-pub both_more : (b : Basis) (runs more : List OrderRun) (old mid new : Option (List ℕ)) (o1 d1 o2 d2 o3 d3 : ℕ)
-    → RanMore b runs old mid o1 d1 o2 d2 → RanMore b more mid new o2 d2 o3 d3 → RanMore b (runs ++ more) old new o1 d1 o3 d3
-both_more b runs more old mid new o1 d1 o2 d2 o3 d3 first second =
+-- what is kept behind some orders, and then behind others
+kept_both : (enough differ : ℕ) (kept : List Preemption) (runs more : List OrderRun)
+    → kept_after enough differ kept (runs ++ more) ≡ kept_after enough (differ + differing (differences_of runs)) (kept_after enough differ kept runs) more
+kept_both enough differ kept [] more = ap (λ d. kept_after enough d kept more) (none_behind differ)
+  where
+    none_behind : (d : ℕ) → d ≡ d + 0
+    none_behind d = omega arith
+kept_both enough differ kept (run ∷ runs) more =
+    let one = differing (run.differs ∷ []) in
+    let next = kept_behind enough one (differ + one) kept run.ones in
+    kept_both enough (differ + one) next runs more
+    ∙ ap (λ d. kept_after enough d (kept_after enough (differ + one) next runs) more) (sum_behind differ run.differs (differences_of runs))
+  where
+    sum_behind : (d : ℕ) (x : Option Difference) (xs : List (Option Difference)) → d + differing (x ∷ []) + differing xs ≡ d + differing (x ∷ xs)
+    sum_behind d None xs = omega arith
+    sum_behind d (Some x) xs = omega arith
+
+pub both_more : (b : Basis) (enough : ℕ) (runs more : List OrderRun) (old mid new : Option (List ℕ)) (o1 d1 : ℕ) (k1 : List Preemption) (o2 d2 : ℕ) (k2 : List Preemption) (o3 d3 : ℕ) (k3 : List Preemption)
+    → RanMore b enough runs old mid o1 d1 k1 o2 d2 k2 → RanMore b enough more mid new o2 d2 k2 o3 d3 k3 → RanMore b enough (runs ++ more) old new o1 d1 k1 o3 d3 k3
+both_more b enough runs more old mid new o1 d1 k1 o2 d2 k2 o3 d3 k3 first second =
     let long = length-append runs more in
     let others = differing_both runs more in
     record {
@@ -72,13 +89,17 @@ both_more b runs more old mid new o1 d1 o2 d2 o3 d3 first second =
       };
       counted = omega (arith, first.counted, second.counted, long);
       others = omega (arith, first.others, second.others, others);
+      last = second.last ∙ ap (λ k. kept_after enough d2 k more) first.last ∙ ap (λ d. kept_after enough d (kept_after enough d1 k1 runs) more) first.others
+          ∙ sym (kept_both enough d1 k1 runs more);
     }
 
 -- one order was run
-pub one_more : (b : Basis) (ones : List Preemption) (d : Option Difference) (old new : Option (List ℕ)) (text : List ℕ) (orders differ more_orders more_differ m : ℕ)
+pub one_more : (b : Basis) (enough : ℕ) (ones : List Preemption) (d : Option Difference) (old new : Option (List ℕ)) (text : List ℕ) (orders differ : ℕ) (kept : List Preemption)
+    (more_orders more_differ : ℕ) (more_kept : List Preemption) (m : ℕ)
     → (let run : OrderRun = record { ones = ones; differs = d } in Tried b run) → OrderText b ones d text → Appends old new text → m ≡ differing (d ∷ [])
-    → more_orders ≡ orders + 1 → more_differ ≡ differ + m → RanMore b ((let run : OrderRun = record { ones = ones; differs = d } in run) ∷ []) old new orders differ more_orders more_differ
-one_more b ones d old new text orders differ more_orders more_differ m tried tells written is counted others =
+    → more_orders ≡ orders + 1 → more_differ ≡ differ + m → more_kept ≡ kept_behind enough m (differ + m) kept ones
+    → RanMore b enough ((let run : OrderRun = record { ones = ones; differs = d } in run) ∷ []) old new orders differ kept more_orders more_differ more_kept
+one_more b enough ones d old new text orders differ kept more_orders more_differ more_kept m tried tells written is counted others last =
     let run : OrderRun = record { ones = ones; differs = d } in
     record {
       wrote = record {
@@ -89,32 +110,12 @@ one_more b ones d old new text orders differ more_orders more_differ m tried tel
       };
       counted = counted;
       others = others ∙ ap (λ k. differ + k) is;
+      last = last ∙ ap (λ k. kept_behind enough k (differ + k) kept ones) is;
     }
   where
     nil_behind : (xs : List ℕ) → xs ++ [] ≡ xs
     nil_behind [] = refl
     nil_behind (x ∷ xs) = ap (λ t. x ∷ t) (nil_behind xs)
-
-pub one_counted : (b : Basis) (ones : List Preemption) (d : Option Difference) (old new : Option (List ℕ)) (done : Preempted) (m : ℕ) (result : Result Preempted Refusal)
-    → (let run : OrderRun = record { ones = ones; differs = d } in Tried b run) → (text : List ℕ) × OrderText b ones d text × Appends old new text × (m ≡ differing (d ∷ []))
-    → IfOk result (λ now. now.orders ≡ done.orders + 1) → IfOk result (λ now. now.differ ≡ done.differ + m)
-    → IfOk result (λ now. (differs : Option Difference) × RanMore b ((let run : OrderRun = record { ones = ones; differs = differs } in run) ∷ []) old new done.orders done.differ now.orders now.differ)
-one_counted b ones d old new done m (Ok now) tried wrote counted others =
-    (d, one_more b ones d old new wrote.0 done.orders done.differ now.orders now.differ m tried wrote.1 wrote.2 wrote.3 counted others)
-one_counted b ones d old new done m (Err e) tried wrote counted others = tt
-
--- the line of an order that differs
-pub order_told : (b : Basis) (ones points : List Preemption) (d : Difference) (old new : Option (List ℕ)) → points ≡ script_points b.those ones
-    → (own said : List ℕ) × IsFirstApart (told_lines d.own) (told_lines d.answer) own said
-    × Appends old new (differs_text (points_text b.numbers points) (slice_index_or b.numbers (1 + place_of_other d.place b.those) 0) said own)
-    → (text : List ℕ) × OrderText b ones (Some d) text × Appends old new text × (1 ≡ differing (Some d ∷ []))
-order_told b ones points d old new are wrote =
-    let number = slice_index_or b.numbers (1 + place_of_other d.place b.those) 0 in (
-      differs_text (points_text b.numbers points) number wrote.1 wrote.0,
-      (wrote.0, wrote.1, wrote.2, ap (λ ps. differs_text (points_text b.numbers ps) number wrote.1 wrote.0) are),
-      wrote.3,
-      refl,
-    )
 
 -- ---- which orders were run
 of_weaker : (P Q : List Preemption → Type 0) (size : Size) (start : List (List ℕ)) (those : List Line) (k : ℕ) (ones : List Preemption)
@@ -123,13 +124,9 @@ of_weaker P Q size start those zero ones weaker all = weaker ones all
 of_weaker P Q size start those (suc k) ones weaker all =
     (all.0, all.1, λ one past busy. of_weaker P Q size start those k (ones ++ one ∷ []) weaker (all.2 one past busy))
 
-never_whole : (first : Bool) (differ : ℕ) → first ≡ true → 0 < differ → IsWhole first differ → ⊥
-never_whole first differ is some (inl all) = let never : ⊥ = cc (is, all) in never
-never_whole first differ is some (inr none) = let never : ⊥ = omega (arith, some, none) in never
-
-none_before : (first : Bool) (differ more m : ℕ) → more ≡ differ + m → IsWhole first more → IsWhole first differ
-none_before first differ more m e (inl is) = inl is
-none_before first differ more m e (inr none) = inr (omega (arith, none, e))
+open_before : (enough : ℕ) (differ more m : ℕ) → more ≡ differ + m → IsOpen enough more → IsOpen enough differ
+open_before enough differ more m e (inl all) = inl all
+open_before enough differ more m e (inr fewer) = inr (omega (arith, fewer, e))
 
 before_or_there : (a b : ℕ) → a < b + 1 → (a < b) ⊎ (a ≡ b)
 before_or_there a b less = elim (cases_lt a b) [
@@ -138,31 +135,31 @@ before_or_there a b less = elim (cases_lt a b) [
 ]
 
 -- no point was taken yet: none stands before the first that may be
-pub no_points : (b : Basis) (first : Bool) (k : ℕ) (ones : List Preemption) (counts : List ℕ) (number from : ℕ) (now : Option (List ℕ)) (orders differ : ℕ)
-    → number ≡ number_in counts from 0 → from ≡ place_behind 0 ones → RanPoints b first k ones counts number now now orders differ orders differ
-no_points b first k ones counts number from now orders differ is place = record {
+pub no_points : (b : Basis) (enough : ℕ) (k : ℕ) (ones : List Preemption) (counts : List ℕ) (number from : ℕ) (now : Option (List ℕ)) (orders differ : ℕ) (kept : List Preemption)
+    → number ≡ number_in counts from 0 → from ≡ place_behind 0 ones → RanPoints b enough k ones counts number now now orders differ kept orders differ kept
+no_points b enough k ones counts number from now orders differ kept is place = record {
   runs = [];
-  ran = none_more b now orders differ;
+  ran = none_more b enough now orders differ kept;
   all = λ whole one past busy less. absurd (let here = least_row counts from one.place one.turns (omega (arith, past, place)) in let never : ⊥ = omega (arith, less, here, is) in never);
 }
 
 -- the orders of the next point were run too
-pub point_more : (b : Basis) (first : Bool) (k : ℕ) (ones all : List Preemption) (one : Preemption) (counts : List ℕ) (number : ℕ) (old mid new : Option (List ℕ)) (o1 d1 o2 d2 o3 d3 : ℕ)
+pub point_more : (b : Basis) (enough : ℕ) (k : ℕ) (ones all : List Preemption) (one : Preemption) (counts : List ℕ) (number : ℕ) (old mid new : Option (List ℕ)) (o1 d1 : ℕ) (k1 : List Preemption) (o2 d2 : ℕ) (k2 : List Preemption) (o3 d3 : ℕ) (k3 : List Preemption)
     → IsBusyAt counts one → number_in counts one.place one.turns ≡ number → all ≡ ones ++ one ∷ []
-    → RanPoints b first k ones counts number old mid o1 d1 o2 d2 → RanAll b first k all mid new o2 d2 o3 d3
-    → RanPoints b first k ones counts (number + 1) old new o1 d1 o3 d3
-point_more b first k ones all one counts number old mid new o1 d1 o2 d2 o3 d3 busy is are so_far more = record {
+    → RanPoints b enough k ones counts number old mid o1 d1 k1 o2 d2 k2 → RanAll b enough k all mid new o2 d2 k2 o3 d3 k3
+    → RanPoints b enough k ones counts (number + 1) old new o1 d1 k1 o3 d3 k3
+point_more b enough k ones all one counts number old mid new o1 d1 k1 o2 d2 k2 o3 d3 k3 busy is are so_far more = record {
   runs = so_far.runs ++ more.runs;
-  ran = both_more b so_far.runs more.runs old mid new o1 d1 o2 d2 o3 d3 so_far.ran more.ran;
+  ran = both_more b enough so_far.runs more.runs old mid new o1 d1 k1 o2 d2 k2 o3 d3 k3 so_far.ran more.ran;
   all = λ whole two past at less. by_case whole two past at (before_or_there (number_in counts two.place two.turns) number less);
 }
   where
-    by_case : IsWhole first d3 → (two : Preemption) → place_behind 0 ones ≤ two.place → IsBusyAt counts two
+    by_case : IsOpen enough d3 → (two : Preemption) → place_behind 0 ones ≤ two.place → IsBusyAt counts two
         → (number_in counts two.place two.turns < number) ⊎ (number_in counts two.place two.turns ≡ number)
         → OfAll (WasRun (so_far.runs ++ more.runs)) b.size b.start b.those k (ones ++ two ∷ [])
     by_case whole two past at (inl fewer) =
         of_weaker (WasRun so_far.runs) (WasRun (so_far.runs ++ more.runs)) b.size b.start b.those k (ones ++ two ∷ []) (was_left so_far.runs more.runs)
-        (so_far.all (none_before first d2 d3 _ more.ran.others whole) two past at fewer)
+        (so_far.all (open_before enough d2 d3 _ more.ran.others whole) two past at fewer)
     by_case whole two past at (inr here) =
         let same : one ≡ two = same_point counts one two busy at (is ∙ sym here) in
         let P : List Preemption → Type 0 = λ os. OfAll (WasRun (so_far.runs ++ more.runs)) b.size b.start b.those k os in
@@ -170,10 +167,10 @@ point_more b first k ones all one counts number old mid new o1 d1 o2 d2 o3 d3 bu
         (of_weaker (WasRun more.runs) (WasRun (so_far.runs ++ more.runs)) b.size b.start b.those k all (was_right so_far.runs more.runs) (more.all whole))
 
 -- all points of an order were taken
-pub points_done : (b : Basis) (first : Bool) (more k : ℕ) (order : List Line) (ones : List Preemption) (counts : List ℕ) (number : ℕ) (old new : Option (List ℕ)) (o1 d1 o2 d2 : ℕ)
+pub points_done : (b : Basis) (enough : ℕ) (more k : ℕ) (order : List Line) (ones : List Preemption) (counts : List ℕ) (number : ℕ) (old new : Option (List ℕ)) (o1 d1 : ℕ) (k1 : List Preemption) (o2 d2 : ℕ) (k2 : List Preemption)
     → suc k ≡ more → order ≡ order_of b.those ones → RanByTurns b.size b.start order counts → number_in counts (length counts) 0 ≤ number
-    → RanPoints b first k ones counts number old new o1 d1 o2 d2 → RanAll b first more ones old new o1 d1 o2 d2
-points_done b first more k order ones counts number old new o1 d1 o2 d2 is made ran past so_far =
+    → RanPoints b enough k ones counts number old new o1 d1 k1 o2 d2 k2 → RanAll b enough more ones old new o1 d1 k1 o2 d2 k2
+points_done b enough more k order ones counts number old new o1 d1 k1 o2 d2 k2 is made ran past so_far =
     let R : List Line → Type 0 = λ ls. RanByTurns b.size b.start ls counts in
     let P : ℕ → Type 0 = λ n. OfAll (WasRun so_far.runs) b.size b.start b.those n ones in
     record {
@@ -186,54 +183,59 @@ points_done b first more k order ones counts number old new o1 d1 o2 d2 is made 
       );
     }
 
--- the first order that differs was the last
-pub points_left : (b : Basis) (first : Bool) (more : ℕ) (k : ℕ) (ones : List Preemption) (counts : List ℕ) (number : ℕ) (old new : Option (List ℕ)) (o1 d1 o2 d2 : ℕ)
-    → first ≡ true → 0 < d2 → RanPoints b first k ones counts number old new o1 d1 o2 d2 → RanAll b first more ones old new o1 d1 o2 d2
-points_left b first more k ones counts number old new o1 d1 o2 d2 is some so_far = record {
+-- enough orders differ
+pub points_left : (b : Basis) (enough : ℕ) (more : ℕ) (k : ℕ) (ones : List Preemption) (counts : List ℕ) (number : ℕ) (old new : Option (List ℕ)) (o1 d1 : ℕ) (k1 : List Preemption) (o2 d2 : ℕ) (k2 : List Preemption)
+    → (IsOpen enough d2 → ⊥) → RanPoints b enough k ones counts number old new o1 d1 k1 o2 d2 k2 → RanAll b enough more ones old new o1 d1 k1 o2 d2 k2
+points_left b enough more k ones counts number old new o1 d1 k1 o2 d2 k2 over so_far = record {
   runs = so_far.runs;
   ran = so_far.ran;
-  all = λ whole. absurd (never_whole first d2 is some whole);
+  all = λ whole. absurd (over whole);
 }
 
 -- this order alone was run
-pub leaf : (b : Basis) (first : Bool) (more : ℕ) (ones : List Preemption) (old new : Option (List ℕ)) (o1 d1 o2 d2 : ℕ) → more ≡ 0
-    → (d : Option Difference) × RanMore b ((let run : OrderRun = record { ones = ones; differs = d } in run) ∷ []) old new o1 d1 o2 d2 → RanAll b first more ones old new o1 d1 o2 d2
-leaf b first more ones old new o1 d1 o2 d2 none ran =
+pub leaf : (b : Basis) (enough : ℕ) (more : ℕ) (ones : List Preemption) (old new : Option (List ℕ)) (o1 d1 : ℕ) (k1 : List Preemption) (o2 d2 : ℕ) (k2 : List Preemption) → more ≡ 0
+    → (d : Option Difference) × RanMore b enough ((let run : OrderRun = record { ones = ones; differs = d } in run) ∷ []) old new o1 d1 k1 o2 d2 k2 → RanAll b enough more ones old new o1 d1 k1 o2 d2 k2
+leaf b enough more ones old new o1 d1 k1 o2 d2 k2 none ran =
     let run : OrderRun = record { ones = ones; differs = ran.0 } in
     let P : ℕ → Type 0 = λ n. OfAll (WasRun (run ∷ [])) b.size b.start b.those n ones in
     record { runs = run ∷ []; ran = ran.1; all = λ whole. subst P (sym none) (inl refl) }
 
+-- those with one more were run
+pub depth_one : (b : Basis) (enough : ℕ) (more : ℕ) (ones : List Preemption) (old new : Option (List ℕ)) (o1 d1 : ℕ) (k1 : List Preemption) (o2 d2 : ℕ) (k2 : List Preemption) → more ≡ 1
+    → RanAll b enough 1 ones old new o1 d1 k1 o2 d2 k2 → RanAll b enough more ones old new o1 d1 k1 o2 d2 k2
+depth_one b enough more ones old new o1 d1 k1 o2 d2 k2 is ran = let P : ℕ → Type 0 = λ n. RanAll b enough n ones old new o1 d1 k1 o2 d2 k2 in subst P (sym is) ran
+
 -- ---- with one, with two, with three
-pub no_depths : (b : Basis) (first : Bool) (now : Option (List ℕ)) → RanDepths b first 0 now now 0 0
-no_depths b first now = record {
+pub no_depths : (b : Basis) (enough : ℕ) (now : Option (List ℕ)) → RanDepths b enough 0 now now 0 0 []
+no_depths b enough now = record {
   runs = [];
-  ran = none_more b now 0 0;
+  ran = none_more b enough now 0 0 [];
   all = λ whole k some few. absurd (let never : ⊥ = omega (arith, some, few) in never);
 }
 
-pub depth_more : (b : Basis) (first : Bool) (fewer more : ℕ) (ones : List Preemption) (old mid new : Option (List ℕ)) (o2 d2 o3 d3 : ℕ) → ones ≡ [] → more ≡ fewer + 1
-    → RanDepths b first fewer old mid o2 d2 → RanAll b first more ones mid new o2 d2 o3 d3 → RanDepths b first (fewer + 1) old new o3 d3
-depth_more b first fewer more ones old mid new o2 d2 o3 d3 none next so_far done = record {
+pub depth_more : (b : Basis) (enough : ℕ) (fewer more : ℕ) (ones : List Preemption) (old mid new : Option (List ℕ)) (o2 d2 : ℕ) (k2 : List Preemption) (o3 d3 : ℕ) (k3 : List Preemption) → ones ≡ [] → more ≡ fewer + 1
+    → RanDepths b enough fewer old mid o2 d2 k2 → RanAll b enough more ones mid new o2 d2 k2 o3 d3 k3 → RanDepths b enough (fewer + 1) old new o3 d3 k3
+depth_more b enough fewer more ones old mid new o2 d2 k2 o3 d3 k3 none next so_far done = record {
   runs = so_far.runs ++ done.runs;
-  ran = both_more b so_far.runs done.runs old mid new 0 0 o2 d2 o3 d3 so_far.ran done.ran;
+  ran = both_more b enough so_far.runs done.runs old mid new 0 0 [] o2 d2 k2 o3 d3 k3 so_far.ran done.ran;
   all = λ whole k some few. by_case whole k some (before_or_there k (fewer + 1) (omega (arith, few)));
 }
   where
-    by_case : IsWhole first d3 → (k : ℕ) → 1 ≤ k → (k < fewer + 1) ⊎ (k ≡ fewer + 1) → OfAll (WasRun (so_far.runs ++ done.runs)) b.size b.start b.those k []
+    by_case : IsOpen enough d3 → (k : ℕ) → 1 ≤ k → (k < fewer + 1) ⊎ (k ≡ fewer + 1) → OfAll (WasRun (so_far.runs ++ done.runs)) b.size b.start b.those k []
     by_case whole k some (inl less) =
         of_weaker (WasRun so_far.runs) (WasRun (so_far.runs ++ done.runs)) b.size b.start b.those k [] (was_left so_far.runs done.runs)
-        (so_far.all (none_before first d2 d3 _ done.ran.others whole) k some (omega (arith, less)))
+        (so_far.all (open_before enough d2 d3 _ done.ran.others whole) k some (omega (arith, less)))
     by_case whole k some (inr is) =
         let P : ℕ → Type 0 = λ n. OfAll (WasRun (so_far.runs ++ done.runs)) b.size b.start b.those n [] in
         let Q : List Preemption → Type 0 = λ os. OfAll (WasRun (so_far.runs ++ done.runs)) b.size b.start b.those more os in
         subst P (next ∙ sym is)
         (subst Q none (of_weaker (WasRun done.runs) (WasRun (so_far.runs ++ done.runs)) b.size b.start b.those more ones (was_right so_far.runs done.runs) (done.all whole)))
 
-pub depths_left : (b : Basis) (first : Bool) (fewer most : ℕ) (old new : Option (List ℕ)) (o d : ℕ) → first ≡ true → 0 < d → RanDepths b first fewer old new o d → RanDepths b first most old new o d
-depths_left b first fewer most old new o d is some so_far = record {
+pub depths_left : (b : Basis) (enough : ℕ) (fewer most : ℕ) (old new : Option (List ℕ)) (o d : ℕ) (kept : List Preemption) → (IsOpen enough d → ⊥) → RanDepths b enough fewer old new o d kept → RanDepths b enough most old new o d kept
+depths_left b enough fewer most old new o d kept over so_far = record {
   runs = so_far.runs;
   ran = so_far.ran;
-  all = λ whole. absurd (never_whole first d is some whole);
+  all = λ whole. absurd (over whole);
 }
 
 -- ---- the whole bench
@@ -268,10 +270,15 @@ own_alike size start those own ran =
       like = ap (λ (ls : List Line). other_answers ls ran.answers) (sym whole) ∙ sym ran.told;
     }
 
-pub wrote_all : (size : Size) (start : List (List ℕ)) (those : List Line) (own : List Answer) (numbers : List ℕ) (most : ℕ) (first : Bool) (old last new : Option (List ℕ)) (orders differ : ℕ)
-    → RanOwn size start those own → RanDepths (basis size start those own numbers most) first most old last orders differ
+whole_open : (first : Bool) (differ enough : ℕ) → enough ≡ (if first then 1 else 0) → IsWhole first differ → IsOpen enough differ
+whole_open true differ enough is (inl all) = absurd (let never : ⊥ = cc all in never)
+whole_open true differ enough is (inr none) = inr (omega (arith, is, none))
+whole_open false differ enough is whole = inl is
+
+pub wrote_all : (size : Size) (start : List (List ℕ)) (those : List Line) (own : List Answer) (numbers : List ℕ) (most : ℕ) (first : Bool) (enough : ℕ) (old last new : Option (List ℕ)) (orders differ : ℕ) (kept : List Preemption)
+    → enough ≡ (if first then 1 else 0) → RanOwn size start those own → RanDepths (basis size start those own numbers most) enough most old last orders differ kept
     → Appends last new (count_text most orders differ) → WrotePreemptions (record { size = size; lines = those }) start numbers most first old new orders differ
-wrote_all size start those own numbers most first old last new orders differ ran done ended = record {
+wrote_all size start those own numbers most first enough old last new orders differ kept is ran done ended = record {
   own = own;
   ran = ran;
   runs = done.runs;
@@ -279,7 +286,7 @@ wrote_all size start those own numbers most first old last new orders differ ran
   wrote = done.ran.wrote;
   count = omega (arith, done.ran.counted);
   others = omega (arith, done.ran.others);
-  all = done.all;
+  all = λ whole. done.all (whole_open first differ enough is whole);
   alike = alike;
   ended = ended;
 }
@@ -291,4 +298,4 @@ wrote_all size start those own numbers most first old last new orders differ ran
     alike none zero few = own_alike size start those own ran
     alike none (suc k) few =
         of_weaker (WasRun done.runs) (λ ones. RanLike size start (order_of those ones) own None) size start those (suc k) []
-        (λ ones was. none_differ b ones done.runs done.ran.wrote.each (let e = done.ran.others in omega (arith, e, none)) was) (done.all (inr none) (suc k) (omega arith) few)
+        (λ ones was. none_differ b ones done.runs done.ran.wrote.each (let e = done.ran.others in omega (arith, e, none)) was) (done.all (whole_open first differ enough is (inr none)) (suc k) (omega arith) few)

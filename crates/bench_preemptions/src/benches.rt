@@ -1,6 +1,6 @@
 //! The whole bench.
 
-ghost use Rattle.std.specs.Prelude.{◌≡◌, ◌⊎◌, ◌≤◌, length, All, IfErr, IfOk, Ok, Err};
+ghost use Rattle.std.specs.Prelude.{if◌then◌else◌, ◌≡◌, ◌⊎◌, ◌≤◌, length, All, IfErr, IfOk, Ok, Err};
 ghost use Rattle.board_model.specs.declared.refusal.Refusal.{Refusal as Refused};
 ghost use Rattle.board_model.specs.declared.refusal.Refusal.TheVariants.{Memory, Output};
 ghost use Rattle.script_lang.specs.Lines.{IsLineInRange};
@@ -9,13 +9,15 @@ ghost use Rattle.script_lang.specs.Views.{view};
 ghost use Rattle.bench_schedules.specs.Numbers.{numbers_of};
 ghost use Rattle.bench_preemptions.specs.Preemptions.{WrotePreemptions};
 
-use crate::orders::{Preempted, Runner, try_depths};
+use crate::nodes::{Runner, Search};
+use crate::orders::{Preempted, try_depths};
 use crate::written::write_count;
 use bench_report::Setting;
 use bench_schedules::{confirmed_own_run, line_numbers};
 use board::Payloads;
 use board_model::Refusal;
 use crew::{Crew, Sequential};
+use jobs::Jobs;
 use script_lang::{Line, Script, parse_script};
 use std::alloc::Global;
 use std::io::Write;
@@ -29,8 +31,16 @@ pub struct Within {
     pub first: bool,
 }
 
+/// How many orders that differ are enough: one, or 0 where all are run.
+fn enough_of(first: bool) -> u64
+    ensures { result ≡ (if first then 1 else 0) }
+{
+    if first { 1 } else { 0 }
+}
+
 /// Runs lines as they stand, and then all orders of them with few preemptions.
-fn try_lines<'a, C: Crew, W: Write>(
+fn try_lines<'a, R: Threads + Sync, C: Crew + Sync, W: Write>(
+    jobs: &Jobs<'_, R>,
     setting: Setting<'a, C>,
     lines: &'a [Line],
     payloads: &'a Payloads,
@@ -53,15 +63,16 @@ fn try_lines<'a, C: Crew, W: Write>(
         numbers,
         own: &own.answers,
         most: within.most,
-        first: within.first,
+        enough: enough_of(within.first),
     };
-    let done = try_depths(&runner, out)?;
-    write_count(out, within.most, done.orders, done.differ)?;
-    Ok(done)
+    let Search { orders, differ, .. } = try_depths(jobs, &runner, out)?;
+    write_count(out, within.most, orders, differ)?;
+    Ok(Preempted { orders, differ })
 }
 
 /// Runs a script that was read as it stands, and then all orders of it with few preemptions.
 fn try_script<R: Threads + Sync, W: Write>(
+    jobs: &Jobs<'_, R>,
     alloc: Global,
     script: &Script,
     payloads: &Payloads,
@@ -82,6 +93,7 @@ fn try_script<R: Threads + Sync, W: Write>(
         shape: &script.shape,
     };
     try_lines(
+        jobs,
         setting,
         script.lines.as_slice(),
         payloads,
@@ -94,10 +106,12 @@ fn try_script<R: Threads + Sync, W: Write>(
 /// The bench of preemptions (docs/SCRIPT.md, "Preemptions"). It runs a script as it stands, with these payloads in the slots, and then
 /// each order of it in which a row is parted before a turn that does something, then a row of that order, and so on, at most so often:
 /// first those with one preemption, then those with two. Where the report of an order differs, it writes where it was parted, and the
-/// first line that differs. At the end it writes how many orders there were, and how many differ.
+/// first line that differs. At the end it writes how many orders there were, and how many differ. The orders are run by the threads of
+/// these jobs; what is written is the same however many these are.
 ///
 /// Refused as `bench_schedules::schedules` is.
 pub fn preemptions<R: Threads + Sync, W: Write>(
+    jobs: &Jobs<'_, R>,
     alloc: Global,
     script: &[u8],
     payloads: &Payloads,
@@ -116,5 +130,5 @@ pub fn preemptions<R: Threads + Sync, W: Write>(
 {
     let read = parse_script(alloc, script)?;
     let numbers = line_numbers(alloc, script)?;
-    try_script::<R, W>(alloc, &read, payloads, &numbers, within, out)
+    try_script(jobs, alloc, &read, payloads, &numbers, within, out)
 }

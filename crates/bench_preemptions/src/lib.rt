@@ -4,11 +4,15 @@
 
 mod benches;
 mod counts;
+mod next_runs;
+mod nodes;
 mod orders;
 mod points;
 mod script_points;
+mod shown;
 mod written;
 
 pub use benches::{Within, preemptions};
 pub use orders::Preempted;
 pub use points::Preemption;
+pub use shown::{Wanted, show_order};

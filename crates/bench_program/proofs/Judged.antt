@@ -11,7 +11,9 @@ use Rattle.script_lang.specs.Scripts.{script_of, Script as Said}
 use Rattle.bench_schedules.specs.Numbers.{numbers_of}
 use Rattle.bench_preemptions.specs.Preemptions.{WrotePreemptions}
 use Rattle.bench_preemptions.specs.declared.benches.Within.{Within}
-use Rattle.bench_program.specs.Written.{IsPreempted}
+use Rattle.bench_preemptions.specs.Shown.{ShownOrder}
+use Rattle.bench_preemptions.specs.declared.shown.Wanted.{Wanted}
+use Rattle.bench_program.specs.Written.{IsOrderShown, IsPreempted}
 
 pub wrote_on : (bench : Bench) (start : List (List ℕ)) (script : List ℕ) (a b c : Option (List ℕ)) (sweep : Sweep) → IsBenchOf bench start script a b sweep → Keeps b c → IsBenchOf bench start script a c sweep
 wrote_on bench start script a b c sweep (said, is, w) keeps = (
@@ -56,6 +58,14 @@ preempted_on within start script a b c orders differ (said, is, w) keeps = (
 
 pub recovered_on : (bench : Bench) (start : List (List ℕ)) (script recovery numbers : List ℕ) (a b c : Option (List ℕ)) (done : Recovered) → IsRecoveredBenchOf bench start script recovery numbers a b done → Keeps b c → IsRecoveredBenchOf bench start script recovery numbers a c done
 recovered_on bench start script recovery numbers a b c done (said, after, is, says, plain, none, some, (mid, rows, last)) keeps = (said, after, is, says, plain, none, some, (mid, rows, handed_on mid b c _ last keeps))
+
+pub order_on : (wanted : Wanted) (start : List (List ℕ)) (script : List ℕ) (a b c : Option (List ℕ))
+    → ((said : Said) × (script_of script ≡ Ok said) × ShownOrder said start (numbers_of script) wanted.most wanted.number a b) → Keeps b c → IsOrderShown wanted start script a c
+order_on wanted start script a b c (said, is, (ones, nth, w)) keeps = (
+  said,
+  is,
+  (ones, nth, record { order = w.order; writable = w.writable; reads = w.reads; text = handed_on a b c _ w.text keeps }),
+)
 
 -- a bench that was run to its end was not refused
 pub not_refused : {A T : Type 0} (x : T) (e f : Refusal) → ◌≡◌ {A = Result T Refusal} (Ok x) (Err e) ⊎ ◌≡◌ {A = Result T Refusal} (Ok x) (Err f) → A

@@ -3,7 +3,7 @@ use Rattle.std.proofs.Common.{◌≡◌, ◌∙◌, ◌⊎◌, inl, inr, ℕ, Li
 use Rattle.board_model.specs.declared.refusal.Refusal.{Refusal}
 use Rattle.board_model.specs.declared.refusal.Refusal.TheVariants.{Memory, NotPlain, Output}
 use Rattle.script_lang.specs.Scripts.{script_of}
-use Rattle.bench_program.specs.Written.{IsNotTaken, IsFaultIn, IsFaultOf, IsUnread, IsFault, source_of}
+use Rattle.bench_program.specs.Written.{IsNotTaken, IsFaultIn, IsFaultOf, IsUnread, IsFault}
 use Rattle.command_line.specs.declared.NoWork.{NoWork}
 use Rattle.command_line.specs.declared.NoWork.TheVariants as whys
 use Rattle.payload_files.proofs.FaultKinds.{file_fault}
@@ -22,15 +22,17 @@ use Rattle.bench_program.specs.declared.usage.Work.TheVariants.{Recover}
 use Rattle.bench_sweep.specs.Swept.{NoBenchRuns, NoRecoveryRuns}
 
 -- a refused work, whose reader may be gone
-pub told : (work : Work) (script : List ℕ) (e : Refusal) (fault : BenchFault) → (fault ≡ Closed) ⊎ (fault ≡ Refused e) → (e ≡ Memory) ⊎ (e ≡ Output) ⊎ (script_of script ≡ Err e) ⊎ IsNotTaken work script e → IsFaultIn work script fault
-told work script e fault (inl is) why = let P : BenchFault → Type 0 = λ f. IsFaultIn work script f in subst P (sym is) tt
-told work script e fault (inr is) why = let P : BenchFault → Type 0 = λ f. IsFaultIn work script f in subst P (sym is) why
+pub told : (work : Work) (payloads : List (List ℕ)) (script : List ℕ) (e : Refusal) (fault : BenchFault) → (fault ≡ Closed) ⊎ (fault ≡ Refused e)
+    → (e ≡ Memory) ⊎ (e ≡ Output) ⊎ (script_of script ≡ Err e) ⊎ IsNotTaken work payloads script e → IsFaultIn work payloads script fault
+told work payloads script e fault (inl is) why = let P : BenchFault → Type 0 = λ f. IsFaultIn work payloads script f in subst P (sym is) tt
+told work payloads script e fault (inr is) why = let P : BenchFault → Type 0 = λ f. IsFaultIn work payloads script f in subst P (sym is) why
 
 -- a report has no fault of a bench
-pub no_bench : (script : List ℕ) (e : Refusal) (work : Work) → (e ≡ Memory) ⊎ (e ≡ Output) ⊎ (script_of script ≡ Err e) → (e ≡ Memory) ⊎ (e ≡ Output) ⊎ (script_of script ≡ Err e) ⊎ IsNotTaken work script e
-no_bench script e work (inl x) = inl x
-no_bench script e work (inr (inl x)) = inr (inl x)
-no_bench script e work (inr (inr x)) = inr (inr (inl x))
+pub no_bench : (payloads : List (List ℕ)) (script : List ℕ) (e : Refusal) (work : Work) → (e ≡ Memory) ⊎ (e ≡ Output) ⊎ (script_of script ≡ Err e)
+    → (e ≡ Memory) ⊎ (e ≡ Output) ⊎ (script_of script ≡ Err e) ⊎ IsNotTaken work payloads script e
+no_bench payloads script e work (inl x) = inl x
+no_bench payloads script e work (inr (inl x)) = inr (inl x)
+no_bench payloads script e work (inr (inr x)) = inr (inr (inl x))
 
 -- a payload file was not read
 pub unread_named : (options : Options) (why : ProgramFault) (fault : BenchFault) → fault ≡ unread_by why → (why ≡ causes.File) ⊎ (why ≡ causes.Refused Memory)
@@ -57,13 +59,13 @@ unread_input options fault none (inl is) = inl (inr (is, none))
 unread_input options fault none (inr is) = inr is
 
 -- a bench with a recovery was refused
-pub no_recovery : (bench : Bench) (script recovery : List ℕ) (e : Refusal) → (e ≡ Memory) ⊎ (e ≡ Output) ⊎ (script_of script ≡ Err e) ⊎ ((e ≡ NotPlain) × NoBenchRuns script) ⊎ NoRecoveryRuns script recovery e
-    → (e ≡ Memory) ⊎ (e ≡ Output) ⊎ (script_of script ≡ Err e) ⊎ IsNotTaken (Recover bench) script e
-no_recovery bench script recovery e (inl x) = inl x
-no_recovery bench script recovery e (inr (inl x)) = inr (inl x)
-no_recovery bench script recovery e (inr (inr (inl x))) = inr (inr (inl x))
-no_recovery bench script recovery e (inr (inr (inr (inl x)))) = inr (inr (inr (inl x)))
-no_recovery bench script recovery e (inr (inr (inr (inr x)))) = inr (inr (inr (inr (recovery, x))))
+pub no_recovery : (bench : Bench) (payloads : List (List ℕ)) (script recovery : List ℕ) (e : Refusal) → (e ≡ Memory) ⊎ (e ≡ Output) ⊎ (script_of script ≡ Err e) ⊎ ((e ≡ NotPlain) × NoBenchRuns script) ⊎ NoRecoveryRuns script recovery e
+    → (e ≡ Memory) ⊎ (e ≡ Output) ⊎ (script_of script ≡ Err e) ⊎ IsNotTaken (Recover bench) payloads script e
+no_recovery bench payloads script recovery e (inl x) = inl x
+no_recovery bench payloads script recovery e (inr (inl x)) = inr (inl x)
+no_recovery bench payloads script recovery e (inr (inr (inl x))) = inr (inr (inl x))
+no_recovery bench payloads script recovery e (inr (inr (inr (inl x)))) = inr (inr (inr (inl x)))
+no_recovery bench payloads script recovery e (inr (inr (inr (inr x)))) = inr (inr (inr (inr (recovery, x))))
 
 -- nor the file of a recovery
 unread_recovered : (options : Options) (why : ProgramFault) (fault : BenchFault) → fault ≡ unread_by why → (why ≡ causes.File) ⊎ (why ≡ causes.Refused Memory) → IsSome options.recovery
@@ -77,7 +79,7 @@ unread_recovery options {A} option value why kind fault e is same some = unread_
 
 -- a fault of options that the words name
 pub of_options : (words : List (List ℕ)) (bytes_at : List ℕ → Option (List ℕ)) (input : Option (List ℕ)) (fault : BenchFault) (options : Options) → IsNamedBy words options
-    → IsUnread options fault ⊎ (fault ≡ Refused Memory) ⊎ IsFaultOf options.work (source_of options bytes_at input) fault → IsFault words bytes_at input fault
+    → IsUnread options fault ⊎ (fault ≡ Refused Memory) ⊎ IsFaultOf options bytes_at input fault → IsFault words bytes_at input fault
 of_options words bytes_at input fault options named (inl is) = inl (options, named, inl is)
 of_options words bytes_at input fault options named (inr (inl memory)) = inr (inr memory)
 of_options words bytes_at input fault options named (inr (inr is)) = inl (options, named, inr is)

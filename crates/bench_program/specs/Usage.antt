@@ -17,7 +17,7 @@ use Rattle.command_line.specs.declared.NoWork.{NoWork}
 use Rattle.bench_program.specs.declared.usage.Bench.TheVariants.{Sweep, Faults}
 use Rattle.bench_program.specs.declared.usage.Options.{Options}
 use Rattle.bench_program.specs.declared.usage.Work.{Work}
-use Rattle.bench_program.specs.declared.usage.Work.TheVariants.{Report, Judge, Recover, Compare, Show, Preempt}
+use Rattle.bench_program.specs.declared.usage.Work.TheVariants.{Report, Judge, Recover, Compare, Show, Preempt, ShowOrder}
 use Rattle.bench_program.specs.declared.usage.Savers.{Savers}
 use Rattle.bench_program.specs.declared.usage.Savers.TheVariants.{Turns, Threads}
 use lib.Chars.{codes}
@@ -144,18 +144,30 @@ work_without f sweep faults =
     work_named sweep faults (first_value f (codes "schedules")) (first_value f (codes "seed")) (first_value f (codes "show"))
     (savers_of (first_value f (codes "crew")))
 
--- what is to be done with orders that have few preemptions, by the word of `--preemptions` and by `--first`
-abbrev pub preemptions_by : Option ℕ → Bool → Option Work
-preemptions_by None first = None
-preemptions_by (Some k) first = Some (Preempt (record { most = k; first = first }))
+-- the order of that number is shown
+abbrev pub order_shown : ℕ → Option ℕ → Option Work
+order_shown most None = None
+order_shown most (Some k) = Some (ShowOrder (record { most = most; number = k }))
 
-abbrev pub preemptions_named : List ℕ → Bool → Option Work
-preemptions_named word first = preemptions_by (number_up_to 3 (number_of word)) first
+-- All orders with so many preemptions at most are run, or the one that a word names is shown. `--first` does not go with that.
+abbrev pub preempt_or_show : ℕ → Option (List ℕ) → Bool → Option Work
+preempt_or_show most None first = Some (Preempt (record { most = most; first = first }))
+preempt_or_show most (Some word) true = None
+preempt_or_show most (Some word) false = order_shown most (number_up_to 1000000 (number_of word))
 
--- no option of schedules stands beside it
-abbrev pub without_options : Option (List ℕ) → Option (List ℕ) → Option (List ℕ) → Option Work → Option Work
-without_options None seed show work = without_schedules seed show work
-without_options (Some runs) seed show work = None
+abbrev pub preemptions_by : Option ℕ → Option (List ℕ) → Bool → Option Work
+preemptions_by None show first = None
+preemptions_by (Some k) show first = preempt_or_show k show first
+
+-- what is to be done with orders that have few preemptions, by the words of `--preemptions` and `--show` and by `--first`
+abbrev pub preemptions_named : List ℕ → Option (List ℕ) → Bool → Option Work
+preemptions_named word show first = preemptions_by (number_up_to 3 (number_of word)) show first
+
+-- neither schedules nor their seed stand beside it
+abbrev pub without_options : Option (List ℕ) → Option (List ℕ) → Option Work → Option Work
+without_options None None work = work
+without_options None (Some seed) work = None
+without_options (Some runs) seed work = None
 
 -- what is to be done, by the word of `--preemptions`, and without it by the other words; `--first` goes with it alone
 abbrev pub work_by : Option (List ℕ) → Found → Bool → Bool → Bool → Option Work
@@ -163,7 +175,8 @@ work_by None f sweep faults true = None
 work_by None f sweep faults false = work_without f sweep faults
 work_by (Some word) f sweep faults first =
     without_benches sweep faults
-    (without_options (first_value f (codes "schedules")) (first_value f (codes "seed")) (first_value f (codes "show")) (preemptions_named word first))
+    (without_options (first_value f (codes "schedules")) (first_value f (codes "seed"))
+    (preemptions_named word (first_value f (codes "show")) first))
 
 abbrev pub work_unrecovered : Found → Bool → Bool → Bool → Option Work
 work_unrecovered f sweep faults first = work_by (first_value f (codes "preemptions")) f sweep faults first
@@ -180,10 +193,11 @@ with_recovery (Some path) work = recovered work
 abbrev pub work_asked : Found → Bool → Bool → Bool → Option Work
 work_asked f sweep faults first = with_recovery (first_value f (codes "recover")) (work_unrecovered f sweep faults first)
 
--- the bench of schedules runs at most so many, and an order has at most so many preemptions
+-- the bench of schedules runs at most so many, an order has at most so many preemptions, and orders have numbers from 1 on
 abbrev pub IsBounded : Work → Type 0
 IsBounded (Compare drawn) = drawn.number ≤ 1000000
 IsBounded (Preempt within) = within.most ≤ 3
+IsBounded (ShowOrder wanted) = (wanted.most ≤ 3) × (1 ≤ wanted.number)
 IsBounded work = ⊤
 
 -- what the words of a command line name, as the command's parser reads them: one work

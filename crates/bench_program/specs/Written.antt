@@ -1,7 +1,7 @@
 -- What the program writes, by the work that its words ask for. Source: docs/SCRIPT.md, "The program".
 use Rattle.std.specs.Prelude.{◌≡◌, ◌⊎◌, ◌<◌, ⊤, ℕ, Bool, List, [], Option, None, Some, Ok, Err, IfSome, IsSome, get_or, take}
 use Rattle.board_model.specs.declared.refusal.Refusal.{Refusal}
-use Rattle.board_model.specs.declared.refusal.Refusal.TheVariants.{Memory, Output, NotPlain}
+use Rattle.board_model.specs.declared.refusal.Refusal.TheVariants.{BadShape, Memory, Output, NotPlain}
 use Rattle.std.specs.Io.KnownBytes.{Appends}
 use Rattle.script_lang.specs.Scripts.{script_of, Script as Said}
 use Rattle.bench_report.specs.Bench.{Bench as ModelBench}
@@ -12,7 +12,9 @@ use Rattle.report_lines.specs.declared.printed.Answer.{Answer}
 use Rattle.bench_sweep.specs.Swept.{IsBenchOf, IsRecoveredBenchOf, NoBenchRuns, NoRecoveryRuns}
 use Rattle.bench_sweep.specs.declared.sweeps.Recovered.{Recovered}
 use Rattle.bench_preemptions.specs.Preemptions.{WrotePreemptions}
+use Rattle.bench_preemptions.specs.Shown.{HasNoOrder, ShownOrder}
 use Rattle.bench_preemptions.specs.declared.benches.Within.{Within}
+use Rattle.bench_preemptions.specs.declared.shown.Wanted.{Wanted}
 use Rattle.bench_schedules.specs.Numbers.{number_of_other, numbers_of}
 use Rattle.bench_schedules.specs.Schedules.{Shown, WroteSchedules}
 use Rattle.bench_judge.specs.declared.judges.Sweep.{Sweep as Counts}
@@ -25,7 +27,7 @@ use Rattle.bench_program.specs.declared.fault.BenchFault.TheVariants.{Usage, Inp
 use Rattle.bench_program.specs.declared.usage.Options.{Options}
 use Rattle.bench_program.specs.declared.usage.Work.{Work}
 use Rattle.bench_program.specs.declared.usage.Bench.{Bench}
-use Rattle.bench_program.specs.declared.usage.Work.TheVariants.{Report, Judge, Recover, Compare, Show, Preempt}
+use Rattle.bench_program.specs.declared.usage.Work.TheVariants.{Report, Judge, Recover, Compare, Show, Preempt, ShowOrder}
 
 -- what was written is a report of the script that begins with these payloads, and nothing else; where no line is a poke,
 -- it keeps the prefix law
@@ -53,8 +55,13 @@ IsRecovered bench payloads recovery script old now differ = (done : Recovered)
 abbrev pub IsShown : List ℕ → Option (List ℕ) → Option (List ℕ) → Type 0
 IsShown script old now = (said : Said) × (script_of script ≡ Ok said) × Shown said old now
 
+-- the order of that number was written, of those with so many preemptions at most that differ
+abbrev pub IsOrderShown : Wanted → List (List ℕ) → List ℕ → Option (List ℕ) → Option (List ℕ) → Type 0
+IsOrderShown wanted payloads script old now = (said : Said) × (script_of script ≡ Ok said)
+    × ShownOrder said payloads (numbers_of script) wanted.most wanted.number old now
+
 -- what was written is what the work makes of the script: its report, the lines of a bench, of which none is wrong, or of its
--- schedules, of which none differs, or one of them, or of its orders with few preemptions, of which none differs
+-- schedules, of which none differs, or one of them, or of its orders with few preemptions, of which none differs, or one that does
 abbrev pub IsWritten : Work → List (List ℕ) → List ℕ → Option (List ℕ) → Option (List ℕ) → Type 0
 IsWritten (Report savers) payloads script old now = IsReported payloads script old now
 IsWritten (Judge bench) payloads script old now = (counts : Counts) × IsBenchOf (judged bench) payloads script old now counts
@@ -62,6 +69,7 @@ IsWritten (Recover bench) payloads script old now = ⊥
 IsWritten (Compare drawn) payloads script old now = IsCompared drawn.number payloads script old now 0
 IsWritten (Show drawn) payloads script old now = IsShown script old now
 IsWritten (Preempt within) payloads script old now = IsPreempted within payloads script old now 0
+IsWritten (ShowOrder wanted) payloads script old now = IsOrderShown wanted payloads script old now
 
 -- the same of a work that has a recovery: of none of its runs a look differs
 abbrev pub IsMade : Work → List (List ℕ) → List ℕ → List ℕ → Option (List ℕ) → Option (List ℕ) → Type 0
@@ -130,16 +138,19 @@ IsWrong words bytes_at input old now =
     (options : Options) × IsNamedBy words options × AreWrong options bytes_at input old now
 
 -- ---- faults
--- The work is a bench, and no bench runs the script: a line of it is not plain, or none formats a disk; or its recovery.
-abbrev pub IsNotTaken : Work → List ℕ → Refusal → Type 0
-IsNotTaken (Report savers) script e = ⊥
-IsNotTaken (Judge bench) script e = (e ≡ NotPlain) × NoBenchRuns script
-IsNotTaken (Recover bench) script e =
+-- The work is a bench, and no bench runs the script: a line of it is not plain, or none formats a disk; or its recovery. Or it shows
+-- an order, and there is none of that number to show.
+abbrev pub IsNotTaken : Work → List (List ℕ) → List ℕ → Refusal → Type 0
+IsNotTaken (Report savers) payloads script e = ⊥
+IsNotTaken (Judge bench) payloads script e = (e ≡ NotPlain) × NoBenchRuns script
+IsNotTaken (Recover bench) payloads script e =
     ((e ≡ NotPlain) × NoBenchRuns script)
     ⊎ ((recovery : List ℕ) × NoRecoveryRuns script recovery e)
-IsNotTaken (Compare drawn) script e = ⊥
-IsNotTaken (Show drawn) script e = ⊥
-IsNotTaken (Preempt within) script e = ⊥
+IsNotTaken (Compare drawn) payloads script e = ⊥
+IsNotTaken (Show drawn) payloads script e = ⊥
+IsNotTaken (Preempt within) payloads script e = ⊥
+IsNotTaken (ShowOrder wanted) payloads script e = (e ≡ BadShape) × (said : Said) × (script_of script ≡ Ok said)
+    × HasNoOrder said payloads (numbers_of script) wanted.most wanted.number
 
 -- a work may tell that something is wrong: the benches of power cuts and failures never do without a recovery
 abbrev pub MayTellWrong : Work → Type 0
@@ -148,20 +159,23 @@ MayTellWrong (Preempt within) = ⊤
 MayTellWrong (Recover bench) = ⊤
 MayTellWrong work = ⊥
 
--- a fault of a work over that script: memory was refused, the output failed or nobody reads it, the script has it, or no
--- bench runs the script; or it told that something is wrong. The command line has none
-abbrev pub IsFaultIn : Work → List ℕ → BenchFault → Type 0
-IsFaultIn work script (Refused e) = (e ≡ Memory) ⊎ (e ≡ Output) ⊎ (script_of script ≡ Err e) ⊎ IsNotTaken work script e
-IsFaultIn work script Closed = ⊤
-IsFaultIn work script Input = ⊥
-IsFaultIn work script File = ⊥
-IsFaultIn work script Usage = ⊥
-IsFaultIn work script Wrong = MayTellWrong work
+-- a fault of a work over that script, which begins with these payloads: memory was refused, the output failed or nobody reads it, the
+-- script has it, or the work is none of this script; or it told that something is wrong. The command line has none
+abbrev pub IsFaultIn : Work → List (List ℕ) → List ℕ → BenchFault → Type 0
+IsFaultIn work payloads script (Refused e) =
+    (e ≡ Memory) ⊎ (e ≡ Output) ⊎ (script_of script ≡ Err e) ⊎ IsNotTaken work payloads script e
+IsFaultIn work payloads script Closed = ⊤
+IsFaultIn work payloads script Input = ⊥
+IsFaultIn work payloads script File = ⊥
+IsFaultIn work payloads script Usage = ⊥
+IsFaultIn work payloads script Wrong = MayTellWrong work
 
--- the same over a source of which these bytes are known
-abbrev pub IsFaultOf : Work → Option (List ℕ) → BenchFault → Type 0
-IsFaultOf work source fault =
-    (script : List ℕ) × IfSome source (λ bytes. script_of script ≡ script_of bytes) × IsFaultIn work script fault
+-- a fault of the options' work over a source and over files of which these bytes are known
+abbrev pub IsFaultOf : Options → (List ℕ → Option (List ℕ)) → Option (List ℕ) → BenchFault → Type 0
+IsFaultOf options bytes_at input fault = (payloads : List (List ℕ)) × (script : List ℕ)
+    × AreFilesOf bytes_at (payload_files options) payloads
+    × IfSome (source_of options bytes_at input) (λ bytes. script_of script ≡ script_of bytes)
+    × IsFaultIn options.work payloads script fault
 
 -- a file could not be read, of those that are named; or the input failed, where none of them is the script's
 abbrev pub IsUnread : Options → BenchFault → Type 0
@@ -174,5 +188,5 @@ IsUnread options fault =
 abbrev pub IsFault : List (List ℕ) → (List ℕ → Option (List ℕ)) → Option (List ℕ) → BenchFault → Type 0
 IsFault words bytes_at input fault =
     ((options : Options) × IsNamedBy words options
-    × (IsUnread options fault ⊎ IsFaultOf options.work (source_of options bytes_at input) fault))
+    × (IsUnread options fault ⊎ IsFaultOf options bytes_at input fault))
     ⊎ ((fault ≡ Usage) × (NamesNoWork words whys.Usage ⊎ NamesConflict words)) ⊎ (fault ≡ Refused Memory)

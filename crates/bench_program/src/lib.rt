@@ -9,7 +9,7 @@ mod usage;
 ghost use Rattle.std.specs.Prelude.{◌≡◌, ◌⊎◌, ◌≤◌, [], Result, OnOk, IfOk, IfErr, IfSome, Ok, Err};
 ghost use Rattle.std.specs.Io.Buffered.{writer_buffer, writer_contents};
 ghost use Rattle.board_model.specs.declared.refusal.Refusal.{Refusal};
-ghost use Rattle.board_model.specs.declared.refusal.Refusal.TheVariants.{Memory};
+ghost use Rattle.board_model.specs.declared.refusal.Refusal.TheVariants.{BadShape, Memory};
 ghost use Rattle.std.specs.Process.{exit_status};
 ghost use Rattle.bench_program.specs.Faults.{status_after};
 ghost use Rattle.bench_program.specs.declared.fault.BenchFault.{BenchFault};
@@ -17,15 +17,16 @@ ghost use Rattle.bench_program.specs.declared.fault.BenchFault.TheVariants.{Inpu
 ghost use Rattle.script_lang.specs.Scripts.{script_of, Script as Said};
 ghost use Rattle.bench_sweep.specs.Swept.{IsBenchOf, IsRecoveredBenchOf, IsNotPlain, NoBenchRuns, NoRecoveryRuns};
 ghost use Rattle.bench_schedules.specs.Numbers.{numbers_of};
+ghost use Rattle.bench_preemptions.specs.Shown.{HasNoOrder};
 ghost use Rattle.bench_program.specs.Benches.{judged};
-ghost use Rattle.bench_program.specs.Written.{IsCompared, IsPreempted, IsReadOf, IsReported, IsShown};
+ghost use Rattle.bench_program.specs.Written.{IsCompared, IsOrderShown, IsPreempted, IsReadOf, IsReported, IsShown};
 
 pub use crate::fault::BenchFault;
 pub use crate::streams::run_on;
 use crate::streams::{end, without_work};
 use crate::usage::USAGE;
 pub use crate::usage::{Bench, Drawn, Options, Savers, Work, options_of};
-use bench_preemptions::{Preempted, Within, preemptions};
+use bench_preemptions::{Preempted, Wanted, Within, preemptions, show_order};
 use bench_report::run_with;
 use bench_schedules::{Compared, line_numbers, schedules, show};
 use bench_sweep::{Bench as Swept, Recovered, RecoveryFile, Sweep, run_bench, run_bench_recovered};
@@ -195,10 +196,12 @@ pub fn write_recovered<R: Threads + Sync, W: Write + Drop>(
     }
 }
 
-/// Runs schedules of the script, with these payloads in the slots, and writes which differ, to the end.
+/// Runs schedules of the script, with these payloads in the slots, and writes which differ, to the end. The threads of these
+/// jobs run them.
 ///
 /// Refused as `bench_schedules::schedules` is, and `Output` also where what the writer held back could not be written.
 pub fn write_schedules<R: Threads + Sync, W: Write + Drop>(
+    jobs: &Jobs<'_, R>,
     alloc: Global,
     script: &[u8],
     drawn: Drawn,
@@ -219,6 +222,7 @@ pub fn write_schedules<R: Threads + Sync, W: Write + Drop>(
         × ((result ≡ Err e) ⊎ (result ≡ Err Refusal.Memory)) }
 {
     let count = schedules::<R, BufWriter<W>>(
+        jobs,
         alloc,
         script,
         payloads,
@@ -265,6 +269,7 @@ pub fn write_schedule<R: Threads + Sync, W: Write + Drop>(
 ///
 /// Refused as `bench_preemptions::preemptions` is, and `Output` also where what the writer held back could not be written.
 pub fn write_preemptions<R: Threads + Sync, W: Write + Drop>(
+    jobs: &Jobs<'_, R>,
     alloc: Global,
     script: &[u8],
     within: Within,
@@ -284,9 +289,46 @@ pub fn write_preemptions<R: Threads + Sync, W: Write + Drop>(
         → (writer_contents W.contents out.new ≡ writer_contents W.contents out.old)
         × ((result ≡ Err e) ⊎ (result ≡ Err Refusal.Memory)) }
 {
-    let count = preemptions::<R, BufWriter<W>>(alloc, script, payloads, within, out)?;
+    let count = preemptions::<R, BufWriter<W>>(jobs, alloc, script, payloads, within, out)?;
     match out.flush() {
         Ok(()) => Ok(count),
+        Err(_) => Err(Refusal::Output),
+    }
+}
+
+/// Writes an order of the script that differs to the end. The script's own run and those of the orders before it have these payloads
+/// in the slots.
+///
+/// Refused as `bench_preemptions::show_order` is, and `Output` also where what the writer held back could not be written.
+pub fn write_order<R: Threads + Sync, W: Write + Drop>(
+    jobs: &Jobs<'_, R>,
+    alloc: Global,
+    script: &[u8],
+    wanted: Wanted,
+    payloads: &Payloads,
+    out: &mut BufWriter<W>,
+) -> Result<(), Refusal>
+    requires most { wanted.most ≤ 3 }
+    requires number { 1 ≤ wanted.number }
+    // What was written is the order of that number among those that differ, and is read back as it.
+    ensures wrote { OnOk result (IsOrderShown wanted payloads.now script.now
+        (writer_contents W.contents out.old) (writer_contents W.contents out.new)) }
+    // Nothing of it is held back.
+    ensures flushed { OnOk result (writer_buffer out.new ≡ []) }
+    // A refusal is the script's fault, or out of memory, or the writer's, or there is no such order.
+    ensures refused { IfErr result (λ e. (e ≡ Refusal.Memory) ⊎ (e ≡ Refusal.Output) ⊎ (script_of script.now ≡ Err e)
+        ⊎ ((e ≡ BadShape) × (said : Said) × (script_of script.now ≡ Ok said)
+        × HasNoOrder said payloads.now (numbers_of script.now) wanted.most wanted.number)) }
+    // A script with a fault writes nothing.
+    ensures nothing { (e : Refusal) → script_of script.now ≡ Err e
+        → (writer_contents W.contents out.new ≡ writer_contents W.contents out.old)
+        × ((result ≡ Err e) ⊎ (result ≡ Err Refusal.Memory)) }
+    // Where there is no such order, nothing is written.
+    ensures none { result ≡ Err BadShape → writer_contents W.contents out.new ≡ writer_contents W.contents out.old }
+{
+    show_order::<R, BufWriter<W>>(jobs, alloc, script, payloads, wanted, out)?;
+    match out.flush() {
+        Ok(()) => Ok(()),
         Err(_) => Err(Refusal::Output),
     }
 }

@@ -11,16 +11,16 @@ ghost use Rattle.bench_program.specs.Written.{AreDone, AreWrong, IsDone, IsFault
 ghost use Rattle.bench_program.specs.declared.fault.BenchFault.{BenchFault};
 ghost use Rattle.bench_program.specs.declared.fault.BenchFault.TheVariants.{Closed, File, Input, Refused, Wrong};
 ghost use Rattle.bench_program.specs.declared.usage.Savers.{Savers};
-ghost use Rattle.bench_program.specs.declared.usage.Work.TheVariants.{Compare, Judge, Recover, Report, Show, Preempt};
+ghost use Rattle.bench_program.specs.declared.usage.Work.TheVariants.{Compare, Judge, Recover, Report, Show, ShowOrder, Preempt};
 ghost use Rattle.script_lang.specs.Scripts.{script_of};
 
 use crate::fault::{BenchFault, status_of};
 use crate::usage::{Bench, Drawn, MOST_JOBS, Options, Savers, Work, options_of};
 use crate::{
-    READ_AT_MOST, read_script, write_bench, write_preemptions, write_recovered, write_report,
-    write_schedule, write_schedules,
+    READ_AT_MOST, read_script, write_bench, write_order, write_preemptions, write_recovered,
+    write_report, write_schedule, write_schedules,
 };
-use bench_preemptions::Within;
+use bench_preemptions::{Wanted, Within};
 use board::Payloads;
 use board_model::Refusal;
 use command_line::{
@@ -73,7 +73,7 @@ fn report_with<C: Crew, O: Write + Drop>(
     ensures reported { OnOk result (IsReported payloads script.now
         (writer_contents (pipe_contents O.contents) out.old) (writer_contents (pipe_contents O.contents) out.new)) }
     ensures flushed { OnOk result (writer_buffer out.new ≡ []) }
-    ensures faults { IfErr result (λ fault. (savers : Savers) → IsFaultIn (Report savers) script.now fault) }
+    ensures faults { IfErr result (λ fault. (savers : Savers) → IsFaultIn (Report savers) payloads script.now fault) }
 {
     match write_report(alloc, script, crew, payloads, out) {
         Ok(()) => Ok(()),
@@ -93,7 +93,7 @@ fn report<R: Threads + Sync, O: Write + Drop>(
     ensures reported { OnOk result (IsReported payloads script.now
         (writer_contents (pipe_contents O.contents) out.old) (writer_contents (pipe_contents O.contents) out.new)) }
     ensures flushed { OnOk result (writer_buffer out.new ≡ []) }
-    ensures faults { IfErr result (λ fault. IsFaultIn (Report savers) script.now fault) }
+    ensures faults { IfErr result (λ fault. IsFaultIn (Report savers) payloads script.now fault) }
 {
     match savers {
         Savers::Threads => report_with(alloc, script, &crew::Threads::new(threads), payloads, out),
@@ -129,7 +129,7 @@ fn judge<R: Threads + Sync, O: Write + Drop>(
     ensures written { OnOk result (IsWritten (Judge bench) payloads script.now
         (writer_contents (pipe_contents O.contents) out.old) (writer_contents (pipe_contents O.contents) out.new)) }
     ensures flushed { OnOk result (writer_buffer out.new ≡ []) }
-    ensures faults { IfErr result (λ fault. IsFaultIn (Judge bench) script.now fault) }
+    ensures faults { IfErr result (λ fault. IsFaultIn (Judge bench) payloads script.now fault) }
 {
     match write_bench::<R, Pipe<O>>(jobs, alloc, script, bench, payloads, out) {
         Ok(sweep) if sweep.wrong == 0 => Ok(()),
@@ -154,7 +154,7 @@ fn judge_recovered<R: Threads + Sync, O: Write + Drop>(
     ensures wrong { result ≡ Err Wrong → TellsApart (Recover bench) payloads recovery.now script.now
         (writer_contents (pipe_contents O.contents) out.old) (writer_contents (pipe_contents O.contents) out.new) }
     ensures told { result ≡ Err Wrong → writer_buffer out.new ≡ [] }
-    ensures faults { IfErr result (λ fault. IsFaultIn (Recover bench) script.now fault) }
+    ensures faults { IfErr result (λ fault. IsFaultIn (Recover bench) payloads script.now fault) }
 {
     match write_recovered::<R, Pipe<O>>(jobs, alloc, script, bench, recovery, payloads, out) {
         Ok(done) if done.differ == 0 => Ok(()),
@@ -163,8 +163,9 @@ fn judge_recovered<R: Threads + Sync, O: Write + Drop>(
     }
 }
 
-/// Runs schedules of the script, and writes which differ. Each line is handed on as it is made.
+/// Runs schedules of the script by the threads of these jobs, and writes which differ. Each line is handed on as it comes.
 fn compare<R: Threads + Sync, O: Write + Drop>(
+    jobs: &Jobs<'_, R>,
     alloc: Global,
     drawn: Drawn,
     script: &[u8],
@@ -178,9 +179,9 @@ fn compare<R: Threads + Sync, O: Write + Drop>(
     ensures wrong { result ≡ Err Wrong → TellsWrong (Compare drawn) payloads.now script.now
         (writer_contents (pipe_contents O.contents) out.old) (writer_contents (pipe_contents O.contents) out.new) }
     ensures told { result ≡ Err Wrong → writer_buffer out.new ≡ [] }
-    ensures faults { IfErr result (λ fault. IsFaultIn (Compare drawn) script.now fault) }
+    ensures faults { IfErr result (λ fault. IsFaultIn (Compare drawn) payloads.now script.now fault) }
 {
-    match write_schedules::<R, Pipe<O>>(alloc, script, drawn, payloads, out) {
+    match write_schedules::<R, Pipe<O>>(jobs, alloc, script, drawn, payloads, out) {
         Ok(count) if count.differ == 0 => Ok(()),
         Ok(_) => Err(BenchFault::Wrong),
         Err(e) => Err(fault_of(e, out)),
@@ -198,7 +199,7 @@ fn show_schedule<R: Threads + Sync, O: Write + Drop>(
     ensures written { OnOk result (IsWritten (Show drawn) payloads.now script.now
         (writer_contents (pipe_contents O.contents) out.old) (writer_contents (pipe_contents O.contents) out.new)) }
     ensures flushed { OnOk result (writer_buffer out.new ≡ []) }
-    ensures faults { IfErr result (λ fault. IsFaultIn (Show drawn) script.now fault) }
+    ensures faults { IfErr result (λ fault. IsFaultIn (Show drawn) payloads.now script.now fault) }
 {
     match write_schedule::<R, Pipe<O>>(alloc, script, drawn, payloads, out) {
         Ok(()) => Ok(()),
@@ -208,6 +209,7 @@ fn show_schedule<R: Threads + Sync, O: Write + Drop>(
 
 /// Runs all orders of the script with few preemptions, and writes which differ. Each line is handed on as it is made.
 fn preempt<R: Threads + Sync, O: Write + Drop>(
+    jobs: &Jobs<'_, R>,
     alloc: Global,
     within: Within,
     script: &[u8],
@@ -221,11 +223,33 @@ fn preempt<R: Threads + Sync, O: Write + Drop>(
     ensures wrong { result ≡ Err Wrong → TellsWrong (Preempt within) payloads.now script.now
         (writer_contents (pipe_contents O.contents) out.old) (writer_contents (pipe_contents O.contents) out.new) }
     ensures told { result ≡ Err Wrong → writer_buffer out.new ≡ [] }
-    ensures faults { IfErr result (λ fault. IsFaultIn (Preempt within) script.now fault) }
+    ensures faults { IfErr result (λ fault. IsFaultIn (Preempt within) payloads.now script.now fault) }
 {
-    match write_preemptions::<R, Pipe<O>>(alloc, script, within, payloads, out) {
+    match write_preemptions::<R, Pipe<O>>(jobs, alloc, script, within, payloads, out) {
         Ok(count) if count.differ == 0 => Ok(()),
         Ok(_) => Err(BenchFault::Wrong),
+        Err(e) => Err(fault_of(e, out)),
+    }
+}
+
+/// Writes an order of the script that differs.
+fn show_differing<R: Threads + Sync, O: Write + Drop>(
+    jobs: &Jobs<'_, R>,
+    alloc: Global,
+    wanted: Wanted,
+    script: &[u8],
+    payloads: &Payloads,
+    out: &mut BufWriter<Pipe<O>>,
+) -> Result<(), BenchFault>
+    requires most { wanted.most ≤ 3 }
+    requires number { 1 ≤ wanted.number }
+    ensures written { OnOk result (IsWritten (ShowOrder wanted) payloads.now script.now
+        (writer_contents (pipe_contents O.contents) out.old) (writer_contents (pipe_contents O.contents) out.new)) }
+    ensures flushed { OnOk result (writer_buffer out.new ≡ []) }
+    ensures faults { IfErr result (λ fault. IsFaultIn (ShowOrder wanted) payloads.now script.now fault) }
+{
+    match write_order::<R, Pipe<O>>(jobs, alloc, script, wanted, payloads, out) {
+        Ok(()) => Ok(()),
         Err(e) => Err(fault_of(e, out)),
     }
 }
@@ -361,7 +385,7 @@ fn run_work<R: Threads + Sync, O: Write + Drop>(
     ensures wrong { result ≡ Err Wrong → TellsApart work given.payloads given.recovery.items script.now
         (writer_contents (pipe_contents O.contents) out.old) (writer_contents (pipe_contents O.contents) out.new) }
     ensures told { result ≡ Err Wrong → writer_buffer out.new ≡ [] }
-    ensures faults { IfErr result (IsFaultIn work script.now) }
+    ensures faults { IfErr result (IsFaultIn work given.payloads script.now) }
 {
     let Given { payloads, recovery } = given;
     match work {
@@ -374,9 +398,19 @@ fn run_work<R: Threads + Sync, O: Write + Drop>(
             let jobs = Jobs::new(threads, jobs_of(threads, jobs));
             judge_recovered(&jobs, alloc, bench, script, &recovery, payloads, out)
         }
-        Work::Compare(drawn) => compare::<R, O>(alloc, drawn, script, &payloads, out),
+        Work::Compare(drawn) => {
+            let jobs = Jobs::new(threads, jobs_of(threads, jobs));
+            compare(&jobs, alloc, drawn, script, &payloads, out)
+        }
         Work::Show(drawn) => show_schedule::<R, O>(alloc, drawn, script, &payloads, out),
-        Work::Preempt(within) => preempt::<R, O>(alloc, within, script, &payloads, out),
+        Work::Preempt(within) => {
+            let jobs = Jobs::new(threads, jobs_of(threads, jobs));
+            preempt(&jobs, alloc, within, script, &payloads, out)
+        }
+        Work::ShowOrder(wanted) => {
+            let jobs = Jobs::new(threads, jobs_of(threads, jobs));
+            show_differing(&jobs, alloc, wanted, script, &payloads, out)
+        }
     }
 }
 
@@ -398,7 +432,7 @@ fn run_options<R: Threads + Sync, P: PayloadFiles, I: Read + Drop, O: Write + Dr
         (writer_contents (pipe_contents O.contents) out.old) (writer_contents (pipe_contents O.contents) out.new) }
     ensures told { result ≡ Err Wrong → writer_buffer out.new ≡ [] }
     ensures faults { IfErr result (λ fault. IsUnread options.now fault ⊎ (fault ≡ Refused Memory)
-        ⊎ IsFaultOf options.now.work (source_of options.now (P.bytes_at files.now) (I.remaining input)) fault) }
+        ⊎ IsFaultOf options.now (P.bytes_at files.now) (I.remaining input) fault) }
 {
     let given = named_files(alloc, files, options, faults)?;
     let script = named_script(alloc, files, options, input, faults)?;

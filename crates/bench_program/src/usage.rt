@@ -7,9 +7,9 @@ ghost use Rattle.clap.specs.Words.{app_of, first_value, found_of, kind_of, rule_
 ghost use Rattle.clap.specs.declared.builder.value_parser.ValueParser.{ValueParser};
 ghost use Rattle.command_line.specs.Kinds.{no_work};
 ghost use Rattle.command_line.specs.Parses.{AreParsed};
-ghost use Rattle.bench_program.specs.Usage.{number_up_to, count_rule, crew_rule, jobs_rule, work_of_flags, schedules_named, preemptions_named, without_options, savers_of, sbibench, script_rule, seed_of, IsBounded, compare_or_show, without_benches, with_preemptions, with_schedules, with_recovery, work_asked, work_by, work_unrecovered, work_without, IsFlag, IsNamedBy, NamesConflict, NamesNoWork};
+ghost use Rattle.bench_program.specs.Usage.{number_up_to, count_rule, crew_rule, jobs_rule, work_of_flags, schedules_named, preempt_or_show, preemptions_named, without_options, savers_of, sbibench, script_rule, seed_of, IsBounded, compare_or_show, without_benches, with_preemptions, with_schedules, with_recovery, work_asked, work_by, work_unrecovered, work_without, IsFlag, IsNamedBy, NamesConflict, NamesNoWork};
 
-use bench_preemptions::Within;
+use bench_preemptions::{Wanted, Within};
 use board_model::refusal_lines;
 use clap::builder::ValueParser;
 use clap::error::ErrorKind;
@@ -43,7 +43,8 @@ With --schedules the script runs N times more, each time with the turns of its
 harts in another order, and the first line that each run reports otherwise is
 told. --show writes the script of one of those orders, to be run again.
 With --preemptions it runs in every order in which up to K rows of turns are
-parted, each before a turn that does something, and the rest is put off.
+parted, each before a turn that does something, and the rest is put off. There
+--show writes one of the orders that report otherwise.
 
 A payload too long for a line of the script comes from a file, by --p0 to --p3:
 its slot boots it until a line 'payload' says otherwise.";
@@ -151,6 +152,8 @@ pub enum Work {
     /// All orders of the script with few preemptions, each compared with the script's own run; or as many as there are up to the
     /// first that differs.
     Preempt(Within),
+    /// One of those that differ, written as a script.
+    ShowOrder(Wanted),
 }
 
 /// Schedules are drawn from a seed, and have numbers from 1 on.
@@ -231,7 +234,7 @@ fn with_schedules<'a>(alloc: Global, command: Command<'a>) -> Result<Command<'a>
 {
     let schedules = "Runs N schedules of the script, and tells which report otherwise";
     let seed = "What the schedules are drawn from, 1 if not said";
-    let show = "Writes schedule K, in place of running any";
+    let show = "Writes schedule K, or with --preemptions the K-th order that reports otherwise";
     command
         .arg(count(alloc, SCHEDULES, "N", schedules))?
         .arg(option(alloc, SEED, "S", seed))?
@@ -255,7 +258,8 @@ fn jobs<'a>(alloc: Global) -> Arg<'a>
     ensures rule { rule_of result ≡ jobs_rule }
     ensures local { result.global ≡ false }
 {
-    let help = "How many threads make the runs of --sweep or --faults, all processors if not said";
+    let help =
+        "How many threads make the runs of --sweep, --faults or --schedules, all processors if not said";
     option(alloc, JOBS, "N", help).value_parser(ValueParser::unsigned(1, MOST_JOBS))
 }
 
@@ -293,6 +297,7 @@ fn savers_of(matches: &ArgMatches<'_>) -> Savers
 /// A number that a word spells, from 1 to `most`.
 fn number_up_to(most: u64, word: &str) -> Option<u64>
     ensures value { result ≡ number_up_to most (number_of word.now) }
+    ensures least { IfSome result (λ number. 1 ≤ number) }
     ensures most { IfSome result (λ number. number ≤ most) }
 {
     let number = number(word.as_bytes())?;
@@ -369,16 +374,35 @@ fn schedules_alone(
     schedules_named(runs, seed, show)
 }
 
-/// The work over orders with few preemptions, by the word that says how many. None where that is out of its range.
-fn preemptions_named(word: &str, first: bool) -> Option<Work>
-    ensures value { result ≡ preemptions_named word.now first }
+/// The work over orders with that many preemptions at most: to run them all, or to show the one that a word names. None where the
+/// word names none, or where `--first` stands beside it.
+fn preempt_or_show(most: u64, word: Option<&str>, first: bool) -> Option<Work>
+    requires { most ≤ 3 }
+    ensures value { result ≡ preempt_or_show most (option_map (λ s. s.now) word.entry) first }
+    ensures most { IfSome result (λ work. IsBounded work) }
+{
+    match word {
+        None => Some(Work::Preempt(Within { most, first })),
+        Some(word) => {
+            if first {
+                return None;
+            }
+            let number = number_up_to(MOST_SCHEDULES, word)?;
+            Some(Work::ShowOrder(Wanted { most, number }))
+        }
+    }
+}
+
+/// The work over orders with few preemptions, by the word that says how many. None where a word is out of its range.
+fn preemptions_named(word: &str, show: Option<&str>, first: bool) -> Option<Work>
+    ensures value { result ≡ preemptions_named word.now (option_map (λ s. s.now) show.entry) first }
     ensures most { IfSome result (λ work. IsBounded work) }
 {
     let most = number_up_to(MOST_PREEMPTIONS, word)?;
-    Some(Work::Preempt(Within { most, first }))
+    preempt_or_show(most, show, first)
 }
 
-/// That work, beside which no option of schedules may stand. None where one does.
+/// That work, beside which neither schedules nor their seed may stand. None where one does.
 fn without_options(
     runs: Option<&str>,
     seed: Option<&str>,
@@ -387,13 +411,13 @@ fn without_options(
     first: bool,
 ) -> Option<Work>
     ensures value { result ≡ without_options (option_map (λ s. s.now) runs.entry) (option_map (λ s. s.now) seed.entry)
-        (option_map (λ s. s.now) show.entry) (preemptions_named word.now first) }
+        (preemptions_named word.now (option_map (λ s. s.now) show.entry) first) }
     ensures most { IfSome result (λ work. IsBounded work) }
 {
-    if runs.is_some() || seed.is_some() || show.is_some() {
+    if runs.is_some() || seed.is_some() {
         return None;
     }
-    preemptions_named(word, first)
+    preemptions_named(word, show, first)
 }
 
 /// The one work that is asked for without preemptions. None where there are two, or where `--seed` or `--show` stands without
@@ -499,7 +523,7 @@ fn conflict(matches: &ArgMatches<'_>) -> &'static str {
         return "--recover goes with --sweep or --faults";
     }
     if matches.get_str(PREEMPTIONS).is_some() {
-        return "--preemptions takes 1 to 3, and goes with --first alone";
+        return "--preemptions takes 1 to 3, and goes with --first or --show alone";
     }
     if matches.get_flag(FIRST) {
         return "--first goes with --preemptions";
@@ -508,7 +532,7 @@ fn conflict(matches: &ArgMatches<'_>) -> &'static str {
         if matches.get_str(SEED).is_none() && matches.get_str(SHOW).is_none() {
             return "--sweep cannot be used with --faults";
         }
-        return "--seed and --show go with --schedules";
+        return "--seed goes with --schedules, and --show with that or with --preemptions";
     }
     if matches.get_flag(SWEEP) || matches.get_flag(FAULTS) {
         return "--schedules cannot be used with --sweep or --faults";

@@ -4,3 +4,4 @@ pub mod Ledgers
 pub mod Lines
 pub mod Places
 pub mod Texts
+pub mod DrawnRuns

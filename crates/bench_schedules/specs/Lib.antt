@@ -3,3 +3,4 @@ pub mod Compared
 pub mod RunSoFar
 pub mod Numbers
 pub mod Schedules
+pub mod Drawn

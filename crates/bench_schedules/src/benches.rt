@@ -24,6 +24,7 @@ use bench_report::{Answer, Setting};
 use board::Payloads;
 use board_model::{Refusal, Shape};
 use crew::{Crew, Sequential};
+use jobs::{Jobs, Sink, Task, hand_on_all};
 use script_lang::{Line, Script, parse_script, scripts_read_as_written};
 use std::alloc::Global;
 use std::io::Write;
@@ -119,9 +120,65 @@ fn write_run<C, W: Write>(
     }
 }
 
-/// Runs n schedules, from number 1 on, and writes a line for each that differs. Answers how many do.
-#[tactic(auto, using(crate::proofs::Ledgers::wrote_none, crate::proofs::Ledgers::wrote_more))]
-fn run_schedules<C: Crew, W: Write>(
+/// A schedule of the script that was run, by its number, and where it differs.
+#[derive(Drop)]
+struct DrawnRun {
+    number: u64,
+    differs: Option<Difference>,
+}
+
+/// The runs of the schedules of a script, each by its number.
+#[derive(Drop)]
+struct DrawnRuns<'a, 'b, 'c, C> {
+    runner: &'a Runner<'b, C>,
+    own: &'c OwnRun,
+}
+
+impl<'a, 'b, 'c, C: Crew + Sync> Task for DrawnRuns<'a, 'b, 'c, C> {
+    ghost use Rattle.std.specs.Thread.{IsSync};
+    ghost use Rattle.bench_schedules.specs.Drawn.{AreDrawable, IsDrawn};
+
+    type Row = DrawnRun;
+
+    ghost has = { λ runs k. AreDrawable runs.runner.now.setting.shape.now runs.runner.now.lines.now runs.own.now.answers.items
+        × IsSync C.Handle.row };
+
+    ghost is_row = { λ runs k drawn. IsDrawn (record { size = runs.runner.now.setting.shape.now; lines = runs.runner.now.lines.now })
+        runs.runner.now.payloads.now runs.own.now.answers.items k drawn };
+
+    /// Runs the schedule of that number.
+    fn row(&self, number: u64) -> Result<DrawnRun, Refusal> {
+        let differs = run_schedule(self.runner, self.own, number)?;
+        Ok(DrawnRun { number, differs })
+    }
+}
+
+/// What is written of schedules, and how many of them differ.
+#[derive(Drop)]
+struct Report<'a, 'b, 'c, C, W> {
+    runner: &'a Runner<'b, C>,
+    out: &'c mut W,
+    differ: u64,
+    ghost few: { length runner.now.lines.now ≤ 65535 },
+}
+
+impl<'a, 'b, 'c, C, W: Write> Sink<DrawnRun> for Report<'a, 'b, 'c, C, W> {
+    ghost use Rattle.bench_schedules.specs.Drawn.{TellsDrawn};
+
+    ghost takes = { λ old drawn new. TellsDrawn W.contents old drawn new };
+
+    /// Writes the line of a schedule where it differs, and counts it.
+    fn take(&mut self, drawn: DrawnRun) -> Result<(), Refusal> {
+        let differ = write_run(self.runner, drawn.number, drawn.differs, self.out)?;
+        self.differ = self.differ.saturating_add(differ);
+        Ok(())
+    }
+}
+
+/// Runs n schedules, from number 1 on, by the threads of these jobs, and writes a line for each that differs. Answers how
+/// many do.
+fn run_schedules<R: Threads + Sync, C: Crew + Sync, W: Write>(
+    jobs: &Jobs<'_, R>,
     runner: &Runner<'_, C>,
     own: &OwnRun,
     n: u64,
@@ -138,13 +195,14 @@ fn run_schedules<C: Crew, W: Write>(
         own.now.answers.items 1 n (W.contents out.old) (W.contents out.new) differ) }
     ensures err { IfErr result (λ e. (e ≡ Memory) ⊎ (e ≡ Output)) }
 {
-    let mut differ = 0;
-    for done in 0..n {
-        let k = done + 1;
-        let differs = run_schedule(runner, own, k)?;
-        differ += write_run(runner, k, differs, out)?;
-    }
-    Ok(differ)
+    let runs = DrawnRuns { runner, own };
+    let mut report = Report {
+        runner,
+        out,
+        differ: 0,
+    };
+    hand_on_all(jobs, runner.setting.alloc, &runs, 1, n, &mut report)?;
+    Ok(report.differ)
 }
 
 /// Writes the line of a stretch that names few turns, by the place of its first line in the script.
@@ -170,7 +228,7 @@ fn write_all_tight<W: Write>(numbers: &[u64], tight: &[usize], out: &mut W) -> R
 }
 
 /// Each number of a shape is within its range.
-fn shape_in_range(shape: &Shape)
+pub fn shape_in_range(shape: &Shape)
     ensures { IsSize shape.now }
 {
     let _harts = shape.harts();
@@ -199,7 +257,8 @@ pub fn confirmed_own_run<C: Crew>(
 
 /// Runs the script as it stands, and then n schedules of it. Writes which of its stretches name few turns, which schedules
 /// differ, and how many. Answers how many.
-fn compare_all<C: Crew, W: Write>(
+fn compare_all<R: Threads + Sync, C: Crew + Sync, W: Write>(
+    jobs: &Jobs<'_, R>,
     runner: &Runner<'_, C>,
     n: u64,
     out: &mut W,
@@ -216,13 +275,14 @@ fn compare_all<C: Crew, W: Write>(
 {
     let own = confirmed_own_run(&runner.setting, runner.payloads, runner.lines)?;
     write_all_tight(runner.numbers, &own.stretches.tight, out)?;
-    let differ = run_schedules(runner, &own, n, out)?;
+    let differ = run_schedules(jobs, runner, &own, n, out)?;
     write_count(out, n, differ)?;
     Ok(differ)
 }
 
 /// Compares n schedules of a script that was read with its own run.
 fn compare_script<'a, R: Threads + Sync, W: Write>(
+    jobs: &Jobs<'_, R>,
     alloc: Global,
     script: &'a Script,
     payloads: &'a Payloads,
@@ -254,7 +314,7 @@ fn compare_script<'a, R: Threads + Sync, W: Write>(
         numbers,
         seed,
     };
-    compare_all(&runner, n, out)
+    compare_all(jobs, &runner, n, out)
 }
 
 /// Writes schedule k of a script that was read. The script is run first: its own run tells in which part of each stretch the
@@ -292,13 +352,15 @@ fn show_script<R: Threads + Sync, W: Write>(
 /// The schedule bench (docs/SCRIPT.md, "Schedules"). It runs a script as it stands, with these payloads in the slots, and
 /// then n schedules of it: the same lines, but with the turns of each stretch in another order. It compares their reports,
 /// leaving out `turn` lines. Where a schedule's report differs, it writes the first line that does, with the number of the
-/// script's line. At the end it writes how many differ. Each schedule is drawn from the seed and its number alone.
+/// script's line. At the end it writes how many differ. Each schedule is drawn from the seed and its number alone. The
+/// schedules are run by the threads of these jobs; what is written is the same however many these are.
 ///
 /// Refused `BadShape` or `BadScript` where the script has a fault, and then nothing is written; `Memory` where memory was
 /// refused in any run, to a power-on, to an examination of the disk or to the disk's record, which is never a difference,
 /// or where a difference was not found again; `Output` where the writer failed. After the last two any part may stand in
 /// the writer.
 pub fn schedules<R: Threads + Sync, W: Write>(
+    jobs: &Jobs<'_, R>,
     alloc: Global,
     script: &[u8],
     payloads: &Payloads,
@@ -318,7 +380,7 @@ pub fn schedules<R: Threads + Sync, W: Write>(
 {
     let read = parse_script(alloc, script)?;
     let numbers = line_numbers(alloc, script)?;
-    let differ = compare_script::<R, W>(alloc, &read, payloads, &numbers, n, seed, out)?;
+    let differ = compare_script::<R, W>(jobs, alloc, &read, payloads, &numbers, n, seed, out)?;
     Ok(Compared { runs: n, differ })
 }
 

@@ -13,10 +13,12 @@ mod stretches;
 mod told;
 mod written;
 
-pub use benches::{Compared, confirmed_own_run, schedules, show};
+pub use benches::{Compared, confirmed_own_run, schedules, shape_in_range, show};
 pub use line_runs::{end_run, run_line};
+pub use lines_fit::fits;
 pub use numbers::{line_numbers, number_at, number_of_other};
 pub use own_runs::OwnRun;
-pub use runs::{Difference, run_confirmed};
+pub use runs::{Difference, run_confirmed, run_until};
+pub use scripts::write_script;
 pub use stretches::Stretches;
 pub use told::{Apart, ToldLine, first_apart};

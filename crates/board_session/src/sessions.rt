@@ -34,6 +34,7 @@ use board_console::{Left, console};
 use board_model::{Refusal, Shape};
 use board_options::Options;
 use disk::Disk;
+use halts::Halt;
 use hart_threads::{AfterConsole, Closing, HartEnd, Parted, Rested, SharedBoard, Threaded, drive};
 use shared_store::{Heard, Journal, Locks, NewBook, Part, SharedBus, SharedStore, Unshared};
 use std::alloc::{AllocError, Global};
@@ -67,13 +68,14 @@ pub struct SessionEnd<D: Disk + Drop, I: Read + Drop, W: Write + Drop> {
     pub harts: Vec<HartEnd>,
 }
 
-/// A board that is on, its shape, the book of its receipts, and that of what is in doubt.
+/// A board that is on, its shape, the book of its receipts, that of what is in doubt, and the word that halts its harts.
 #[derive(Drop)]
 struct BootedBoard<D: Disk + Drop> {
     parts: Parts<D>,
     shape: Shape,
     book: NewBook,
     doubts: NewBook,
+    halt: Halt,
 }
 
 /// The streams of a console, its part of the receipts, and what it heard beside them.
@@ -167,6 +169,7 @@ fn run_board<
     requires carried { IsCarried J.memory (life_of booted.parts.store) }
     requires turns { turns ≡ J.turns }
     requires lock { lock.id ≡ J.parting }
+    requires halt { booted.halt ≡ J.halt }
     requires ungated { J.gated ≡ false }
     requires taken { (are_taken J.found J.issued ≡ true) × (length J.issued ≤ 2) }
     requires book { (id_of booted.book ≡ J.book) × (parts_of booted.book ≡ J.parts)
@@ -190,6 +193,7 @@ fn run_board<
         shape,
         book,
         doubts,
+        halt,
     } = booted;
     let Parts {
         harts,
@@ -211,7 +215,7 @@ fn run_board<
     let doze = bus.doze;
     let bus_lock: Mutex<SharedBus<J>> = Mutex::new(SharedBus::new(bus));
     let store_lock: Mutex<SharedStore<D, J>> = Mutex::new(whole.share());
-    let closing_once = Closing::new(lock);
+    let closing_once = Closing::new(lock, halt);
     let (bus, store, closing) = (&bus_lock, &store_lock, &closing_once);
     let crew = crew::Threads::new(rt);
     let board = SharedBoard {
@@ -432,13 +436,14 @@ fn powered<D: Disk + Drop>(
 }
 
 /// The book of a board's receipts, with a part for each hart, one for the console and one for the boot; and the book of what
-/// is in doubt, with one for the console and one for the harts.
-fn new_books(alloc: Global, shape: &Shape) -> Result<(NewBook, NewBook), AllocError>
+/// is in doubt, with one for the console and one for the harts. With them comes the word that halts the harts.
+fn new_books(alloc: Global, shape: &Shape) -> Result<(NewBook, NewBook, Halt), AllocError>
     ensures { IfOk result (λ b. (parts_of b.0 ≡ shape.now.harts + 2) × (parts_of b.1 ≡ 2)) }
 {
     let book = NewBook::new(alloc, shape.harts() + 2)?;
     let doubts = NewBook::new(alloc, 2)?;
-    Ok((book, doubts))
+    let halt = Halt::new(alloc)?;
+    Ok((book, doubts, halt))
 }
 
 /// What the program does between the reading of its files and the writing of the disk's: formats the disk
@@ -485,12 +490,13 @@ pub fn session<R: Threads + Wait + Sync, D: Disk + Drop + Send, I: Read + Drop, 
     let shape = board.shape();
     let parts = board.into_parts();
     match new_books(alloc, &shape) {
-        Ok((book, doubts)) => {
+        Ok((book, doubts, halt)) => {
             let booted = BootedBoard {
                 parts,
                 shape,
                 book,
                 doubts,
+                halt,
             };
             let lock = OnceLock::new();
             let turns = options.turns;

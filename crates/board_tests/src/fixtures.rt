@@ -14,6 +14,7 @@ use board::{Board, Parts, Payloads};
 use board_console::console;
 use board_model::{BootMode, Command, Refusal, Shape, Slot};
 use disk::{ArmedFault, Disk};
+use halts::Halt;
 use hart_threads::{AfterConsole, Closing, Gate, Rested, SharedBoard, Threaded, Why, drive};
 use rv_decode::Reg;
 use shared_store::{Heard, Journal, Locks, NewBook, Part, SharedBus, SharedStore, Unshared};
@@ -212,9 +213,12 @@ pub fn driven<R: Threads + Wait + Clock + Abort + Sync>(
     let Ok(doubts) = NewBook::new(alloc, 2) else {
         rt.panic("no memory")
     };
+    let Ok(halt) = Halt::new(alloc) else {
+        rt.panic("no memory")
+    };
     let books = (book, doubts);
-    let lock = OnceLock::new();
-    driven_as::<Brand, R>(rt, alloc, gate, trial, parts, books, lock, &shape)
+    let halting = (OnceLock::new(), halt);
+    driven_as::<Brand, R>(rt, alloc, gate, trial, parts, books, halting, &shape)
 }
 
 /// How the loop of such a board's first hart ends, and what its console writes.
@@ -236,7 +240,7 @@ fn driven_as<J: Threaded + Send + Sync, R: Threads + Wait + Clock + Abort + Sync
     trial: Trial<'_>,
     parts: Parts<SimDisk>,
     books: (NewBook, NewBook),
-    lock: OnceLock<AfterConsole>,
+    halting: (OnceLock<AfterConsole>, Halt),
     shape: &Shape,
 ) -> Ran
     requires held { IsHeld shape.now parts.harts.items parts.tables (Some parts.seats) parts.bus.doze }
@@ -247,7 +251,7 @@ fn driven_as<J: Threaded + Send + Sync, R: Threads + Wait + Clock + Abort + Sync
     requires doubts { (id_of books.1 ≡ J.doubts) × (parts_of books.1 ≡ 2) }
     requires opened { failures_at_open parts.store ≡ J.failures }
     requires machine { J.machine ≡ board_of shape.now J.memory parts.bus.doze parts.harts.items parts.seats }
-    requires driven { (lock.id ≡ J.parting) × (trial.turns ≡ J.turns) × (J.gated ≡ true) }
+    requires driven { (halting.0.id ≡ J.parting) × (halting.1 ≡ J.halt) × (trial.turns ≡ J.turns) × (J.gated ≡ true) }
     ensures { IsIdle (⟦<SimDisk as Disk>⟧.facts result.disk) }
 {
     let Parts {
@@ -268,7 +272,8 @@ fn driven_as<J: Threaded + Send + Sync, R: Threads + Wait + Clock + Abort + Sync
     let mut shared = whole.share();
     issue(&mut shared, boot, &mut heard, trial.commands);
     let store = Mutex::new(shared);
-    let closing = Closing::new(lock);
+    let (lock, halt) = halting;
+    let closing = Closing::new(lock, halt);
     let crew = crew::Threads::new(rt);
     let (rung, told, size) = (&bus, &store, *shape);
     let board = SharedBoard {

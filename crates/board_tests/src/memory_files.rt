@@ -10,7 +10,7 @@ use command_line::FileFault;
 use disk::Sector;
 use file_disk::{FileFate, MemoryFile};
 use payload_files::PayloadFiles;
-use std::alloc::Global;
+use std::alloc::{AllocError, Global};
 use std::io::{self, Cursor, ErrorKind, IsTerminal, Read, Write};
 
 /// What fails of the files.
@@ -27,11 +27,13 @@ pub enum Broken {
     Keep,
 }
 
-/// Four payload files, `p0` to `p3`, in hexadecimal digits, and the file of a disk.
+/// Four payload files, `p0` to `p3`, in hexadecimal digits, and the file of a disk. In each payload file so many zeros stand behind
+/// its first instruction.
 #[derive(Drop)]
 pub struct MemoryFiles {
     pub alloc: Global,
     pub payloads: [&'static [u8]; 4],
+    pub gap: usize,
     pub disk: Vec<u8>,
     pub broken: Broken,
 }
@@ -55,7 +57,8 @@ impl PayloadFiles for MemoryFiles {
         for (slot, digit) in b"0123".iter().enumerate() {
             if path.as_bytes().get(1) == Some(digit) && self.is_there(*digit) {
                 let bytes = decoded(self.alloc, self.payloads[slot])?;
-                return Ok(PayloadFile(Cursor::new(bytes)));
+                let spread = with_gap(self.alloc, bytes, self.gap)?;
+                return Ok(PayloadFile(Cursor::new(spread)));
             }
         }
         Err(io::Error::other("it is not there"))
@@ -68,6 +71,17 @@ fn decoded(alloc: Global, digits: &[u8]) -> io::Result<Vec<u8>> {
         Ok(bytes) => Ok(bytes),
         Err(_) => Err(io::Error::other("it is no digits")),
     }
+}
+
+/// Those bytes with so many zeros behind the first four.
+fn with_gap(alloc: Global, bytes: Vec<u8>, gap: usize) -> Result<Vec<u8>, AllocError> {
+    let Some((first, rest)) = bytes.split_at_checked(4) else {
+        return Ok(bytes);
+    };
+    let mut spread = Vec::from_slice(alloc, first)?;
+    spread.resize(gap.saturating_add(4), 0)?;
+    spread.extend_from_slice(rest)?;
+    Ok(spread)
 }
 
 impl MemoryFiles {

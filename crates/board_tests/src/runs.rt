@@ -22,13 +22,14 @@ pub enum Program {
     Disk,
 }
 
-/// A run: the program and its words, the payload files `p0` to `p3` in hexadecimal digits, what fails of the files, the lines of
-/// the console and the room of the output; and the status, the output and the faults that have to come of it. Behind what is told
-/// the output has so many zeros.
+/// A run: the program and its words, the payload files `p0` to `p3` in hexadecimal digits with so many zeros behind the first
+/// instruction of each, what fails of the files, the lines of the console and the room of the output; and the status, the output and
+/// the faults that have to come of it. Behind what is told the output has so many zeros.
 pub struct Run {
     pub program: Program,
     pub words: &'static [&'static str],
     pub payloads: [&'static [u8]; 4],
+    pub gap: usize,
     pub broken: Broken,
     pub lines: &'static [u8],
     pub room: usize,
@@ -49,6 +50,7 @@ pub const PLAIN: Run = Run {
     program: Program::Board,
     words: &NEW,
     payloads: [b"", b"", b"", b""],
+    gap: 0,
     broken: Broken::Nothing,
     lines: b"",
     room: 65536,
@@ -119,6 +121,7 @@ fn files_of(alloc: Global, disk: Vec<u8>, run: &Run) -> MemoryFiles {
     MemoryFiles {
         alloc,
         payloads: run.payloads,
+        gap: run.gap,
         disk,
         broken: run.broken,
     }

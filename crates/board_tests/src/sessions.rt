@@ -1,4 +1,4 @@
-//! Sessions of `sbiboard` whose harts are looked at: one that goes on with an image, and harts that `quit` halts.
+//! Sessions of `sbiboard` whose harts are looked at: one that goes on with an image, harts that `quit` halts, and one in a long payload.
 
 use crate::runs::{PLAIN, Run, all_come};
 use std::test::*;
@@ -82,4 +82,24 @@ static QUIT: [Run; 1] = [Run {
 #[test]
 fn quit_halts_harts_that_have_turns_left(rt: HostRuntime) -> Result<(), Fail> {
     all_come(&rt, rt.alloc(), b"", &QUIT)
+}
+
+/// A payload of 300,000 bytes. Its first instruction jumps to its last, at 0x800493dc, which jumps to itself; between them are zeros.
+static LONG: [Run; 1] = [Run {
+    payloads: [b"6f90c43d6f000000", b"", b"", b""],
+    gap: 299_992,
+    words: &[
+        "sbiboard", "--disk", "D", "--mode", "fresh", "--new", "--pages", "74", "--p0", "p0",
+        "--turns", "3", "--tell",
+    ],
+    faults: b"\
+sbiboard: hart 0 started pc 0x00000000800493dc scause 0x0000000000000000 sepc 0x0000000000000000 \
+stval 0x0000000000000000 turns 3 ended turns\n",
+    ..PLAIN
+}];
+
+/// The board has the end of such a payload.
+#[test]
+fn a_long_payload_is_read_to_its_end(rt: HostRuntime) -> Result<(), Fail> {
+    all_come(&rt, rt.alloc(), b"", &LONG)
 }

@@ -13,7 +13,7 @@ ghost use Rattle.hart_threads.specs.Begun.{BeginsAs, IsFromBoot, board_of};
 use crate::closing::Closing;
 use crate::ends::{Rested, at_rest};
 use crate::gates::Gate;
-use crate::loops::{Why, hart_loop};
+use crate::loops::hart_loop;
 use crate::refusals::Refusals;
 use crate::seated::{Acting, seat_harts};
 use crate::shared::{HartLocal, SharedBoard};
@@ -198,10 +198,8 @@ fn loop_of<
     };
     let locks = Locks::new(board.bus, board.store);
     let ended = hart_loop(rt, gate, board.of_loop(), locks, hart, local, turns);
-    if ended.why == Why::Life {
-        board.closing.end_life(&ended.told);
-    }
-    at_rest(ended, board.tables)
+    let set = board.closing.end_by(ended.why, &ended.told);
+    at_rest(ended, set, board.tables)
 }
 
 impl<J: Threaded> Stop for Closing<J> {

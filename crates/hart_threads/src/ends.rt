@@ -9,8 +9,9 @@ ghost use Rattle.sbi_calls.specs.Both.{AreSeatsOfBoth, Known, harts_of_both, kno
 ghost use Rattle.hart_threads.specs.Ends.{Ending, HasGone, IsEnding, IsShutBy, IsStateOf, ending};
 ghost use Rattle.hart_threads.specs.Seated.{StandsAfter};
 ghost use Rattle.hart_threads.specs.Threads.{EndsLife, ends_life, seated};
+ghost use Rattle.hart_threads.specs.declared.loops.Why.TheVariants.{Life};
 
-use crate::closing::{Parted, Shut, agree};
+use crate::closing::{HaltSet, Parted, Shut, agree};
 use crate::loops::{Ended, Why};
 use crate::shared::HartLocal;
 use crate::threaded::Threaded;
@@ -32,11 +33,13 @@ pub enum ShutBy {
 }
 
 /// A loop that ended, and the state of its hart then. Its hart is one of the life's board, and went from where the boot left it
-/// to where it stands by just the turns that it made.
+/// to where it stands by just the turns that it made. Where it ended the life the halt was set.
 #[derive(Drop)]
 pub struct Rested<'a, J: Threaded> {
     pub ended: Ended<'a, J>,
     state: State,
+    set: Option<HaltSet<J>>,
+    pub ghost halted: { (ended.why ≡ Life → IsTrue (is_some set)) },
     pub ghost gone: { ∥ ((k : Known) × HasGone J.machine J.turns ended.made
         (seated ended.hart k ended.local.doze ended.looks ended.local.refused) ended.why ended.told
         × IsStateOf state ended.hart.id k.harts) ∥₁ },
@@ -149,7 +152,12 @@ impl HartEnd {
 }
 
 /// The state of the hart of a loop that has ended, by one look at the hart table.
-pub(crate) fn at_rest<'a, J: Threaded>(ended: Ended<'a, J>, tables: &Tables) -> Rested<'a, J>
+pub(crate) fn at_rest<'a, J: Threaded>(
+    ended: Ended<'a, J>,
+    set: Option<HaltSet<J>>,
+    tables: &Tables,
+) -> Rested<'a, J>
+    requires halted { ended.why ≡ Life → IsTrue (is_some set) }
     requires seats { AreSeatsOfBoth tables.now ended.local.seats }
     requires hart { ended.hart.id < harts_of_both tables.now }
     requires stands { StandsAfter ended.why ended.local.doze ended.hart.id ended.local.seats }
@@ -195,7 +203,7 @@ pub(crate) fn at_rest<'a, J: Threaded>(ended: Ended<'a, J>, tables: &Tables) -> 
         shut,
         told,
     };
-    Rested { ended, state }
+    Rested { ended, state, set }
 }
 
 /// One of a hart's control and status registers that no pending interrupt shows in.

@@ -46,8 +46,8 @@ pub struct Ended<'a, J: Threaded> {
     pub local: HartLocal<J>,
     /// Its looks at the bus in a doze.
     pub looks: Looks,
-    /// How often it asked what ends all loops.
-    pub asked: Asked,
+    /// How often it asked what ends all loops, and nothing did: once for each turn.
+    pub asked: Asked<J>,
     /// How many turns it made.
     pub made: u64,
     pub why: Why,
@@ -115,22 +115,25 @@ pub fn hart_loop<'c, R: Wait, G: Gate, D: Disk + Drop, J: Threaded, C: Crew>(
         result.told }
 {
     let (mut hart, mut local, mut locks) = (hart, local, locks);
-    let (mut looks, mut asked) = (Looks::none(), Asked::none());
+    let (mut looks, mut asked) = (Looks::none(), Asked::none(board.closing));
     for made in 0..turns {
-        if let Some(shut) = board.closing.look(&mut asked) {
-            let (why, shut) = (Why::Closed, Some(shut));
-            return Ended {
-                hart,
-                local,
-                looks,
-                asked,
-                made,
-                why,
-                shut,
-                told: None,
-            };
-        }
-        let Some(allowed) = ask(gate, locks, hart.id(), made) else {
+        let going = match board.closing.look(rt, &mut asked, locks) {
+            Ok(going) => going,
+            Err(shut) => {
+                let (why, shut) = (Why::Closed, Some(shut));
+                return Ended {
+                    hart,
+                    local,
+                    looks,
+                    asked,
+                    made,
+                    why,
+                    shut,
+                    told: None,
+                };
+            }
+        };
+        let Some(allowed) = ask(gate, going, hart.id(), made) else {
             let (why, shut) = (Why::Gate, None);
             return Ended {
                 hart,

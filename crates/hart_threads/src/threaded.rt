@@ -1,19 +1,23 @@
 //! The name of a life on threads.
 
 ghost use Rattle.std.specs.Prelude.{ℕ, Bool, false};
+ghost use Rattle.atomic_table.specs.Seated.{TableId};
 ghost use Rattle.machine.specs.Machine.{Machine, resting};
-ghost use Rattle.receipts.specs.Books.{one_page};
+ghost use Rattle.receipts.specs.Books.{no_book, one_page};
 
 use shared_store::Journal;
 use std::marker::Brand;
 
 /// The name of the life of a board on threads, beside that of its journal: how many turns each hart is given, the lock
-/// in which the console says once what the harts do when it has left, whether the gate may end a loop, and the board as
-/// the boot left it, with its memory, its harts and its tables. A type that has it stands for that life alone.
+/// in which the console says once what the harts do when it has left, the word that halts all loops, whether the gate may end
+/// one, and the board as the boot left it, with its memory, its harts and its tables. A type that has it stands for that life
+/// alone.
 pub trait Threaded: Journal {
     ghost turns: { ℕ };
 
     ghost parting: { ℕ };
+
+    ghost halt: { TableId };
 
     ghost gated: { Bool };
 
@@ -24,6 +28,8 @@ impl Threaded for Brand {
     ghost turns = { 0 };
 
     ghost parting = { 0 };
+
+    ghost halt = { no_book };
 
     ghost gated = { false };
 

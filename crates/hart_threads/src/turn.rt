@@ -7,6 +7,7 @@ ghost use Rattle.shared_store.specs.Noted.{part_after};
 ghost use Rattle.hart_threads.specs.Seated.{IsSeated, StandsAfterTurn};
 ghost use Rattle.hart_threads.specs.Threads.{seated, TurnOnce};
 
+use crate::closing::Unhalted;
 use crate::dozes::{Looks, doze_turn};
 use crate::gates::Gate;
 use crate::once::{LockedBus, call_locked};
@@ -23,7 +24,8 @@ use std::marker::Model;
 use std::sync::Wait;
 use turns::turn_by_bus;
 
-/// The right to make one turn of a hart, with the locks that it may take. Only a gate that was asked for that turn gives it.
+/// The right to make one turn of a hart, with the locks that it may take. Only a gate that was asked for that turn gives it,
+/// behind a look that found the halt unset.
 #[derive(Drop)]
 pub(crate) struct Allowed<'a, D: Disk + Drop, J: Threaded> {
     hart: HartId,
@@ -55,17 +57,18 @@ impl<'a, D: Disk + Drop, J: Threaded> Model for TurnMade<'a, D, J> {
     ghost invariant = { λ m. m.locks ≡ no_locks };
 }
 
-/// Asks the gate of the hart's turn of that number, with no lock held: whether it lets it begin.
+/// Asks the gate of the hart's turn of that number, with no lock held, behind a look that found the halt unset: whether it lets
+/// it begin.
 pub(crate) fn ask<'a, G: Gate, D: Disk + Drop, J: Threaded>(
     gate: &G,
-    locks: Locks<'a, D, J>,
+    going: Unhalted<'a, D, J>,
     hart: HartId,
     turn: u64,
 ) -> Option<Allowed<'a, D, J>>
-    requires free { locks ≡ no_locks }
     ensures asked { MatchOption result (G.answers gate.now hart turn false) (λ _. G.answers gate.now hart turn true) }
     ensures turn { MatchOption result (Unit {0}) (λ a. a ≡ (hart, turn)) }
 {
+    let locks = going.into_locks();
     if gate.before(hart, turn) {
         Some(Allowed { hart, turn, locks })
     } else {

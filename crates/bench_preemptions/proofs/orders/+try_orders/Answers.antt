@@ -1,5 +1,4 @@
 use Rattle.std.proofs.Common.{◌≡◌, ◌∙◌, ◌-◌, ◌≤◌, ℕ, suc, List, length, ap, sym, subst, arith}
-use Rattle.std.proofs.lemmas.Bool.Decides.{nat_tests}
 use Rattle.script_lang.specs.declared.line.Line.{Line}
 use Rattle.bench_preemptions.specs.Points.{IsBusyAt, number_in}
 use Rattle.bench_preemptions.specs.Preemptions.{basis}
@@ -22,8 +21,8 @@ pub loop-number-init : goal.loop-number-init
 loop-number-init g t c =
     let r = c.args.runner.now in
     let node = c.args.node.now in
-    no_points (basis r.setting.shape.now r.payloads.now r.lines.now r.own.now r.numbers.now r.most) r.first (c.args.more - 1) node.ones.items c.in_ok-counts.counts.items
-    c.points_before-begin.result node.from (g.W.Write.contents c.args.out.now) c.args.done.orders c.args.done.differ
+    no_points (basis r.setting.shape.now r.payloads.now r.lines.now r.own.now r.numbers.now r.most) r.enough (c.args.more - 1) node.ones.items c.in_ok-counts.counts.items
+    c.points_before-begin.result node.from (g.W.Write.contents c.args.out.now) c.args.done.orders c.args.done.differ c.args.done.kept.items
     (c.points_before-begin.ensures ∙ ap (λ ks. number_in ks node.from 0) c.deref-2.ensures.value) c.requires.made.place
 
 pub parted_node-requires-clause-place : goal.parted_node-requires-clause-place
@@ -45,10 +44,10 @@ loop-number-preserved g t c =
     let one = c.point_at.result in
     let P : List ℕ → Type 0 = λ ks. IsBusyAt ks one in
     let number : number_in counts one.place one.turns ≡ c.loop-number.number = ap (λ ks. number_in ks one.place one.turns) (sym c.deref-in-loop-number-2.ensures.value) ∙ c.point_at.ensures.number in
-    point_more (basis r.setting.shape.now r.payloads.now r.lines.now r.own.now r.numbers.now r.most) r.first (c.args.more - 1) c.args.node.now.ones.items c.in_ok-next.next.ones.items one counts
-    c.loop-number.number (g.W.Write.contents c.args.out.now) (g.W.Write.contents c.loop-number.out) (g.W.Write.contents c.try_orders.new.out) c.args.done.orders c.args.done.differ
-    c.loop-number.now.orders c.loop-number.now.differ c.in_ok-now.now.orders c.in_ok-now.now.differ (subst P c.deref-in-loop-number-2.ensures.value c.point_at.ensures.busy) number
-    c.in_ok-next.ensures.ones c.loop-number.invariant c.in_ok-now.ensures.tried
+    point_more (basis r.setting.shape.now r.payloads.now r.lines.now r.own.now r.numbers.now r.most) r.enough (c.args.more - 1) c.args.node.now.ones.items c.in_ok-next.next.ones.items one counts
+    c.loop-number.number (g.W.Write.contents c.args.out.now) (g.W.Write.contents c.loop-number.out) (g.W.Write.contents c.try_orders.new.out) c.args.done.orders c.args.done.differ c.args.done.kept.items
+    c.loop-number.now.orders c.loop-number.now.differ c.loop-number.now.kept.items c.in_ok-now-2.now.orders c.in_ok-now-2.now.differ c.in_ok-now-2.now.kept.items (subst P c.deref-in-loop-number-2.ensures.value c.point_at.ensures.busy) number
+    c.in_ok-next.ensures.ones c.loop-number.invariant c.in_ok-now-2.ensures.tried
 
 pub returns-clause-tried : goal.returns-clause-tried
 returns-clause-tried g t c =
@@ -60,7 +59,7 @@ returns-clause-tried g t c =
     let len : c.len.result ≡ length counts = omega (arith, c.len.ensures, same) in
     let end : c.points_before-end.result ≡ number_in counts (length counts) 0 =
     c.points_before-end.ensures ∙ ap (λ ks. number_in ks c.len.result 0) c.deref-3.ensures.value ∙ ap (λ n. number_in counts n 0) len in
-    let next : suc (c.args.more - 1) ≡ c.args.more = first_of (omega (arith, c.if-more-eq0.false), grind (arith, nat_tests, c.if-more-eq0.false)) in
-    points_done (basis r.setting.shape.now r.payloads.now r.lines.now r.own.now r.numbers.now r.most) r.first c.args.more (c.args.more - 1) node.lines.items node.ones.items counts c.loop-number.number
-    (g.W.Write.contents c.args.out.now) (g.W.Write.contents c.loop-number.out) c.args.done.orders c.args.done.differ c.loop-number.now.orders c.loop-number.now.differ
+    let next : suc (c.args.more - 1) ≡ c.args.more = omega (arith, c.requires.most.0) in
+    points_done (basis r.setting.shape.now r.payloads.now r.lines.now r.own.now r.numbers.now r.most) r.enough c.args.more (c.args.more - 1) node.lines.items node.ones.items counts c.loop-number.number
+    (g.W.Write.contents c.args.out.now) (g.W.Write.contents c.loop-number.out) c.args.done.orders c.args.done.differ c.args.done.kept.items c.loop-number.now.orders c.loop-number.now.differ c.loop-number.now.kept.items
     next c.requires.made.lines (subst P c.deref.ensures.value c.in_ok-counts.ensures.ran) (omega (arith, end, c.loop-number-test.false)) c.loop-number.invariant

@@ -1,16 +1,25 @@
-use Rattle.std.proofs.Common.{ℕ, ◌+◌, slice_index_or, arith}
+use Rattle.std.proofs.Common.{◌≡◌, ◌+◌, ℕ, List, Option, ap, refl, slice_index_or, subst, sym}
+use Rattle.script_lang.specs.Scripts.{Script}
 use Rattle.bench_schedules.specs.Numbers.{place_of_other}
-use Rattle.bench_schedules.proofs.Ledgers.{one_differs, wrote_more}
+use Rattle.bench_schedules.specs.Schedules.{Wrote}
+use Rattle.bench_schedules.proofs.DrawnRuns.{all_runs}
 use Rattle.bench_schedules.proofs.benches.run_schedules.Goals as goal
 
-pub loop-done-preserved : goal.loop-done-preserved
-loop-done-preserved g c =
-    let i = c.loop-done.invariant in
-    let told = c.in_ok-differ.ensures.ok in
-    let one = one_differs c.in_ok-differs.differs in
-    record {
-      wrote = wrote_more (record { size = c.args.runner.now.setting.shape.now; lines = c.args.runner.now.lines.now }) c.args.runner.now.payloads.now
-          (λ (place : ℕ). slice_index_or c.args.runner.now.numbers.now (1 + place_of_other place c.args.runner.now.lines.now) 0)
-          c.args.own.now.answers.items c.loop-done.done c.loop-done.differ c.in_ok-differ.field-0 _ _ _ c.in_ok-differs.differs i.wrote c.in_ok-differs.ensures.ran told;
-      few = omega (arith, i.few, told.3, one);
-    }
+pub hand_on_all-requires-clause-has : goal.hand_on_all-requires-clause-has
+hand_on_all-requires-clause-has g c κs within = λ i less. (
+  record { sized = c.requires.size; few = c.requires.few; ranges = c.requires.ranges; fits = c.requires.fits; count = c.requires.count },
+  record { shared = c.type_bounds.sync-C-Handle.shared },
+)
+
+-- the report went on in the writer that it was given, so what that holds at last is what the last of them left there
+pub returns-clause-wrote : goal.returns-clause-wrote
+returns-clause-wrote g c =
+    let said : Script = record { size = c.args.runner.now.setting.shape.now; lines = c.args.runner.now.lines.now } in
+    let start = c.args.runner.now.payloads.now in
+    let own = c.args.own.now.answers.items in
+    let number : ℕ → ℕ = λ place. slice_index_or c.args.runner.now.numbers.now (1 + place_of_other place c.args.runner.now.lines.now) 0 in
+    let last = c.hand_on_all.new.sink in
+    let did = all_runs g.W.Write.contents said start own _ c.args.n last c.requires.most refl c.in_ok-hand_on_all.ensures.handed in
+    let same : c.out-2-1.given.0 ≡ last.out.now = c.out-2-1.given.1 (sym did.0) in
+    let P : Option (List ℕ) → Type 0 = λ now. Wrote said start number own 1 c.args.n (g.W.Write.contents c.args.out.now) now last.differ in
+    subst P (ap g.W.Write.contents (sym same)) did.1

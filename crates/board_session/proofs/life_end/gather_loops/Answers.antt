@@ -19,20 +19,6 @@ loop-rested-preserved-in-Some g c =
       many = omega (arith, long, was, fewer);
     }
 
-pub loop-rested-preserved-in-Some-2 : goal.loop-rested-preserved-in-Some-2
-loop-rested-preserved-in-Some-2 g c =
-    let i = c.loop-rested.invariant in
-    let e = c.in-Some.rested.ended in
-    let parts = c.gather.ensures.parts in
-    let long = ap (λ (ps : List PartView). length ps) parts in
-    let was = i.many in
-    let fewer = c.in-Some.ensures.cases in
-    record {
-      store = c.gather.ensures.store ∙ i.store;
-      back = subst (λ (ps : List PartView). AreBack ps) (sym parts) (one_back e.local.part (parts_with c.loop-rested.whole) e.told e.ends e.noted i.back);
-      many = omega (arith, long, was, fewer);
-    }
-
 pub loop-rested-preserved : goal.loop-rested-preserved
 loop-rested-preserved g c =
     let i = c.loop-rested.invariant in

@@ -10,4 +10,4 @@ ghosts-run_board-J-Journal g a = record { found = found_state a.booted.parts.sto
 
 -- and its harts, which no gate may end
 abbrev pub ghosts-run_board-J-Threaded : goal.ghosts-run_board-J-Threaded
-ghosts-run_board-J-Threaded g a = record { turns = a.turns; parting = a.lock.id; gated = false; machine = board_of a.booted.shape a.booted.parts.bus.ram a.booted.parts.bus.doze a.booted.parts.harts.items a.booted.parts.seats }
+ghosts-run_board-J-Threaded g a = record { turns = a.turns; parting = a.lock.id; halt = a.booted.halt; gated = false; machine = board_of a.booted.shape a.booted.parts.bus.ram a.booted.parts.bus.doze a.booted.parts.harts.items a.booted.parts.seats }

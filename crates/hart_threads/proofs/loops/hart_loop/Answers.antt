@@ -25,8 +25,8 @@ loop-made-preserved g c =
     let i = c.loop-made.invariant in let by = c.args.hart.id in let t = c.whole_turn-next in
     let on = sym c.goes_on.ensures ∙ c.if-not-goes_on.false in
     let gate = c.args.gate.now in
-    let said = subst (λ (k : ℕ). g.G.Gate.answers gate k c.loop-made.made true) (c.id.ensures ∙ i.id) c.in-Some-ask.ensures.asked in
-    let is : t.result.3 ≡ (by, c.loop-made.made) = t.ensures.made ∙ (c.in-Some-ask.ensures.turn ∙ ap (λ (k : ℕ). let p : ℕ × ℕ = (k, c.loop-made.made) in p) (c.id.ensures ∙ i.id)) in
+    let said = subst (λ (k : ℕ). g.G.Gate.answers gate k c.loop-made.made true) (c.id.ensures ∙ i.id) c.in-Some.ensures.asked in
+    let is : t.result.3 ≡ (by, c.loop-made.made) = t.ensures.made ∙ (c.in-Some.ensures.turn ∙ ap (λ (k : ℕ). let p : ℕ × ℕ = (k, c.loop-made.made) in p) (c.id.ensures ∙ i.id)) in
     let heard = subst (λ (p : ℕ × ℕ). g.G.Gate.hears gate p.0 p.1) is c.tell-locks.ensures.told in
     record {
       gives = gives_then c.args.board.tables.now by c.args.local.seats c.loop-made.local.seats t.result.0.seats i.gives (subst (λ (k : ℕ). GivesBack c.args.board.tables.now k c.loop-made.local.seats t.result.0.seats) i.id t.ensures.gives);
@@ -35,7 +35,7 @@ loop-made-preserved g c =
       part = kept_part c.args.board.shape.now g.J.Journal.memory (seated c.loop-made.hart (known c.loop-made.local.seats) c.loop-made.local.doze c.loop-made.looks c.loop-made.local.refused) (seated t.new.hart (known t.result.0.seats) t.result.0.doze t.new.looks t.result.0.refused) t.result.1 t.result.2 c.args.local.part c.loop-made.local.part t.result.0.part t.ensures.once on i.part t.ensures.noted;
       turns = one_more c.args.board.shape.now g.J.Journal.memory (g.G.Gate.answers gate by) (g.G.Gate.hears gate by) c.loop-made.made (seated c.args.hart (known c.args.local.seats) c.args.local.doze no_looks c.args.local.refused) (seated c.loop-made.hart (known c.loop-made.local.seats) c.loop-made.local.doze c.loop-made.looks c.loop-made.local.refused) (seated t.new.hart (known t.result.0.seats) t.result.0.doze t.new.looks t.result.0.refused) t.result.1 t.result.2 i.turns t.ensures.once on said heard;
       few = let f = i.few in let r = t.ensures.range in omega (arith, f, r);
-      asked = c.look.ensures ∙ ap (λ (n : ℕ). n + 1) i.asked;
+      asked = c.in-Ok.ensures ∙ ap (λ (n : ℕ). n + 1) i.asked;
       free = c.tell-locks.ensures.free;
     }
 
@@ -45,8 +45,8 @@ returns-then-not-goes_on-clause-once g c =
     let off = sym c.goes_on.ensures ∙ c.if-not-goes_on.true in
     let by = c.args.hart.id in
     let gate = c.args.gate.now in
-    let said = subst (λ (k : ℕ). g.G.Gate.answers gate k c.loop-made.made true) (c.id.ensures ∙ i.id) c.in-Some-ask.ensures.asked in
-    let is : t.result.3 ≡ (by, c.loop-made.made) = t.ensures.made ∙ (c.in-Some-ask.ensures.turn ∙ ap (λ (k : ℕ). let p : ℕ × ℕ = (k, c.loop-made.made) in p) (c.id.ensures ∙ i.id)) in
+    let said = subst (λ (k : ℕ). g.G.Gate.answers gate k c.loop-made.made true) (c.id.ensures ∙ i.id) c.in-Some.ensures.asked in
+    let is : t.result.3 ≡ (by, c.loop-made.made) = t.ensures.made ∙ (c.in-Some.ensures.turn ∙ ap (λ (k : ℕ). let p : ℕ × ℕ = (k, c.loop-made.made) in p) (c.id.ensures ∙ i.id)) in
     let heard = subst (λ (p : ℕ × ℕ). g.G.Gate.hears gate p.0 p.1) is c.tell-locks.ensures.told in
     ended_life c.args.board.shape.now g.J.Journal.memory (g.G.Gate.answers gate by) (g.G.Gate.hears gate by) c.args.turns c.loop-made.made (seated c.args.hart (known c.args.local.seats) c.args.local.doze no_looks c.args.local.refused) (seated c.loop-made.hart (known c.loop-made.local.seats) c.loop-made.local.doze c.loop-made.looks c.loop-made.local.refused) (seated t.new.hart (known t.result.0.seats) t.result.0.doze t.new.looks t.result.0.refused) t.result.1 t.result.2 i.turns t.ensures.once off said heard
 
@@ -66,8 +66,8 @@ returns-then-not-goes_on-clause-stands g c =
     let off = sym c.goes_on.ensures ∙ c.if-not-goes_on.true in
     subst (λ (k : ℕ). StandsAfter whys.Life t.result.0.doze k t.result.0.seats) i.id (stands_over c.loop-made.hart.id t.result.0.seats t.result.1 t.result.0.doze off t.ensures.stands)
 
-pub returns-in_default-ask-clause-once : goal.returns-in_default-ask-clause-once
-returns-in_default-ask-clause-once g c =
+pub returns-in_default-clause-once : goal.returns-in_default-clause-once
+returns-in_default-clause-once g c =
     let i = c.loop-made.invariant in
     let within : c.loop-made.made < c.args.turns = omega arith in
-    (i.turns, within, refl, subst (λ (k : ℕ). g.G.Gate.answers c.args.gate.now k c.loop-made.made false) (c.id.ensures ∙ i.id) c.in_default-ask.ensures.asked)
+    (i.turns, within, refl, subst (λ (k : ℕ). g.G.Gate.answers c.args.gate.now k c.loop-made.made false) (c.id.ensures ∙ i.id) c.in_default.ensures.asked)

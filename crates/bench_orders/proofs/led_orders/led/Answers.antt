@@ -1,0 +1,14 @@
+use Rattle.std.proofs.Common.{arith, length, ap, length-drop}
+use Rattle.bench_orders.proofs.Parts.{left_behind, part_placed}
+use Rattle.bench_orders.proofs.led_orders.led.Goals as goal
+
+pub loop-rest-preserved : goal.loop-rest-preserved
+loop-rest-preserved c =
+    let made = c.loop-rest.made.items in
+    let rest = c.loop-rest.rest.now in
+    let new = c.add_led.new.made.items in
+    let count = c.in_ok-count.count in
+    record {
+      order = part_placed c.args.lines.now made rest new count c.loop-rest.invariant.order c.in_ok-count.ensures.added;
+      few = omega (arith, c.loop-rest.invariant.few, ap length (left_behind rest count), length-drop count rest);
+    }
