@@ -4,7 +4,8 @@ use Rattle.std.specs.Io.KnownBytes.{Keeps}
 use Rattle.board_model.specs.declared.refusal.Refusal.{Refusal}
 use Rattle.bench_judge.specs.declared.judges.Sweep.{Sweep}
 use Rattle.bench_sweep.specs.declared.points.Bench.{Bench}
-use Rattle.bench_sweep.specs.Swept.{IsBenchOf}
+use Rattle.bench_sweep.specs.Swept.{IsBenchOf, IsRecoveredBenchOf}
+use Rattle.bench_sweep.specs.declared.sweeps.Recovered.{Recovered}
 use Rattle.bench_sweep.proofs.Written.{handed_on}
 use Rattle.script_lang.specs.Scripts.{script_of, Script as Said}
 use Rattle.bench_schedules.specs.Numbers.{numbers_of}
@@ -54,6 +55,9 @@ preempted_on within start script a b c orders differ (said, is, w) keeps = (
     ended = handed_on w.last b c _ w.ended keeps;
   },
 )
+
+pub recovered_on : (bench : Bench) (start : List (List ℕ)) (script recovery numbers : List ℕ) (a b c : Option (List ℕ)) (done : Recovered) → IsRecoveredBenchOf bench start script recovery numbers a b done → Keeps b c → IsRecoveredBenchOf bench start script recovery numbers a c done
+recovered_on bench start script recovery numbers a b c done (said, after, is, says, plain, none, some, (mid, rows, last)) keeps = (said, after, is, says, plain, none, some, (mid, rows, handed_on mid b c _ last keeps))
 
 pub order_on : (wanted : Wanted) (start : List (List ℕ)) (script : List ℕ) (a b c : Option (List ℕ))
     → ((said : Said) × (script_of script ≡ Ok said) × ShownOrder said start (numbers_of script) wanted.most wanted.number a b) → Keeps b c → IsOrderShown wanted start script a c

@@ -1,7 +1,7 @@
 -- Which faults a work may have.
 use Rattle.std.proofs.Common.{◌≡◌, ◌∙◌, ◌⊎◌, inl, inr, ℕ, List, ap, Option, None, Some, Err, IsSome, get_or, refl, sym, subst}
 use Rattle.board_model.specs.declared.refusal.Refusal.{Refusal}
-use Rattle.board_model.specs.declared.refusal.Refusal.TheVariants.{Memory, Output}
+use Rattle.board_model.specs.declared.refusal.Refusal.TheVariants.{Memory, NotPlain, Output}
 use Rattle.script_lang.specs.Scripts.{script_of}
 use Rattle.bench_program.specs.Written.{IsNotTaken, IsFaultIn, IsFaultOf, IsUnread, IsFault}
 use Rattle.command_line.specs.declared.NoWork.{NoWork}
@@ -16,7 +16,10 @@ use Rattle.bench_program.specs.Usage.{IsNamedBy}
 use Rattle.bench_program.specs.declared.fault.BenchFault.{BenchFault}
 use Rattle.bench_program.specs.declared.fault.BenchFault.TheVariants.{Input, Refused, Closed, Usage, Wrong}
 use Rattle.bench_program.specs.declared.usage.Options.{Options}
+use Rattle.bench_program.specs.declared.usage.Bench.{Bench}
 use Rattle.bench_program.specs.declared.usage.Work.{Work}
+use Rattle.bench_program.specs.declared.usage.Work.TheVariants.{Recover}
+use Rattle.bench_sweep.specs.Swept.{NoBenchRuns, NoRecoveryRuns}
 
 -- a refused work, whose reader may be gone
 pub told : (work : Work) (payloads : List (List ℕ)) (script : List ℕ) (e : Refusal) (fault : BenchFault) → (fault ≡ Closed) ⊎ (fault ≡ Refused e)
@@ -40,7 +43,7 @@ unread_named options why fault e (inr is) some = inr (e ∙ ap unread_by is)
 -- the script's file was not read
 unread_by_cause : (options : Options) (why : ProgramFault) (fault : BenchFault) → fault ≡ unread_by why → (why ≡ causes.File) ⊎ (why ≡ causes.Refused Memory) → IsSome options.script
     → IsUnread options fault ⊎ (fault ≡ Refused Memory)
-unread_by_cause options why fault e (inl is) some = inl (inl (e ∙ ap unread_by is, inr some))
+unread_by_cause options why fault e (inl is) some = inl (inl (e ∙ ap unread_by is, inr (inr some)))
 unread_by_cause options why fault e (inr is) some = inr (e ∙ ap unread_by is)
 
 is_some : {A : Type 0} (option : Option A) (value : A) → option ≡ Some value → IsSome option
@@ -54,6 +57,25 @@ unread_script options {A} option value why kind fault e is same some = unread_by
 pub unread_input : (options : Options) (fault : BenchFault) → options.script ≡ None → (fault ≡ Input) ⊎ (fault ≡ Refused Memory) → IsUnread options fault ⊎ (fault ≡ Refused Memory)
 unread_input options fault none (inl is) = inl (inr (is, none))
 unread_input options fault none (inr is) = inr is
+
+-- a bench with a recovery was refused
+pub no_recovery : (bench : Bench) (payloads : List (List ℕ)) (script recovery : List ℕ) (e : Refusal) → (e ≡ Memory) ⊎ (e ≡ Output) ⊎ (script_of script ≡ Err e) ⊎ ((e ≡ NotPlain) × NoBenchRuns script) ⊎ NoRecoveryRuns script recovery e
+    → (e ≡ Memory) ⊎ (e ≡ Output) ⊎ (script_of script ≡ Err e) ⊎ IsNotTaken (Recover bench) payloads script e
+no_recovery bench payloads script recovery e (inl x) = inl x
+no_recovery bench payloads script recovery e (inr (inl x)) = inr (inl x)
+no_recovery bench payloads script recovery e (inr (inr (inl x))) = inr (inr (inl x))
+no_recovery bench payloads script recovery e (inr (inr (inr (inl x)))) = inr (inr (inr (inl x)))
+no_recovery bench payloads script recovery e (inr (inr (inr (inr x)))) = inr (inr (inr (inr (recovery, x))))
+
+-- nor the file of a recovery
+unread_recovered : (options : Options) (why : ProgramFault) (fault : BenchFault) → fault ≡ unread_by why → (why ≡ causes.File) ⊎ (why ≡ causes.Refused Memory) → IsSome options.recovery
+    → IsUnread options fault ⊎ (fault ≡ Refused Memory)
+unread_recovered options why fault e (inl is) some = inl (inl (e ∙ ap unread_by is, inr (inl some)))
+unread_recovered options why fault e (inr is) some = inr (e ∙ ap unread_by is)
+
+pub unread_recovery : (options : Options) {A : Type 0} (option : Option A) (value : A) (why : ProgramFault) (kind : ErrorKind) (fault : BenchFault) → fault ≡ unread_by why → why ≡ fault_of_kind kind
+    → (IsSome option → IsSome options.recovery) → option ≡ Some value → IsUnread options fault ⊎ (fault ≡ Refused Memory)
+unread_recovery options {A} option value why kind fault e is same some = unread_recovered options why fault e (file_fault why kind is) (same (is_some option value some))
 
 -- a fault of options that the words name
 pub of_options : (words : List (List ℕ)) (bytes_at : List ℕ → Option (List ℕ)) (input : Option (List ℕ)) (fault : BenchFault) (options : Options) → IsNamedBy words options

@@ -10,14 +10,14 @@ use Rattle.clap.specs.declared.builder.value_parser.ValueParser.TheVariants.{Non
 use Rattle.script_lang.specs.Words.{number_of}
 use Rattle.command_line.specs.Flags.{flag_rule}
 use Rattle.command_line.specs.Kinds.{no_work}
-use Rattle.command_line.specs.Options.{option_rule, path_named, payload_paths, value_rule, with_payloads}
+use Rattle.command_line.specs.Options.{option_rule, path_named, path_rule, payload_paths, value_rule, with_payloads}
 use Rattle.command_line.specs.Parses.{AreParsed}
 use Rattle.command_line.specs.Programs.{named_app}
 use Rattle.command_line.specs.declared.NoWork.{NoWork}
 use Rattle.bench_program.specs.declared.usage.Bench.TheVariants.{Sweep, Faults}
 use Rattle.bench_program.specs.declared.usage.Options.{Options}
 use Rattle.bench_program.specs.declared.usage.Work.{Work}
-use Rattle.bench_program.specs.declared.usage.Work.TheVariants.{Report, Judge, Compare, Show, Preempt, ShowOrder}
+use Rattle.bench_program.specs.declared.usage.Work.TheVariants.{Report, Judge, Recover, Compare, Show, Preempt, ShowOrder}
 use Rattle.bench_program.specs.declared.usage.Savers.{Savers}
 use Rattle.bench_program.specs.declared.usage.Savers.TheVariants.{Turns, Threads}
 use lib.Chars.{codes}
@@ -58,9 +58,11 @@ sbibench crews =
     (with_preemptions
     (with_schedules
     (with_rule
+    (with_rule
     (with_rule (with_rule (with_rule (with_rule (named_app (codes "sbibench")) script_rule) (crew_rule crews)) (flag_rule (codes "sweep")))
     (flag_rule (codes "faults")))
-    jobs_rule)))
+    jobs_rule)
+    (path_rule (codes "recover")))))
 
 -- the payload files, by their paths
 abbrev pub payload_files : Options → List (Option (List ℕ))
@@ -69,6 +71,10 @@ payload_files options = map (option_map string_bytes) options.payloads
 -- the script's file, by its path
 abbrev pub script_file : Options → Option (List ℕ)
 script_file options = option_map string_bytes options.script
+
+-- the file of an operator's recovery, by its path
+abbrev pub recovery_file : Options → Option (List ℕ)
+recovery_file options = option_map string_bytes options.recovery
 
 -- the crew of a word
 abbrev pub savers_of : Option (List ℕ) → Savers
@@ -172,8 +178,20 @@ work_by (Some word) f sweep faults first =
     (without_options (first_value f (codes "schedules")) (first_value f (codes "seed"))
     (preemptions_named word (first_value f (codes "show")) first))
 
+abbrev pub work_unrecovered : Found → Bool → Bool → Bool → Option Work
+work_unrecovered f sweep faults first = work_by (first_value f (codes "preemptions")) f sweep faults first
+
+-- a recovery goes with a bench
+abbrev pub recovered : Option Work → Option Work
+recovered (Some (Judge bench)) = Some (Recover bench)
+recovered work = None
+
+abbrev pub with_recovery : Option (List ℕ) → Option Work → Option Work
+with_recovery None work = work
+with_recovery (Some path) work = recovered work
+
 abbrev pub work_asked : Found → Bool → Bool → Bool → Option Work
-work_asked f sweep faults first = work_by (first_value f (codes "preemptions")) f sweep faults first
+work_asked f sweep faults first = with_recovery (first_value f (codes "recover")) (work_unrecovered f sweep faults first)
 
 -- the bench of schedules runs at most so many, an order has at most so many preemptions, and orders have numbers from 1 on
 abbrev pub IsBounded : Work → Type 0
@@ -189,6 +207,7 @@ IsNamedBy words options = (crews : ValueParser) × (f : Found) × (sweep faults 
     × IsFlag f (codes "sweep") sweep × IsFlag f (codes "faults") faults × IsFlag f (codes "first") first
     × (work_asked f sweep faults first ≡ Some options.work)
     × (payload_files options ≡ payload_paths f) × (script_file options ≡ path_named (first_value f (codes "SCRIPT")))
+    × (recovery_file options ≡ path_named (first_value f (codes "recover")))
 
 -- The words name no work, for that reason: the command's parser refuses them, by an error that shows what they ask to be shown
 -- or says a fault.

@@ -1,5 +1,5 @@
 -- What the program writes, by the work that its words ask for. Source: docs/SCRIPT.md, "The program".
-use Rattle.std.specs.Prelude.{◌≡◌, ◌⊎◌, ◌<◌, ⊤, ℕ, Bool, List, Option, None, Some, Ok, Err, IfSome, IsSome, get_or, take}
+use Rattle.std.specs.Prelude.{◌≡◌, ◌⊎◌, ◌<◌, ⊤, ℕ, Bool, List, [], Option, None, Some, Ok, Err, IfSome, IsSome, get_or, take}
 use Rattle.board_model.specs.declared.refusal.Refusal.{Refusal}
 use Rattle.board_model.specs.declared.refusal.Refusal.TheVariants.{BadShape, Memory, Output, NotPlain}
 use Rattle.std.specs.Io.KnownBytes.{Appends}
@@ -9,7 +9,8 @@ use Rattle.bench_report.specs.Prefix.{KeepsPrefixLaw}
 use Rattle.report_lines.specs.Texts.{report_text}
 use Rattle.bench_report.specs.Reports.{AreByFirmware, IsReportWith}
 use Rattle.report_lines.specs.declared.printed.Answer.{Answer}
-use Rattle.bench_sweep.specs.Swept.{IsBenchOf, NoBenchRuns}
+use Rattle.bench_sweep.specs.Swept.{IsBenchOf, IsRecoveredBenchOf, NoBenchRuns, NoRecoveryRuns}
+use Rattle.bench_sweep.specs.declared.sweeps.Recovered.{Recovered}
 use Rattle.bench_preemptions.specs.Preemptions.{WrotePreemptions}
 use Rattle.bench_preemptions.specs.Shown.{HasNoOrder, ShownOrder}
 use Rattle.bench_preemptions.specs.declared.benches.Within.{Within}
@@ -20,12 +21,13 @@ use Rattle.bench_judge.specs.declared.judges.Sweep.{Sweep as Counts}
 use Rattle.bench_program.specs.Benches.{judged}
 use Rattle.command_line.specs.declared.NoWork.TheVariants as whys
 use Rattle.payload_files.specs.Named.{AreFilesOf}
-use Rattle.bench_program.specs.Usage.{payload_files, script_file, IsNamedBy, NamesNoWork, NamesConflict}
+use Rattle.bench_program.specs.Usage.{payload_files, recovery_file, script_file, IsNamedBy, NamesNoWork, NamesConflict}
 use Rattle.bench_program.specs.declared.fault.BenchFault.{BenchFault}
 use Rattle.bench_program.specs.declared.fault.BenchFault.TheVariants.{Usage, Input, File, Refused, Closed, Wrong}
 use Rattle.bench_program.specs.declared.usage.Options.{Options}
 use Rattle.bench_program.specs.declared.usage.Work.{Work}
-use Rattle.bench_program.specs.declared.usage.Work.TheVariants.{Report, Judge, Compare, Show, Preempt, ShowOrder}
+use Rattle.bench_program.specs.declared.usage.Bench.{Bench}
+use Rattle.bench_program.specs.declared.usage.Work.TheVariants.{Report, Judge, Recover, Compare, Show, Preempt, ShowOrder}
 
 -- what was written is a report of the script that begins with these payloads, and nothing else; where no line is a poke,
 -- it keeps the prefix law
@@ -44,6 +46,11 @@ abbrev pub IsPreempted : Within → List (List ℕ) → List ℕ → Option (Lis
 IsPreempted within payloads script old now differ = (said : Said) × (script_of script ≡ Ok said) × (orders : ℕ)
     × WrotePreemptions said payloads (numbers_of script) within.most within.first old now orders differ
 
+-- a bench ran over the script that begins with these payloads, with that recovery behind each run; so many differ
+abbrev pub IsRecovered : Bench → List (List ℕ) → List ℕ → List ℕ → Option (List ℕ) → Option (List ℕ) → ℕ → Type 0
+IsRecovered bench payloads recovery script old now differ = (done : Recovered)
+    × IsRecoveredBenchOf (judged bench) payloads script recovery (numbers_of recovery) old now done × (done.differ ≡ differ)
+
 -- one schedule of the script was written
 abbrev pub IsShown : List ℕ → Option (List ℕ) → Option (List ℕ) → Type 0
 IsShown script old now = (said : Said) × (script_of script ≡ Ok said) × Shown said old now
@@ -58,10 +65,16 @@ IsOrderShown wanted payloads script old now = (said : Said) × (script_of script
 abbrev pub IsWritten : Work → List (List ℕ) → List ℕ → Option (List ℕ) → Option (List ℕ) → Type 0
 IsWritten (Report savers) payloads script old now = IsReported payloads script old now
 IsWritten (Judge bench) payloads script old now = (counts : Counts) × IsBenchOf (judged bench) payloads script old now counts
+IsWritten (Recover bench) payloads script old now = ⊥
 IsWritten (Compare drawn) payloads script old now = IsCompared drawn.number payloads script old now 0
 IsWritten (Show drawn) payloads script old now = IsShown script old now
 IsWritten (Preempt within) payloads script old now = IsPreempted within payloads script old now 0
 IsWritten (ShowOrder wanted) payloads script old now = IsOrderShown wanted payloads script old now
+
+-- the same of a work that has a recovery: of none of its runs a look differs
+abbrev pub IsMade : Work → List (List ℕ) → List ℕ → List ℕ → Option (List ℕ) → Option (List ℕ) → Type 0
+IsMade (Recover bench) payloads recovery script old now = IsRecovered bench payloads recovery script old now 0
+IsMade work payloads recovery script old now = IsWritten work payloads script old now
 
 -- what was written is what the work makes of the script, and tells that something is wrong: some schedules or orders differ
 abbrev pub TellsWrong : Work → List (List ℕ) → List ℕ → Option (List ℕ) → Option (List ℕ) → Type 0
@@ -69,18 +82,24 @@ TellsWrong (Compare drawn) payloads script old now = (differ : ℕ) × (0 < diff
 TellsWrong (Preempt within) payloads script old now = (differ : ℕ) × (0 < differ) × IsPreempted within payloads script old now differ
 TellsWrong work payloads script old now = ⊥
 
+-- or the looks of some recoveries
+abbrev pub TellsApart : Work → List (List ℕ) → List ℕ → List ℕ → Option (List ℕ) → Option (List ℕ) → Type 0
+TellsApart (Recover bench) payloads recovery script old now =
+    (differ : ℕ) × (0 < differ) × IsRecovered bench payloads recovery script old now differ
+TellsApart work payloads recovery script old now = TellsWrong work payloads script old now
+
 -- what is read of a source of these bytes: all of them, but for what is more than any script has
 abbrev pub IsReadOf : List ℕ → List ℕ → Type 0
 IsReadOf script bytes = script ≡ take 268500993 bytes
 
 -- the work was done over a source of which these bytes are known
-abbrev pub IsWorked : Work → List (List ℕ) → Option (List ℕ) → Option (List ℕ) → Option (List ℕ) → Type 0
-IsWorked work payloads source old now = (script : List ℕ) × IfSome source (λ bytes. script_of script ≡ script_of bytes)
-    × IfSome source (IsReadOf script) × IsWritten work payloads script old now
+abbrev pub IsWorked : Work → List (List ℕ) → List ℕ → Option (List ℕ) → Option (List ℕ) → Option (List ℕ) → Type 0
+IsWorked work payloads recovery source old now = (script : List ℕ) × IfSome source (λ bytes. script_of script ≡ script_of bytes)
+    × IfSome source (IsReadOf script) × IsMade work payloads recovery script old now
 
-abbrev pub IsWrongOver : Work → List (List ℕ) → Option (List ℕ) → Option (List ℕ) → Option (List ℕ) → Type 0
-IsWrongOver work payloads source old now = (script : List ℕ) × IfSome source (λ bytes. script_of script ≡ script_of bytes)
-    × IfSome source (IsReadOf script) × TellsWrong work payloads script old now
+abbrev pub IsWrongOver : Work → List (List ℕ) → List ℕ → Option (List ℕ) → Option (List ℕ) → Option (List ℕ) → Type 0
+IsWrongOver work payloads recovery source old now = (script : List ℕ) × IfSome source (λ bytes. script_of script ≡ script_of bytes)
+    × IfSome source (IsReadOf script) × TellsApart work payloads recovery script old now
 
 -- the bytes that the script is read from: those of the file that is named, or else the input's
 abbrev pub source_at : Option (List ℕ) → (List ℕ → Option (List ℕ)) → Option (List ℕ) → Option (List ℕ)
@@ -90,15 +109,23 @@ source_at (Some path) bytes_at input = bytes_at path
 abbrev pub source_of : Options → (List ℕ → Option (List ℕ)) → Option (List ℕ) → Option (List ℕ)
 source_of options bytes_at input = source_at (script_file options) bytes_at input
 
+-- the lines of a recovery, where its file is named: the bytes there, as far as they are known, but for what is more than any
+-- script has
+abbrev pub IsRecoveryOf : (List ℕ → Option (List ℕ)) → Option (List ℕ) → List ℕ → Type 0
+IsRecoveryOf bytes_at None recovery = recovery ≡ []
+IsRecoveryOf bytes_at (Some path) recovery = IfSome (bytes_at path) (IsReadOf recovery)
+
 -- The options were done over it and over files of which these bytes are known: each slot begins with the file that is
--- named for it.
+-- named for it, and the recovery is the one that is named.
 abbrev pub AreDone : Options → (List ℕ → Option (List ℕ)) → Option (List ℕ) → Option (List ℕ) → Option (List ℕ) → Type 0
 AreDone options bytes_at input old now = (payloads : List (List ℕ)) × AreFilesOf bytes_at (payload_files options) payloads
-    × IsWorked options.work payloads (source_of options bytes_at input) old now
+    × (recovery : List ℕ) × IsRecoveryOf bytes_at (recovery_file options) recovery
+    × IsWorked options.work payloads recovery (source_of options bytes_at input) old now
 
 abbrev pub AreWrong : Options → (List ℕ → Option (List ℕ)) → Option (List ℕ) → Option (List ℕ) → Option (List ℕ) → Type 0
 AreWrong options bytes_at input old now = (payloads : List (List ℕ)) × AreFilesOf bytes_at (payload_files options) payloads
-    × IsWrongOver options.work payloads (source_of options bytes_at input) old now
+    × (recovery : List ℕ) × IsRecoveryOf bytes_at (recovery_file options) recovery
+    × IsWrongOver options.work payloads recovery (source_of options bytes_at input) old now
 
 -- the work that the words name was done over both
 abbrev pub IsDone : List (List ℕ) → (List ℕ → Option (List ℕ)) → Option (List ℕ) → Option (List ℕ) → Option (List ℕ) → Type 0
@@ -111,21 +138,25 @@ IsWrong words bytes_at input old now =
     (options : Options) × IsNamedBy words options × AreWrong options bytes_at input old now
 
 -- ---- faults
--- The work is a bench, and no bench runs the script: a line of it is not plain, or none formats a disk. Or it shows an order, and
--- there is none of that number to show.
+-- The work is a bench, and no bench runs the script: a line of it is not plain, or none formats a disk; or its recovery. Or it shows
+-- an order, and there is none of that number to show.
 abbrev pub IsNotTaken : Work → List (List ℕ) → List ℕ → Refusal → Type 0
 IsNotTaken (Report savers) payloads script e = ⊥
 IsNotTaken (Judge bench) payloads script e = (e ≡ NotPlain) × NoBenchRuns script
+IsNotTaken (Recover bench) payloads script e =
+    ((e ≡ NotPlain) × NoBenchRuns script)
+    ⊎ ((recovery : List ℕ) × NoRecoveryRuns script recovery e)
 IsNotTaken (Compare drawn) payloads script e = ⊥
 IsNotTaken (Show drawn) payloads script e = ⊥
 IsNotTaken (Preempt within) payloads script e = ⊥
 IsNotTaken (ShowOrder wanted) payloads script e = (e ≡ BadShape) × (said : Said) × (script_of script ≡ Ok said)
     × HasNoOrder said payloads (numbers_of script) wanted.most wanted.number
 
--- a work may tell that something is wrong: the benches of power cuts and failures never do
+-- a work may tell that something is wrong: the benches of power cuts and failures never do without a recovery
 abbrev pub MayTellWrong : Work → Type 0
 MayTellWrong (Compare drawn) = ⊤
 MayTellWrong (Preempt within) = ⊤
+MayTellWrong (Recover bench) = ⊤
 MayTellWrong work = ⊥
 
 -- a fault of a work over that script, which begins with these payloads: memory was refused, the output failed or nobody reads it, the
@@ -149,7 +180,7 @@ IsFaultOf options bytes_at input fault = (payloads : List (List ℕ)) × (script
 -- a file could not be read, of those that are named; or the input failed, where none of them is the script's
 abbrev pub IsUnread : Options → BenchFault → Type 0
 IsUnread options fault =
-    ((fault ≡ File) × (((slot : ℕ) × IsSome (get_or options.payloads slot None)) ⊎ IsSome options.script))
+    ((fault ≡ File) × (((slot : ℕ) × IsSome (get_or options.payloads slot None)) ⊎ IsSome options.recovery ⊎ IsSome options.script))
     ⊎ ((fault ≡ Input) × (options.script ≡ None))
 
 -- a fault of the work that the words name, or of their files; or they name none, or no one work; or memory was refused

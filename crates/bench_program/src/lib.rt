@@ -15,7 +15,7 @@ ghost use Rattle.bench_program.specs.Faults.{status_after};
 ghost use Rattle.bench_program.specs.declared.fault.BenchFault.{BenchFault};
 ghost use Rattle.bench_program.specs.declared.fault.BenchFault.TheVariants.{Input, Refused};
 ghost use Rattle.script_lang.specs.Scripts.{script_of, Script as Said};
-ghost use Rattle.bench_sweep.specs.Swept.{IsBenchOf, IsNotPlain, NoBenchRuns};
+ghost use Rattle.bench_sweep.specs.Swept.{IsBenchOf, IsRecoveredBenchOf, IsNotPlain, NoBenchRuns, NoRecoveryRuns};
 ghost use Rattle.bench_schedules.specs.Numbers.{numbers_of};
 ghost use Rattle.bench_preemptions.specs.Shown.{HasNoOrder};
 ghost use Rattle.bench_program.specs.Benches.{judged};
@@ -28,8 +28,8 @@ use crate::usage::USAGE;
 pub use crate::usage::{Bench, Drawn, Options, Savers, Work, options_of};
 use bench_preemptions::{Preempted, Wanted, Within, preemptions, show_order};
 use bench_report::run_with;
-use bench_schedules::{Compared, schedules, show};
-use bench_sweep::{Bench as Swept, Sweep, run_bench};
+use bench_schedules::{Compared, line_numbers, schedules, show};
+use bench_sweep::{Bench as Swept, Recovered, RecoveryFile, Sweep, run_bench, run_bench_recovered};
 use board::Payloads;
 use board_model::{MAX_LINE_BYTES, MAX_SCRIPT_LINES, Refusal};
 pub use command_line::Pipe;
@@ -47,7 +47,7 @@ const WRITTEN_AT_ONCE: usize = 65_536;
 
 /// One byte more than the longest script has. The first fault of a script stands within so many bytes, so no more are
 /// read.
-const READ_AT_MOST: u64 = (MAX_SCRIPT_LINES * (MAX_LINE_BYTES + 1) + 1) as u64;
+pub const READ_AT_MOST: u64 = (MAX_SCRIPT_LINES * (MAX_LINE_BYTES + 1) + 1) as u64;
 
 /// Reads the script: the input to its end, or as much of it as its first fault takes. The fault is `Input` where the input
 /// failed, and the refusal `Memory` where memory was refused.
@@ -152,6 +152,50 @@ pub fn write_bench<R: Threads + Sync, W: Write + Drop>(
     Ok(done)
 }
 
+/// The bench as `bench_sweep` knows it.
+fn swept(bench: Bench) -> Swept
+    ensures { result ≡ judged bench }
+{
+    match bench {
+        Bench::Sweep => Swept::Cuts,
+        Bench::Faults => Swept::Fails,
+    }
+}
+
+/// Runs a bench over the script that begins with these payloads, with that recovery behind each run, and writes its lines to
+/// the end.
+///
+/// Refused as `bench_sweep::run_bench_recovered` is, and `Output` also where what the writer held back could not be written.
+pub fn write_recovered<R: Threads + Sync, W: Write + Drop>(
+    jobs: &Jobs<'_, R>,
+    alloc: Global,
+    script: &[u8],
+    bench: Bench,
+    recovery: &[u8],
+    payloads: Payloads,
+    out: &mut BufWriter<W>,
+) -> Result<Recovered, Refusal>
+    // What was written is the lines of each run of that bench, and the line of the counts; none was wrong.
+    ensures wrote { IfOk result (λ done. IsRecoveredBenchOf (judged bench) payloads script.now recovery.now (numbers_of recovery.now)
+        (writer_contents W.contents out.old) (writer_contents W.contents out.new) done) }
+    // Nothing of it is held back.
+    ensures flushed { OnOk result (writer_buffer out.new ≡ []) }
+    // A refusal is out of memory, or the writer's, or the script's fault, or no bench runs the script, or its recovery.
+    ensures refused { IfErr result (λ e. (e ≡ Refusal.Memory) ⊎ (e ≡ Refusal.Output) ⊎ (script_of script.now ≡ Err e)
+        ⊎ ((e ≡ Refusal.NotPlain) × NoBenchRuns script.now) ⊎ NoRecoveryRuns script.now recovery.now e) }
+{
+    let numbers = line_numbers(alloc, recovery)?;
+    let recovery = RecoveryFile {
+        bytes: recovery,
+        numbers: &numbers,
+    };
+    let done = run_bench_recovered(jobs, alloc, swept(bench), script, recovery, payloads, out)?;
+    match out.flush() {
+        Ok(()) => Ok(done),
+        Err(_) => Err(Refusal::Output),
+    }
+}
+
 /// Runs schedules of the script, with these payloads in the slots, and writes which differ, to the end. The threads of these
 /// jobs run them.
 ///
@@ -225,6 +269,7 @@ pub fn write_schedule<R: Threads + Sync, W: Write + Drop>(
 ///
 /// Refused as `bench_preemptions::preemptions` is, and `Output` also where what the writer held back could not be written.
 pub fn write_preemptions<R: Threads + Sync, W: Write + Drop>(
+    jobs: &Jobs<'_, R>,
     alloc: Global,
     script: &[u8],
     within: Within,
@@ -244,7 +289,7 @@ pub fn write_preemptions<R: Threads + Sync, W: Write + Drop>(
         → (writer_contents W.contents out.new ≡ writer_contents W.contents out.old)
         × ((result ≡ Err e) ⊎ (result ≡ Err Refusal.Memory)) }
 {
-    let count = preemptions::<R, BufWriter<W>>(alloc, script, payloads, within, out)?;
+    let count = preemptions::<R, BufWriter<W>>(jobs, alloc, script, payloads, within, out)?;
     match out.flush() {
         Ok(()) => Ok(count),
         Err(_) => Err(Refusal::Output),
@@ -256,6 +301,7 @@ pub fn write_preemptions<R: Threads + Sync, W: Write + Drop>(
 ///
 /// Refused as `bench_preemptions::show_order` is, and `Output` also where what the writer held back could not be written.
 pub fn write_order<R: Threads + Sync, W: Write + Drop>(
+    jobs: &Jobs<'_, R>,
     alloc: Global,
     script: &[u8],
     wanted: Wanted,
@@ -280,7 +326,7 @@ pub fn write_order<R: Threads + Sync, W: Write + Drop>(
     // Where there is no such order, nothing is written.
     ensures none { result ≡ Err BadShape → writer_contents W.contents out.new ≡ writer_contents W.contents out.old }
 {
-    show_order::<R, BufWriter<W>>(alloc, script, payloads, wanted, out)?;
+    show_order::<R, BufWriter<W>>(jobs, alloc, script, payloads, wanted, out)?;
     match out.flush() {
         Ok(()) => Ok(()),
         Err(_) => Err(Refusal::Output),

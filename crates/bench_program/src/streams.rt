@@ -6,19 +6,19 @@ ghost use Rattle.std.specs.Io.Buffered.{writer_buffer, writer_contents};
 ghost use Rattle.bench_program.specs.Faults.{status_after, unread_by, without_work};
 ghost use Rattle.command_line.specs.Pipes.{pipe_contents};
 ghost use Rattle.payload_files.specs.Named.{AreFilesOf};
-ghost use Rattle.bench_program.specs.Usage.{payload_files, IsBounded, NamesNoWork};
-ghost use Rattle.bench_program.specs.Written.{AreDone, AreWrong, IsDone, IsFault, IsFaultIn, IsFaultOf, IsReadOf, IsReported, IsUnread, IsWorked, IsWritten, IsWrong, IsWrongOver, TellsWrong, source_of};
+ghost use Rattle.bench_program.specs.Usage.{payload_files, recovery_file, IsBounded, NamesNoWork};
+ghost use Rattle.bench_program.specs.Written.{AreDone, AreWrong, IsDone, IsFault, IsFaultIn, IsFaultOf, IsMade, IsReadOf, IsRecovered, IsRecoveryOf, IsReported, IsUnread, IsWorked, IsWritten, IsWrong, IsWrongOver, TellsApart, TellsWrong, source_of};
 ghost use Rattle.bench_program.specs.declared.fault.BenchFault.{BenchFault};
 ghost use Rattle.bench_program.specs.declared.fault.BenchFault.TheVariants.{Closed, File, Input, Refused, Wrong};
 ghost use Rattle.bench_program.specs.declared.usage.Savers.{Savers};
-ghost use Rattle.bench_program.specs.declared.usage.Work.TheVariants.{Compare, Judge, Report, Show, ShowOrder, Preempt};
+ghost use Rattle.bench_program.specs.declared.usage.Work.TheVariants.{Compare, Judge, Recover, Report, Show, ShowOrder, Preempt};
 ghost use Rattle.script_lang.specs.Scripts.{script_of};
 
 use crate::fault::{BenchFault, status_of};
 use crate::usage::{Bench, Drawn, MOST_JOBS, Options, Savers, Work, options_of};
 use crate::{
-    READ_AT_MOST, read_script, write_bench, write_order, write_preemptions, write_report,
-    write_schedule, write_schedules,
+    READ_AT_MOST, read_script, write_bench, write_order, write_preemptions, write_recovered,
+    write_report, write_schedule, write_schedules,
 };
 use bench_preemptions::{Wanted, Within};
 use board::Payloads;
@@ -138,6 +138,31 @@ fn judge<R: Threads + Sync, O: Write + Drop>(
     }
 }
 
+/// Runs a bench over the script with that recovery behind each run, as `judge` does.
+fn judge_recovered<R: Threads + Sync, O: Write + Drop>(
+    jobs: &Jobs<'_, R>,
+    alloc: Global,
+    bench: Bench,
+    script: &[u8],
+    recovery: &[u8],
+    payloads: Payloads,
+    out: &mut BufWriter<Pipe<O>>,
+) -> Result<(), BenchFault>
+    ensures written { OnOk result (IsRecovered bench payloads recovery.now script.now
+        (writer_contents (pipe_contents O.contents) out.old) (writer_contents (pipe_contents O.contents) out.new) 0) }
+    ensures flushed { OnOk result (writer_buffer out.new ≡ []) }
+    ensures wrong { result ≡ Err Wrong → TellsApart (Recover bench) payloads recovery.now script.now
+        (writer_contents (pipe_contents O.contents) out.old) (writer_contents (pipe_contents O.contents) out.new) }
+    ensures told { result ≡ Err Wrong → writer_buffer out.new ≡ [] }
+    ensures faults { IfErr result (λ fault. IsFaultIn (Recover bench) payloads script.now fault) }
+{
+    match write_recovered::<R, Pipe<O>>(jobs, alloc, script, bench, recovery, payloads, out) {
+        Ok(done) if done.differ == 0 => Ok(()),
+        Ok(_) => Err(BenchFault::Wrong),
+        Err(e) => Err(fault_of(e, out)),
+    }
+}
+
 /// Runs schedules of the script by the threads of these jobs, and writes which differ. Each line is handed on as it comes.
 fn compare<R: Threads + Sync, O: Write + Drop>(
     jobs: &Jobs<'_, R>,
@@ -184,6 +209,7 @@ fn show_schedule<R: Threads + Sync, O: Write + Drop>(
 
 /// Runs all orders of the script with few preemptions, and writes which differ. Each line is handed on as it is made.
 fn preempt<R: Threads + Sync, O: Write + Drop>(
+    jobs: &Jobs<'_, R>,
     alloc: Global,
     within: Within,
     script: &[u8],
@@ -199,7 +225,7 @@ fn preempt<R: Threads + Sync, O: Write + Drop>(
     ensures told { result ≡ Err Wrong → writer_buffer out.new ≡ [] }
     ensures faults { IfErr result (λ fault. IsFaultIn (Preempt within) payloads.now script.now fault) }
 {
-    match write_preemptions::<R, Pipe<O>>(alloc, script, within, payloads, out) {
+    match write_preemptions::<R, Pipe<O>>(jobs, alloc, script, within, payloads, out) {
         Ok(count) if count.differ == 0 => Ok(()),
         Ok(_) => Err(BenchFault::Wrong),
         Err(e) => Err(fault_of(e, out)),
@@ -208,6 +234,7 @@ fn preempt<R: Threads + Sync, O: Write + Drop>(
 
 /// Writes an order of the script that differs.
 fn show_differing<R: Threads + Sync, O: Write + Drop>(
+    jobs: &Jobs<'_, R>,
     alloc: Global,
     wanted: Wanted,
     script: &[u8],
@@ -221,7 +248,7 @@ fn show_differing<R: Threads + Sync, O: Write + Drop>(
     ensures flushed { OnOk result (writer_buffer out.new ≡ []) }
     ensures faults { IfErr result (λ fault. IsFaultIn (ShowOrder wanted) payloads.now script.now fault) }
 {
-    match write_order::<R, Pipe<O>>(alloc, script, wanted, payloads, out) {
+    match write_order::<R, Pipe<O>>(jobs, alloc, script, wanted, payloads, out) {
         Ok(()) => Ok(()),
         Err(e) => Err(fault_of(e, out)),
     }
@@ -269,9 +296,9 @@ fn named_payloads<P: PayloadFiles, F: Write>(
     }
 }
 
-/// The script of the file at that path, or as much of it as its first fault takes.
-fn file_script<P: PayloadFiles>(alloc: Global, files: &P, path: &str) -> io::Result<Vec<u8>>
-    ensures bytes { IfOk result (λ script. IfSome (P.bytes_at files.now path.now) (IsReadOf script.items)) }
+/// The text of the file at that path, or as much of it as the first fault of a script takes.
+fn file_text<P: PayloadFiles>(alloc: Global, files: &P, path: &str) -> io::Result<Vec<u8>>
+    ensures bytes { IfOk result (λ text. IfSome (P.bytes_at files.now path.now) (IsReadOf text.items)) }
 {
     read_at_most(alloc, files.open(path)?, READ_AT_MOST)
 }
@@ -290,49 +317,104 @@ fn named_script<P: PayloadFiles, I: Read + Drop, F: Write>(
 {
     match &options.script {
         None => input_script(alloc, input),
-        Some(path) => match file_script(alloc, files, path) {
+        Some(path) => match file_text(alloc, files, path) {
             Ok(script) => Ok(script),
             Err(error) => Err(unread(&FileFault::new(alloc, path, error), faults)),
         },
     }
 }
 
-/// Does the work over the script, which begins with these payloads.
+/// The lines of the operator's recovery, from the file that the command line names; none without one. One that cannot be read is
+/// told.
+fn named_recovery<P: PayloadFiles, F: Write>(
+    alloc: Global,
+    files: &P,
+    options: &Options,
+    faults: &mut F,
+) -> Result<Vec<u8>, BenchFault>
+    ensures read { IfOk result (λ lines. IsRecoveryOf (P.bytes_at files.now) (recovery_file options.now) lines.items) }
+    ensures failed { IfErr result (λ fault. IsUnread options.now fault ⊎ (fault ≡ Refused Memory)) }
+{
+    match &options.recovery {
+        None => Ok(Vec::new(alloc)),
+        Some(path) => match file_text(alloc, files, path) {
+            Ok(lines) => Ok(lines),
+            Err(error) => Err(unread(&FileFault::new(alloc, path, error), faults)),
+        },
+    }
+}
+
+/// What stands in the files that the command line names.
+#[derive(Drop)]
+struct Given {
+    payloads: Payloads,
+    /// The lines of the operator's recovery.
+    recovery: Vec<u8>,
+}
+
+/// What stands in the files that the command line names. The first that cannot be read is told.
+fn named_files<P: PayloadFiles, F: Write>(
+    alloc: Global,
+    files: &P,
+    options: &Options,
+    faults: &mut F,
+) -> Result<Given, BenchFault>
+    ensures payloads { IfOk result (λ given. AreFilesOf (P.bytes_at files.now) (payload_files options.now) given.payloads) }
+    ensures recovery { IfOk result (λ given. IsRecoveryOf (P.bytes_at files.now) (recovery_file options.now) given.recovery.items) }
+    ensures failed { IfErr result (λ fault. IsUnread options.now fault ⊎ (fault ≡ Refused Memory)) }
+{
+    let payloads = named_payloads(alloc, files, options, faults)?;
+    let recovery = named_recovery(alloc, files, options, faults)?;
+    Ok(Given { payloads, recovery })
+}
+
+/// Does the work over the script, which begins with these payloads, and where the work has one with that recovery.
 fn run_work<R: Threads + Sync, O: Write + Drop>(
     alloc: Global,
     threads: &R,
     work: Work,
     jobs: Option<usize>,
-    payloads: Payloads,
+    given: Given,
     script: &[u8],
     out: &mut BufWriter<Pipe<O>>,
 ) -> Result<(), BenchFault>
     requires most { IsBounded work }
-    ensures worked { OnOk result (IsWritten work payloads script.now
+    ensures worked { OnOk result (IsMade work given.payloads given.recovery.items script.now
         (writer_contents (pipe_contents O.contents) out.old) (writer_contents (pipe_contents O.contents) out.new)) }
     ensures flushed { OnOk result (writer_buffer out.new ≡ []) }
-    ensures wrong { result ≡ Err Wrong → TellsWrong work payloads script.now
+    ensures wrong { result ≡ Err Wrong → TellsApart work given.payloads given.recovery.items script.now
         (writer_contents (pipe_contents O.contents) out.old) (writer_contents (pipe_contents O.contents) out.new) }
     ensures told { result ≡ Err Wrong → writer_buffer out.new ≡ [] }
-    ensures faults { IfErr result (IsFaultIn work payloads script.now) }
+    ensures faults { IfErr result (IsFaultIn work given.payloads script.now) }
 {
+    let Given { payloads, recovery } = given;
     match work {
         Work::Report(savers) => report(alloc, threads, savers, script, payloads, out),
         Work::Judge(bench) => {
             let jobs = Jobs::new(threads, jobs_of(threads, jobs));
             judge(&jobs, alloc, bench, script, payloads, out)
         }
+        Work::Recover(bench) => {
+            let jobs = Jobs::new(threads, jobs_of(threads, jobs));
+            judge_recovered(&jobs, alloc, bench, script, &recovery, payloads, out)
+        }
         Work::Compare(drawn) => {
             let jobs = Jobs::new(threads, jobs_of(threads, jobs));
             compare(&jobs, alloc, drawn, script, &payloads, out)
         }
         Work::Show(drawn) => show_schedule::<R, O>(alloc, drawn, script, &payloads, out),
-        Work::Preempt(within) => preempt::<R, O>(alloc, within, script, &payloads, out),
-        Work::ShowOrder(wanted) => show_differing::<R, O>(alloc, wanted, script, &payloads, out),
+        Work::Preempt(within) => {
+            let jobs = Jobs::new(threads, jobs_of(threads, jobs));
+            preempt(&jobs, alloc, within, script, &payloads, out)
+        }
+        Work::ShowOrder(wanted) => {
+            let jobs = Jobs::new(threads, jobs_of(threads, jobs));
+            show_differing(&jobs, alloc, wanted, script, &payloads, out)
+        }
     }
 }
 
-/// Does what the options ask for. The payload files are read before the script.
+/// Does what the options ask for. The files of payloads and of a recovery are read before the script.
 fn run_options<R: Threads + Sync, P: PayloadFiles, I: Read + Drop, O: Write + Drop, F: Write>(
     alloc: Global,
     threads: &R,
@@ -352,14 +434,14 @@ fn run_options<R: Threads + Sync, P: PayloadFiles, I: Read + Drop, O: Write + Dr
     ensures faults { IfErr result (λ fault. IsUnread options.now fault ⊎ (fault ≡ Refused Memory)
         ⊎ IsFaultOf options.now (P.bytes_at files.now) (I.remaining input) fault) }
 {
-    let payloads = named_payloads(alloc, files, options, faults)?;
+    let given = named_files(alloc, files, options, faults)?;
     let script = named_script(alloc, files, options, input, faults)?;
     run_work(
         alloc,
         threads,
         options.work,
         options.jobs,
-        payloads,
+        given,
         &script,
         out,
     )

@@ -7,14 +7,14 @@ ghost use Rattle.clap.specs.Words.{app_of, first_value, found_of, kind_of, rule_
 ghost use Rattle.clap.specs.declared.builder.value_parser.ValueParser.{ValueParser};
 ghost use Rattle.command_line.specs.Kinds.{no_work};
 ghost use Rattle.command_line.specs.Parses.{AreParsed};
-ghost use Rattle.bench_program.specs.Usage.{number_up_to, count_rule, crew_rule, jobs_rule, work_of_flags, schedules_named, preempt_or_show, preemptions_named, without_options, savers_of, sbibench, script_rule, seed_of, IsBounded, compare_or_show, without_benches, with_preemptions, with_schedules, work_asked, work_by, work_without, IsFlag, IsNamedBy, NamesConflict, NamesNoWork};
+ghost use Rattle.bench_program.specs.Usage.{number_up_to, count_rule, crew_rule, jobs_rule, work_of_flags, schedules_named, preempt_or_show, preemptions_named, without_options, savers_of, sbibench, script_rule, seed_of, IsBounded, compare_or_show, without_benches, with_preemptions, with_schedules, with_recovery, work_asked, work_by, work_unrecovered, work_without, IsFlag, IsNamedBy, NamesConflict, NamesNoWork};
 
 use bench_preemptions::{Wanted, Within};
 use board_model::refusal_lines;
 use clap::builder::ValueParser;
 use clap::error::ErrorKind;
 use clap::{Arg, ArgAction, ArgMatches, Command, Error};
-use command_line::{flag, option, parse, path_given, payload_paths, program, with_payloads};
+use command_line::{flag, option, parse, path, path_given, payload_paths, program, with_payloads};
 use script_lang::number;
 use std::alloc::{AllocError, Global};
 use std::convert::AsStr;
@@ -30,6 +30,14 @@ and its report goes to standard output.
 With --sweep or --faults a bench runs in place of the report: the script again
 and again, with a power cut or a failure at each call of the disk, and after
 each run a power-on that must find what the disk was told to keep.
+
+With --recover FILE the lines of FILE run behind each of these runs, over what
+it left, with power off before them: `on resume`, turns, looks. FILE has no
+`board` and no `format`, and what else a bench refuses. What its looks (mem,
+reg, csr, pc, pending, inspect) say behind the whole script, with power cut at
+its end, they must say behind each run. Where one does not, the line of the run
+is followed by `.. recover M TEXT own TEXT`, M being the line in FILE, and the
+last line ends `differ D`: so many runs, each of another call or fill.
 
 With --schedules the script runs N times more, each time with the turns of its
 harts in another order, and the first line that each run reports otherwise is
@@ -119,6 +127,9 @@ const MOST_PREEMPTIONS: u64 = 3;
 /// The option that says how many threads make the runs of a bench.
 const JOBS: &str = "jobs";
 
+/// The option with the file of an operator's recovery.
+const RECOVER: &str = "recover";
+
 /// The most of them.
 pub const MOST_JOBS: u64 = 64;
 
@@ -132,6 +143,8 @@ pub enum Work {
     Report(Savers),
     /// A bench over the script, whose lanes are written one after another.
     Judge(Bench),
+    /// The same bench, with an operator's recovery behind each run.
+    Recover(Bench),
     /// Schedules of the script, from number 1 on, each compared with the script's own run. `number` is how many.
     Compare(Drawn),
     /// One schedule, written as a script. `number` is which.
@@ -158,6 +171,8 @@ pub struct Options {
     pub jobs: Option<usize>,
     /// The script's file. Where none is named, the script is the input.
     pub script: Option<String>,
+    /// The file of the operator's recovery that runs behind each run of a bench, where one is named.
+    pub recovery: Option<String>,
     /// The file of each boot slot's payload, where one is named. The others are empty.
     pub payloads: [Option<String>; 4],
 }
@@ -258,7 +273,12 @@ fn command<'a>(alloc: Global) -> Result<Command<'a>, AllocError>
         .arg(crew(alloc))?
         .arg(flag(alloc, SWEEP, sweep))?
         .arg(flag(alloc, FAULTS, faults))?
-        .arg(jobs(alloc))?;
+        .arg(jobs(alloc))?
+        .arg(path(
+            alloc,
+            RECOVER,
+            "Lines that run behind each run of --sweep or --faults",
+        ))?;
     let command = with_schedules(alloc, command)?;
     let command = with_preemptions(alloc, command)?;
     with_payloads(alloc, command)
@@ -442,11 +462,12 @@ fn without_benches(sweep: bool, faults: bool, work: Option<Work>) -> Option<Work
     work
 }
 
-/// The one work that is asked for. None where there are two, or where an option stands without the one that it goes with.
-fn work_asked(matches: &ArgMatches<'_>) -> Option<Work>
+/// The one work that is asked for without a recovery. None where there are two, or where an option stands without the one that
+/// it goes with.
+fn work_unrecovered(matches: &ArgMatches<'_>) -> Option<Work>
     ensures value { (sweep faults first : Bool) × IsFlag (found_of matches.now) (codes "sweep") sweep
         × IsFlag (found_of matches.now) (codes "faults") faults × IsFlag (found_of matches.now) (codes "first") first
-        × (result ≡ work_asked (found_of matches.now) sweep faults first) }
+        × (result ≡ work_unrecovered (found_of matches.now) sweep faults first) }
     ensures most { IfSome result (λ work. IsBounded work) }
 {
     let sweep = matches.get_flag(SWEEP);
@@ -464,6 +485,31 @@ fn work_asked(matches: &ArgMatches<'_>) -> Option<Work>
     }
 }
 
+/// That work with a recovery, where one is named. None where it is no bench.
+fn with_recovery(path: Option<&str>, work: Option<Work>) -> Option<Work>
+    requires most { IfSome work (λ w. IsBounded w) }
+    ensures value { result ≡ with_recovery (option_map (λ s. s.now) path.entry) work }
+    ensures most { IfSome result (λ w. IsBounded w) }
+{
+    match path {
+        None => work,
+        Some(_) => match work {
+            Some(Work::Judge(bench)) => Some(Work::Recover(bench)),
+            _ => None,
+        },
+    }
+}
+
+/// The one work that is asked for. None where there are two, or where an option stands without the one that it goes with.
+fn work_asked(matches: &ArgMatches<'_>) -> Option<Work>
+    ensures value { (sweep faults first : Bool) × IsFlag (found_of matches.now) (codes "sweep") sweep
+        × IsFlag (found_of matches.now) (codes "faults") faults × IsFlag (found_of matches.now) (codes "first") first
+        × (result ≡ work_asked (found_of matches.now) sweep faults first) }
+    ensures most { IfSome result (λ work. IsBounded work) }
+{
+    with_recovery(matches.get_str(RECOVER), work_unrecovered(matches))
+}
+
 /// How many threads are to make the runs of a bench, where the words say it.
 fn jobs_asked(matches: &ArgMatches<'_>) -> Option<usize> {
     let word = matches.get_str(JOBS)?;
@@ -473,6 +519,9 @@ fn jobs_asked(matches: &ArgMatches<'_>) -> Option<usize> {
 
 /// The text that says why the words name no one work.
 fn conflict(matches: &ArgMatches<'_>) -> &'static str {
+    if matches.get_str(RECOVER).is_some() && !matches.get_flag(SWEEP) && !matches.get_flag(FAULTS) {
+        return "--recover goes with --sweep or --faults";
+    }
     if matches.get_str(PREEMPTIONS).is_some() {
         return "--preemptions takes 1 to 3, and goes with --first or --show alone";
     }
@@ -539,11 +588,13 @@ pub fn options_of<'a, S: AsStr>(alloc: Global, words: &'a [S]) -> Result<Options
     };
     let jobs = jobs_asked(&matches);
     let script = path_given(alloc, &matches, SCRIPT)?;
+    let recovery = path_given(alloc, &matches, RECOVER)?;
     let payloads = payload_paths(alloc, &matches)?;
     Ok(Options {
         work,
         jobs,
         script,
+        recovery,
         payloads,
     })
 }

@@ -6,7 +6,7 @@ pub returns-clause-named : goal.returns-clause-named
 returns-clause-named g c =
     let parsed = c.in_ok-matches.ensures.parsed in
     let asked = c.in-Ok.ensures.named in
-    (parsed.0, found_of c.in_ok-matches.matches, asked.0, asked.1, asked.2, parsed.1, asked.3, asked.4, asked.5, asked.6, c.in_ok-payloads.ensures, c.in_ok-script.ensures.named)
+    (parsed.0, found_of c.in_ok-matches.matches, asked.0, asked.1, asked.2, parsed.1, asked.3, asked.4, asked.5, asked.6, c.in_ok-payloads.ensures, c.in_ok-script.ensures.named, c.in_ok-recovery.ensures.named)
 
 pub returns-in-Err-clause-refused : goal.returns-in-Err-clause-refused
 returns-in-Err-clause-refused g c =

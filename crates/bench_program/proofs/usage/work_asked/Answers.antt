@@ -1,50 +1,17 @@
-use Rattle.std.proofs.Common.{◌≡◌, ◌∙◌, ℕ, Bool, List, Option, Some, ap, sym, codes}
-use Rattle.std.specs.Option.{option_map}
+use Rattle.std.proofs.Common.{◌∙◌, ℕ, List, Option, ap, codes}
 use Rattle.clap.specs.Words.{first_value, found_of}
-use Rattle.clap.specs.declared.parser.matches.Found.{Found}
-use Rattle.bench_program.specs.Usage.{preemptions_named, without_benches, without_options, work_asked, work_by, work_without}
-use Rattle.bench_program.specs.declared.usage.Work.{Work}
+use Rattle.bench_program.specs.Usage.{with_recovery}
 use Rattle.bench_program.proofs.usage.work_asked.Goals as goal
 
-asked : (f : Found) (sweep faults first : Bool) (word : List ℕ) (runs seed show : Option (List ℕ)) (work all : Option Work)
-    → all ≡ without_benches sweep faults work
-    → work ≡ without_options runs seed (preemptions_named word show first) → Some word ≡ first_value f (codes "preemptions") → runs ≡ first_value f (codes "schedules")
-    → seed ≡ first_value f (codes "seed") → show ≡ first_value f (codes "show") → all ≡ work_asked f sweep faults first
-asked f sweep faults first word runs seed show work all is_all is word_is runs_is seed_is show_is =
-    is_all
-    ∙ ap (λ w. without_benches sweep faults w) is
-    ∙ ap (λ r. without_benches sweep faults (without_options r seed (preemptions_named word show first))) runs_is
-    ∙ ap (λ s. without_benches sweep faults (without_options (first_value f (codes "schedules")) s (preemptions_named word show first))) seed_is
-    ∙ ap (λ s. without_benches sweep faults (without_options (first_value f (codes "schedules")) (first_value f (codes "seed")) (preemptions_named word s first))) show_is
-    ∙ ap (λ w. work_by w f sweep faults first) word_is
-
-pub returns-in-None-clause-value : goal.returns-in-None-clause-value
-returns-in-None-clause-value c =
-    let sweep = c.get_flag-sweep in
-    let faults = c.get_flag-faults in
-    let first = c.get_flag-first in (
-      sweep.result,
-      faults.result,
-      first.result,
-      record { given = sweep.ensures.value; left = sweep.ensures.other; none = sweep.ensures.none },
-      record { given = faults.ensures.value; left = faults.ensures.other; none = faults.ensures.none },
-      record { given = first.ensures.value; left = first.ensures.other; none = first.ensures.none },
-      c.without_first.ensures.value
-          ∙ ap (λ w. work_by w (found_of c.args.matches.now) sweep.result faults.result first.result)
-          (sym (ap (option_map (λ s. s.now)) c.in-None.is) ∙ c.get_str.ensures),
-    )
-
-pub returns-in-Some-clause-value : goal.returns-in-Some-clause-value
-returns-in-Some-clause-value c =
-    let sweep = c.get_flag-sweep in
-    let faults = c.get_flag-faults in
-    let first = c.get_flag-first in (
-      sweep.result,
-      faults.result,
-      first.result,
-      record { given = sweep.ensures.value; left = sweep.ensures.other; none = sweep.ensures.none },
-      record { given = faults.ensures.value; left = faults.ensures.other; none = faults.ensures.none },
-      record { given = first.ensures.value; left = first.ensures.other; none = first.ensures.none },
-      asked (found_of c.args.matches.now) sweep.result faults.result first.result c.in-Some.word.now _ _ _ c.without_options-work.result c.without_benches.result c.without_benches.ensures.value c.without_options-work.ensures.value
-          (sym (ap (option_map (λ s. s.now)) c.in-Some.is) ∙ c.get_str.ensures) c.get_str-runs.ensures c.get_str-seed.ensures c.get_str-show.ensures,
+pub returns-clause-value : goal.returns-clause-value
+returns-clause-value c =
+    let asked = c.work_unrecovered.ensures.value in (
+      asked.0,
+      asked.1,
+      asked.2,
+      asked.3,
+      asked.4,
+      asked.5,
+      c.with_recovery.ensures.value ∙ ap (λ (path : Option (List ℕ)). with_recovery path c.work_unrecovered.result) c.get_str.ensures
+          ∙ ap (with_recovery (first_value (found_of c.args.matches.now) (codes "recover"))) asked.6,
     )

@@ -2,21 +2,20 @@ use Rattle.std.proofs.Common.{◌≡◌, ◌∙◌, ℕ, Bool, List, Option, Som
 use Rattle.std.specs.Option.{option_map}
 use Rattle.clap.specs.Words.{first_value, found_of}
 use Rattle.clap.specs.declared.parser.matches.Found.{Found}
-use Rattle.bench_program.specs.Usage.{preemptions_named, without_benches, without_options, work_by, work_unrecovered, work_without}
+use Rattle.bench_program.specs.Usage.{preemptions_named, without_benches, without_options, work_unrecovered, work_by, work_without}
 use Rattle.bench_program.specs.declared.usage.Work.{Work}
 use Rattle.bench_program.proofs.usage.work_unrecovered.Goals as goal
 
 asked : (f : Found) (sweep faults first : Bool) (word : List ℕ) (runs seed show : Option (List ℕ)) (work all : Option Work)
     → all ≡ without_benches sweep faults work
-    → work ≡ without_options runs seed show (preemptions_named word first) → Some word ≡ first_value f (codes "preemptions") → runs ≡ first_value f (codes "schedules")
+    → work ≡ without_options runs seed (preemptions_named word show first) → Some word ≡ first_value f (codes "preemptions") → runs ≡ first_value f (codes "schedules")
     → seed ≡ first_value f (codes "seed") → show ≡ first_value f (codes "show") → all ≡ work_unrecovered f sweep faults first
 asked f sweep faults first word runs seed show work all is_all is word_is runs_is seed_is show_is =
-    let named = preemptions_named word first in
     is_all
     ∙ ap (λ w. without_benches sweep faults w) is
-    ∙ ap (λ r. without_benches sweep faults (without_options r seed show named)) runs_is
-    ∙ ap (λ s. without_benches sweep faults (without_options (first_value f (codes "schedules")) s show named)) seed_is
-    ∙ ap (λ s. without_benches sweep faults (without_options (first_value f (codes "schedules")) (first_value f (codes "seed")) s named)) show_is
+    ∙ ap (λ r. without_benches sweep faults (without_options r seed (preemptions_named word show first))) runs_is
+    ∙ ap (λ s. without_benches sweep faults (without_options (first_value f (codes "schedules")) s (preemptions_named word show first))) seed_is
+    ∙ ap (λ s. without_benches sweep faults (without_options (first_value f (codes "schedules")) (first_value f (codes "seed")) (preemptions_named word s first))) show_is
     ∙ ap (λ w. work_by w f sweep faults first) word_is
 
 pub returns-in-None-clause-value : goal.returns-in-None-clause-value

@@ -1,0 +1,11 @@
+use Rattle.std.proofs.Common.{sym}
+use Rattle.std.proofs.lemmas.Result.{on_ok_weaker}
+use Rattle.bench_program.proofs.streams.run_work.Goals as goal
+
+-- the recovery is the file's text
+pub returns-in-Recover-clause-worked : goal.returns-in-Recover-clause-worked
+returns-in-Recover-clause-worked g c =
+    rw c.in-Recover.is (on_ok_weaker c.judge_recovered.result (λ did. rw (sym c.deref.ensures.value) did) c.judge_recovered.ensures.written)
+
+pub returns-in-Recover-clause-wrong : goal.returns-in-Recover-clause-wrong
+returns-in-Recover-clause-wrong g c = rw c.in-Recover.is (λ is. rw (sym c.deref.ensures.value) (c.judge_recovered.ensures.wrong is))
