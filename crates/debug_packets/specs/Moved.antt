@@ -1,10 +1,10 @@
 -- How a request changes the history of a session.
-use Rattle.std.specs.Prelude.{◌≡◌, ◌⊎◌, ◌≤◌, ℕ, Bool, true, false, List, [], ◌∷◌, ◌++◌, Option, Some, None, Result, Ok, Err, option_and_then, length, nat_lt, if◌then◌else◌, bytes_eq, slice_index_or, replicate}
+use Rattle.std.specs.Prelude.{◌≡◌, ◌⊎◌, ◌≤◌, ◌+◌, ℕ, Bool, true, false, List, [], ◌∷◌, ◌++◌, Option, Some, None, Result, Ok, Err, option_and_then, length, nat_lt, if◌then◌else◌, bytes_eq, slice_index_or, replicate}
 use Rattle.std.specs.Bool.{MatchBool}
 use Rattle.hex.specs.Hex.{decode_of}
 use Rattle.bench_live.specs.Pasts.{IsBack, NoRow}
 use Rattle.report_lines.specs.declared.printed.Answer.{Answer}
-use Rattle.report_lines.specs.Texts.{answer_text}
+use Rattle.report_lines.specs.Texts.{answer_text, report_text}
 use Rattle.board_model.specs.Shapes.{Size}
 use Rattle.board_model.specs.declared.refusal.Refusal.{Refusal}
 use Rattle.debug_packets.specs.Resumes.{IsAskedBy}
@@ -17,11 +17,12 @@ use Rattle.debug_session.specs.Firsts.{ToHalt}
 use Rattle.debug_session.specs.Sessions.{history_of, plan_of, size_of, stops_of, timeline_of}
 use Rattle.debug_session.specs.Steps.{IsStep, Went}
 use Rattle.debug_session.specs.Texts.{history_text}
-use Rattle.debug_session.specs.Turns.{WentTo}
+use Rattle.debug_session.specs.Turns.{WentTo, turns_made}
 use Rattle.debug_session.specs.Withins.{StepsWithin, within_plan}
 use Rattle.debug_session.specs.declared.halts.Halt.TheVariants as halts
 use Rattle.debug_session.specs.declared.halts.Stop.{Stop}
 use Rattle.debug_session.specs.declared.session.Session.{Session}
+use Rattle.debug_session.specs.declared.stops.Stops.{Stops}
 use Rattle.debug_timeline.specs.Ats.{Ran}
 use Rattle.debug_timeline.specs.declared.timeline.Timeline.{Timeline}
 use Rattle.gdb_requests.specs.Fields.{behind_prefix}
@@ -131,35 +132,44 @@ script_text size begins past =
 abbrev pub goto_in : List ℕ → Option ℕ
 goto_in text = option_and_then number_of (behind_prefix (codes "goto ") text)
 
--- where the history stands then; before it that no turn came behind so many, where that is so
-abbrev pub goto_text : Bool → ℕ → List Line → List ℕ
-goto_text true h past = when_text h past
-goto_text false h past = codes "no turn came behind so many: " ++ when_text h past
+-- All harts went on until the history had so many turns, or to the first halt before. What the turns report is said, and where the
+-- history stands then.
+abbrev pub WentForth : ℕ → Size → Stops → ℕ → Timeline → Timeline → List ℕ → Type 0
+WentForth n size stops h old new said =
+    ((k : ℕ) × (turns_made old.history + k ≤ n) × Went (λ g. slice_index_or (replicate 8 true) g false ≡ true) k size old new)
+    × ((stop : Stop) × ToHalt size stops stop.hart (Some stop.halt) old new)
+    × ((answers : List Answer) × (said ≡ report_text answers ++ when_text h new.history))
 
--- `goto` goes back to before the turn that came behind so many; any other text is a line, or none
-abbrev pub GotoOr : Option ℕ → List ℕ → Size → ℕ → Timeline → Timeline → List ℕ → Type 0
-GotoOr None text size h old new said = LineRan (line_in size text) size old new said
-GotoOr (Some n) text size h old new said = (found : Bool) × WentTo n found old new × (said ≡ goto_text found h new.history)
+-- back to before the turn that came behind so many, and where the history stands then; or on, where none did
+abbrev pub WentOver : ℕ → Size → Stops → ℕ → Timeline → Timeline → List ℕ → Type 0
+WentOver n size stops h old new said =
+    (WentTo n true old new × (said ≡ when_text h new.history))
+    ⊎ ((turns_made old.history ≤ n) × WentForth n size stops h old new said)
+
+-- `goto` goes back or on to a turn; any other text is a line, or none
+abbrev pub GotoOr : Option ℕ → List ℕ → Size → Stops → ℕ → Timeline → Timeline → List ℕ → Type 0
+GotoOr None text size stops h old new said = LineRan (line_in size text) size old new said
+GotoOr (Some n) text size stops h old new said = WentOver n size stops h old new said
 
 -- The debugger's own words but `goto` change nothing: `script` says the history, `harts` where each hart stands, and `when` where
 -- the history does.
-abbrev pub TextSaid : List ℕ → Size → ℕ → Timeline → Timeline → List ℕ → Type 0
-TextSaid text size h old new said =
+abbrev pub TextSaid : List ℕ → Size → Stops → ℕ → Timeline → Timeline → List ℕ → Type 0
+TextSaid text size stops h old new said =
     MatchBool (bytes_eq text (codes "script")) ((new ≡ old) × (said ≡ script_text size old.begins old.history))
     (MatchBool (is_help text) (new ≡ old)
     (MatchBool (bytes_eq text (codes "harts")) ((new ≡ old) × (said ≡ hart_lines size.harts old.bench))
     (MatchBool (bytes_eq text (codes "when")) ((new ≡ old) × (said ≡ when_text h old.history))
-    (GotoOr (goto_in text) text size h old new said))))
+    (GotoOr (goto_in text) text size stops h old new said))))
 
 -- what is said goes to the console, and then comes `OK`
-abbrev pub HexSaid : Option (List ℕ) → Size → ℕ → Timeline → Timeline → List (List ℕ) → List ℕ → Type 0
-HexSaid None size h old new told text = (new ≡ old) × (told ≡ []) × (text ≡ codes "E01")
-HexSaid (Some line) size h old new told text =
-    (said : List ℕ) × HandOver said told × TextSaid line size h old new said × (text ≡ codes "OK")
+abbrev pub HexSaid : Option (List ℕ) → Size → Stops → ℕ → Timeline → Timeline → List (List ℕ) → List ℕ → Type 0
+HexSaid None size stops h old new told text = (new ≡ old) × (told ≡ []) × (text ≡ codes "E01")
+HexSaid (Some line) size stops h old new told text =
+    (said : List ℕ) × HandOver said told × TextSaid line size stops h old new said × (text ≡ codes "OK")
 
-abbrev pub MonitoredBy : Option (List ℕ) → Size → ℕ → Timeline → Timeline → List (List ℕ) → List ℕ → Type 0
-MonitoredBy None size h old new told text = (new ≡ old) × (told ≡ []) × (text ≡ [])
-MonitoredBy (Some word) size h old new told text = HexSaid (hexed word) size h old new told text
+abbrev pub MonitoredBy : Option (List ℕ) → Size → Stops → ℕ → Timeline → Timeline → List (List ℕ) → List ℕ → Type 0
+MonitoredBy None size stops h old new told text = (new ≡ old) × (told ≡ []) × (text ≡ [])
+MonitoredBy (Some word) size stops h old new told text = HexSaid (hexed word) size stops h old new told text
 
 -- ---- any request
 
@@ -175,7 +185,7 @@ MovedBy moves.GoBack packet old new told text =
     IsTold old new text × WentFarBack (runs_in old) (last_in new) (session_in old) (session_in new)
 MovedBy moves.Resume packet old new told text = ResumedBy (behind_prefix (codes "vCont;") packet) old new text
 MovedBy moves.Monitor packet old new told text =
-    IsUntold old new × MonitoredBy (behind_prefix (codes "qRcmd,") packet) (size_of (session_in old)) (hart_in old)
+    IsUntold old new × MonitoredBy (behind_prefix (codes "qRcmd,") packet) (size_of (session_in old)) (stops_of (session_in old)) (hart_in old)
     (timeline_of (session_in old)) (timeline_of (session_in new)) told text
 
 -- What looks changes neither the bench nor its history. What moves the board tells the console first, and its stop last.

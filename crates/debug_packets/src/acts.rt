@@ -45,7 +45,7 @@ impl<'a, C: Crew> Talk<'a, C> {
             Move::StepBack => self.step_back(),
             Move::GoBack => self.go_back(interrupt),
             Move::Resume => self.resume(packet, interrupt, out),
-            Move::Monitor => self.monitor(packet, out),
+            Move::Monitor => self.monitor(packet, interrupt, out),
         }
     }
 

@@ -1,17 +1,18 @@
 //! The lines that `monitor` hands on.
 
-ghost use Rattle.std.specs.Prelude.{◌≡◌, [], codes, map, string_bytes, IfOk, IfSome, OnOk};
+ghost use Rattle.std.specs.Prelude.{◌≡◌, ◌≤◌, ◌<◌, [], codes, map, string_bytes, IfOk, IfSome, OnOk};
 ghost use Rattle.std.specs.Option.{option_map};
 ghost use Rattle.debug_timeline.specs.Ats.{IsAt};
 ghost use Rattle.debug_session.specs.Sessions.{begins_of, history_of, plan_of, size_of, stops_of, timeline_of};
 ghost use Rattle.debug_packets.specs.Kept.{StaysOpen};
-ghost use Rattle.debug_packets.specs.Moved.{GotoOr, LineRan, MonitoredBy, TextSaid, goto_in, hexed, just_one, line_in, script_text};
+ghost use Rattle.debug_packets.specs.Moved.{GotoOr, LineRan, MonitoredBy, TextSaid, WentForth, WentOver, goto_in, hexed, just_one, line_in, script_text};
+ghost use Rattle.debug_session.specs.Turns.{turns_made};
 ghost use Rattle.gdb_requests.specs.Fields.{behind_prefix};
 ghost use Rattle.script_lang.specs.Lines.{IsLineInRange};
 
 use crate::answers::Payloads;
 use crate::talk::Talk;
-use crate::texts::{answer_text, board_text, harts_text, tell, when_text};
+use crate::texts::{answer_text, board_text, harts_text, report_text, tell, when_text};
 use board_model::{HartId, Refusal, Shape};
 use crew::Crew;
 use debug_session::Session;
@@ -19,6 +20,7 @@ use gdb_requests::behind;
 use hex::FromHexError;
 use script_lang::{Line, number, parse_script};
 use std::alloc::Global;
+use std::sync::atomic::AtomicBool;
 
 const HELP: &str = "\
 Any line of the script language is run, becomes part of the history, and says its report:
@@ -30,7 +32,7 @@ Beside them:
   script    the history as a script, which sbibench runs to the same reports
   harts     what each hart stands at
   when      how many lives, lines and turns the history has, and the hart that is shown
-  goto N    back to before the turn that came behind N others
+  goto N    back to before the turn that came behind N others; or on, to N turns
   help      this text
 After a line that moves the board, `maintenance flush register-cache` (flushregs) shows it.
 ";
@@ -116,29 +118,73 @@ fn goto_in(text: &[u8]) -> Option<u64>
     number(behind(text, b"goto ")?)
 }
 
-/// Goes back to before the turn that came behind so many, where a text asks for it, or runs the line that it is.
-fn go_or_run<C: Crew>(
+/// Goes on until the history has so many turns, to the first halt: what the last of them reports, and where the history stands.
+fn go_forth<C: Crew>(
     session: &mut Session<'_, C>,
     hart: HartId,
-    text: &[u8],
+    turns: u64,
+    interrupt: &AtomicBool,
 ) -> Result<String, Refusal>
     requires at { IsAt (size_of session.old) (timeline_of session.old) }
+    requires there { hart < (size_of session.old).harts }
+    requires few { turns_made (history_of session.old) ≤ turns }
     ensures at { OnOk result (IsAt (size_of session.new) (timeline_of session.new)) }
     ensures size { size_of session.new ≡ size_of session.old }
     ensures plan { plan_of session.new ≡ plan_of session.old }
     ensures stops { stops_of session.new ≡ stops_of session.old }
-    ensures moved { IfOk result (λ said. GotoOr (goto_in text.now) text.now (size_of session.old) hart
+    ensures moved { IfOk result (λ said. WentForth turns (size_of session.old) (stops_of session.old) hart
         (timeline_of session.old) (timeline_of session.new) (string_bytes said)) }
 {
-    let Some(turns) = goto_in(text) else {
-        return run_text(session, text);
-    };
-    let found = session.go_to(turns)?;
+    let alloc = session.setting().alloc;
+    let mut told = Vec::new(alloc);
+    session.go_on_to(hart, turns, interrupt, &mut told)?;
+    let report = report_text(alloc, &told)?;
     let when = when_text(session, hart)?;
-    if found {
-        return Ok(when);
+    Ok(format!(in alloc; "{report}{when}")?)
+}
+
+/// Goes back to before the turn that came behind so many; or where none did, on until the history has so many.
+fn go_over<C: Crew>(
+    session: &mut Session<'_, C>,
+    hart: HartId,
+    turns: u64,
+    interrupt: &AtomicBool,
+) -> Result<String, Refusal>
+    requires at { IsAt (size_of session.old) (timeline_of session.old) }
+    requires there { hart < (size_of session.old).harts }
+    ensures at { OnOk result (IsAt (size_of session.new) (timeline_of session.new)) }
+    ensures size { size_of session.new ≡ size_of session.old }
+    ensures plan { plan_of session.new ≡ plan_of session.old }
+    ensures stops { stops_of session.new ≡ stops_of session.old }
+    ensures moved { IfOk result (λ said. WentOver turns (size_of session.old) (stops_of session.old) hart
+        (timeline_of session.old) (timeline_of session.new) (string_bytes said)) }
+{
+    if session.go_to(turns)? {
+        return Ok(when_text(session, hart)?);
     }
-    Ok(format!(in session.setting().alloc; "no turn came behind so many: {when}")?)
+    go_forth(session, hart, turns, interrupt)
+}
+
+/// Goes to a turn, where a text asks for it, or runs the line that it is.
+fn go_or_run<C: Crew>(
+    session: &mut Session<'_, C>,
+    hart: HartId,
+    text: &[u8],
+    interrupt: &AtomicBool,
+) -> Result<String, Refusal>
+    requires at { IsAt (size_of session.old) (timeline_of session.old) }
+    requires there { hart < (size_of session.old).harts }
+    ensures at { OnOk result (IsAt (size_of session.new) (timeline_of session.new)) }
+    ensures size { size_of session.new ≡ size_of session.old }
+    ensures plan { plan_of session.new ≡ plan_of session.old }
+    ensures stops { stops_of session.new ≡ stops_of session.old }
+    ensures moved { IfOk result (λ said. GotoOr (goto_in text.now) text.now (size_of session.old) (stops_of session.old) hart
+        (timeline_of session.old) (timeline_of session.new) (string_bytes said)) }
+{
+    match goto_in(text) {
+        Some(turns) => go_over(session, hart, turns, interrupt),
+        None => run_text(session, text),
+    }
 }
 
 /// What `monitor` says: of a word of the debugger's own, or a line's report.
@@ -146,13 +192,15 @@ fn monitored<C: Crew>(
     session: &mut Session<'_, C>,
     hart: HartId,
     text: &[u8],
+    interrupt: &AtomicBool,
 ) -> Result<String, Refusal>
     requires at { IsAt (size_of session.old) (timeline_of session.old) }
+    requires there { hart < (size_of session.old).harts }
     ensures at { OnOk result (IsAt (size_of session.new) (timeline_of session.new)) }
     ensures size { size_of session.new ≡ size_of session.old }
     ensures plan { plan_of session.new ≡ plan_of session.old }
     ensures stops { stops_of session.new ≡ stops_of session.old }
-    ensures moved { IfOk result (λ said. TextSaid text.now (size_of session.old) hart
+    ensures moved { IfOk result (λ said. TextSaid text.now (size_of session.old) (stops_of session.old) hart
         (timeline_of session.old) (timeline_of session.new) (string_bytes said)) }
 {
     if text == b"script".as_slice() {
@@ -167,7 +215,7 @@ fn monitored<C: Crew>(
     if text == b"when".as_slice() {
         return Ok(when_text(session, hart)?);
     }
-    go_or_run(session, hart, text)
+    go_or_run(session, hart, text, interrupt)
 }
 
 /// The bytes that pairs of digits write.
@@ -183,12 +231,18 @@ fn unhex(alloc: Global, word: &[u8]) -> Result<Option<Vec<u8>>, Refusal>
 
 impl<'a, C: Crew> Talk<'a, C> {
     /// `qRcmd`: the text goes to the console, and then comes `OK`.
-    pub(crate) fn monitor(&mut self, packet: &[u8], out: &mut Payloads) -> Result<Vec<u8>, Refusal>
+    pub(crate) fn monitor(
+        &mut self,
+        packet: &[u8],
+        interrupt: &AtomicBool,
+        out: &mut Payloads,
+    ) -> Result<Vec<u8>, Refusal>
         requires at { IsAt (size_of self.old.session) (timeline_of self.old.session) }
         requires none { out.old.items ≡ [] }
         ensures at { OnOk result (IsAt (size_of self.new.session) (timeline_of self.new.session)) }
         ensures size { size_of self.new.session ≡ size_of self.old.session }
-        ensures moved { IfOk result (λ v. MonitoredBy (behind_prefix (codes "qRcmd,") packet.now) (size_of self.old.session) self.old.hart
+        ensures moved { IfOk result (λ v. MonitoredBy (behind_prefix (codes "qRcmd,") packet.now) (size_of self.old.session)
+            (stops_of self.old.session) self.old.hart
             (timeline_of self.old.session) (timeline_of self.new.session) (map (λ v. v.items) out.new.items) v.items) }
         ensures plan { plan_of self.new.session ≡ plan_of self.old.session }
         ensures stops { stops_of self.new.session ≡ stops_of self.old.session }
@@ -201,7 +255,7 @@ impl<'a, C: Crew> Talk<'a, C> {
         let Some(line) = unhex(self.alloc(), word)? else {
             return self.said(b"E01");
         };
-        let text = monitored(&mut self.session, self.hart, &line)?;
+        let text = monitored(&mut self.session, self.hart, &line, interrupt)?;
         tell(self.alloc(), text.as_bytes(), out)?;
         self.said(b"OK")
     }

@@ -2,7 +2,7 @@
 
 ghost use Rattle.std.specs.Prelude.{◌≡◌, ◌++◌, ◌<◌, ℕ, List, map, string_bytes, IfOk, OnOk};
 ghost use Rattle.debug_session.specs.Sessions.{bench_of, history_of, size_of};
-ghost use Rattle.report_lines.specs.Texts.{found_line, answer_text};
+ghost use Rattle.report_lines.specs.Texts.{found_line, answer_text, report_text};
 ghost use Rattle.debug_packets.specs.Texts.{HandOver, board_line, hart_line, hart_lines, thread_line, thread_lines, threads_object, when_text};
 
 use crate::answers::Payloads;
@@ -50,6 +50,18 @@ pub fn answer_text(alloc: Global, answer: &Answer) -> Result<String, AllocError>
     let found = found_text(alloc, &answer.found)?;
     let line = answer.line;
     format!(in alloc; "{found}{line}\n")
+}
+
+/// The lines of a report that lines of a script make, one after another.
+pub fn report_text(alloc: Global, answers: &[Answer]) -> Result<String, AllocError>
+    ensures { IfOk result (λ text. string_bytes text ≡ report_text answers.now) }
+{
+    let mut text = String::new(alloc);
+    for answer in answers {
+        let line = answer_text(alloc, answer)?;
+        text.push_str(line.as_str())?;
+    }
+    Ok(text)
 }
 
 /// The board line of a script.

@@ -1,5 +1,5 @@
 -- Turns counted, one line more.
-use Rattle.std.proofs.Common.{◌≡◌, ◌<◌, ◌≤◌, ◌+◌, ◌∙◌, ℕ, zero, suc, true, List, [], ◌∷◌, ◌++◌, length, take, get_or, refl, sym, ap, arith}
+use Rattle.std.proofs.Common.{◌≡◌, ◌<◌, ◌≤◌, ◌+◌, ◌-◌, ◌∙◌, ℕ, zero, suc, true, List, [], ◌∷◌, ◌++◌, length, take, get_or, refl, sym, ap, arith}
 use Rattle.std.specs.Prelude.{min}
 use Rattle.std.proofs.lemmas.List.{take_more}
 use Rattle.std.proofs.lemmas.List.Sums.{sum_by_push, sum_by-append}
@@ -33,3 +33,8 @@ left_more xs i rest left turns d less one all = omega (arith, one, all, made_mor
 -- a history that is cut before a turn
 pub went_to : (h i k n : ℕ) (old new : Timeline) → turns_made (take i old.history) + k ≡ n → new.history ≡ take i old.history ++ some_turns h k → IsBefore h old.history new.history → WentTo n true old new
 went_to h i k n old new is cut before = (h, before, ap turns_made cut ∙ made_cut h k (take i old.history) ∙ is)
+
+-- so many at most as a history lacks, and as a command makes
+pub left_few : (now past : List Line) (n k turns most : ℕ) → n ≤ k → k ≡ min (turns - turns_told now) most → now ≡ past → (n ≤ turns - turns_told past) × (n ≤ most)
+left_few now past n k turns most few is same =
+    let told : turns_told now ≡ turns_told past = ap turns_told same in (omega (arith, few, is, told), omega (arith, few, is))

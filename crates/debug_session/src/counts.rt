@@ -1,6 +1,6 @@
 //! Where a history stands: how many turns and lives it has, and where one of its turns is.
 
-ghost use Rattle.std.specs.Prelude.{◌≡◌, ◌≤◌, ◌<◌, ◌+◌, ℕ, take, min, IfNone, IfOk, IfErr, IfSome, OnOk};
+ghost use Rattle.std.specs.Prelude.{◌≡◌, ◌≤◌, ◌<◌, ◌+◌, ◌-◌, ℕ, take, min, IfNone, IfOk, IfErr, IfSome, OnOk};
 ghost use Rattle.board_model.specs.declared.refusal.Refusal.TheVariants.{Memory};
 ghost use Rattle.debug_timeline.specs.Ats.{IsAt, IsPlace};
 ghost use Rattle.script_lang.specs.declared.line.Line.TheVariants as lines;
@@ -41,6 +41,20 @@ pub(crate) fn turns_told(lines: &[Line]) -> u64
         sum = with_more(sum, turns_of(&lines[i]));
     }
     sum
+}
+
+/// How many turns a history lacks of so many, at most that many.
+pub(crate) fn turns_left(lines: &[Line], turns: u64, most: u64) -> u64
+    ensures { result ≡ min (turns - turns_told lines.now) most }
+{
+    let made = turns_told(lines);
+    if turns <= made {
+        0
+    } else if turns - made <= most {
+        turns - made
+    } else {
+        most
+    }
 }
 
 /// Whether a line switches the power on.

@@ -1,6 +1,6 @@
 //! A board under a debugger.
 
-ghost use Rattle.std.specs.Prelude.{◌≡◌, ◌⊎◌, ◌≤◌, ◌<◌, ℕ, [], All, length, slice_index_or, true, false, string_bytes, Ok, Some, IfOk, IfErr, OnErr, OnOk};
+ghost use Rattle.std.specs.Prelude.{◌≡◌, ◌⊎◌, ◌≤◌, ◌<◌, ◌-◌, ℕ, [], All, length, replicate, slice_index_or, true, false, string_bytes, Ok, Some, IfOk, IfErr, OnErr, OnOk};
 ghost use Rattle.board_model.specs.declared.refusal.Refusal.TheVariants.{Memory};
 ghost use Rattle.bench_live.specs.Pasts.{IsBack, NoRow};
 ghost use Rattle.bench_report.specs.Bench.{no_payloads};
@@ -318,11 +318,36 @@ impl<'a, C: Crew> Session<'a, C> {
         ensures plan { plan_of self.new ≡ plan_of self.old }
         ensures refused { IfErr result (λ e. e ≡ Memory) }
     {
+        let most = self.plan.most;
+        self.go_few(first, *harts, most, interrupt, told)
+    }
+
+    /// Goes on with these harts, in turn, from that one on, with so many turns at most, to the first halt.
+    fn go_few(
+        &mut self,
+        first: HartId,
+        harts: [bool; 8],
+        most: u64,
+        interrupt: &AtomicBool,
+        told: &mut Vec<Answer>,
+    ) -> Result<Stop, Refusal>
+        requires at { IsAt (size_of self.old) (timeline_of self.old) }
+        requires first { first < (size_of self.old).harts }
+        ensures went { OnOk result ((n : ℕ) × (n ≤ most)
+            × Went (λ h. slice_index_or harts h false ≡ true) n (size_of self.old) (timeline_of self.old) (timeline_of self.new)) }
+        ensures first { IfOk result (λ stop. ToHalt (size_of self.old) (stops_of self.old) stop.hart (Some stop.halt)
+            (timeline_of self.old) (timeline_of self.new)) }
+        ensures there { IfOk result (λ stop. stop.hart < (size_of self.old).harts) }
+        ensures size { size_of self.new ≡ size_of self.old }
+        ensures stops { stops_of self.new ≡ stops_of self.old }
+        ensures plan { plan_of self.new ≡ plan_of self.old }
+        ensures refused { IfErr result (λ e. e ≡ Memory) }
+    {
         let round = Round {
-            harts: *harts,
+            harts,
             place: u64::from(first.number()),
             quantum: self.plan.quantum,
-            left: self.plan.most,
+            left: most,
             resting: 0,
         };
         forth::go(
@@ -334,6 +359,31 @@ impl<'a, C: Crew> Session<'a, C> {
             interrupt,
             told,
         )
+    }
+
+    /// Goes on with all harts, in turn, from that one on, until the history has so many turns of any harts, to the first
+    /// halt; `most` turns at most. The interrupt is looked at before each hart's part.
+    pub fn go_on_to(
+        &mut self,
+        first: HartId,
+        turns: u64,
+        interrupt: &AtomicBool,
+        told: &mut Vec<Answer>,
+    ) -> Result<Stop, Refusal>
+        requires at { IsAt (size_of self.old) (timeline_of self.old) }
+        requires first { first < (size_of self.old).harts }
+        ensures went { OnOk result ((n : ℕ) × (n ≤ turns - turns_told (history_of self.old)) × (n ≤ self.old.plan.most)
+            × Went (λ h. slice_index_or (replicate 8 true) h false ≡ true) n (size_of self.old) (timeline_of self.old)
+            (timeline_of self.new)) }
+        ensures first { IfOk result (λ stop. ToHalt (size_of self.old) (stops_of self.old) stop.hart (Some stop.halt)
+            (timeline_of self.old) (timeline_of self.new)) }
+        ensures size { size_of self.new ≡ size_of self.old }
+        ensures stops { stops_of self.new ≡ stops_of self.old }
+        ensures plan { plan_of self.new ≡ plan_of self.old }
+        ensures refused { IfErr result (λ e. e ≡ Memory) }
+    {
+        let most = counts::turns_left(self.timeline.lines(), turns, self.plan.most);
+        self.go_few(first, [true; 8], most, interrupt, told)
     }
 
     /// Goes back to before the last turn of that hart, and forgets it and whatever came after, and nothing else. Where it

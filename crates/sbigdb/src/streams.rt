@@ -16,7 +16,7 @@ use crate::told::{Told, told_payloads};
 use bench_report::Setting;
 use board_model::Refusal;
 use crew::{Crew, Sequential};
-use crossbeam_channel::{Receiver, unbounded};
+use crossbeam_channel::{Receiver, bounded};
 use debug_packets::{Talk, acknowledge, reply, reply_again};
 use debug_session::{Plan, Session};
 use gdb_packets::Heard;
@@ -26,6 +26,9 @@ use std::io::{self, BufReader, Write};
 use std::sync::Wait;
 use std::sync::atomic::Ordering;
 use std::thread::{self, Threads};
+
+/// How much is heard at most while turns run: a debugger waits for each answer. Who sends more waits for the talk.
+const MOST_HEARD: usize = 64;
 
 /// What is sent for a packet that came damaged.
 fn again<C: Crew>(talk: &Talk<'_, C>) -> &'static [u8]
@@ -200,13 +203,13 @@ fn discuss<I: Iterator<Item = Heard>, C: Crew, W: Write>(
     answers_from(setting.alloc, &mut talk, first, heard, signals, out)
 }
 
-/// The session and its talk.
+/// The session and its talk. Behind it nothing more is heard.
 fn serve<R: Threads + Wait + Sync>(
     rt: &R,
     host: &HostRuntime,
     start: Start,
     plan: Plan,
-    heard: &Receiver<Heard>,
+    heard: Receiver<Heard>,
     signals: &Signals,
 ) -> Result<(), Refusal>
     requires ranges { All (IsLineInRange start.script.shape) start.script.lines.items }
@@ -239,7 +242,7 @@ pub fn converse<R: Threads + Wait + Sync>(
     let alloc = host.alloc();
     let signals = Signals::new();
     let signals = &signals;
-    let Ok((sender, receiver)) = unbounded::<Heard, _>(alloc) else {
+    let Ok((sender, receiver)) = bounded::<Heard, _>(alloc, MOST_HEARD) else {
         return Err(Refusal::Memory);
     };
     thread::scope(
@@ -257,7 +260,7 @@ pub fn converse<R: Threads + Wait + Sync>(
             let Ok(reader) = reader else {
                 return Err(Refusal::Memory);
             };
-            serve(rt, host, start, plan, &receiver, signals)?;
+            serve(rt, host, start, plan, receiver, signals)?;
             match reader.join(rt) {
                 Silence::Memory => Err(Refusal::Memory),
                 _ => Ok(()),

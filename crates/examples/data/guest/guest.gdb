@@ -7,7 +7,7 @@ define hookpost-monitor
 end
 # GDB's checkpoints are copies of a process of its own machine.
 define hook-checkpoint
-  echo sbigdb has no checkpoints: monitor when says a number, and monitor goto goes back to it\n
+  echo sbigdb has no checkpoints: monitor when says a number, and monitor goto goes there\n
 end
 # Behind detach nothing is left of a session.
 define hook-detach
