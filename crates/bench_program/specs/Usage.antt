@@ -17,7 +17,7 @@ use Rattle.command_line.specs.declared.NoWork.{NoWork}
 use Rattle.bench_program.specs.declared.usage.Bench.TheVariants.{Sweep, Faults}
 use Rattle.bench_program.specs.declared.usage.Options.{Options}
 use Rattle.bench_program.specs.declared.usage.Work.{Work}
-use Rattle.bench_program.specs.declared.usage.Work.TheVariants.{Report, Judge, Recover, Compare, Show, Preempt, ShowOrder}
+use Rattle.bench_program.specs.declared.usage.Work.TheVariants.{Report, Judge, Recover, Compare, Show, Shrink, Preempt, ShowOrder}
 use Rattle.bench_program.specs.declared.usage.Savers.{Savers}
 use Rattle.bench_program.specs.declared.usage.Savers.TheVariants.{Turns, Threads}
 use lib.Chars.{codes}
@@ -47,7 +47,9 @@ script_rule = record (new_rule (codes "SCRIPT")) { action = Some Set; parser = S
 
 abbrev pub with_schedules : App → App
 with_schedules app =
-    with_rule (with_rule (with_rule app (count_rule (codes "schedules"))) (option_rule (codes "seed"))) (count_rule (codes "show"))
+    with_rule
+    (with_rule (with_rule (with_rule app (count_rule (codes "schedules"))) (option_rule (codes "seed"))) (count_rule (codes "show")))
+    (count_rule (codes "shrink"))
 
 abbrev pub with_preemptions : App → App
 with_preemptions app = with_rule (with_rule app (count_rule (codes "preemptions"))) (flag_rule (codes "first"))
@@ -108,19 +110,25 @@ abbrev pub show_number : ℕ → Option ℕ → Option Work
 show_number seed None = None
 show_number seed (Some k) = Some (Show (record { seed = seed; number = k }))
 
--- so many schedules are compared, or the one that a word names is shown
-abbrev pub compare_or_show : ℕ → ℕ → Option (List ℕ) → Option Work
-compare_or_show runs seed None = Some (Compare (record { seed = seed; number = runs }))
-compare_or_show runs seed (Some word) = show_number seed (number_up_to runs (number_of word))
+abbrev pub shrink_number : ℕ → Option ℕ → Option Work
+shrink_number seed None = None
+shrink_number seed (Some k) = Some (Shrink (record { seed = seed; number = k }))
 
-abbrev pub schedules_by : Option ℕ → Option ℕ → Option (List ℕ) → Option Work
-schedules_by None seed show = None
-schedules_by (Some runs) None show = None
-schedules_by (Some runs) (Some seed) show = compare_or_show runs seed show
+-- So many schedules are compared, or the one that a word names is shown, or one is shrunk. Not both.
+abbrev pub compare_or_show : ℕ → ℕ → Option (List ℕ) → Option (List ℕ) → Option Work
+compare_or_show runs seed None None = Some (Compare (record { seed = seed; number = runs }))
+compare_or_show runs seed (Some word) None = show_number seed (number_up_to runs (number_of word))
+compare_or_show runs seed None (Some word) = shrink_number seed (number_up_to runs (number_of word))
+compare_or_show runs seed (Some show) (Some shrink) = None
 
--- what is to be done with schedules, by the words of `--schedules`, `--seed` and `--show`
-abbrev pub schedules_named : List ℕ → Option (List ℕ) → Option (List ℕ) → Option Work
-schedules_named runs seed show = schedules_by (number_up_to 1000000 (number_of runs)) (seed_of seed) show
+abbrev pub schedules_by : Option ℕ → Option ℕ → Option (List ℕ) → Option (List ℕ) → Option Work
+schedules_by None seed show shrink = None
+schedules_by (Some runs) None show shrink = None
+schedules_by (Some runs) (Some seed) show shrink = compare_or_show runs seed show shrink
+
+-- what is to be done with schedules, by the words of `--schedules`, `--seed`, `--show` and `--shrink`
+abbrev pub schedules_named : List ℕ → Option (List ℕ) → Option (List ℕ) → Option (List ℕ) → Option Work
+schedules_named runs seed show shrink = schedules_by (number_up_to 1000000 (number_of runs)) (seed_of seed) show shrink
 
 -- no bench is asked for beside it
 abbrev pub without_benches : Bool → Bool → Option Work → Option Work
@@ -129,20 +137,21 @@ without_benches true faults work = None
 without_benches false true work = None
 
 -- an option that goes with schedules stands alone
-abbrev pub without_schedules : Option (List ℕ) → Option (List ℕ) → Option Work → Option Work
-without_schedules None None work = work
-without_schedules (Some seed) show work = None
-without_schedules None (Some show) work = None
+abbrev pub without_schedules : Option (List ℕ) → Option (List ℕ) → Option (List ℕ) → Option Work → Option Work
+without_schedules None None None work = work
+without_schedules (Some seed) show shrink work = None
+without_schedules None (Some show) shrink work = None
+without_schedules None None (Some shrink) work = None
 
 -- what is to be done, by the flags of the benches, the words of schedules, and the crew: one work
-abbrev pub work_named : Bool → Bool → Option (List ℕ) → Option (List ℕ) → Option (List ℕ) → Savers → Option Work
-work_named sweep faults None seed show savers = without_schedules seed show (work_of_flags sweep faults savers)
-work_named sweep faults (Some runs) seed show savers = without_benches sweep faults (schedules_named runs seed show)
+abbrev pub work_named : Bool → Bool → Option (List ℕ) → Option (List ℕ) → Option (List ℕ) → Option (List ℕ) → Savers → Option Work
+work_named sweep faults None seed show shrink savers = without_schedules seed show shrink (work_of_flags sweep faults savers)
+work_named sweep faults (Some runs) seed show shrink savers = without_benches sweep faults (schedules_named runs seed show shrink)
 
 abbrev pub work_without : Found → Bool → Bool → Option Work
 work_without f sweep faults =
     work_named sweep faults (first_value f (codes "schedules")) (first_value f (codes "seed")) (first_value f (codes "show"))
-    (savers_of (first_value f (codes "crew")))
+    (first_value f (codes "shrink")) (savers_of (first_value f (codes "crew")))
 
 -- the order of that number is shown
 abbrev pub order_shown : ℕ → Option ℕ → Option Work
@@ -163,11 +172,10 @@ preemptions_by (Some k) show first = preempt_or_show k show first
 abbrev pub preemptions_named : List ℕ → Option (List ℕ) → Bool → Option Work
 preemptions_named word show first = preemptions_by (number_up_to 3 (number_of word)) show first
 
--- neither schedules nor their seed stand beside it
-abbrev pub without_options : Option (List ℕ) → Option (List ℕ) → Option Work → Option Work
-without_options None None work = work
-without_options None (Some seed) work = None
-without_options (Some runs) seed work = None
+-- no schedules stand beside it, nor their seed, nor one to be shrunk
+abbrev pub without_options : Option (List ℕ) → Option (List ℕ) → Option (List ℕ) → Option Work → Option Work
+without_options None seed shrink work = without_schedules seed None shrink work
+without_options (Some runs) seed shrink work = None
 
 -- what is to be done, by the word of `--preemptions`, and without it by the other words; `--first` goes with it alone
 abbrev pub work_by : Option (List ℕ) → Found → Bool → Bool → Bool → Option Work
@@ -175,7 +183,7 @@ work_by None f sweep faults true = None
 work_by None f sweep faults false = work_without f sweep faults
 work_by (Some word) f sweep faults first =
     without_benches sweep faults
-    (without_options (first_value f (codes "schedules")) (first_value f (codes "seed"))
+    (without_options (first_value f (codes "schedules")) (first_value f (codes "seed")) (first_value f (codes "shrink"))
     (preemptions_named word (first_value f (codes "show")) first))
 
 abbrev pub work_unrecovered : Found → Bool → Bool → Bool → Option Work

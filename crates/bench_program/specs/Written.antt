@@ -17,6 +17,7 @@ use Rattle.bench_preemptions.specs.declared.benches.Within.{Within}
 use Rattle.bench_preemptions.specs.declared.shown.Wanted.{Wanted}
 use Rattle.bench_schedules.specs.Numbers.{number_of_other, numbers_of}
 use Rattle.bench_schedules.specs.Schedules.{Shown, WroteSchedules}
+use Rattle.bench_shrink.specs.Shrunk.{Shrunk}
 use Rattle.bench_judge.specs.declared.judges.Sweep.{Sweep as Counts}
 use Rattle.bench_program.specs.Benches.{judged}
 use Rattle.command_line.specs.declared.NoWork.TheVariants as whys
@@ -27,7 +28,7 @@ use Rattle.bench_program.specs.declared.fault.BenchFault.TheVariants.{Usage, Inp
 use Rattle.bench_program.specs.declared.usage.Options.{Options}
 use Rattle.bench_program.specs.declared.usage.Work.{Work}
 use Rattle.bench_program.specs.declared.usage.Bench.{Bench}
-use Rattle.bench_program.specs.declared.usage.Work.TheVariants.{Report, Judge, Recover, Compare, Show, Preempt, ShowOrder}
+use Rattle.bench_program.specs.declared.usage.Work.TheVariants.{Report, Judge, Recover, Compare, Show, Shrink, Preempt, ShowOrder}
 
 -- what was written is a report of the script that begins with these payloads, and nothing else; where no line is a poke,
 -- it keeps the prefix law
@@ -55,19 +56,24 @@ IsRecovered bench payloads recovery script old now differ = (done : Recovered)
 abbrev pub IsShown : List ℕ → Option (List ℕ) → Option (List ℕ) → Type 0
 IsShown script old now = (said : Said) × (script_of script ≡ Ok said) × Shown said old now
 
+-- a schedule of the script was written that differs where the schedule of a number does
+abbrev pub IsShrunk : List (List ℕ) → List ℕ → Option (List ℕ) → Option (List ℕ) → Type 0
+IsShrunk payloads script old now = (said : Said) × (script_of script ≡ Ok said) × Shrunk said payloads old now
+
 -- the order of that number was written, of those with so many preemptions at most that differ
 abbrev pub IsOrderShown : Wanted → List (List ℕ) → List ℕ → Option (List ℕ) → Option (List ℕ) → Type 0
 IsOrderShown wanted payloads script old now = (said : Said) × (script_of script ≡ Ok said)
     × ShownOrder said payloads (numbers_of script) wanted.most wanted.number old now
 
 -- what was written is what the work makes of the script: its report, the lines of a bench, of which none is wrong, or of its
--- schedules, of which none differs, or one of them, or of its orders with few preemptions, of which none differs, or one that does
+-- schedules, of which none differs, or one of them, or one that was shrunk, or of its orders with few preemptions, of which none differs, or one that does
 abbrev pub IsWritten : Work → List (List ℕ) → List ℕ → Option (List ℕ) → Option (List ℕ) → Type 0
 IsWritten (Report savers) payloads script old now = IsReported payloads script old now
 IsWritten (Judge bench) payloads script old now = (counts : Counts) × IsBenchOf (judged bench) payloads script old now counts
 IsWritten (Recover bench) payloads script old now = ⊥
 IsWritten (Compare drawn) payloads script old now = IsCompared drawn.number payloads script old now 0
 IsWritten (Show drawn) payloads script old now = IsShown script old now
+IsWritten (Shrink drawn) payloads script old now = IsShrunk payloads script old now
 IsWritten (Preempt within) payloads script old now = IsPreempted within payloads script old now 0
 IsWritten (ShowOrder wanted) payloads script old now = IsOrderShown wanted payloads script old now
 
@@ -148,6 +154,7 @@ IsNotTaken (Recover bench) payloads script e =
     ⊎ ((recovery : List ℕ) × NoRecoveryRuns script recovery e)
 IsNotTaken (Compare drawn) payloads script e = ⊥
 IsNotTaken (Show drawn) payloads script e = ⊥
+IsNotTaken (Shrink drawn) payloads script e = ⊥
 IsNotTaken (Preempt within) payloads script e = ⊥
 IsNotTaken (ShowOrder wanted) payloads script e = (e ≡ BadShape) × (said : Said) × (script_of script ≡ Ok said)
     × HasNoOrder said payloads (numbers_of script) wanted.most wanted.number

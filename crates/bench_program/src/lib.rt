@@ -19,7 +19,7 @@ ghost use Rattle.bench_sweep.specs.Swept.{IsBenchOf, IsRecoveredBenchOf, IsNotPl
 ghost use Rattle.bench_schedules.specs.Numbers.{numbers_of};
 ghost use Rattle.bench_preemptions.specs.Shown.{HasNoOrder};
 ghost use Rattle.bench_program.specs.Benches.{judged};
-ghost use Rattle.bench_program.specs.Written.{IsCompared, IsOrderShown, IsPreempted, IsReadOf, IsReported, IsShown};
+ghost use Rattle.bench_program.specs.Written.{IsCompared, IsOrderShown, IsPreempted, IsReadOf, IsReported, IsShown, IsShrunk};
 
 pub use crate::fault::BenchFault;
 pub use crate::streams::run_on;
@@ -29,6 +29,7 @@ pub use crate::usage::{Bench, Drawn, Options, Savers, Work, options_of};
 use bench_preemptions::{Preempted, Wanted, Within, preemptions, show_order};
 use bench_report::run_with;
 use bench_schedules::{Compared, line_numbers, schedules, show};
+use bench_shrink::shrink;
 use bench_sweep::{Bench as Swept, Recovered, RecoveryFile, Sweep, run_bench, run_bench_recovered};
 use board::Payloads;
 use board_model::{MAX_LINE_BYTES, MAX_SCRIPT_LINES, Refusal};
@@ -259,6 +260,36 @@ pub fn write_schedule<R: Threads + Sync, W: Write + Drop>(
         × ((result ≡ Err e) ⊎ (result ≡ Err Refusal.Memory)) }
 {
     show::<R, BufWriter<W>>(alloc, script, payloads, drawn.seed, drawn.number, out)?;
+    match out.flush() {
+        Ok(()) => Ok(()),
+        Err(_) => Err(Refusal::Output),
+    }
+}
+
+/// Writes a schedule of the script to the end, with fewer rows of turns than that of a number, that differs where that one does. All runs
+/// have these payloads in the slots.
+///
+/// Refused as `bench_shrink::shrink` is, and `Output` also where what the writer held back could not be written.
+pub fn write_shrunk<R: Threads + Sync, W: Write + Drop>(
+    alloc: Global,
+    script: &[u8],
+    drawn: Drawn,
+    payloads: &Payloads,
+    out: &mut BufWriter<W>,
+) -> Result<(), Refusal>
+    // What was written is a schedule of the script that was shrunk, and is read back as it.
+    ensures wrote { OnOk result (IsShrunk payloads.now script.now
+        (writer_contents W.contents out.old) (writer_contents W.contents out.new)) }
+    // Nothing of it is held back.
+    ensures flushed { OnOk result (writer_buffer out.new ≡ []) }
+    // A refusal is the script's fault, or out of memory, or the writer's.
+    ensures refused { IfErr result (λ e. (e ≡ Refusal.Memory) ⊎ (e ≡ Refusal.Output) ⊎ (script_of script.now ≡ Err e)) }
+    // A script with a fault writes nothing.
+    ensures nothing { (e : Refusal) → script_of script.now ≡ Err e
+        → (writer_contents W.contents out.new ≡ writer_contents W.contents out.old)
+        × ((result ≡ Err e) ⊎ (result ≡ Err Refusal.Memory)) }
+{
+    shrink::<R, BufWriter<W>>(alloc, script, payloads, drawn.seed, drawn.number, out)?;
     match out.flush() {
         Ok(()) => Ok(()),
         Err(_) => Err(Refusal::Output),

@@ -11,14 +11,14 @@ ghost use Rattle.bench_program.specs.Written.{AreDone, AreWrong, IsDone, IsFault
 ghost use Rattle.bench_program.specs.declared.fault.BenchFault.{BenchFault};
 ghost use Rattle.bench_program.specs.declared.fault.BenchFault.TheVariants.{Closed, File, Input, Refused, Wrong};
 ghost use Rattle.bench_program.specs.declared.usage.Savers.{Savers};
-ghost use Rattle.bench_program.specs.declared.usage.Work.TheVariants.{Compare, Judge, Recover, Report, Show, ShowOrder, Preempt};
+ghost use Rattle.bench_program.specs.declared.usage.Work.TheVariants.{Compare, Judge, Recover, Report, Show, ShowOrder, Shrink, Preempt};
 ghost use Rattle.script_lang.specs.Scripts.{script_of};
 
 use crate::fault::{BenchFault, status_of};
 use crate::usage::{Bench, Drawn, MOST_JOBS, Options, Savers, Work, options_of};
 use crate::{
     READ_AT_MOST, read_script, write_bench, write_order, write_preemptions, write_recovered,
-    write_report, write_schedule, write_schedules,
+    write_report, write_schedule, write_schedules, write_shrunk,
 };
 use bench_preemptions::{Wanted, Within};
 use board::Payloads;
@@ -202,6 +202,25 @@ fn show_schedule<R: Threads + Sync, O: Write + Drop>(
     ensures faults { IfErr result (λ fault. IsFaultIn (Show drawn) payloads.now script.now fault) }
 {
     match write_schedule::<R, Pipe<O>>(alloc, script, drawn, payloads, out) {
+        Ok(()) => Ok(()),
+        Err(e) => Err(fault_of(e, out)),
+    }
+}
+
+/// Writes a schedule of the script that was shrunk.
+fn show_shrunk<R: Threads + Sync, O: Write + Drop>(
+    alloc: Global,
+    drawn: Drawn,
+    script: &[u8],
+    payloads: &Payloads,
+    out: &mut BufWriter<Pipe<O>>,
+) -> Result<(), BenchFault>
+    ensures written { OnOk result (IsWritten (Shrink drawn) payloads.now script.now
+        (writer_contents (pipe_contents O.contents) out.old) (writer_contents (pipe_contents O.contents) out.new)) }
+    ensures flushed { OnOk result (writer_buffer out.new ≡ []) }
+    ensures faults { IfErr result (λ fault. IsFaultIn (Shrink drawn) payloads.now script.now fault) }
+{
+    match write_shrunk::<R, Pipe<O>>(alloc, script, drawn, payloads, out) {
         Ok(()) => Ok(()),
         Err(e) => Err(fault_of(e, out)),
     }
@@ -403,6 +422,7 @@ fn run_work<R: Threads + Sync, O: Write + Drop>(
             compare(&jobs, alloc, drawn, script, &payloads, out)
         }
         Work::Show(drawn) => show_schedule::<R, O>(alloc, drawn, script, &payloads, out),
+        Work::Shrink(drawn) => show_shrunk::<R, O>(alloc, drawn, script, &payloads, out),
         Work::Preempt(within) => {
             let jobs = Jobs::new(threads, jobs_of(threads, jobs));
             preempt(&jobs, alloc, within, script, &payloads, out)

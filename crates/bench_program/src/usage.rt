@@ -41,7 +41,8 @@ last line ends `differ D`: so many runs, each of another call or fill.
 
 With --schedules the script runs N times more, each time with the turns of its
 harts in another order, and the first line that each run reports otherwise is
-told. --show writes the script of one of those orders, to be run again.
+told. --show writes the script of one of those orders, to be run again, and
+--shrink that of a shorter one that differs in the same line.
 With --preemptions it runs in every order in which up to K rows of turns are
 parted, each before a turn that does something, and the rest is put off. There
 --show writes one of the orders that report otherwise.
@@ -115,6 +116,9 @@ const SEED: &str = "seed";
 /// The option that shows one of them.
 const SHOW: &str = "show";
 
+/// The option that shrinks one of them.
+const SHRINK: &str = "shrink";
+
 /// The option that says how many preemptions an order has at most.
 const PREEMPTIONS: &str = "preemptions";
 
@@ -149,6 +153,8 @@ pub enum Work {
     Compare(Drawn),
     /// One schedule, written as a script. `number` is which.
     Show(Drawn),
+    /// A shorter one that differs where that one does, written as a script.
+    Shrink(Drawn),
     /// All orders of the script with few preemptions, each compared with the script's own run; or as many as there are up to the
     /// first that differs.
     Preempt(Within),
@@ -235,10 +241,13 @@ fn with_schedules<'a>(alloc: Global, command: Command<'a>) -> Result<Command<'a>
     let schedules = "Runs N schedules of the script, and tells which report otherwise";
     let seed = "What the schedules are drawn from, 1 if not said";
     let show = "Writes schedule K, or with --preemptions the K-th order that reports otherwise";
+    let shrink =
+        "Writes an order with fewer rows that reports otherwise in the line in which schedule K does";
     command
         .arg(count(alloc, SCHEDULES, "N", schedules))?
         .arg(option(alloc, SEED, "S", seed))?
-        .arg(count(alloc, SHOW, "K", show))
+        .arg(count(alloc, SHOW, "K", show))?
+        .arg(count(alloc, SHRINK, "K", shrink))
 }
 
 /// The command with the options of orders that have few preemptions.
@@ -317,30 +326,41 @@ fn seed_of(word: Option<&str>) -> Option<u64>
     }
 }
 
-/// The work over so many schedules of that seed: to compare them all, or to show the one that a word names. None where the
-/// word names none of them.
-fn compare_or_show(runs: u64, seed: u64, word: Option<&str>) -> Option<Work>
+/// The work over so many schedules of that seed: to compare them all, or to show or to shrink the one that a word names. None where
+/// the word names none of them, and where there are both words.
+fn compare_or_show(runs: u64, seed: u64, show: Option<&str>, shrink: Option<&str>) -> Option<Work>
     requires { runs ≤ 1000000 }
-    ensures value { result ≡ compare_or_show runs seed (option_map (λ s. s.now) word.entry) }
+    ensures value { result ≡ compare_or_show runs seed (option_map (λ s. s.now) show.entry) (option_map (λ s. s.now) shrink.entry) }
     ensures most { IfSome result (λ work. IsBounded work) }
 {
-    match word {
-        None => Some(Work::Compare(Drawn { seed, number: runs })),
-        Some(word) => {
+    match (show, shrink) {
+        (None, None) => Some(Work::Compare(Drawn { seed, number: runs })),
+        (Some(word), None) => {
             let number = number_up_to(runs, word)?;
             Some(Work::Show(Drawn { seed, number }))
         }
+        (None, Some(word)) => {
+            let number = number_up_to(runs, word)?;
+            Some(Work::Shrink(Drawn { seed, number }))
+        }
+        (Some(_), Some(_)) => None,
     }
 }
 
 /// The work over schedules that the words of their options ask for. None where a word is out of its range.
-fn schedules_named(runs: &str, seed: Option<&str>, show: Option<&str>) -> Option<Work>
-    ensures value { result ≡ schedules_named runs.now (option_map (λ s. s.now) seed.entry) (option_map (λ s. s.now) show.entry) }
+fn schedules_named(
+    runs: &str,
+    seed: Option<&str>,
+    show: Option<&str>,
+    shrink: Option<&str>,
+) -> Option<Work>
+    ensures value { result ≡ schedules_named runs.now (option_map (λ s. s.now) seed.entry) (option_map (λ s. s.now) show.entry)
+        (option_map (λ s. s.now) shrink.entry) }
     ensures most { IfSome result (λ work. IsBounded work) }
 {
     let runs = number_up_to(MOST_SCHEDULES, runs)?;
     let seed = seed_of(seed)?;
-    compare_or_show(runs, seed, show)
+    compare_or_show(runs, seed, show, shrink)
 }
 
 /// The work without schedules, by the two flags and the crew. None where both flags stand there.
@@ -363,15 +383,16 @@ fn schedules_alone(
     runs: &str,
     seed: Option<&str>,
     show: Option<&str>,
+    shrink: Option<&str>,
 ) -> Option<Work>
     ensures value { result ≡ without_benches sweep faults (schedules_named runs.now (option_map (λ s. s.now) seed.entry)
-        (option_map (λ s. s.now) show.entry)) }
+        (option_map (λ s. s.now) show.entry) (option_map (λ s. s.now) shrink.entry)) }
     ensures most { IfSome result (λ work. IsBounded work) }
 {
     if sweep || faults {
         return None;
     }
-    schedules_named(runs, seed, show)
+    schedules_named(runs, seed, show, shrink)
 }
 
 /// The work over orders with that many preemptions at most: to run them all, or to show the one that a word names. None where the
@@ -402,36 +423,38 @@ fn preemptions_named(word: &str, show: Option<&str>, first: bool) -> Option<Work
     preempt_or_show(most, show, first)
 }
 
-/// That work, beside which neither schedules nor their seed may stand. None where one does.
+/// That work, beside which neither schedules may stand, nor their seed, nor one to be shrunk. None where one does.
 fn without_options(
     runs: Option<&str>,
     seed: Option<&str>,
+    shrink: Option<&str>,
     show: Option<&str>,
     word: &str,
     first: bool,
 ) -> Option<Work>
     ensures value { result ≡ without_options (option_map (λ s. s.now) runs.entry) (option_map (λ s. s.now) seed.entry)
-        (preemptions_named word.now (option_map (λ s. s.now) show.entry) first) }
+        (option_map (λ s. s.now) shrink.entry) (preemptions_named word.now (option_map (λ s. s.now) show.entry) first) }
     ensures most { IfSome result (λ work. IsBounded work) }
 {
-    if runs.is_some() || seed.is_some() {
+    if runs.is_some() || seed.is_some() || shrink.is_some() {
         return None;
     }
     preemptions_named(word, show, first)
 }
 
-/// The one work that is asked for without preemptions. None where there are two, or where `--seed` or `--show` stands without
-/// `--schedules`.
+/// The one work that is asked for without preemptions. None where there are two, or where an option of schedules stands without
+/// them.
 fn work_without(matches: &ArgMatches<'_>, sweep: bool, faults: bool) -> Option<Work>
     ensures value { result ≡ work_without (found_of matches.now) sweep faults }
     ensures most { IfSome result (λ work. IsBounded work) }
 {
     let seed = matches.get_str(SEED);
     let show = matches.get_str(SHOW);
+    let shrink = matches.get_str(SHRINK);
     match matches.get_str(SCHEDULES) {
-        Some(runs) => schedules_alone(sweep, faults, runs, seed, show),
+        Some(runs) => schedules_alone(sweep, faults, runs, seed, show, shrink),
         None => {
-            if seed.is_some() || show.is_some() {
+            if seed.is_some() || show.is_some() || shrink.is_some() {
                 return None;
             }
             work_of_flags(sweep, faults, savers_of(matches))
@@ -475,11 +498,12 @@ fn work_unrecovered(matches: &ArgMatches<'_>) -> Option<Work>
     let first = matches.get_flag(FIRST);
     let runs = matches.get_str(SCHEDULES);
     let seed = matches.get_str(SEED);
+    let shrink = matches.get_str(SHRINK);
     let show = matches.get_str(SHOW);
     match matches.get_str(PREEMPTIONS) {
         None => without_first(matches, sweep, faults, first),
         Some(word) => {
-            let work = without_options(runs, seed, show, word, first);
+            let work = without_options(runs, seed, shrink, show, word, first);
             without_benches(sweep, faults, work)
         }
     }
@@ -529,6 +553,9 @@ fn conflict(matches: &ArgMatches<'_>) -> &'static str {
         return "--first goes with --preemptions";
     }
     if matches.get_str(SCHEDULES).is_none() {
+        if matches.get_str(SHRINK).is_some() {
+            return "--shrink goes with --schedules";
+        }
         if matches.get_str(SEED).is_none() && matches.get_str(SHOW).is_none() {
             return "--sweep cannot be used with --faults";
         }
@@ -536,6 +563,9 @@ fn conflict(matches: &ArgMatches<'_>) -> &'static str {
     }
     if matches.get_flag(SWEEP) || matches.get_flag(FAULTS) {
         return "--schedules cannot be used with --sweep or --faults";
+    }
+    if matches.get_str(SHRINK).is_some() {
+        return "--shrink takes the number of one of the N schedules, and cannot be used with --show";
     }
     "--seed takes a number below 2^64, and --show the number of one of the N schedules"
 }
