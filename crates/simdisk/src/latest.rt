@@ -8,12 +8,11 @@ use crate::laid::overwrite;
 use crate::lane::{Bytes, SimLane};
 use crate::lending::{lay_row, stays_in_step};
 use crate::loan::Loan;
-use crate::patch::copy_of;
 use disk::Sector;
 use std::alloc::{AllocError, Global};
 
 /// What would stand had each failed write gone through: what a read gives, until a write fails, and
-/// from then on these sectors. They are there from the start, so that a failure takes no memory.
+/// from then on these sectors. Their room is there from the start, so that a failure takes no memory.
 #[derive(Drop)]
 pub(crate) struct Latest {
     pub(crate) sectors: Vec<Sector>,
@@ -21,15 +20,15 @@ pub(crate) struct Latest {
 }
 
 impl Latest {
-    ghost use Rattle.simdisk.specs.Latest.{latest_of};
+    ghost use Rattle.simdisk.specs.Latest.{latest_of, HasPlace};
     ghost use Rattle.simdisk.specs.Views.{lent_of};
 
-    /// That of a disk on which no write has failed.
-    pub(crate) fn begun(alloc: Global, content: &[Sector]) -> Result<Latest, AllocError>
-        ensures { IfOk result (λ latest. (latest.as_read ≡ true) × (length latest.sectors.items ≡ length content.now)) }
+    /// That of a disk of so many sectors on which no write has failed.
+    pub(crate) fn begun(alloc: Global, count: usize) -> Result<Latest, AllocError>
+        ensures { IfOk result (λ latest. (latest.as_read ≡ true) × HasPlace count latest) }
     {
         Ok(Latest {
-            sectors: copy_of(alloc, content)?,
+            sectors: Vec::with_capacity(alloc, count)?,
             as_read: true,
         })
     }
@@ -43,27 +42,28 @@ impl Latest {
 
     /// Keeps it apart from what a read gives.
     pub(crate) fn part(&mut self, content: &[Sector])
-        requires { length self.old.sectors.items ≡ length content.now }
+        requires { HasPlace (length content.now) self.old }
         ensures apart { self.new.as_read ≡ false }
         ensures same { self.new.sectors.items ≡ latest_of self.old content.now }
-        ensures as_long { length self.new.sectors.items ≡ length self.old.sectors.items }
+        ensures as_long { length self.new.sectors.items ≡ length content.now }
     {
         if self.as_read {
-            self.sectors.copy_from_slice(content);
+            self.sectors.clear();
+            let _ = self.sectors.extend_from_slice(content);
             self.as_read = false;
         }
     }
 
     /// Takes over a write of these sectors from that one on.
     pub(crate) fn write(&mut self, first: usize, sectors: &[Sector])
-        requires { first + length sectors.now ≤ length self.old.sectors.items }
+        requires { self.old.as_read ≡ false → first + length sectors.now ≤ length self.old.sectors.items }
         ensures written { (c : Content)
             → latest_of self.new (laid_over (first, sectors.now) c)
             ≡ laid_over (first, sectors.now) (latest_of self.old c) }
         ensures apart { self.old.as_read ≡ false
             → (self.new.as_read ≡ false)
             × (self.new.sectors.items ≡ laid_over (first, sectors.now) self.old.sectors.items) }
-        ensures as_long { length self.new.sectors.items ≡ length self.old.sectors.items }
+        ensures as_long { (n : ℕ) → HasPlace n self.old → HasPlace n self.new }
     {
         if !self.as_read {
             overwrite(&mut self.sectors, first, sectors);
@@ -72,11 +72,11 @@ impl Latest {
 
     /// Takes over a failed write of these sectors, on a disk of that content.
     pub(crate) fn write_failed(&mut self, content: &[Sector], first: usize, sectors: &[Sector])
-        requires long { length self.old.sectors.items ≡ length content.now }
+        requires long { HasPlace (length content.now) self.old }
         requires within { first + length sectors.now ≤ length content.now }
         ensures written { latest_of self.new content.now
             ≡ laid_over (first, sectors.now) (latest_of self.old content.now) }
-        ensures as_long { length self.new.sectors.items ≡ length self.old.sectors.items }
+        ensures as_long { HasPlace (length content.now) self.new }
     {
         self.part(content);
         overwrite(&mut self.sectors, first, sectors);
@@ -84,14 +84,14 @@ impl Latest {
 
     /// Takes over what was written last in the lanes of that loan, which come back to a disk of that content.
     pub(crate) fn join(&mut self, content: &[Sector], loan: Loan, lanes: &[SimLane])
-        requires long { length self.old.sectors.items ≡ length content.now }
+        requires long { HasPlace (length content.now) self.old }
         requires count { length lanes.now ≡ loan.lanes }
         requires each { (i : ℕ) → i < loan.lanes → length (lane_at (map newest_view lanes.now) i).content ≡ loan.each }
         requires within { loan.first + loan.lanes * loan.each ≤ length content.now }
         ensures joined { (c : Content) → Joined (lent_of loan) (map lane_view lanes.now) content.now c
             → Joined (lent_of loan) (map newest_view lanes.now) (latest_of self.old content.now)
             (latest_of self.new c) }
-        ensures as_long { length self.new.sectors.items ≡ length self.old.sectors.items }
+        ensures as_long { HasPlace (length content.now) self.new }
     {
         if stays_in_step(self.as_read, lanes) {
             return;

@@ -65,7 +65,7 @@ impl SimDisk {
         ensures no_fault { IfOk result (λ disk. ⟦<SimDisk as Disk>⟧.fault_state disk ≡ no_fault) }
     {
         let history = History::begun(alloc, &content)?;
-        let latest = Latest::begun(alloc, &content)?;
+        let latest = Latest::begun(alloc, content.len())?;
         Ok(SimDisk {
             alloc,
             content,

@@ -2,7 +2,7 @@
 ghost use Rattle.std.specs.Prelude.{◌≡◌, ◌≤◌, ◌<◌, ◌+◌, ◌*◌, ◌^◌, length};
 ghost use Rattle.write_log.specs.WriteLog.{ranges, synced, newest, AgreesOutside};
 ghost use Rattle.simdisk.specs.History.{log_of};
-ghost use Rattle.simdisk.specs.Latest.{latest_of};
+ghost use Rattle.simdisk.specs.Latest.{latest_of, HasPlace};
 ghost use Rattle.simdisk.specs.Views.{pieces, IsLatest};
 
 use crate::faults::Faults;
@@ -29,7 +29,7 @@ pub struct SimDisk {
     pub(crate) past: Remembered,
     ghost agrees: { AgreesOutside (synced (log_of history)) (ranges (pieces history.written.items)) content.items },
     ghost newest: { newest (log_of history) ≡ latest_of latest content.items },
-    ghost room: { length latest.sectors.items ≡ length content.items },
+    ghost room: { HasPlace (length content.items) latest },
     ghost few: { failures < 2 ^ 64 },
     ghost few_calls: { calls < 2 ^ 64 },
     ghost within: { loan.first + loan.lanes * loan.each ≤ length content.items },

@@ -42,7 +42,7 @@ invariant_of-self-then-strikes c =
     let s = c.args.self.now in
     record {
       newest = newest_with noted (latest_of c.write_failed.new.self s.content.items) (rw (← c.deref.ensures.value) c.write_failed.ensures.written);
-      room = c.write_failed.ensures.as_long ∙ s.room;
+      room = rw (← c.deref.ensures.value) c.write_failed.ensures.as_long;
       agrees = rw (c.in-Ok.ensures.synced, more noted) (agrees_push (synced (log_of s.history)) (ranges (pieces s.history.written.items)) (c.args.first, length c.args.sectors.now) s.content.items s.agrees);
       few = search rules;
       few_calls = search rules;
@@ -62,7 +62,7 @@ invariant_of-self-2 c =
     let elsewhere = c.overwrite.ensures.written.elsewhere in
     record {
       newest = newest_with noted (latest_of c.write.new.self c.overwrite.new.content.items) (ap (λ (k : Content). latest_of c.write.new.self k) c.overwrite.ensures.put ∙ c.write.ensures.written s.content.items);
-      room = c.write.ensures.as_long ∙ s.room ∙ sym elsewhere.as_long;
+      room = rw elsewhere.as_long (c.write.ensures.as_long (length s.content.items) s.room);
       agrees = rw (c.in-Ok.ensures.synced, more noted) (agrees_write (synced (log_of s.history)) (ranges (pieces s.history.written.items)) c.args.first (length c.args.sectors.now) s.content.items c.overwrite.new.content.items s.agrees elsewhere);
       few = s.few;
       few_calls = search rules;

@@ -29,7 +29,7 @@ invariant_of-self-2 c =
       agrees = agrees_poked k v r r' anew old s.content.items c.overwrite.new.content.items s.agrees laid;
       newest = fills_poked k v r r' anew old (fits_synced s.history) New ∙ ap (λ (x : Content). laid_over (k, v ∷ []) x) s.newest
           ∙ sym (c.write.ensures.written s.content.items) ∙ ap (λ (x : Content). latest_of c.write.new.self x) (sym laid);
-      room = c.write.ensures.as_long ∙ s.room ∙ sym c.overwrite.ensures.written.elsewhere.as_long;
+      room = rw c.overwrite.ensures.written.elsewhere.as_long (c.write.ensures.as_long (length s.content.items) s.room);
       few = s.few;
       few_calls = s.few_calls;
       within = rw c.overwrite.ensures.written.elsewhere.as_long s.within;
