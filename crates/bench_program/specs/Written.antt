@@ -1,5 +1,5 @@
 -- What the program writes, by the work that its words ask for. Source: docs/SCRIPT.md, "The program".
-use Rattle.std.specs.Prelude.{◌≡◌, ◌⊎◌, ◌<◌, ⊤, ℕ, Bool, List, [], Option, None, Some, Ok, Err, IfSome, IsSome, get_or, take}
+use Rattle.std.specs.Prelude.{◌≡◌, ◌⊎◌, ◌<◌, ⊤, ℕ, Bool, true, false, List, [], Option, None, Some, Ok, Err, IfSome, IsSome, get_or, take}
 use Rattle.board_model.specs.declared.refusal.Refusal.{Refusal}
 use Rattle.board_model.specs.declared.refusal.Refusal.TheVariants.{BadShape, Memory, Output, NotPlain}
 use Rattle.std.specs.Io.KnownBytes.{Appends}
@@ -144,20 +144,29 @@ IsWrong words bytes_at input old now =
     (options : Options) × IsNamedBy words options × AreWrong options bytes_at input old now
 
 -- ---- faults
--- The work is a bench, and no bench runs the script: a line of it is not plain, or none formats a disk; or its recovery. Or it shows
--- an order, and there is none of that number to show.
+-- The work is a bench, and no bench runs the script: a line of it is not plain, or none formats a disk. Or it shows an order, and there
+-- is none of that number to show.
 abbrev pub IsNotTaken : Work → List (List ℕ) → List ℕ → Refusal → Type 0
 IsNotTaken (Report savers) payloads script e = ⊥
 IsNotTaken (Judge bench) payloads script e = (e ≡ NotPlain) × NoBenchRuns script
-IsNotTaken (Recover bench) payloads script e =
-    ((e ≡ NotPlain) × NoBenchRuns script)
-    ⊎ ((recovery : List ℕ) × NoRecoveryRuns script recovery e)
+IsNotTaken (Recover bench) payloads script e = (e ≡ NotPlain) × NoBenchRuns script
 IsNotTaken (Compare drawn) payloads script e = ⊥
 IsNotTaken (Show drawn) payloads script e = ⊥
 IsNotTaken (Shrink drawn) payloads script e = ⊥
 IsNotTaken (Preempt within) payloads script e = ⊥
 IsNotTaken (ShowOrder wanted) payloads script e = (e ≡ BadShape) × (said : Said) × (script_of script ≡ Ok said)
     × HasNoOrder said payloads (numbers_of script) wanted.most wanted.number
+
+-- a work over that script, which begins with these payloads, is refused so: memory was refused, the output failed, the script has the
+-- fault, or the work is none of this script
+abbrev pub IsRefusedAs : Work → List (List ℕ) → List ℕ → Refusal → Type 0
+IsRefusedAs work payloads script e = (e ≡ Memory) ⊎ (e ≡ Output) ⊎ (script_of script ≡ Err e) ⊎ IsNotTaken work payloads script e
+
+-- the same of a work that has a recovery: or no bench runs that
+abbrev pub IsRefusedWith : Work → List (List ℕ) → List ℕ → List ℕ → Refusal → Type 0
+IsRefusedWith (Recover bench) payloads recovery script e =
+    IsRefusedAs (Recover bench) payloads script e ⊎ NoRecoveryRuns script recovery e
+IsRefusedWith work payloads recovery script e = IsRefusedAs work payloads script e
 
 -- a work may tell that something is wrong: the benches of power cuts and failures never do without a recovery
 abbrev pub MayTellWrong : Work → Type 0
@@ -166,23 +175,24 @@ MayTellWrong (Preempt within) = ⊤
 MayTellWrong (Recover bench) = ⊤
 MayTellWrong work = ⊥
 
--- a fault of a work over that script, which begins with these payloads: memory was refused, the output failed or nobody reads it, the
--- script has it, or the work is none of this script; or it told that something is wrong. The command line has none
-abbrev pub IsFaultIn : Work → List (List ℕ) → List ℕ → BenchFault → Type 0
-IsFaultIn work payloads script (Refused e) =
-    (e ≡ Memory) ⊎ (e ≡ Output) ⊎ (script_of script ≡ Err e) ⊎ IsNotTaken work payloads script e
-IsFaultIn work payloads script Closed = ⊤
-IsFaultIn work payloads script Input = ⊥
-IsFaultIn work payloads script File = ⊥
-IsFaultIn work payloads script Usage = ⊥
-IsFaultIn work payloads script Wrong = MayTellWrong work
+-- A fault of a work over that script, which begins with these payloads, with that recovery where it has one, by whether the output's
+-- reader is gone. Only where it is gone nothing is told; else the work was refused, or it told that something is wrong. The command line
+-- has none, and neither has a file.
+abbrev pub IsFaultIn : Work → List (List ℕ) → List ℕ → List ℕ → Bool → BenchFault → Type 0
+IsFaultIn work payloads recovery script gone (Refused e) = (gone ≡ false) × IsRefusedWith work payloads recovery script e
+IsFaultIn work payloads recovery script gone Closed = gone ≡ true
+IsFaultIn work payloads recovery script gone Input = ⊥
+IsFaultIn work payloads recovery script gone File = ⊥
+IsFaultIn work payloads recovery script gone Usage = ⊥
+IsFaultIn work payloads recovery script gone Wrong = MayTellWrong work
 
--- a fault of the options' work over a source and over files of which these bytes are known
-abbrev pub IsFaultOf : Options → (List ℕ → Option (List ℕ)) → Option (List ℕ) → BenchFault → Type 0
-IsFaultOf options bytes_at input fault = (payloads : List (List ℕ)) × (script : List ℕ)
-    × AreFilesOf bytes_at (payload_files options) payloads
+-- a fault of the options' work over a source and over files of which these bytes are known, the recovery's among them
+abbrev pub IsFaultOf : Options → (List ℕ → Option (List ℕ)) → Option (List ℕ) → Bool → BenchFault → Type 0
+IsFaultOf options bytes_at input gone fault = (payloads : List (List ℕ)) × (recovery : List ℕ) × (script : List ℕ)
+    × AreFilesOf bytes_at (payload_files options) payloads × IsRecoveryOf bytes_at (recovery_file options) recovery
     × IfSome (source_of options bytes_at input) (λ bytes. script_of script ≡ script_of bytes)
-    × IsFaultIn options.work payloads script fault
+    × IfSome (source_of options bytes_at input) (IsReadOf script)
+    × IsFaultIn options.work payloads recovery script gone fault
 
 -- a file could not be read, of those that are named; or the input failed, where none of them is the script's
 abbrev pub IsUnread : Options → BenchFault → Type 0
@@ -192,8 +202,8 @@ IsUnread options fault =
 
 -- a fault of the work that the words name, or of their files; or they name none, or no one work; or memory was refused
 -- to the command line or a file
-abbrev pub IsFault : List (List ℕ) → (List ℕ → Option (List ℕ)) → Option (List ℕ) → BenchFault → Type 0
-IsFault words bytes_at input fault =
+abbrev pub IsFault : List (List ℕ) → (List ℕ → Option (List ℕ)) → Option (List ℕ) → Bool → BenchFault → Type 0
+IsFault words bytes_at input gone fault =
     ((options : Options) × IsNamedBy words options
-    × (IsUnread options fault ⊎ IsFaultOf options bytes_at input fault))
+    × (IsUnread options fault ⊎ IsFaultOf options bytes_at input gone fault))
     ⊎ ((fault ≡ Usage) × (NamesNoWork words whys.Usage ⊎ NamesConflict words)) ⊎ (fault ≡ Refused Memory)

@@ -2,9 +2,9 @@
 
 ghost use Rattle.std.specs.Prelude.{◌≡◌, ◌⊎◌, ◌≤◌, ◌<◌, [], map, Err, Result, OnOk, IfOk, IfErr, IfSome};
 ghost use Rattle.board_model.specs.declared.refusal.Refusal.TheVariants.{Memory};
-ghost use Rattle.std.specs.Io.Buffered.{writer_buffer, writer_contents};
-ghost use Rattle.bench_program.specs.Faults.{status_after, unread_by, without_work};
-ghost use Rattle.command_line.specs.Pipes.{pipe_contents};
+ghost use Rattle.std.specs.Io.Buffered.{writer_buffer, writer_contents, writer_inner};
+ghost use Rattle.bench_program.specs.Faults.{fault_by, status_after, unread_by, without_work};
+ghost use Rattle.command_line.specs.Pipes.{is_closed_pipe, pipe_contents};
 ghost use Rattle.payload_files.specs.Named.{AreFilesOf};
 ghost use Rattle.bench_program.specs.Usage.{payload_files, recovery_file, IsBounded, NamesNoWork};
 ghost use Rattle.bench_program.specs.Written.{AreDone, AreWrong, IsDone, IsFault, IsFaultIn, IsFaultOf, IsMade, IsReadOf, IsRecovered, IsRecoveryOf, IsReported, IsUnread, IsWorked, IsWritten, IsWrong, IsWrongOver, TellsApart, TellsWrong, source_of};
@@ -51,9 +51,9 @@ fn input_script<I: Read + Drop>(alloc: Global, input: I) -> Result<Vec<u8>, Benc
     }
 }
 
-/// The fault of a work that was refused. Where the reader of the output is gone, it is `Closed`, which is not told.
+/// The fault of a work that was refused. Where the reader of the output is gone, it is `Closed`, which is not told; else it is the refusal.
 fn fault_of<O: Write + Drop>(refusal: Refusal, out: &BufWriter<Pipe<O>>) -> BenchFault
-    ensures { (result ≡ Closed) ⊎ (result ≡ Refused refusal) }
+    ensures { result ≡ fault_by (is_closed_pipe (writer_inner out.now)) refusal }
 {
     if out.get_ref().is_closed() {
         BenchFault::Closed
@@ -73,7 +73,8 @@ fn report_with<C: Crew, O: Write + Drop>(
     ensures reported { OnOk result (IsReported payloads script.now
         (writer_contents (pipe_contents O.contents) out.old) (writer_contents (pipe_contents O.contents) out.new)) }
     ensures flushed { OnOk result (writer_buffer out.new ≡ []) }
-    ensures faults { IfErr result (λ fault. (savers : Savers) → IsFaultIn (Report savers) payloads script.now fault) }
+    ensures faults { IfErr result (λ fault. (savers : Savers) → IsFaultIn (Report savers) payloads [] script.now
+        (is_closed_pipe (writer_inner out.new)) fault) }
 {
     match write_report(alloc, script, crew, payloads, out) {
         Ok(()) => Ok(()),
@@ -93,7 +94,8 @@ fn report<R: Threads + Sync, O: Write + Drop>(
     ensures reported { OnOk result (IsReported payloads script.now
         (writer_contents (pipe_contents O.contents) out.old) (writer_contents (pipe_contents O.contents) out.new)) }
     ensures flushed { OnOk result (writer_buffer out.new ≡ []) }
-    ensures faults { IfErr result (λ fault. IsFaultIn (Report savers) payloads script.now fault) }
+    ensures faults { IfErr result (λ fault. IsFaultIn (Report savers) payloads [] script.now
+        (is_closed_pipe (writer_inner out.new)) fault) }
 {
     match savers {
         Savers::Threads => report_with(alloc, script, &crew::Threads::new(threads), payloads, out),
@@ -129,7 +131,8 @@ fn judge<R: Threads + Sync, O: Write + Drop>(
     ensures written { OnOk result (IsWritten (Judge bench) payloads script.now
         (writer_contents (pipe_contents O.contents) out.old) (writer_contents (pipe_contents O.contents) out.new)) }
     ensures flushed { OnOk result (writer_buffer out.new ≡ []) }
-    ensures faults { IfErr result (λ fault. IsFaultIn (Judge bench) payloads script.now fault) }
+    ensures faults { IfErr result (λ fault. IsFaultIn (Judge bench) payloads [] script.now
+        (is_closed_pipe (writer_inner out.new)) fault) }
 {
     match write_bench::<R, Pipe<O>>(jobs, alloc, script, bench, payloads, out) {
         Ok(sweep) if sweep.wrong == 0 => Ok(()),
@@ -154,7 +157,8 @@ fn judge_recovered<R: Threads + Sync, O: Write + Drop>(
     ensures wrong { result ≡ Err Wrong → TellsApart (Recover bench) payloads recovery.now script.now
         (writer_contents (pipe_contents O.contents) out.old) (writer_contents (pipe_contents O.contents) out.new) }
     ensures told { result ≡ Err Wrong → writer_buffer out.new ≡ [] }
-    ensures faults { IfErr result (λ fault. IsFaultIn (Recover bench) payloads script.now fault) }
+    ensures faults { IfErr result (λ fault. IsFaultIn (Recover bench) payloads recovery.now script.now
+        (is_closed_pipe (writer_inner out.new)) fault) }
 {
     match write_recovered::<R, Pipe<O>>(jobs, alloc, script, bench, recovery, payloads, out) {
         Ok(done) if done.differ == 0 => Ok(()),
@@ -179,7 +183,8 @@ fn compare<R: Threads + Sync, O: Write + Drop>(
     ensures wrong { result ≡ Err Wrong → TellsWrong (Compare drawn) payloads.now script.now
         (writer_contents (pipe_contents O.contents) out.old) (writer_contents (pipe_contents O.contents) out.new) }
     ensures told { result ≡ Err Wrong → writer_buffer out.new ≡ [] }
-    ensures faults { IfErr result (λ fault. IsFaultIn (Compare drawn) payloads.now script.now fault) }
+    ensures faults { IfErr result (λ fault. IsFaultIn (Compare drawn) payloads.now [] script.now
+        (is_closed_pipe (writer_inner out.new)) fault) }
 {
     match write_schedules::<R, Pipe<O>>(jobs, alloc, script, drawn, payloads, out) {
         Ok(count) if count.differ == 0 => Ok(()),
@@ -199,7 +204,8 @@ fn show_schedule<R: Threads + Sync, O: Write + Drop>(
     ensures written { OnOk result (IsWritten (Show drawn) payloads.now script.now
         (writer_contents (pipe_contents O.contents) out.old) (writer_contents (pipe_contents O.contents) out.new)) }
     ensures flushed { OnOk result (writer_buffer out.new ≡ []) }
-    ensures faults { IfErr result (λ fault. IsFaultIn (Show drawn) payloads.now script.now fault) }
+    ensures faults { IfErr result (λ fault. IsFaultIn (Show drawn) payloads.now [] script.now
+        (is_closed_pipe (writer_inner out.new)) fault) }
 {
     match write_schedule::<R, Pipe<O>>(alloc, script, drawn, payloads, out) {
         Ok(()) => Ok(()),
@@ -218,7 +224,8 @@ fn show_shrunk<R: Threads + Sync, O: Write + Drop>(
     ensures written { OnOk result (IsWritten (Shrink drawn) payloads.now script.now
         (writer_contents (pipe_contents O.contents) out.old) (writer_contents (pipe_contents O.contents) out.new)) }
     ensures flushed { OnOk result (writer_buffer out.new ≡ []) }
-    ensures faults { IfErr result (λ fault. IsFaultIn (Shrink drawn) payloads.now script.now fault) }
+    ensures faults { IfErr result (λ fault. IsFaultIn (Shrink drawn) payloads.now [] script.now
+        (is_closed_pipe (writer_inner out.new)) fault) }
 {
     match write_shrunk::<R, Pipe<O>>(alloc, script, drawn, payloads, out) {
         Ok(()) => Ok(()),
@@ -242,7 +249,8 @@ fn preempt<R: Threads + Sync, O: Write + Drop>(
     ensures wrong { result ≡ Err Wrong → TellsWrong (Preempt within) payloads.now script.now
         (writer_contents (pipe_contents O.contents) out.old) (writer_contents (pipe_contents O.contents) out.new) }
     ensures told { result ≡ Err Wrong → writer_buffer out.new ≡ [] }
-    ensures faults { IfErr result (λ fault. IsFaultIn (Preempt within) payloads.now script.now fault) }
+    ensures faults { IfErr result (λ fault. IsFaultIn (Preempt within) payloads.now [] script.now
+        (is_closed_pipe (writer_inner out.new)) fault) }
 {
     match write_preemptions::<R, Pipe<O>>(jobs, alloc, script, within, payloads, out) {
         Ok(count) if count.differ == 0 => Ok(()),
@@ -265,7 +273,8 @@ fn show_differing<R: Threads + Sync, O: Write + Drop>(
     ensures written { OnOk result (IsWritten (ShowOrder wanted) payloads.now script.now
         (writer_contents (pipe_contents O.contents) out.old) (writer_contents (pipe_contents O.contents) out.new)) }
     ensures flushed { OnOk result (writer_buffer out.new ≡ []) }
-    ensures faults { IfErr result (λ fault. IsFaultIn (ShowOrder wanted) payloads.now script.now fault) }
+    ensures faults { IfErr result (λ fault. IsFaultIn (ShowOrder wanted) payloads.now [] script.now
+        (is_closed_pipe (writer_inner out.new)) fault) }
 {
     match write_order::<R, Pipe<O>>(jobs, alloc, script, wanted, payloads, out) {
         Ok(()) => Ok(()),
@@ -404,7 +413,8 @@ fn run_work<R: Threads + Sync, O: Write + Drop>(
     ensures wrong { result ≡ Err Wrong → TellsApart work given.payloads given.recovery.items script.now
         (writer_contents (pipe_contents O.contents) out.old) (writer_contents (pipe_contents O.contents) out.new) }
     ensures told { result ≡ Err Wrong → writer_buffer out.new ≡ [] }
-    ensures faults { IfErr result (IsFaultIn work given.payloads script.now) }
+    ensures faults { IfErr result (IsFaultIn work given.payloads given.recovery.items script.now
+        (is_closed_pipe (writer_inner out.new))) }
 {
     let Given { payloads, recovery } = given;
     match work {
@@ -452,7 +462,8 @@ fn run_options<R: Threads + Sync, P: PayloadFiles, I: Read + Drop, O: Write + Dr
         (writer_contents (pipe_contents O.contents) out.old) (writer_contents (pipe_contents O.contents) out.new) }
     ensures told { result ≡ Err Wrong → writer_buffer out.new ≡ [] }
     ensures faults { IfErr result (λ fault. IsUnread options.now fault ⊎ (fault ≡ Refused Memory)
-        ⊎ IsFaultOf options.now (P.bytes_at files.now) (I.remaining input) fault) }
+        ⊎ IsFaultOf options.now (P.bytes_at files.now) (I.remaining input)
+        (is_closed_pipe (writer_inner out.new)) fault) }
 {
     let given = named_files(alloc, files, options, faults)?;
     let script = named_script(alloc, files, options, input, faults)?;
@@ -491,7 +502,8 @@ fn run_words<
     ensures wrong { result ≡ Err Wrong → IsWrong (map S.text words.now) (P.bytes_at files.now) (I.remaining input)
         (writer_contents (pipe_contents O.contents) out.old) (writer_contents (pipe_contents O.contents) out.new) }
     ensures told { result ≡ Err Wrong → writer_buffer out.new ≡ [] }
-    ensures faults { IfErr result (λ fault. IsFault (map S.text words.now) (P.bytes_at files.now) (I.remaining input) fault) }
+    ensures faults { IfErr result (λ fault. IsFault (map S.text words.now) (P.bytes_at files.now) (I.remaining input)
+        (is_closed_pipe (writer_inner out.new)) fault) }
 {
     match options_of(alloc, words) {
         Ok(options) => run_options(alloc, threads, files, &options, input, out, faults),
@@ -548,7 +560,8 @@ pub fn run_on<
         (writer_contents (pipe_contents O.contents) out.new)
         × (writer_buffer out.new ≡ []))
         ⊎ NamesNoWork (map S.text words.now) NoWork.Shown)
-        × IfErr done (λ fault. IsFault (map S.text words.now) (P.bytes_at files.now) (I.remaining input) fault)
+        × IfErr done (λ fault. IsFault (map S.text words.now) (P.bytes_at files.now) (I.remaining input)
+        (is_closed_pipe (writer_inner out.new)) fault)
         × (done ≡ Err Wrong → IsWrong (map S.text words.now) (P.bytes_at files.now) (I.remaining input)
         (writer_contents (pipe_contents O.contents) out.old)
         (writer_contents (pipe_contents O.contents) out.new)
