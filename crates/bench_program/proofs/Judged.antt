@@ -14,6 +14,7 @@ use Rattle.bench_preemptions.specs.declared.benches.Within.{Within}
 use Rattle.bench_preemptions.specs.Shown.{ShownOrder}
 use Rattle.bench_shrink.specs.Shrunk.{Shrunk}
 use Rattle.bench_preemptions.specs.declared.shown.Wanted.{Wanted}
+use Rattle.bench_program.specs.declared.usage.Drawn.{Drawn}
 use Rattle.bench_program.specs.Written.{IsOrderShown, IsPreempted, IsShrunk}
 
 pub wrote_on : (bench : Bench) (start : List (List ℕ)) (script : List ℕ) (a b c : Option (List ℕ)) (sweep : Sweep) → IsBenchOf bench start script a b sweep → Keeps b c → IsBenchOf bench start script a c sweep
@@ -68,14 +69,16 @@ order_on wanted start script a b c (said, is, (ones, nth, w)) keeps = (
   (ones, nth, record { order = w.order; writable = w.writable; reads = w.reads; text = handed_on a b c _ w.text keeps }),
 )
 
-pub shrunk_on : (start : List (List ℕ)) (script : List ℕ) (a b c : Option (List ℕ)) → ((said : Said) × (script_of script ≡ Ok said) × Shrunk said start a b) → Keeps b c → IsShrunk start script a c
-shrunk_on start script a b c (said, is, w) keeps = (
+pub shrunk_on : (drawn : Drawn) (start : List (List ℕ)) (script : List ℕ) (a b c : Option (List ℕ)) → ((said : Said) × (script_of script ≡ Ok said) × Shrunk said start drawn.seed drawn.number a b) → Keeps b c → IsShrunk drawn start script a c
+shrunk_on drawn start script a b c (said, is, w) keeps = (
   said,
   is,
   record {
     own = w.own;
     ran_own = w.ran_own;
+    fronts = w.fronts;
     drawn = w.drawn;
+    drawn_as = w.drawn_as;
     drawn_order = w.drawn_order;
     schedule = w.schedule;
     order = w.order;

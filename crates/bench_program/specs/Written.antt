@@ -28,6 +28,7 @@ use Rattle.bench_program.specs.declared.fault.BenchFault.TheVariants.{Usage, Inp
 use Rattle.bench_program.specs.declared.usage.Options.{Options}
 use Rattle.bench_program.specs.declared.usage.Work.{Work}
 use Rattle.bench_program.specs.declared.usage.Bench.{Bench}
+use Rattle.bench_program.specs.declared.usage.Drawn.{Drawn}
 use Rattle.bench_program.specs.declared.usage.Work.TheVariants.{Report, Judge, Recover, Compare, Show, Shrink, Preempt, ShowOrder}
 
 -- what was written is a report of the script that begins with these payloads, and nothing else; where no line is a poke,
@@ -37,10 +38,10 @@ IsReported payloads script old now = (said : Said) × (answers : List Answer) ×
     × (script_of script ≡ Ok said) × IsReportWith payloads said answers end × Appends old now (report_text answers)
     × (AreByFirmware said.lines → KeepsPrefixLaw said.lines answers)
 
--- so many schedules of the script that begins with these payloads were compared with its own run, and told; so many differ
-abbrev pub IsCompared : ℕ → List (List ℕ) → List ℕ → Option (List ℕ) → Option (List ℕ) → ℕ → Type 0
-IsCompared n payloads script old now differ = (said : Said) × (script_of script ≡ Ok said)
-    × WroteSchedules said payloads (number_of_other script said.lines) n old now differ
+-- so many schedules of that seed, of the script that begins with these payloads, were compared with its own run, and told; so many differ
+abbrev pub IsCompared : Drawn → List (List ℕ) → List ℕ → Option (List ℕ) → Option (List ℕ) → ℕ → Type 0
+IsCompared drawn payloads script old now differ = (said : Said) × (script_of script ≡ Ok said)
+    × WroteSchedules said payloads drawn.seed (number_of_other script said.lines) drawn.number old now differ
 
 -- the script that begins with these payloads was run, and its orders with so many preemptions at most; so many differ
 abbrev pub IsPreempted : Within → List (List ℕ) → List ℕ → Option (List ℕ) → Option (List ℕ) → ℕ → Type 0
@@ -52,13 +53,14 @@ abbrev pub IsRecovered : Bench → List (List ℕ) → List ℕ → List ℕ →
 IsRecovered bench payloads recovery script old now differ = (done : Recovered)
     × IsRecoveredBenchOf (judged bench) payloads script recovery (numbers_of recovery) old now done × (done.differ ≡ differ)
 
--- one schedule of the script was written
-abbrev pub IsShown : List ℕ → Option (List ℕ) → Option (List ℕ) → Type 0
-IsShown script old now = (said : Said) × (script_of script ≡ Ok said) × Shown said old now
+-- the schedule of that seed and number was written
+abbrev pub IsShown : Drawn → List ℕ → Option (List ℕ) → Option (List ℕ) → Type 0
+IsShown drawn script old now = (said : Said) × (script_of script ≡ Ok said) × Shown said drawn.seed drawn.number old now
 
--- a schedule of the script was written that differs where the schedule of a number does
-abbrev pub IsShrunk : List (List ℕ) → List ℕ → Option (List ℕ) → Option (List ℕ) → Type 0
-IsShrunk payloads script old now = (said : Said) × (script_of script ≡ Ok said) × Shrunk said payloads old now
+-- a schedule of the script was written that differs where the schedule of that seed and number does
+abbrev pub IsShrunk : Drawn → List (List ℕ) → List ℕ → Option (List ℕ) → Option (List ℕ) → Type 0
+IsShrunk drawn payloads script old now =
+    (said : Said) × (script_of script ≡ Ok said) × Shrunk said payloads drawn.seed drawn.number old now
 
 -- the order of that number was written, of those with so many preemptions at most that differ
 abbrev pub IsOrderShown : Wanted → List (List ℕ) → List ℕ → Option (List ℕ) → Option (List ℕ) → Type 0
@@ -71,9 +73,9 @@ abbrev pub IsWritten : Work → List (List ℕ) → List ℕ → Option (List �
 IsWritten (Report savers) payloads script old now = IsReported payloads script old now
 IsWritten (Judge bench) payloads script old now = (counts : Counts) × IsBenchOf (judged bench) payloads script old now counts
 IsWritten (Recover bench) payloads script old now = ⊥
-IsWritten (Compare drawn) payloads script old now = IsCompared drawn.number payloads script old now 0
-IsWritten (Show drawn) payloads script old now = IsShown script old now
-IsWritten (Shrink drawn) payloads script old now = IsShrunk payloads script old now
+IsWritten (Compare drawn) payloads script old now = IsCompared drawn payloads script old now 0
+IsWritten (Show drawn) payloads script old now = IsShown drawn script old now
+IsWritten (Shrink drawn) payloads script old now = IsShrunk drawn payloads script old now
 IsWritten (Preempt within) payloads script old now = IsPreempted within payloads script old now 0
 IsWritten (ShowOrder wanted) payloads script old now = IsOrderShown wanted payloads script old now
 
@@ -84,7 +86,7 @@ IsMade work payloads recovery script old now = IsWritten work payloads script ol
 
 -- what was written is what the work makes of the script, and tells that something is wrong: some schedules or orders differ
 abbrev pub TellsWrong : Work → List (List ℕ) → List ℕ → Option (List ℕ) → Option (List ℕ) → Type 0
-TellsWrong (Compare drawn) payloads script old now = (differ : ℕ) × (0 < differ) × IsCompared drawn.number payloads script old now differ
+TellsWrong (Compare drawn) payloads script old now = (differ : ℕ) × (0 < differ) × IsCompared drawn payloads script old now differ
 TellsWrong (Preempt within) payloads script old now = (differ : ℕ) × (0 < differ) × IsPreempted within payloads script old now differ
 TellsWrong work payloads script old now = ⊥
 

@@ -210,8 +210,8 @@ pub fn write_schedules<R: Threads + Sync, W: Write + Drop>(
     out: &mut BufWriter<W>,
 ) -> Result<Compared, Refusal>
     requires most { drawn.number ≤ 1000000 }
-    // All schedules were run and compared with the script's own run, and those that differ were written and counted.
-    ensures wrote { IfOk result (λ count. IsCompared drawn.number payloads.now script.now
+    // Schedules 1 to that number were run and compared with the script's own run, and those that differ were written and counted.
+    ensures wrote { IfOk result (λ count. IsCompared drawn payloads.now script.now
         (writer_contents W.contents out.old) (writer_contents W.contents out.new) count.differ) }
     // Nothing of it is held back.
     ensures flushed { OnOk result (writer_buffer out.new ≡ []) }
@@ -248,8 +248,8 @@ pub fn write_schedule<R: Threads + Sync, W: Write + Drop>(
     payloads: &Payloads,
     out: &mut BufWriter<W>,
 ) -> Result<(), Refusal>
-    // What was written is a schedule of the script, and is read back as it.
-    ensures wrote { OnOk result (IsShown script.now (writer_contents W.contents out.old) (writer_contents W.contents out.new)) }
+    // What was written is the schedule of that number, and is read back as it.
+    ensures wrote { OnOk result (IsShown drawn script.now (writer_contents W.contents out.old) (writer_contents W.contents out.new)) }
     // Nothing of it is held back.
     ensures flushed { OnOk result (writer_buffer out.new ≡ []) }
     // A refusal is the script's fault, or out of memory, or the writer's.
@@ -278,7 +278,7 @@ pub fn write_shrunk<R: Threads + Sync, W: Write + Drop>(
     out: &mut BufWriter<W>,
 ) -> Result<(), Refusal>
     // What was written is a schedule of the script that was shrunk, and is read back as it.
-    ensures wrote { OnOk result (IsShrunk payloads.now script.now
+    ensures wrote { OnOk result (IsShrunk drawn payloads.now script.now
         (writer_contents W.contents out.old) (writer_contents W.contents out.new)) }
     // Nothing of it is held back.
     ensures flushed { OnOk result (writer_buffer out.new ≡ []) }

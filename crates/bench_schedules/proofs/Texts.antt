@@ -8,7 +8,7 @@ use Rattle.script_lang.specs.Scripts.{Script, script_of}
 use Rattle.script_lang.specs.Spellings.{board_text, script_text, IsWritable}
 use Rattle.script_lang.specs.declared.line.Line.{Line}
 use Rattle.bench_orders.specs.Orders.{IsOrderFor}
-use Rattle.bench_schedules.specs.Schedules.{Shown, lines_text}
+use Rattle.bench_schedules.specs.Schedules.{IsNumbered, Shown, Source, lines_text}
 
 -- parts that are joined, with a line feed behind the last
 joined : (first : List ℕ) (those : List Line) → join_with_byte 10 (first ∷ map text_of those) ++ 10 ∷ [] ≡ first ++ 10 ∷ lines_text those
@@ -21,15 +21,17 @@ pub script_written : (script : Script) → script_text script ++ 10 ∷ [] ≡ b
 script_written script = joined (board_text script.size) script.lines
 
 -- what was drawn, as it was written
-pub shown_of : (size : Size) (those new xs : List Line) (old now : Option (List ℕ)) → IsSize size → IsOrderFor those new → length new ≤ 65535 → All (IsLineInRange size) those → All FitsLine those → xs ≡ new
-    → ((s : Script) → IsWritable s → script_of (script_text s) ≡ Ok s) → Appends old now (board_text size ++ 10 ∷ lines_text xs) → Shown (record { size = size; lines = those }) old now
-shown_of size those new xs old now sized order few ranges fits is reads text =
+pub shown_of : (size : Size) (from : Source) (k : ℕ) (those new xs : List Line) (old now : Option (List ℕ)) → IsSize size → IsNumbered from k those new → IsOrderFor those new → length new ≤ 65535 → All (IsLineInRange size) those → All FitsLine those → xs ≡ new
+    → ((s : Script) → IsWritable s → script_of (script_text s) ≡ Ok s) → Appends old now (board_text size ++ 10 ∷ lines_text xs) → Shown (record { size = size; lines = those }) from.seed k old now
+shown_of size from k those new xs old now sized drawn order few ranges fits is reads text =
     let s : Script = record { size = size; lines = new } in
     let w : IsWritable s = record { size = sized; few = few; ranges = order.ranges size ranges; fits = order.fits fits } in
     let P : List Line → Type 0 = λ z. Appends old now (board_text size ++ 10 ∷ lines_text z) in
     let Q : List ℕ → Type 0 = λ z. Appends old now z in
     record {
+      fronts = from.fronts;
       schedule = s;
+      drawn = drawn;
       order = record { board = refl; lines = order.order };
       writable = w;
       reads = reads s w;

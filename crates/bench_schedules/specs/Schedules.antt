@@ -12,7 +12,10 @@ use Rattle.bench_report.specs.Bench.{Bench, bench_with}
 use Rattle.bench_report.specs.Steps.{Run}
 use Rattle.report_lines.specs.declared.printed.Answer.{Answer}
 use Rattle.report_lines.specs.declared.printed.Printed.TheVariants as printed
+use Rattle.jobs.specs.Handed.{AreRows}
+use Rattle.bench_orders.specs.Drawn.{answers_from, generator_of, IsDrawnFrom}
 use Rattle.bench_orders.specs.Orders.{IsScheduleOf, is_other}
+use Rattle.bench_orders.specs.declared.quotas.Front.{Front}
 use Rattle.bench_schedules.specs.Told.{IsFirstApart, told_lines}
 use Rattle.bench_schedules.specs.declared.runs.Difference.{Difference}
 use lib.Chars.{codes}
@@ -53,9 +56,19 @@ pub record RanLike (size : Size) (start : List (List ℕ)) (those : List Line) (
   pub ran : RanWell size start (take n those) answers end
   pub like : ToldLike own (other_answers (take n those) answers) differs
 
--- a schedule of the script was run, which began with these payloads as the script did
-pub record Ran (said : Script) (start : List (List ℕ)) (own : List Answer) (differs : Option Difference) : Type 0 where
+-- What schedules are drawn from: a seed and, of each stretch of the script, the part in which its own run did something.
+pub record Source : Type 0 where
+  pub seed : ℕ
+  pub fronts : List Front
+
+-- these lines are the ones that are drawn from those as schedule k
+abbrev pub IsNumbered : Source → ℕ → List Line → List Line → Type 0
+IsNumbered from k old new = IsDrawnFrom (answers_from (generator_of from.seed k)) from.fronts old new
+
+-- schedule k of the script was run, which began with these payloads as the script did
+pub record Ran (said : Script) (start : List (List ℕ)) (from : Source) (own : List Answer) (k : ℕ) (differs : Option Difference) : Type 0 where
   pub schedule : Script
+  pub drawn : IsNumbered from k said.lines schedule.lines
   pub order : IsScheduleOf said schedule
   pub writable : IsWritable schedule
   pub ran : RanLike said.size start schedule.lines own differs
@@ -93,34 +106,39 @@ tight_text numbers = flat_map (λ n. codes "line " ++ decimal n ++ codes " tight
 abbrev pub count_text : ℕ → ℕ → List ℕ
 count_text n differ = codes "schedules " ++ decimal n ++ codes " differ " ++ decimal differ ++ 10 ∷ []
 
--- These runs were made, from schedule k on: what was written of them, and how many differ.
-pub record Wrote (said : Script) (start : List (List ℕ)) (number : ℕ → ℕ) (own : List Answer) (k n : ℕ) (old new : Option (List ℕ)) (differ : ℕ) : Type 0 where
+-- These runs were made, of the n schedules from number k on: what was written of them, and how many differ.
+pub record Wrote (said : Script) (start : List (List ℕ)) (from : Source) (number : ℕ → ℕ) (own : List Answer) (k n : ℕ)
+    (old new : Option (List ℕ)) (differ : ℕ) : Type 0 where
   pub runs : List (Option Difference)
   pub all : length runs ≡ n
-  pub each : All (Ran said start own) runs
+  pub each : AreRows (Ran said start from own) k runs
   pub count : differ ≡ differing runs
   pub text : List ℕ
   pub tells : RunsText number k runs text
   pub written : Appends old new text
 
--- All n schedules were run, each was compared with the script's own run and counted, and this was written of them.
-pub record WroteSchedules (said : Script) (start : List (List ℕ)) (number : ℕ → ℕ) (n : ℕ) (old new : Option (List ℕ)) (differ : ℕ) : Type 0 where
+-- All n schedules of the seed were run, each was compared with the script's own run and counted, and this was written of them.
+pub record WroteSchedules (said : Script) (start : List (List ℕ)) (seed : ℕ) (number : ℕ → ℕ) (n : ℕ) (old new : Option (List ℕ))
+    (differ : ℕ) : Type 0 where
   pub own : List Answer
   pub ran : RanOwn said.size start said.lines own
+  pub fronts : List Front
   pub tight : List ℕ
   pub first : Option (List ℕ)
   pub begun : Appends old first (tight_text tight)
   pub last : Option (List ℕ)
-  pub wrote : Wrote said start number own 1 n first last differ
+  pub wrote : Wrote said start (record { seed = seed; fronts = fronts }) number own 1 n first last differ
   pub ended : Appends last new (count_text n differ)
 
 -- lines as they are written, each with a line feed
 abbrev pub lines_text : List Line → List ℕ
 lines_text those = flat_map (λ line. text_of line ++ 10 ∷ []) those
 
--- `--show`: one schedule of the script, as a text that is read back as it. A line feed ends its last line too.
-pub record Shown (said : Script) (old new : Option (List ℕ)) : Type 0 where
+-- `--show`: schedule k of the seed, as a text that is read back as it. A line feed ends its last line too.
+pub record Shown (said : Script) (seed k : ℕ) (old new : Option (List ℕ)) : Type 0 where
+  pub fronts : List Front
   pub schedule : Script
+  pub drawn : IsNumbered (record { seed = seed; fronts = fronts }) k said.lines schedule.lines
   pub order : IsScheduleOf said schedule
   pub writable : IsWritable schedule
   pub reads : script_of (script_text schedule) ≡ Ok schedule

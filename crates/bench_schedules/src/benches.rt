@@ -8,7 +8,7 @@ ghost use Rattle.board_model.specs.declared.refusal.Refusal.TheVariants.{Memory,
 ghost use Rattle.script_lang.specs.Lines.{FitsLine, IsLineInRange};
 ghost use Rattle.script_lang.specs.Scripts.{script_of, Script as Said};
 ghost use Rattle.script_lang.specs.Views.{view};
-ghost use Rattle.bench_orders.specs.Orders.{IsOrderFor, other_count};
+ghost use Rattle.bench_orders.specs.Orders.{other_count};
 ghost use Rattle.bench_schedules.specs.Numbers.{number_of_other, place_of_other};
 ghost use Rattle.bench_schedules.specs.Schedules.{Ran, RanOwn, RunText, Shown, Wrote, WroteSchedules, differing, tight_text};
 ghost use Rattle.std.specs.Prelude.{List, ◌∷◌, []};
@@ -52,25 +52,6 @@ struct Runner<'a, C> {
     seed: u64,
 }
 
-/// Runs a schedule of the script, by its lines. Refused `Memory` alone.
-fn run_drawn<C: Crew>(
-    runner: &Runner<'_, C>,
-    lines: &[Line],
-    own: &[Answer],
-) -> Result<Option<Difference>, Refusal>
-    requires size { IsSize runner.now.setting.shape.now }
-    requires ranges { All (IsLineInRange runner.now.setting.shape.now) runner.now.lines.now }
-    requires fits { All FitsLine runner.now.lines.now }
-    requires order { IsOrderFor runner.now.lines.now lines.now }
-    requires few { length lines.now ≤ 65535 }
-    requires count { length own.now ≡ other_count lines.now }
-    ensures ran { IfOk result (λ differs.
-        Ran (record { size = runner.now.setting.shape.now; lines = runner.now.lines.now }) runner.now.payloads.now own.now differs) }
-    ensures refused { IfErr result (λ e. e ≡ Memory) }
-{
-    run_confirmed(&runner.setting, runner.payloads, lines, own)
-}
-
 /// Runs schedule k of the script. Refused `Memory` alone.
 fn run_schedule<C: Crew>(
     runner: &Runner<'_, C>,
@@ -83,7 +64,8 @@ fn run_schedule<C: Crew>(
     requires fits { All FitsLine runner.now.lines.now }
     requires count { length own.now.answers.items ≡ other_count runner.now.lines.now }
     ensures ran { IfOk result (λ differs.
-        Ran (record { size = runner.now.setting.shape.now; lines = runner.now.lines.now }) runner.now.payloads.now own.now.answers.items differs) }
+        Ran (record { size = runner.now.setting.shape.now; lines = runner.now.lines.now }) runner.now.payloads.now
+        (record { seed = runner.now.seed; fronts = own.now.stretches.fronts.items }) own.now.answers.items k differs) }
     ensures refused { IfErr result (λ e. e ≡ Memory) }
 {
     orders_keep_lines();
@@ -94,7 +76,7 @@ fn run_schedule<C: Crew>(
         runner.lines,
         &own.stretches.fronts,
     )?;
-    run_drawn(runner, &lines, &own.answers)
+    run_confirmed(&runner.setting, runner.payloads, &lines, &own.answers)
 }
 
 /// Writes the line of schedule k where its run differs. Answers how many schedules that are: 1, or 0.
@@ -144,7 +126,8 @@ impl<'a, 'b, 'c, C: Crew + Sync> Task for DrawnRuns<'a, 'b, 'c, C> {
         × IsSync C.Handle.row };
 
     ghost is_row = { λ runs k drawn. IsDrawn (record { size = runs.runner.now.setting.shape.now; lines = runs.runner.now.lines.now })
-        runs.runner.now.payloads.now runs.own.now.answers.items k drawn };
+        runs.runner.now.payloads.now (record { seed = runs.runner.now.seed; fronts = runs.own.now.stretches.fronts.items })
+        runs.own.now.answers.items k drawn };
 
     /// Runs the schedule of that number.
     fn row(&self, number: u64) -> Result<DrawnRun, Refusal> {
@@ -191,7 +174,8 @@ fn run_schedules<R: Threads + Sync, C: Crew + Sync, W: Write>(
     requires count { length own.now.answers.items ≡ other_count runner.now.lines.now }
     requires most { n ≤ 1000000 }
     ensures wrote { IfOk result (λ differ. Wrote (record { size = runner.now.setting.shape.now; lines = runner.now.lines.now })
-        runner.now.payloads.now (λ place. slice_index_or runner.now.numbers.now (1 + place_of_other place runner.now.lines.now) 0)
+        runner.now.payloads.now (record { seed = runner.now.seed; fronts = own.now.stretches.fronts.items })
+        (λ place. slice_index_or runner.now.numbers.now (1 + place_of_other place runner.now.lines.now) 0)
         own.now.answers.items 1 n (W.contents out.old) (W.contents out.new) differ) }
     ensures err { IfErr result (λ e. (e ≡ Memory) ⊎ (e ≡ Output)) }
 {
@@ -269,7 +253,8 @@ fn compare_all<R: Threads + Sync, C: Crew + Sync, W: Write>(
     requires fits { All FitsLine runner.now.lines.now }
     requires most { n ≤ 1000000 }
     ensures wrote { IfOk result (λ differ. WroteSchedules (record { size = runner.now.setting.shape.now; lines = runner.now.lines.now })
-        runner.now.payloads.now (λ place. slice_index_or runner.now.numbers.now (1 + place_of_other place runner.now.lines.now) 0) n
+        runner.now.payloads.now runner.now.seed
+        (λ place. slice_index_or runner.now.numbers.now (1 + place_of_other place runner.now.lines.now) 0) n
         (W.contents out.old) (W.contents out.new) differ) }
     ensures err { IfErr result (λ e. (e ≡ Memory) ⊎ (e ≡ Output)) }
 {
@@ -294,7 +279,7 @@ fn compare_script<'a, R: Threads + Sync, W: Write>(
     requires few { length script.now.lines.items ≤ 65535 }
     requires ranges { All (IsLineInRange script.now.shape) script.now.lines.items }
     requires most { n ≤ 1000000 }
-    ensures wrote { IfOk result (λ differ. WroteSchedules (view script.now) payloads.now
+    ensures wrote { IfOk result (λ differ. WroteSchedules (view script.now) payloads.now seed
         (λ place. slice_index_or numbers.now (1 + place_of_other place script.now.lines.items) 0) n
         (W.contents out.old) (W.contents out.new) differ) }
     ensures err { IfErr result (λ e. (e ≡ Memory) ⊎ (e ≡ Output)) }
@@ -329,7 +314,7 @@ fn show_script<R: Threads + Sync, W: Write>(
 ) -> Result<(), Refusal>
     requires few { length script.now.lines.items ≤ 65535 }
     requires ranges { All (IsLineInRange script.now.shape) script.now.lines.items }
-    ensures shown { OnOk result (Shown (view script.now) (W.contents out.old) (W.contents out.new)) }
+    ensures shown { OnOk result (Shown (view script.now) seed k (W.contents out.old) (W.contents out.new)) }
     ensures err { IfErr result (λ e. (e ≡ Memory) ⊎ (e ≡ Output)) }
 {
     orders_keep_lines();
@@ -369,9 +354,10 @@ pub fn schedules<R: Threads + Sync, W: Write>(
     out: &mut W,
 ) -> Result<Compared, Refusal>
     requires most { n ≤ 1000000 }
-    // All schedules were run and compared with the script's own run, and those that differ were written and counted.
+    // Schedules 1 to n of the seed were run and compared with the script's own run, and those that differ were written and counted.
     ensures wrote { IfOk result (λ count. (count.runs ≡ n) × (said : Said) × (script_of script.now ≡ Ok said)
-        × WroteSchedules said payloads.now (number_of_other script.now said.lines) n (W.contents out.old) (W.contents out.new) count.differ) }
+        × WroteSchedules said payloads.now seed (number_of_other script.now said.lines) n
+        (W.contents out.old) (W.contents out.new) count.differ) }
     // A refusal is the script's fault, or want of memory, or the writer's.
     ensures refused { IfErr result (λ e. (e ≡ Memory) ⊎ (e ≡ Output) ⊎ (script_of script.now ≡ Err e)) }
     // A script with a fault runs nothing.
@@ -396,9 +382,9 @@ pub fn show<R: Threads + Sync, W: Write>(
     k: u64,
     out: &mut W,
 ) -> Result<(), Refusal>
-    // What was written is a schedule of the script, and is read back as it.
+    // What was written is schedule k of the script, and is read back as it.
     ensures shown { OnOk result ((said : Said) × (script_of script.now ≡ Ok said)
-        × Shown said (W.contents out.old) (W.contents out.new)) }
+        × Shown said seed k (W.contents out.old) (W.contents out.new)) }
     // A refusal is the script's fault, or want of memory, or the writer's.
     ensures refused { IfErr result (λ e. (e ≡ Memory) ⊎ (e ≡ Output) ⊎ (script_of script.now ≡ Err e)) }
     // A script with a fault runs nothing.
