@@ -3,9 +3,11 @@
 #![tactic(auto)]
 
 mod part;
+mod progress;
 mod shares;
 mod windows;
 
 pub use part::{MOST_PARTS, Part};
+pub use progress::Progress;
 pub use shares::{PartText, Window, parts_make_all};
 pub use windows::{Jobs, Sink, Task, hand_on_all};
