@@ -3,7 +3,7 @@ use Rattle.std.proofs.Common.{◌≡◌, ◌⊎◌, inl, inr, ℕ, List, Option,
 use Rattle.std.specs.Io.KnownBytes.{Keeps}
 use Rattle.board_model.specs.declared.refusal.Refusal.{Refusal}
 use Rattle.bench_judge.specs.declared.judges.Sweep.{Sweep}
-use Rattle.bench_sweep.specs.declared.points.Bench.{Bench}
+use Rattle.bench_sweep.specs.declared.plan.Plan.{Plan}
 use Rattle.bench_sweep.specs.Swept.{IsBenchOf, IsRecoveredBenchOf}
 use Rattle.bench_sweep.specs.declared.sweeps.Recovered.{Recovered}
 use Rattle.bench_sweep.proofs.Written.{handed_on}
@@ -17,8 +17,8 @@ use Rattle.bench_preemptions.specs.declared.shown.Wanted.{Wanted}
 use Rattle.bench_program.specs.declared.usage.Drawn.{Drawn}
 use Rattle.bench_program.specs.Written.{IsOrderShown, IsPreempted, IsShrunk}
 
-pub wrote_on : (bench : Bench) (start : List (List ℕ)) (script : List ℕ) (a b c : Option (List ℕ)) (sweep : Sweep) → IsBenchOf bench start script a b sweep → Keeps b c → IsBenchOf bench start script a c sweep
-wrote_on bench start script a b c sweep (said, is, w) keeps = (
+pub wrote_on : (plan : Plan) (start : List (List ℕ)) (script : List ℕ) (a b c : Option (List ℕ)) (sweep : Sweep) → IsBenchOf plan start script a b sweep → Keeps b c → IsBenchOf plan start script a c sweep
+wrote_on plan start script a b c sweep (said, is, w) keeps = (
   said,
   is,
   record {
@@ -58,8 +58,8 @@ preempted_on within start script a b c orders differ (said, is, w) keeps = (
   },
 )
 
-pub recovered_on : (bench : Bench) (start : List (List ℕ)) (script recovery numbers : List ℕ) (a b c : Option (List ℕ)) (done : Recovered) → IsRecoveredBenchOf bench start script recovery numbers a b done → Keeps b c → IsRecoveredBenchOf bench start script recovery numbers a c done
-recovered_on bench start script recovery numbers a b c done (said, after, is, says, plain, none, some, (mid, rows, last)) keeps = (said, after, is, says, plain, none, some, (mid, rows, handed_on mid b c _ last keeps))
+pub recovered_on : (plan : Plan) (start : List (List ℕ)) (script recovery numbers : List ℕ) (a b c : Option (List ℕ)) (done : Recovered) → IsRecoveredBenchOf plan start script recovery numbers a b done → Keeps b c → IsRecoveredBenchOf plan start script recovery numbers a c done
+recovered_on plan start script recovery numbers a b c done (said, after, is, says, plain, none, some, (mid, rows, last)) keeps = (said, after, is, says, plain, none, some, (mid, rows, handed_on mid b c _ last keeps))
 
 pub order_on : (wanted : Wanted) (start : List (List ℕ)) (script : List ℕ) (a b c : Option (List ℕ))
     → ((said : Said) × (script_of script ≡ Ok said) × ShownOrder said start (numbers_of script) wanted.most wanted.number a b) → Keeps b c → IsOrderShown wanted start script a c

@@ -9,7 +9,7 @@ use Rattle.bench_report.specs.Prefix.{KeepsPrefixLaw}
 use Rattle.report_lines.specs.Texts.{report_text}
 use Rattle.bench_report.specs.Reports.{AreByFirmware, IsReportWith}
 use Rattle.report_lines.specs.declared.printed.Answer.{Answer}
-use Rattle.bench_sweep.specs.Swept.{IsBenchOf, IsRecoveredBenchOf, NoBenchRuns, NoRecoveryRuns}
+use Rattle.bench_sweep.specs.Swept.{IsBenchOf, IsRecoveredBenchOf, NoBenchRuns, NoRecoveryRuns, whole}
 use Rattle.bench_sweep.specs.declared.sweeps.Recovered.{Recovered}
 use Rattle.bench_preemptions.specs.Preemptions.{WrotePreemptions}
 use Rattle.bench_preemptions.specs.Shown.{HasNoOrder, ShownOrder}
@@ -41,7 +41,7 @@ IsReported payloads script old now = (said : Said) × (answers : List Answer) ×
 -- so many schedules of that seed, of the script that begins with these payloads, were compared with its own run, and told; so many differ
 abbrev pub IsCompared : Drawn → List (List ℕ) → List ℕ → Option (List ℕ) → Option (List ℕ) → ℕ → Type 0
 IsCompared drawn payloads script old now differ = (said : Said) × (script_of script ≡ Ok said)
-    × WroteSchedules said payloads drawn.seed (number_of_other script said.lines) drawn.number old now differ
+    × WroteSchedules said payloads drawn.seed (number_of_other script said.lines) None drawn.number old now differ
 
 -- the script that begins with these payloads was run, and its orders with so many preemptions at most; so many differ
 abbrev pub IsPreempted : Within → List (List ℕ) → List ℕ → Option (List ℕ) → Option (List ℕ) → ℕ → Type 0
@@ -51,7 +51,7 @@ IsPreempted within payloads script old now differ = (said : Said) × (script_of 
 -- a bench ran over the script that begins with these payloads, with that recovery behind each run; so many differ
 abbrev pub IsRecovered : Bench → List (List ℕ) → List ℕ → List ℕ → Option (List ℕ) → Option (List ℕ) → ℕ → Type 0
 IsRecovered bench payloads recovery script old now differ = (done : Recovered)
-    × IsRecoveredBenchOf (judged bench) payloads script recovery (numbers_of recovery) old now done × (done.differ ≡ differ)
+    × IsRecoveredBenchOf (whole (judged bench)) payloads script recovery (numbers_of recovery) old now done × (done.differ ≡ differ)
 
 -- the schedule of that seed and number was written
 abbrev pub IsShown : Drawn → List ℕ → Option (List ℕ) → Option (List ℕ) → Type 0
@@ -71,7 +71,7 @@ IsOrderShown wanted payloads script old now = (said : Said) × (script_of script
 -- schedules, of which none differs, or one of them, or one that was shrunk, or of its orders with few preemptions, of which none differs, or one that does
 abbrev pub IsWritten : Work → List (List ℕ) → List ℕ → Option (List ℕ) → Option (List ℕ) → Type 0
 IsWritten (Report savers) payloads script old now = IsReported payloads script old now
-IsWritten (Judge bench) payloads script old now = (counts : Counts) × IsBenchOf (judged bench) payloads script old now counts
+IsWritten (Judge bench) payloads script old now = (counts : Counts) × IsBenchOf (whole (judged bench)) payloads script old now counts
 IsWritten (Recover bench) payloads script old now = ⊥
 IsWritten (Compare drawn) payloads script old now = IsCompared drawn payloads script old now 0
 IsWritten (Show drawn) payloads script old now = IsShown drawn script old now

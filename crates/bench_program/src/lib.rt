@@ -15,7 +15,7 @@ ghost use Rattle.bench_program.specs.Faults.{status_after};
 ghost use Rattle.bench_program.specs.declared.fault.BenchFault.{BenchFault};
 ghost use Rattle.bench_program.specs.declared.fault.BenchFault.TheVariants.{Input, Refused};
 ghost use Rattle.script_lang.specs.Scripts.{script_of, Script as Said};
-ghost use Rattle.bench_sweep.specs.Swept.{IsBenchOf, IsRecoveredBenchOf, IsNotPlain, NoBenchRuns, NoRecoveryRuns};
+ghost use Rattle.bench_sweep.specs.Swept.{IsBenchOf, IsRecoveredBenchOf, IsNotPlain, NoBenchRuns, NoRecoveryRuns, whole};
 ghost use Rattle.bench_schedules.specs.Numbers.{numbers_of};
 ghost use Rattle.bench_preemptions.specs.Shown.{HasNoOrder};
 ghost use Rattle.bench_program.specs.Benches.{judged};
@@ -28,9 +28,11 @@ use crate::usage::USAGE;
 pub use crate::usage::{Bench, Drawn, Options, Savers, Work, options_of};
 use bench_preemptions::{Preempted, Wanted, Within, preemptions, show_order};
 use bench_report::run_with;
-use bench_schedules::{Compared, line_numbers, schedules, show};
+use bench_schedules::{Compared, Plan as Schedules, line_numbers, schedules, show};
 use bench_shrink::shrink;
-use bench_sweep::{Bench as Swept, Recovered, RecoveryFile, Sweep, run_bench, run_bench_recovered};
+use bench_sweep::{
+    Bench as Swept, Plan, Recovered, RecoveryFile, Sweep, run_bench, run_bench_recovered,
+};
 use board::Payloads;
 use board_model::{MAX_LINE_BYTES, MAX_SCRIPT_LINES, Refusal};
 pub use command_line::Pipe;
@@ -94,6 +96,17 @@ pub fn write_report<C: Crew, W: Write + Drop>(
     out.flush().map_err(|_| Refusal::Output)
 }
 
+/// The whole of a bench.
+fn whole(bench: Bench) -> Plan
+    ensures { result ≡ whole (judged bench) }
+{
+    Plan {
+        bench: swept(bench),
+        part: None,
+        quiet: false,
+    }
+}
+
 /// Runs a bench over the script that begins with these payloads. Refused as `bench_sweep::run_bench` is.
 fn run_named_bench<R: Threads + Sync, W: Write + Drop>(
     jobs: &Jobs<'_, R>,
@@ -103,7 +116,7 @@ fn run_named_bench<R: Threads + Sync, W: Write + Drop>(
     payloads: Payloads,
     out: &mut BufWriter<W>,
 ) -> Result<Sweep, Refusal>
-    ensures wrote { IfOk result (λ sweep. IsBenchOf (judged bench) payloads script.now
+    ensures wrote { IfOk result (λ sweep. IsBenchOf (whole (judged bench)) payloads script.now
         (writer_contents W.contents out.old) (writer_contents W.contents out.new) sweep) }
     ensures refused { IfErr result (λ e. (e ≡ Refusal.Memory) ⊎ (e ≡ Refusal.Output) ⊎ (script_of script.now ≡ Err e)
         ⊎ ((e ≡ Refusal.NotPlain) × NoBenchRuns script.now)) }
@@ -114,10 +127,7 @@ fn run_named_bench<R: Threads + Sync, W: Write + Drop>(
         → (writer_contents W.contents out.new ≡ writer_contents W.contents out.old)
         × ((result ≡ Err Refusal.NotPlain) ⊎ (result ≡ Err Refusal.Memory)) }
 {
-    match bench {
-        Bench::Sweep => run_bench(jobs, alloc, Swept::Cuts, script, payloads, out),
-        Bench::Faults => run_bench(jobs, alloc, Swept::Fails, script, payloads, out),
-    }
+    run_bench(jobs, alloc, whole(bench), script, payloads, out)
 }
 
 /// Runs a bench over the script that begins with these payloads, and writes its lines to the end. The threads of these jobs
@@ -133,7 +143,7 @@ pub fn write_bench<R: Threads + Sync, W: Write + Drop>(
     out: &mut BufWriter<W>,
 ) -> Result<Sweep, Refusal>
     // What was written is a line for each run of that bench, and the line of the counts; none was wrong.
-    ensures wrote { IfOk result (λ sweep. IsBenchOf (judged bench) payloads script.now
+    ensures wrote { IfOk result (λ sweep. IsBenchOf (whole (judged bench)) payloads script.now
         (writer_contents W.contents out.old) (writer_contents W.contents out.new) sweep) }
     // Nothing of it is held back.
     ensures flushed { OnOk result (writer_buffer out.new ≡ []) }
@@ -177,7 +187,7 @@ pub fn write_recovered<R: Threads + Sync, W: Write + Drop>(
     out: &mut BufWriter<W>,
 ) -> Result<Recovered, Refusal>
     // What was written is the lines of each run of that bench, and the line of the counts; none was wrong.
-    ensures wrote { IfOk result (λ done. IsRecoveredBenchOf (judged bench) payloads script.now recovery.now (numbers_of recovery.now)
+    ensures wrote { IfOk result (λ done. IsRecoveredBenchOf (whole (judged bench)) payloads script.now recovery.now (numbers_of recovery.now)
         (writer_contents W.contents out.old) (writer_contents W.contents out.new) done) }
     // Nothing of it is held back.
     ensures flushed { OnOk result (writer_buffer out.new ≡ []) }
@@ -190,7 +200,7 @@ pub fn write_recovered<R: Threads + Sync, W: Write + Drop>(
         bytes: recovery,
         numbers: &numbers,
     };
-    let done = run_bench_recovered(jobs, alloc, swept(bench), script, recovery, payloads, out)?;
+    let done = run_bench_recovered(jobs, alloc, whole(bench), script, recovery, payloads, out)?;
     match out.flush() {
         Ok(()) => Ok(done),
         Err(_) => Err(Refusal::Output),
@@ -222,15 +232,12 @@ pub fn write_schedules<R: Threads + Sync, W: Write + Drop>(
         → (writer_contents W.contents out.new ≡ writer_contents W.contents out.old)
         × ((result ≡ Err e) ⊎ (result ≡ Err Refusal.Memory)) }
 {
-    let count = schedules::<R, BufWriter<W>>(
-        jobs,
-        alloc,
-        script,
-        payloads,
-        drawn.number,
-        drawn.seed,
-        out,
-    )?;
+    let plan = Schedules {
+        seed: drawn.seed,
+        count: drawn.number,
+        part: None,
+    };
+    let count = schedules::<R, BufWriter<W>>(jobs, alloc, script, payloads, plan, out)?;
     match out.flush() {
         Ok(()) => Ok(count),
         Err(_) => Err(Refusal::Output),

@@ -1,9 +1,11 @@
 -- The runs of the schedule bench. Source: docs/SCRIPT.md, "Schedules".
-use Rattle.std.specs.Prelude.{Ok, Bool, ◌≡◌, ◌≢◌, ◌⊎◌, ◌+◌, ℕ, suc, List, [], ◌∷◌, ◌++◌, Option, None, Some, All, length, take, if◌then◌else◌}
+use Rattle.std.specs.Prelude.{Ok, Bool, true, ◌≡◌, ◌≢◌, ◌⊎◌, ◌+◌, ◌-◌, ◌==◌, ℕ, suc, List, [], ◌∷◌, ◌++◌, Option, None, Some, All, length, take, if◌then◌else◌}
 use Rattle.std.specs.Fmt.{decimal}
 use Rattle.std.specs.List.{flat_map}
 use Rattle.std.specs.Io.KnownBytes.{Appends}
 use Rattle.board_model.specs.Shapes.{Size}
+use Rattle.jobs.specs.Parts.{begin_of, end_of, part_text}
+use Rattle.jobs.specs.declared.part.Part.{Part}
 use Rattle.script_lang.specs.Lines.{text_of}
 use Rattle.script_lang.specs.Scripts.{Script, script_of}
 use Rattle.script_lang.specs.Spellings.{script_text, IsWritable}
@@ -103,8 +105,9 @@ differing (Some d ∷ runs) = suc (differing runs)
 abbrev pub tight_text : List ℕ → List ℕ
 tight_text numbers = flat_map (λ n. codes "line " ++ decimal n ++ codes " tight\n") numbers
 
-abbrev pub count_text : ℕ → ℕ → List ℕ
-count_text n differ = codes "schedules " ++ decimal n ++ codes " differ " ++ decimal differ ++ 10 ∷ []
+-- the last line, of a part or of the whole
+abbrev pub count_text : Option Part → ℕ → ℕ → List ℕ
+count_text part n differ = part_text part ++ codes "schedules " ++ decimal n ++ codes " differ " ++ decimal differ ++ 10 ∷ []
 
 -- These runs were made, of the n schedules from number k on: what was written of them, and how many differ.
 pub record Wrote (said : Script) (start : List (List ℕ)) (from : Source) (number : ℕ → ℕ) (own : List Answer) (k n : ℕ)
@@ -117,18 +120,31 @@ pub record Wrote (said : Script) (start : List (List ℕ)) (from : Source) (numb
   pub tells : RunsText number k runs text
   pub written : Appends old new text
 
--- All n schedules of the seed were run, each was compared with the script's own run and counted, and this was written of them.
-pub record WroteSchedules (said : Script) (start : List (List ℕ)) (seed : ℕ) (number : ℕ → ℕ) (n : ℕ) (old new : Option (List ℕ))
-    (differ : ℕ) : Type 0 where
+-- a run of that part tells of stretches that name few turns: the first does, and one of the whole
+abbrev pub has_tight : Option Part → Bool
+has_tight None = true
+has_tight (Some part) = part.number == 1
+
+abbrev pub own_tight : Option Part → List ℕ → List ℕ
+own_tight part tight = if has_tight part then tight else []
+
+-- how many schedules of n a part has, or the whole
+abbrev pub own_count : Option Part → ℕ → ℕ
+own_count part n = end_of part n - begin_of part n
+
+-- All n schedules of the seed were run, or those of the part, under their own numbers, each was compared with the script's own run and
+-- counted, and this was written of them.
+pub record WroteSchedules (said : Script) (start : List (List ℕ)) (seed : ℕ) (number : ℕ → ℕ) (part : Option Part) (n : ℕ)
+    (old new : Option (List ℕ)) (differ : ℕ) : Type 0 where
   pub own : List Answer
   pub ran : RanOwn said.size start said.lines own
   pub fronts : List Front
   pub tight : List ℕ
   pub first : Option (List ℕ)
-  pub begun : Appends old first (tight_text tight)
+  pub begun : Appends old first (tight_text (own_tight part tight))
   pub last : Option (List ℕ)
-  pub wrote : Wrote said start (record { seed = seed; fronts = fronts }) number own 1 n first last differ
-  pub ended : Appends last new (count_text n differ)
+  pub wrote : Wrote said start (record { seed = seed; fronts = fronts }) number own (1 + begin_of part n) (own_count part n) first last differ
+  pub ended : Appends last new (count_text part (own_count part n) differ)
 
 -- lines as they are written, each with a line feed
 abbrev pub lines_text : List Line → List ℕ

@@ -1,6 +1,6 @@
 //! Whole benches.
 
-ghost use Rattle.std.specs.Prelude.{◌≡◌, ◌⊎◌, ◌+◌, ◌++◌, ◌≤◌, ◌<◌, ◌^◌, ℕ, slice_index_or, length, All, IfErr, IfOk, OnOk, Ok, Err};
+ghost use Rattle.std.specs.Prelude.{◌≡◌, ◌⊎◌, ◌+◌, ◌-◌, ◌≤◌, ℕ, slice_index_or, length, All, IfErr, IfOk, OnOk, Ok, Err};
 ghost use Rattle.std.specs.Io.KnownBytes.{Appends};
 ghost use Rattle.board_model.specs.Shapes.{IsSize};
 ghost use Rattle.board_model.specs.declared.refusal.Refusal.{Refusal as Refused};
@@ -10,7 +10,7 @@ ghost use Rattle.script_lang.specs.Scripts.{script_of, Script as Said};
 ghost use Rattle.script_lang.specs.Views.{view};
 ghost use Rattle.bench_orders.specs.Orders.{other_count};
 ghost use Rattle.bench_schedules.specs.Numbers.{number_of_other, place_of_other};
-ghost use Rattle.bench_schedules.specs.Schedules.{Ran, RanOwn, RunText, Shown, Wrote, WroteSchedules, differing, tight_text};
+ghost use Rattle.bench_schedules.specs.Schedules.{Ran, RanOwn, RunText, Shown, Wrote, WroteSchedules, differing, has_tight, own_count, own_tight, tight_text};
 ghost use Rattle.std.specs.Prelude.{List, ◌∷◌, []};
 
 use crate::lines_fit::fits;
@@ -24,7 +24,7 @@ use bench_report::{Answer, Setting};
 use board::Payloads;
 use board_model::{Refusal, Shape};
 use crew::{Crew, Sequential};
-use jobs::{Jobs, Sink, Task, hand_on_all};
+use jobs::{Jobs, Part, Sink, Task, Window, hand_on_all};
 use script_lang::{Line, Script, parse_script, scripts_read_as_written};
 use std::alloc::Global;
 use std::io::Write;
@@ -35,6 +35,17 @@ use std::thread::Threads;
 pub struct Compared {
     pub runs: u64,
     pub differ: u64,
+}
+
+/// Which schedules of a script are run.
+#[derive(Clone, Copy, Drop)]
+pub struct Plan {
+    /// The seed from which they are drawn.
+    pub seed: u64,
+    /// How many they are, numbered from 1.
+    pub count: u64,
+    /// Of their numbers those of this part alone; where there is none, all.
+    pub part: Option<Part>,
 }
 
 /// A script that is run by schedules.
@@ -158,13 +169,13 @@ impl<'a, 'b, 'c, C, W: Write> Sink<DrawnRun> for Report<'a, 'b, 'c, C, W> {
     }
 }
 
-/// Runs n schedules, from number 1 on, by the threads of these jobs, and writes a line for each that differs. Answers how
-/// many do.
+/// Runs schedules of that window of their numbers, which begin with 1, by the threads of these jobs, and writes a line for each
+/// that differs. Answers how many do.
 fn run_schedules<R: Threads + Sync, C: Crew + Sync, W: Write>(
     jobs: &Jobs<'_, R>,
     runner: &Runner<'_, C>,
     own: &OwnRun,
-    n: u64,
+    within: Window,
     out: &mut W,
 ) -> Result<u64, Refusal>
     requires size { IsSize runner.now.setting.shape.now }
@@ -172,11 +183,11 @@ fn run_schedules<R: Threads + Sync, C: Crew + Sync, W: Write>(
     requires ranges { All (IsLineInRange runner.now.setting.shape.now) runner.now.lines.now }
     requires fits { All FitsLine runner.now.lines.now }
     requires count { length own.now.answers.items ≡ other_count runner.now.lines.now }
-    requires most { n ≤ 1000000 }
+    requires most { within.to ≤ 1000000 }
     ensures wrote { IfOk result (λ differ. Wrote (record { size = runner.now.setting.shape.now; lines = runner.now.lines.now })
         runner.now.payloads.now (record { seed = runner.now.seed; fronts = own.now.stretches.fronts.items })
         (λ place. slice_index_or runner.now.numbers.now (1 + place_of_other place runner.now.lines.now) 0)
-        own.now.answers.items 1 n (W.contents out.old) (W.contents out.new) differ) }
+        own.now.answers.items (1 + within.from) (within.to - within.from) (W.contents out.old) (W.contents out.new) differ) }
     ensures err { IfErr result (λ e. (e ≡ Memory) ⊎ (e ≡ Output)) }
 {
     let runs = DrawnRuns { runner, own };
@@ -185,7 +196,15 @@ fn run_schedules<R: Threads + Sync, C: Crew + Sync, W: Write>(
         out,
         differ: 0,
     };
-    hand_on_all(jobs, runner.setting.alloc, &runs, 1, n, &mut report)?;
+    let Window { from, to } = within;
+    hand_on_all(
+        jobs,
+        runner.setting.alloc,
+        &runs,
+        1 + from,
+        to - from,
+        &mut report,
+    )?;
     Ok(report.differ)
 }
 
@@ -198,6 +217,32 @@ fn write_one_tight<W: Write>(numbers: &[u64], place: usize, out: &mut W) -> Resu
         return Ok(());
     }
     write_tight(out, number_at(numbers, place))
+}
+
+/// Whether a run of that part writes which stretches name few turns: the first does, and one of the whole.
+fn writes_tight(part: Option<Part>) -> bool
+    ensures { result ≡ has_tight part }
+{
+    match part {
+        None => true,
+        Some(part) => part.number == 1,
+    }
+}
+
+/// Writes a line for each stretch that names few turns; of a part only the first does.
+fn write_own_tight<W: Write>(
+    numbers: &[u64],
+    tight: &[usize],
+    part: Option<Part>,
+    out: &mut W,
+) -> Result<(), Refusal>
+    ensures ok { OnOk result ((told : List ℕ) × Appends (W.contents out.old) (W.contents out.new) (tight_text (own_tight part told))) }
+    ensures err { IfErr result (λ e. (e ≡ Memory) ⊎ (e ≡ Output)) }
+{
+    if writes_tight(part) {
+        return write_all_tight(numbers, tight, out);
+    }
+    Ok(())
 }
 
 /// Writes a line for each stretch that names few turns.
@@ -239,49 +284,53 @@ pub fn confirmed_own_run<C: Crew>(
     }
 }
 
-/// Runs the script as it stands, and then n schedules of it. Writes which of its stretches name few turns, which schedules
-/// differ, and how many. Answers how many.
+/// Runs the script as it stands, and then schedules of it, by that plan. Writes which of its stretches name few turns, which
+/// schedules differ, and how many. Answers how many were run, and how many differ.
 fn compare_all<R: Threads + Sync, C: Crew + Sync, W: Write>(
     jobs: &Jobs<'_, R>,
     runner: &Runner<'_, C>,
-    n: u64,
+    plan: Plan,
     out: &mut W,
-) -> Result<u64, Refusal>
+) -> Result<Compared, Refusal>
     requires size { IsSize runner.now.setting.shape.now }
     requires few { length runner.now.lines.now ≤ 65535 }
     requires ranges { All (IsLineInRange runner.now.setting.shape.now) runner.now.lines.now }
     requires fits { All FitsLine runner.now.lines.now }
-    requires most { n ≤ 1000000 }
-    ensures wrote { IfOk result (λ differ. WroteSchedules (record { size = runner.now.setting.shape.now; lines = runner.now.lines.now })
+    requires most { plan.count ≤ 1000000 }
+    ensures runs { IfOk result (λ count. count.runs ≡ own_count plan.part plan.count) }
+    ensures wrote { IfOk result (λ count. WroteSchedules (record { size = runner.now.setting.shape.now; lines = runner.now.lines.now })
         runner.now.payloads.now runner.now.seed
-        (λ place. slice_index_or runner.now.numbers.now (1 + place_of_other place runner.now.lines.now) 0) n
-        (W.contents out.old) (W.contents out.new) differ) }
+        (λ place. slice_index_or runner.now.numbers.now (1 + place_of_other place runner.now.lines.now) 0)
+        plan.part plan.count (W.contents out.old) (W.contents out.new) count.differ) }
     ensures err { IfErr result (λ e. (e ≡ Memory) ⊎ (e ≡ Output)) }
 {
     let own = confirmed_own_run(&runner.setting, runner.payloads, runner.lines)?;
-    write_all_tight(runner.numbers, &own.stretches.tight, out)?;
-    let differ = run_schedules(jobs, runner, &own, n, out)?;
-    write_count(out, n, differ)?;
-    Ok(differ)
+    write_own_tight(runner.numbers, &own.stretches.tight, plan.part, out)?;
+    let within = Window::of_part(plan.part, plan.count);
+    let differ = run_schedules(jobs, runner, &own, within, out)?;
+    let Window { from, to } = within;
+    let runs = to - from;
+    write_count(out, plan.part, runs, differ)?;
+    Ok(Compared { runs, differ })
 }
 
-/// Compares n schedules of a script that was read with its own run.
+/// Compares schedules of a script that was read with its own run.
 fn compare_script<'a, R: Threads + Sync, W: Write>(
     jobs: &Jobs<'_, R>,
     alloc: Global,
     script: &'a Script,
     payloads: &'a Payloads,
     numbers: &'a [u64],
-    n: u64,
-    seed: u64,
+    plan: Plan,
     out: &mut W,
-) -> Result<u64, Refusal>
+) -> Result<Compared, Refusal>
     requires few { length script.now.lines.items ≤ 65535 }
     requires ranges { All (IsLineInRange script.now.shape) script.now.lines.items }
-    requires most { n ≤ 1000000 }
-    ensures wrote { IfOk result (λ differ. WroteSchedules (view script.now) payloads.now seed
-        (λ place. slice_index_or numbers.now (1 + place_of_other place script.now.lines.items) 0) n
-        (W.contents out.old) (W.contents out.new) differ) }
+    requires most { plan.count ≤ 1000000 }
+    ensures runs { IfOk result (λ count. count.runs ≡ own_count plan.part plan.count) }
+    ensures wrote { IfOk result (λ count. WroteSchedules (view script.now) payloads.now plan.seed
+        (λ place. slice_index_or numbers.now (1 + place_of_other place script.now.lines.items) 0)
+        plan.part plan.count (W.contents out.old) (W.contents out.new) count.differ) }
     ensures err { IfErr result (λ e. (e ≡ Memory) ⊎ (e ≡ Output)) }
 {
     let lines = script.lines.as_slice();
@@ -297,9 +346,9 @@ fn compare_script<'a, R: Threads + Sync, W: Write>(
         lines,
         payloads,
         numbers,
-        seed,
+        seed: plan.seed,
     };
-    compare_all(jobs, &runner, n, out)
+    compare_all(jobs, &runner, plan, out)
 }
 
 /// Writes schedule k of a script that was read. The script is run first: its own run tells in which part of each stretch the
@@ -335,10 +384,11 @@ fn show_script<R: Threads + Sync, W: Write>(
 }
 
 /// The schedule bench (docs/SCRIPT.md, "Schedules"). It runs a script as it stands, with these payloads in the slots, and
-/// then n schedules of it: the same lines, but with the turns of each stretch in another order. It compares their reports,
+/// then schedules of it, by that plan: the same lines, but with the turns of each stretch in another order. It compares their reports,
 /// leaving out `turn` lines. Where a schedule's report differs, it writes the first line that does, with the number of the
 /// script's line. At the end it writes how many differ. Each schedule is drawn from the seed and its number alone. The
-/// schedules are run by the threads of these jobs; what is written is the same however many these are.
+/// schedules are run by the threads of these jobs; what is written is the same however many these are. Of a plan with a part
+/// those of the part alone are run, under their own numbers, and counted.
 ///
 /// Refused `BadShape` or `BadScript` where the script has a fault, and then nothing is written; `Memory` where memory was
 /// refused in any run, to a power-on, to an examination of the disk or to the disk's record, which is never a difference,
@@ -349,14 +399,14 @@ pub fn schedules<R: Threads + Sync, W: Write>(
     alloc: Global,
     script: &[u8],
     payloads: &Payloads,
-    n: u64,
-    seed: u64,
+    plan: Plan,
     out: &mut W,
 ) -> Result<Compared, Refusal>
-    requires most { n ≤ 1000000 }
-    // Schedules 1 to n of the seed were run and compared with the script's own run, and those that differ were written and counted.
-    ensures wrote { IfOk result (λ count. (count.runs ≡ n) × (said : Said) × (script_of script.now ≡ Ok said)
-        × WroteSchedules said payloads.now seed (number_of_other script.now said.lines) n
+    requires most { plan.count ≤ 1000000 }
+    // All schedules of the seed, or those of the part, were run and compared with the script's own run, and those that differ were written and
+    // counted.
+    ensures wrote { IfOk result (λ count. (count.runs ≡ own_count plan.part plan.count) × (said : Said) × (script_of script.now ≡ Ok said)
+        × WroteSchedules said payloads.now plan.seed (number_of_other script.now said.lines) plan.part plan.count
         (W.contents out.old) (W.contents out.new) count.differ) }
     // A refusal is the script's fault, or want of memory, or the writer's.
     ensures refused { IfErr result (λ e. (e ≡ Memory) ⊎ (e ≡ Output) ⊎ (script_of script.now ≡ Err e)) }
@@ -366,8 +416,7 @@ pub fn schedules<R: Threads + Sync, W: Write>(
 {
     let read = parse_script(alloc, script)?;
     let numbers = line_numbers(alloc, script)?;
-    let differ = compare_script::<R, W>(jobs, alloc, &read, payloads, &numbers, n, seed, out)?;
-    Ok(Compared { runs: n, differ })
+    compare_script::<R, W>(jobs, alloc, &read, payloads, &numbers, plan, out)
 }
 
 /// Writes schedule k of a script as a script: the one that [`schedules`] runs by that number, with the same seed and the same

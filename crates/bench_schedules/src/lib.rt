@@ -13,7 +13,7 @@ mod stretches;
 mod told;
 mod written;
 
-pub use benches::{Compared, confirmed_own_run, schedules, shape_in_range, show};
+pub use benches::{Compared, Plan, confirmed_own_run, schedules, shape_in_range, show};
 pub use line_runs::{end_run, run_line};
 pub use lines_fit::fits;
 pub use numbers::{line_numbers, number_at, number_of_other};

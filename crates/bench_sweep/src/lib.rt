@@ -7,6 +7,7 @@ mod finds;
 mod follows;
 mod harts;
 mod judging;
+mod plan;
 mod points;
 mod recovery;
 mod rows;
@@ -16,6 +17,7 @@ mod sites;
 mod sweeps;
 
 pub use bench_judge::{Sweep, judge};
+pub use plan::Plan;
 pub use points::Bench;
 pub use recovery::RecoveryFile;
-pub use sweeps::{Recovered, run_bench, run_bench_recovered};
+pub use sweeps::{Recovered, parts_make_a_bench, run_bench, run_bench_recovered};
