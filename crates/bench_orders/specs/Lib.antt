@@ -1,3 +1,4 @@
 pub mod Deals
 pub mod Orders
 pub mod Preempted
+pub mod Texts

@@ -4,7 +4,6 @@ use Rattle.std.specs.Fmt.{decimal}
 use Rattle.std.specs.List.{flat_map}
 use Rattle.std.specs.Io.KnownBytes.{Appends}
 use Rattle.board_model.specs.Shapes.{Size}
-use Rattle.script_lang.specs.Lines.{text_of}
 use Rattle.script_lang.specs.Scripts.{Script, script_of}
 use Rattle.script_lang.specs.Spellings.{script_text, IsWritable}
 use Rattle.script_lang.specs.declared.line.Line.{Line}
@@ -113,10 +112,6 @@ pub record WroteSchedules (said : Script) (start : List (List ℕ)) (number : �
   pub last : Option (List ℕ)
   pub wrote : Wrote said start number own 1 n first last differ
   pub ended : Appends last new (count_text n differ)
-
--- lines as they are written, each with a line feed
-abbrev pub lines_text : List Line → List ℕ
-lines_text those = flat_map (λ line. text_of line ++ 10 ∷ []) those
 
 -- `--show`: one schedule of the script, as a text that is read back as it. A line feed ends its last line too.
 pub record Shown (said : Script) (old new : Option (List ℕ)) : Type 0 where
