@@ -2,3 +2,4 @@ pub mod Deals
 pub mod Orders
 pub mod Preempted
 pub mod Drawn
+pub mod Texts

@@ -6,7 +6,6 @@ use Rattle.std.specs.Io.KnownBytes.{Appends}
 use Rattle.board_model.specs.Shapes.{Size}
 use Rattle.jobs.specs.Parts.{begin_of, end_of, part_text}
 use Rattle.jobs.specs.declared.part.Part.{Part}
-use Rattle.script_lang.specs.Lines.{text_of}
 use Rattle.script_lang.specs.Scripts.{Script, script_of}
 use Rattle.script_lang.specs.Spellings.{script_text, IsWritable}
 use Rattle.script_lang.specs.declared.line.Line.{Line}
@@ -145,10 +144,6 @@ pub record WroteSchedules (said : Script) (start : List (List ℕ)) (seed : ℕ)
   pub last : Option (List ℕ)
   pub wrote : Wrote said start (record { seed = seed; fronts = fronts }) number own (1 + begin_of part n) (own_count part n) first last differ
   pub ended : Appends last new (count_text part (own_count part n) differ)
-
--- lines as they are written, each with a line feed
-abbrev pub lines_text : List Line → List ℕ
-lines_text those = flat_map (λ line. text_of line ++ 10 ∷ []) those
 
 -- `--show`: schedule k of the seed, as a text that is read back as it. A line feed ends its last line too.
 pub record Shown (said : Script) (seed k : ℕ) (old new : Option (List ℕ)) : Type 0 where

@@ -13,16 +13,16 @@ ghost use Rattle.bench_schedules.specs.Numbers.{number_of_other, place_of_other}
 ghost use Rattle.bench_schedules.specs.Schedules.{Ran, RanOwn, RunText, Shown, Wrote, WroteSchedules, differing, has_tight, own_count, own_tight, tight_text};
 ghost use Rattle.std.specs.Prelude.{List, ◌∷◌, []};
 
-use crate::lines_fit::fits;
 use crate::numbers::{line_numbers, number_at, number_of_other};
 use crate::own_runs::{OwnRun, run_own};
 use crate::runs::{Difference, run_confirmed, run_until};
-use crate::scripts::write_script;
 use crate::written::{write_count, write_difference, write_tight};
-use bench_orders::{generator, orders_keep_lines, schedule};
+use bench_orders::{
+    fits, generator, orders_keep_lines, schedule, shape_in_range, write_script,
+};
 use bench_report::{Answer, Setting};
 use board::Payloads;
-use board_model::{Refusal, Shape};
+use board_model::Refusal;
 use crew::{Crew, Sequential};
 use jobs::{Jobs, Part, Sink, Task, Window, hand_on_all};
 use script_lang::{Line, Script, parse_script, scripts_read_as_written};
@@ -254,15 +254,6 @@ fn write_all_tight<W: Write>(numbers: &[u64], tight: &[usize], out: &mut W) -> R
         write_one_tight(numbers, *place, out)?;
     }
     Ok(())
-}
-
-/// Each number of a shape is within its range.
-pub fn shape_in_range(shape: &Shape)
-    ensures { IsSize shape.now }
-{
-    let _harts = shape.harts();
-    let _pages = shape.pages();
-    let _lanes = shape.lanes();
 }
 
 /// The script's own run. It is made twice: where the second one answers otherwise, memory was refused in one of them, and so

@@ -13,11 +13,11 @@ ghost use Rattle.bench_shrink.specs.Shrunk.{IsFound, IsSearchable, IsShortened, 
 use crate::passes::search_all;
 use crate::search::{Kept, Search, confirmed};
 use crate::slices::slices_of;
-use bench_orders::{generator, orders_keep_lines, schedule};
-use bench_report::{Answer, Setting};
-use bench_schedules::{
-    Difference, confirmed_own_run, fits, run_confirmed, shape_in_range, write_script,
+use bench_orders::{
+    fits, generator, orders_keep_lines, schedule, shape_in_range, write_script,
 };
+use bench_report::{Answer, Setting};
+use bench_schedules::{Difference, confirmed_own_run, run_confirmed};
 use board::Payloads;
 use board_model::Refusal;
 use crew::{Crew, Sequential};

@@ -1,21 +1,29 @@
 -- What a bench has written and counted so far. Source: docs/SCRIPT.md, "The benches".
 use Rattle.std.specs.Prelude.{◌≡◌, ◌≤◌, ◌<◌, ◌+◌, ◌^◌, ◌++◌, ◌∷◌, [], ℕ, List, Option, All, length, map, take, drop}
 use Rattle.std.specs.Io.KnownBytes.{Appends}
-use Rattle.disk.specs.Facts.{counted}
+use Rattle.disk.specs.Facts.{Content, counted}
+use Rattle.simdisk.specs.Views.{left_by_fill}
+use Rattle.simdisk.specs.declared.SimDisk.{SimDisk}
+use Rattle.simdisk.specs.declared.fill.Fill.{Fill}
+use Rattle.write_log.specs.WriteLog.{synced}
 use Rattle.board_model.specs.Shapes.{Size}
 use Rattle.script_lang.specs.declared.line.Line.{Line}
 use Rattle.bench_report.specs.Bench.{Bench}
+use Rattle.bench_report.specs.Examined.{OpensOf}
 use Rattle.bench_report.specs.Happens.{unpowered}
+use Rattle.bench_report.specs.Views.{facts, sim_log_of}
 use Rattle.bench_sweep.specs.declared.points.Bench.{Bench as Kind}
 use Rattle.bench_sweep.specs.declared.points.Caller.{Caller}
 use Rattle.bench_sweep.specs.declared.rows.Row.{Row}
 use Rattle.bench_sweep.specs.declared.judging.PointRows.{PointRows}
 use Rattle.bench_sweep.specs.declared.site.Site.{Site}
 use Rattle.bench_sweep.specs.declared.sweeps.Report.{Report}
-use Rattle.bench_sweep.specs.Made.{LooksAt, ShowsState, IsFormatted, IsPlainRun, IsUncut, IsRecovered, RunsWith, IsRunOf}
-use Rattle.bench_sweep.specs.Recovers.{Compared}
+use Rattle.bench_sweep.specs.declared.recovery.Differs.{Differs}
+use Rattle.bench_sweep.specs.Made.{LooksAt, ShowsState, IsFormatted, IsPlainRun, IsUncut, IsRecovered, Recovers, RunsWith, IsRunOf}
+use Rattle.bench_sweep.specs.Points.{cut_fill}
+use Rattle.bench_sweep.specs.Recovers.{Compared, TellsFirst}
 use Rattle.bench_sweep.specs.Rows.{differing_rows}
-use Rattle.bench_sweep.specs.Runs.{RunsAt, Sits}
+use Rattle.bench_sweep.specs.Runs.{LeftAt, RunsAt, Sits, SitsLeft}
 use Rattle.report_lines.specs.declared.printed.Printed.{Printed}
 use Rattle.bench_sweep.specs.Swept.{Cell, Spot, Writes, AreSwept, all_points, cell_of, rows_text, runs_at, runs_of, callers}
 use Rattle.jobs.specs.Parts.{own_of}
@@ -34,6 +42,29 @@ abbrev pub IsLeft : Size → Bench → Compared → Row → Type 0
 IsLeft size end rest row =
     ((after : Bench) × LooksAt size (unpowered end) row.left after) × ShowsState row.left
     × IsRecovered size end rest row.left row.recovered
+
+-- what a cut with that fill leaves of the disk
+abbrev pub cut_content : SimDisk → Fill → Content
+cut_content disk fill = left_by_fill fill (synced (sim_log_of disk)) (sim_log_of disk).written
+
+-- The recovery ran over a disk that holds just that: whatever the bench that it stands for, its looks say so.
+pub record RunsOver (size : Size) (content : Content) (rest : Compared) (differs : Option Differs) : Type 0 where
+  pub site : Site
+  pub holds : (facts site.off.disk).content ≡ content
+  pub sits : SitsLeft size site
+  pub tells : (b : Bench) → LeftAt size b site → (said : List Printed) × Recovers size b rest.lines said × TellsFirst rest.numbers rest.own said differs
+
+-- where the own looks are some; where there are none, nothing is told
+abbrev pub ToldOver : List Printed → Size → Content → Compared → Option Differs → Type 0
+ToldOver [] size content rest differs = differs ≡ None
+ToldOver (o ∷ own) size content rest differs = RunsOver size content rest differs
+
+-- A row whose run ended at that bench, with that disk. What the row's own fill leaves of the disk, and zeros behind a failure, is
+-- what the power-on said that of, and what the recovery ran over.
+pub record IsLeftBy (size : Size) (end : Bench) (disk : SimDisk) (rest : Compared) (row : Row) : Type 0 where
+  pub is : IsLeft size end rest row
+  pub opens : OpensOf (cut_content disk (cut_fill row.fill)) row.left
+  pub over : ToldOver rest.own size (cut_content disk (cut_fill row.fill)) rest row.recovered
 
 -- a row whose run begins at that bench, which is off, where its caller had made so many calls
 abbrev pub RunsRow : Size → Kind → ℕ → Bench → List Line → Compared → Row → Type 0

@@ -1,7 +1,7 @@
 //! Places at which power is cut, or a call fails, and what the cuts leave.
 
 ghost use Rattle.std.specs.Prelude.{◌≡◌, ◌+◌};
-ghost use Rattle.bench_sweep.specs.Points.{calls_of, cut_of, failure_of, fault_at};
+ghost use Rattle.bench_sweep.specs.Points.{calls_of, cut_fill, cut_of, failure_of, fault_at};
 
 use disk::ArmedFault;
 use simdisk::{Fill, SimDisk};
@@ -96,3 +96,14 @@ pub const FILLS: [Fill; 5] = [
     Fill::Old,
     Fill::New,
 ];
+
+/// What a cut leaves of what was written since the last sync, by the fill of its run: a run behind a failure has none, and is cut
+/// with zeros.
+pub fn cut_fill(fill: Option<Fill>) -> Fill
+    ensures { result ≡ cut_fill fill }
+{
+    match fill {
+        None => Fill::Byte(0),
+        Some(fill) => fill,
+    }
+}

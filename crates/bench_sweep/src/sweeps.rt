@@ -137,7 +137,7 @@ fn stretch_of<C: Crew>(runner: &Runner<'_, C>, site: &Site) -> Result<Stretch, R
 }
 
 /// How many calls of that caller were made from the one site to the other. A disk never counts back.
-fn calls_between(caller: Caller, from: &Site, to: &Site) -> Result<u64, Refusal>
+pub fn calls_between(caller: Caller, from: &Site, to: &Site) -> Result<u64, Refusal>
     ensures calls { IfOk result (λ n. calls_of caller to.now.off.disk ≡ calls_of caller from.now.off.disk + n) }
     ensures below { IfOk result (λ n. calls_of caller to.now.off.disk < 2 ^ 64) }
     ensures refused { IfErr result (λ e. e ≡ Memory) }
@@ -232,7 +232,7 @@ fn sweep_caller<R: Threads + Sync, C: Crew + Sync, W: Write>(
 
 /// Runs the lines from that site on as they are, and answers the board then, turned off. Refused `Memory` where the
 /// disk's record found none.
-fn run_plain<C: Crew>(runner: &Runner<'_, C>, begin: &Site) -> Result<Site, Refusal>
+pub fn run_plain<C: Crew>(runner: &Runner<'_, C>, begin: &Site) -> Result<Site, Refusal>
     requires lines { AreSwept runner.now.setting.shape.now runner.now.lines.now }
     requires sits { Sits runner.now.setting.shape.now begin.now }
     ensures ends { IfOk result (λ end. (b : ModelBench)
@@ -379,7 +379,7 @@ fn format_none(lines: &[Line]) -> bool
 }
 
 /// Refused `NotPlain` exactly where no bench runs a script of these lines.
-fn check_plain(lines: &[Line]) -> Result<(), Refusal>
+pub fn check_plain(lines: &[Line]) -> Result<(), Refusal>
     ensures plain { OnOk result (All IsPlainLine lines.now) }
     ensures runs { OnOk result (IsNotPlain lines.now → ⊥) }
     ensures refused { IfErr result (λ e. (e ≡ NotPlain) × IsNotPlain lines.now) }
@@ -394,7 +394,7 @@ fn check_plain(lines: &[Line]) -> Result<(), Refusal>
 }
 
 /// Refused `NotPlain` exactly where these lines are no recovery: one of them is not plain, or formats a disk.
-fn check_recovery(lines: &[Line]) -> Result<(), Refusal>
+pub fn check_recovery(lines: &[Line]) -> Result<(), Refusal>
     ensures plain { OnOk result (All IsPlainLine lines.now × All IsNoFormat lines.now) }
     ensures refused { IfErr result (λ e. e ≡ NotPlain) }
 {

@@ -1,11 +1,11 @@
-//! A schedule is written as a script.
+//! Lines are written as a script.
 
 ghost use Rattle.std.specs.Prelude.{◌≡◌, ◌⊎◌, ◌++◌, ◌∷◌, [], OnOk, IfErr};
 ghost use Rattle.std.specs.Io.KnownBytes.{Appends};
 ghost use Rattle.board_model.specs.declared.refusal.Refusal.TheVariants.{Memory, Output};
 ghost use Rattle.script_lang.specs.Lines.{text_of};
-ghost use Rattle.script_lang.specs.Spellings.{board_text};
-ghost use Rattle.bench_schedules.specs.Schedules.{lines_text};
+ghost use Rattle.script_lang.specs.Spellings.{board_text, script_text};
+ghost use Rattle.bench_orders.specs.Texts.{lines_text};
 
 use board_model::{Refusal, Shape};
 use report_lines::unwritten;
@@ -43,10 +43,11 @@ fn write_lines<W: Write>(out: &mut W, lines: &[Line]) -> Result<(), Refusal>
     Ok(())
 }
 
-/// Writes a script: its board line, and each of its lines.
+/// Writes the canonical text of a script for a board of that shape: its board line and each of its lines, each with a line feed.
+#[tactic(auto, using(crate::proofs::Texts::script_written))]
 pub fn write_script<W: Write>(out: &mut W, shape: &Shape, lines: &[Line]) -> Result<(), Refusal>
     ensures ok { OnOk result (Appends (W.contents out.old) (W.contents out.new)
-        (board_text shape.now ++ 10 ∷ lines_text lines.now)) }
+        (script_text (record { size = shape.now; lines = lines.now }) ++ 10 ∷ [])) }
     ensures err { IfErr result (λ e. (e ≡ Memory) ⊎ (e ≡ Output)) }
 {
     write_board(out, shape)?;
