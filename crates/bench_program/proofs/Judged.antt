@@ -93,3 +93,24 @@ shrunk_on drawn start script a b c (said, is, w) keeps = (
 pub not_refused : {A T : Type 0} (x : T) (e f : Refusal) → ◌≡◌ {A = Result T Refusal} (Ok x) (Err e) ⊎ ◌≡◌ {A = Result T Refusal} (Ok x) (Err f) → A
 not_refused x e f (inl is) = absurd (let no : ⊥ = cc in no)
 not_refused x e f (inr is) = absurd (let no : ⊥ = cc in no)
+
+pub row_on : (bench : Bench) (number : ℕ) (start : List (List ℕ)) (script : List ℕ) (recovery : Option RecoveryFile) (a b c : Option (List ℕ)) → IsRowOf bench number start script recovery a b → Keeps b c
+    → IsRowOf bench number start script recovery a c
+row_on bench number start script recovery a b c (said, behind, is, after, row) keeps = (
+  said,
+  behind,
+  is,
+  after,
+  record {
+    begin = row.begin;
+    first = row.first;
+    format = row.format;
+    shows = record {
+      run = row.shows.run;
+      has = row.shows.has;
+      count = row.shows.count;
+      armed = row.shows.armed;
+      written = record { writable = row.shows.written.writable; reads = row.shows.written.reads; text = handed_on a b c _ row.shows.written.text keeps };
+    };
+  },
+)

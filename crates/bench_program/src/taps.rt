@@ -101,12 +101,7 @@ fn well_word(well: bool) -> &'static str
 
 /// Writes the last test, with the line of the counts, and the plan.
 #[tactic(auto, using(report_lines::proofs::Written::appended))]
-fn write_counts<W: Write>(
-    out: &mut W,
-    well: bool,
-    number: u64,
-    line: &[u8],
-) -> Result<(), Refusal>
+fn write_counts<W: Write>(out: &mut W, well: bool, number: u64, line: &[u8]) -> Result<(), Refusal>
     ensures ok { OnOk result (Appends (W.contents out.old) (W.contents out.new) (counts_text well number line.now)) }
     ensures err { IfErr result (λ e. (e ≡ Memory) ⊎ (e ≡ Output)) }
 {
