@@ -1,9 +1,9 @@
 -- Which faults a work may have.
-use Rattle.std.proofs.Common.{◌≡◌, ◌∙◌, ◌⊎◌, inl, inr, ℕ, Bool, true, false, List, ap, Option, None, Some, Err, IsSome, get_or, refl, sym, subst}
+use Rattle.std.proofs.Common.{◌≡◌, ◌∙◌, ◌⊎◌, inl, inr, ℕ, Bool, true, false, List, [], ap, Option, None, Some, Err, IsSome, get_or, refl, sym, subst}
 use Rattle.board_model.specs.declared.refusal.Refusal.{Refusal}
-use Rattle.board_model.specs.declared.refusal.Refusal.TheVariants.{Memory, NotPlain, Output}
+use Rattle.board_model.specs.declared.refusal.Refusal.TheVariants.{BadShape, Memory, NotPlain, Output}
 use Rattle.script_lang.specs.Scripts.{script_of}
-use Rattle.bench_program.specs.Written.{IsNotTaken, IsFaultIn, IsFaultOf, IsRefusedWith, IsUnread, IsFault}
+use Rattle.bench_program.specs.Written.{IsNotTaken, IsFaultIn, IsFaultOf, IsNoRow, IsRefusedWith, IsUnread, IsFault}
 use Rattle.command_line.specs.declared.NoWork.{NoWork}
 use Rattle.command_line.specs.declared.NoWork.TheVariants as whys
 use Rattle.payload_files.proofs.FaultKinds.{file_fault}
@@ -16,9 +16,11 @@ use Rattle.bench_program.specs.Usage.{IsNamedBy}
 use Rattle.bench_program.specs.declared.fault.BenchFault.{BenchFault}
 use Rattle.bench_program.specs.declared.fault.BenchFault.TheVariants.{Input, Refused}
 use Rattle.bench_program.specs.declared.usage.Options.{Options}
-use Rattle.bench_program.specs.declared.usage.Bench.{Bench}
+use Rattle.bench_sweep.specs.Shown.{NoRowOf}
+use Rattle.bench_sweep.specs.declared.plan.Plan.{Plan}
+use Rattle.bench_sweep.specs.declared.shown.WantedRow.{WantedRow}
 use Rattle.bench_program.specs.declared.usage.Work.{Work}
-use Rattle.bench_program.specs.declared.usage.Work.TheVariants.{Recover}
+use Rattle.bench_program.specs.declared.usage.Work.TheVariants.{Recover, ShowRecovered, ShowRow}
 use Rattle.bench_sweep.specs.Swept.{NoBenchRuns, NoRecoveryRuns}
 
 -- a refused work, whose reader may be gone
@@ -62,13 +64,41 @@ unread_input options fault none (inl is) = inl (inr (is, none))
 unread_input options fault none (inr is) = inr is
 
 -- a bench with a recovery was refused
-pub no_recovery : (bench : Bench) (payloads : List (List ℕ)) (script recovery : List ℕ) (e : Refusal) → (e ≡ Memory) ⊎ (e ≡ Output) ⊎ (script_of script ≡ Err e) ⊎ ((e ≡ NotPlain) × NoBenchRuns script) ⊎ NoRecoveryRuns script recovery e
-    → IsRefusedWith (Recover bench) payloads recovery script e
-no_recovery bench payloads script recovery e (inl x) = inl (inl x)
-no_recovery bench payloads script recovery e (inr (inl x)) = inl (inr (inl x))
-no_recovery bench payloads script recovery e (inr (inr (inl x))) = inl (inr (inr (inl x)))
-no_recovery bench payloads script recovery e (inr (inr (inr (inl x)))) = inl (inr (inr (inr x)))
-no_recovery bench payloads script recovery e (inr (inr (inr (inr x)))) = inr x
+pub no_recovery : (plan : Plan) (payloads : List (List ℕ)) (script recovery : List ℕ) (e : Refusal) → (e ≡ Memory) ⊎ (e ≡ Output) ⊎ (script_of script ≡ Err e) ⊎ ((e ≡ NotPlain) × NoBenchRuns script) ⊎ NoRecoveryRuns script recovery e
+    → IsRefusedWith (Recover plan) payloads recovery script e
+no_recovery plan payloads script recovery e (inl x) = inl (inl x)
+no_recovery plan payloads script recovery e (inr (inl x)) = inl (inr (inl x))
+no_recovery plan payloads script recovery e (inr (inr (inl x))) = inl (inr (inr (inl x)))
+no_recovery plan payloads script recovery e (inr (inr (inr (inl x)))) = inl (inr (inr (inr x)))
+no_recovery plan payloads script recovery e (inr (inr (inr (inr x)))) = inr x
+
+-- a run of a bench was not shown
+pub no_row : (row : WantedRow) (payloads : List (List ℕ)) (script : List ℕ) (e : Refusal)
+    → (e ≡ Memory) ⊎ (e ≡ Output) ⊎ (script_of script ≡ Err e) ⊎ ((e ≡ NotPlain) × NoBenchRuns script) ⊎ ((e ≡ BadShape) × NoRowOf row.bench row.number payloads script None)
+    → IsRefusedWith (ShowRow row) payloads [] script e
+no_row row payloads script e (inl x) = inl x
+no_row row payloads script e (inr (inl x)) = inr (inl x)
+no_row row payloads script e (inr (inr (inl x))) = inr (inr (inl x))
+no_row row payloads script e (inr (inr (inr (inl x)))) = inr (inr (inr (inl x)))
+no_row row payloads script e (inr (inr (inr (inr x)))) = inr (inr (inr (inr x)))
+
+pub no_recovered_row : (row : WantedRow) (payloads : List (List ℕ)) (script recovery : List ℕ) (e : Refusal)
+    → (e ≡ Memory) ⊎ (e ≡ Output) ⊎ (script_of script ≡ Err e) ⊎ ((e ≡ NotPlain) × NoBenchRuns script) ⊎ IsNoRow row payloads recovery script e
+    → IsRefusedWith (ShowRecovered row) payloads recovery script e
+no_recovered_row row payloads script recovery e (inl x) = inl (inl x)
+no_recovered_row row payloads script recovery e (inr (inl x)) = inl (inr (inl x))
+no_recovered_row row payloads script recovery e (inr (inr (inl x))) = inl (inr (inr (inl x)))
+no_recovered_row row payloads script recovery e (inr (inr (inr (inl x)))) = inl (inr (inr (inr x)))
+no_recovered_row row payloads script recovery e (inr (inr (inr (inr x)))) = inr x
+
+-- any work may be refused memory, and fail at its output
+pub of_any : (work : Work) (payloads : List (List ℕ)) (recovery script : List ℕ) (e : Refusal) → (e ≡ Memory) ⊎ (e ≡ Output) → IsRefusedWith work payloads recovery script e
+of_any (Recover plan) payloads recovery script e (inl x) = inl (inl x)
+of_any (Recover plan) payloads recovery script e (inr x) = inl (inr (inl x))
+of_any (ShowRecovered row) payloads recovery script e (inl x) = inl (inl x)
+of_any (ShowRecovered row) payloads recovery script e (inr x) = inl (inr (inl x))
+of_any work payloads recovery script e (inl x) = inl x
+of_any work payloads recovery script e (inr x) = inr (inl x)
 
 -- nor the file of a recovery
 unread_recovered : (options : Options) (why : ProgramFault) (fault : BenchFault) → fault ≡ unread_by why → (why ≡ causes.File) ⊎ (why ≡ causes.Refused Memory) → IsSome options.recovery
