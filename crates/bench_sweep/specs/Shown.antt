@@ -23,7 +23,7 @@ use Rattle.bench_sweep.specs.declared.points.Bench.TheVariants.{Cuts, Fails}
 use Rattle.bench_sweep.specs.declared.points.Caller.{Caller}
 use Rattle.bench_sweep.specs.declared.points.Caller.TheVariants.{Disk, Lane}
 use Rattle.bench_sweep.specs.declared.recovery.RecoveryFile.{RecoveryFile}
-use Rattle.bench_sweep.specs.declared.shown.RunAt.{RunAt}
+use Rattle.bench_sweep.specs.declared.points.RunAt.{RunAt}
 use Rattle.bench_sweep.specs.Made.{IsFormatted, IsPlainRun, WasRefusedNoMemory, EndsAs}
 use Rattle.bench_sweep.specs.Points.{cut_fill, fault_at}
 use Rattle.bench_sweep.specs.Recovers.{look_numbers, IsFaulty, Says}

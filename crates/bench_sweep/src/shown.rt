@@ -17,7 +17,7 @@ ghost use Rattle.bench_sweep.specs.Swept.{callers, AreSwept, IsNotPlain, IsPlain
 
 use crate::begins::run_to_format;
 use crate::judging::{turn_off, turn_off_failed};
-use crate::points::{Bench, CALLERS, Caller, FILLS, Point, cut_fill};
+use crate::points::{Bench, CALLERS, Caller, FILLS, Point, RunAt, cut_fill};
 use crate::recovery::{Recovery, RecoveryFile, numbers_of_looks, recovery_lines};
 use crate::runner::Runner;
 use crate::site::Site;
@@ -47,18 +47,6 @@ pub struct WantedRow {
     pub bench: Bench,
     /// Its number among the runs of the report, from 1 on.
     pub number: u64,
-}
-
-/// Which run of a bench a row is.
-#[derive(Clone, Copy, Drop)]
-struct RunAt {
-    /// At whose call power is cut, or which call fails.
-    caller: Caller,
-    /// The number of the call from the first `format ok` on, from 1.
-    call: u64,
-    /// What the cut leaves of what was written since the last sync.
-    fill: Option<Fill>,
-    ghost some: { 1 ≤ call },
 }
 
 /// At which point of a bench the run of that place is, and which of the point's it is, both from 0 on.
