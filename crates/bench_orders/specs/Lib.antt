@@ -1,3 +1,5 @@
 pub mod Deals
 pub mod Orders
 pub mod Preempted
+pub mod Drawn
+pub mod Texts

@@ -2,6 +2,7 @@
 
 ghost use Rattle.std.specs.Prelude.{◌≡◌, ◌+◌, ◌++◌, ◌≤◌, ◌<◌, List, length, take, IfOk};
 ghost use Rattle.script_lang.specs.declared.line.Line.{Line as Said};
+ghost use Rattle.bench_orders.specs.Drawn.{generator_of, IsDrawnFrom};
 ghost use Rattle.bench_orders.specs.Orders.{IsOrderFor, TakesPlaceOf};
 
 use crate::copies::copied;
@@ -16,7 +17,9 @@ use std::alloc::{AllocError, Global};
 const MOST_LINES: usize = 65_535;
 
 /// What schedule number k of a seed is drawn from.
-pub fn generator(seed: u64, k: u64) -> Xoshiro256PlusPlus {
+pub fn generator(seed: u64, k: u64) -> Xoshiro256PlusPlus
+    ensures { result ≡ generator_of seed k }
+{
     let mut mixed = Xoshiro256PlusPlus::seed_from_u64(seed);
     let word = mixed.next_u64();
     Xoshiro256PlusPlus::seed_from_u64(word ^ k)
@@ -81,7 +84,7 @@ fn add_next<R: Rng>(
 }
 
 /// Draws a schedule of a script's lines, each stretch in an order of its own. The fronts are those of its stretches,
-/// in order; they say where an order is drawn, and nothing rests on them. A stretch of one hart stays as it is, of which
+/// in order; they say where an order is drawn, and no other clause rests on them. A stretch of one hart stays as it is, of which
 /// there is no clause.
 ///
 /// Refused only where memory is.
@@ -94,6 +97,7 @@ pub fn schedule<R: Rng>(
     requires { length lines.now ≤ 65535 }
     ensures order { IfOk result (λ new. IsOrderFor lines.now new.items) }
     ensures few { IfOk result (λ new. length new.items ≤ 65535) }
+    ensures drawn { IfOk result (λ new. IsDrawnFrom (R.stream rng.old) fronts.now lines.now new.items) }
 {
     let all = all_turns(fronts);
     let spare = MOST_LINES - lines.len();

@@ -8,13 +8,12 @@ use Rattle.board_model.specs.declared.refusal.Refusal.{Refusal}
 use Rattle.board_model.specs.declared.refusal.Refusal.TheVariants.{BadShape, Memory, Output}
 use Rattle.script_lang.specs.Lines.{FitsLine, IsLineInRange}
 use Rattle.script_lang.specs.Scripts.{Script, script_of}
-use Rattle.script_lang.specs.Spellings.{board_text, script_text, IsWritable}
+use Rattle.script_lang.specs.Spellings.{script_text, IsWritable}
 use Rattle.script_lang.specs.declared.line.Line.{Line}
 use Rattle.report_lines.specs.declared.printed.Answer.{Answer}
 use Rattle.bench_orders.specs.Orders.{IsOrderFor}
 use Rattle.bench_orders.specs.Preempted.{parted}
-use Rattle.bench_schedules.proofs.Texts.{script_written}
-use Rattle.bench_schedules.specs.Schedules.{RanOwn, differing, lines_text}
+use Rattle.bench_schedules.specs.Schedules.{RanOwn, differing}
 use Rattle.bench_schedules.specs.declared.runs.Difference.{Difference}
 use Rattle.bench_preemptions.specs.Orders.{order_of}
 use Rattle.bench_preemptions.specs.Points.{order_by}
@@ -147,19 +146,18 @@ orders_for law those (one ∷ ones) =
 
 pub written_of : (size : Size) (those xs : List Line) (ones : List Preemption) (old now : Option (List ℕ)) → IsSize size → IsOrderFor those (order_of those ones) → length xs ≤ 65535
     → All (IsLineInRange size) those → All FitsLine those → xs ≡ order_of those ones → ((s : Script) → IsWritable s → script_of (script_text s) ≡ Ok s)
-    → Appends old now (board_text size ++ 10 ∷ lines_text xs)
+    → Appends old now (script_text (record { size = size; lines = xs }) ++ 10 ∷ [])
     → IsWritten (record { size = size; lines = those }) (order_script (record { size = size; lines = those }) ones) old now
 written_of size those xs ones old now sized order few ranges fits is reads text =
     let s : Script = order_script (record { size = size; lines = those }) ones in
     let F : List Line → Type 0 = λ z. length z ≤ 65535 in
     let w : IsWritable s = record { size = sized; few = subst F is few; ranges = order.ranges size ranges; fits = order.fits fits } in
-    let P : List Line → Type 0 = λ z. Appends old now (board_text size ++ 10 ∷ lines_text z) in
-    let Q : List ℕ → Type 0 = λ z. Appends old now z in
+    let P : List Line → Type 0 = λ z. Appends old now (script_text (record { size = size; lines = z }) ++ 10 ∷ []) in
     record {
       order = record { board = refl; lines = order.order };
       writable = w;
       reads = reads s w;
-      text = subst Q (sym (script_written s)) (subst P is text);
+      text = subst P is text;
     }
 
 pub no_shape : (result : Result (Unit {0}) Refusal) → IfErr result (λ e. (e ≡ Memory) ⊎ (e ≡ Output)) → result ≡ Err BadShape → ⊥

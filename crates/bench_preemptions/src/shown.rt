@@ -14,9 +14,11 @@ ghost use Rattle.bench_preemptions.specs.Shown.{FewerDiffer, HasNoOrder, IsNthTh
 use crate::nodes::{Runner, Search};
 use crate::orders::try_depths;
 use crate::points::Preemption;
-use bench_orders::{copied_row, parted, preemptions_are_orders};
+use bench_orders::{
+    copied_row, fits, parted, preemptions_are_orders, shape_in_range, write_script,
+};
 use bench_report::Setting;
-use bench_schedules::{confirmed_own_run, fits, line_numbers, shape_in_range, write_script};
+use bench_schedules::{confirmed_own_run, line_numbers};
 use board::Payloads;
 use board_model::{Refusal, Shape};
 use crew::{Crew, Sequential};

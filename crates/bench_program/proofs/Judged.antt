@@ -3,7 +3,7 @@ use Rattle.std.proofs.Common.{◌≡◌, ◌⊎◌, inl, inr, ℕ, List, Option,
 use Rattle.std.specs.Io.KnownBytes.{Keeps}
 use Rattle.board_model.specs.declared.refusal.Refusal.{Refusal}
 use Rattle.bench_judge.specs.declared.judges.Sweep.{Sweep}
-use Rattle.bench_sweep.specs.declared.points.Bench.{Bench}
+use Rattle.bench_sweep.specs.declared.plan.Plan.{Plan}
 use Rattle.bench_sweep.specs.Swept.{IsBenchOf, IsRecoveredBenchOf}
 use Rattle.bench_sweep.specs.declared.sweeps.Recovered.{Recovered}
 use Rattle.bench_sweep.proofs.Written.{handed_on}
@@ -14,10 +14,11 @@ use Rattle.bench_preemptions.specs.declared.benches.Within.{Within}
 use Rattle.bench_preemptions.specs.Shown.{ShownOrder}
 use Rattle.bench_shrink.specs.Shrunk.{Shrunk}
 use Rattle.bench_preemptions.specs.declared.shown.Wanted.{Wanted}
+use Rattle.bench_program.specs.declared.usage.Drawn.{Drawn}
 use Rattle.bench_program.specs.Written.{IsOrderShown, IsPreempted, IsShrunk}
 
-pub wrote_on : (bench : Bench) (start : List (List ℕ)) (script : List ℕ) (a b c : Option (List ℕ)) (sweep : Sweep) → IsBenchOf bench start script a b sweep → Keeps b c → IsBenchOf bench start script a c sweep
-wrote_on bench start script a b c sweep (said, is, w) keeps = (
+pub wrote_on : (plan : Plan) (start : List (List ℕ)) (script : List ℕ) (a b c : Option (List ℕ)) (sweep : Sweep) → IsBenchOf plan start script a b sweep → Keeps b c → IsBenchOf plan start script a c sweep
+wrote_on plan start script a b c sweep (said, is, w) keeps = (
   said,
   is,
   record {
@@ -57,8 +58,8 @@ preempted_on within start script a b c orders differ (said, is, w) keeps = (
   },
 )
 
-pub recovered_on : (bench : Bench) (start : List (List ℕ)) (script recovery numbers : List ℕ) (a b c : Option (List ℕ)) (done : Recovered) → IsRecoveredBenchOf bench start script recovery numbers a b done → Keeps b c → IsRecoveredBenchOf bench start script recovery numbers a c done
-recovered_on bench start script recovery numbers a b c done (said, after, is, says, plain, none, some, (mid, rows, last)) keeps = (said, after, is, says, plain, none, some, (mid, rows, handed_on mid b c _ last keeps))
+pub recovered_on : (plan : Plan) (start : List (List ℕ)) (script recovery numbers : List ℕ) (a b c : Option (List ℕ)) (done : Recovered) → IsRecoveredBenchOf plan start script recovery numbers a b done → Keeps b c → IsRecoveredBenchOf plan start script recovery numbers a c done
+recovered_on plan start script recovery numbers a b c done (said, after, is, says, plain, none, some, (mid, rows, last)) keeps = (said, after, is, says, plain, none, some, (mid, rows, handed_on mid b c _ last keeps))
 
 pub order_on : (wanted : Wanted) (start : List (List ℕ)) (script : List ℕ) (a b c : Option (List ℕ))
     → ((said : Said) × (script_of script ≡ Ok said) × ShownOrder said start (numbers_of script) wanted.most wanted.number a b) → Keeps b c → IsOrderShown wanted start script a c
@@ -68,14 +69,16 @@ order_on wanted start script a b c (said, is, (ones, nth, w)) keeps = (
   (ones, nth, record { order = w.order; writable = w.writable; reads = w.reads; text = handed_on a b c _ w.text keeps }),
 )
 
-pub shrunk_on : (start : List (List ℕ)) (script : List ℕ) (a b c : Option (List ℕ)) → ((said : Said) × (script_of script ≡ Ok said) × Shrunk said start a b) → Keeps b c → IsShrunk start script a c
-shrunk_on start script a b c (said, is, w) keeps = (
+pub shrunk_on : (drawn : Drawn) (start : List (List ℕ)) (script : List ℕ) (a b c : Option (List ℕ)) → ((said : Said) × (script_of script ≡ Ok said) × Shrunk said start drawn.seed drawn.number a b) → Keeps b c → IsShrunk drawn start script a c
+shrunk_on drawn start script a b c (said, is, w) keeps = (
   said,
   is,
   record {
     own = w.own;
     ran_own = w.ran_own;
+    fronts = w.fronts;
     drawn = w.drawn;
+    drawn_as = w.drawn_as;
     drawn_order = w.drawn_order;
     schedule = w.schedule;
     order = w.order;
@@ -90,3 +93,24 @@ shrunk_on start script a b c (said, is, w) keeps = (
 pub not_refused : {A T : Type 0} (x : T) (e f : Refusal) → ◌≡◌ {A = Result T Refusal} (Ok x) (Err e) ⊎ ◌≡◌ {A = Result T Refusal} (Ok x) (Err f) → A
 not_refused x e f (inl is) = absurd (let no : ⊥ = cc in no)
 not_refused x e f (inr is) = absurd (let no : ⊥ = cc in no)
+
+pub row_on : (bench : Bench) (number : ℕ) (start : List (List ℕ)) (script : List ℕ) (recovery : Option RecoveryFile) (a b c : Option (List ℕ)) → IsRowOf bench number start script recovery a b → Keeps b c
+    → IsRowOf bench number start script recovery a c
+row_on bench number start script recovery a b c (said, behind, is, after, row) keeps = (
+  said,
+  behind,
+  is,
+  after,
+  record {
+    begin = row.begin;
+    first = row.first;
+    format = row.format;
+    shows = record {
+      run = row.shows.run;
+      has = row.shows.has;
+      count = row.shows.count;
+      armed = row.shows.armed;
+      written = record { writable = row.shows.written.writable; reads = row.shows.written.reads; text = handed_on a b c _ row.shows.written.text keeps };
+    };
+  },
+)

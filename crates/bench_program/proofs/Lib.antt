@@ -3,3 +3,4 @@ pub mod Ends
 pub mod Simple
 pub mod Told
 pub mod Judged
+pub mod Tested

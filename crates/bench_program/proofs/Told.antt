@@ -1,9 +1,9 @@
 -- Which faults a work may have.
-use Rattle.std.proofs.Common.{◌≡◌, ◌∙◌, ◌⊎◌, inl, inr, ℕ, List, ap, Option, None, Some, Err, IsSome, get_or, refl, sym, subst}
+use Rattle.std.proofs.Common.{◌≡◌, ◌∙◌, ◌⊎◌, inl, inr, ℕ, Bool, true, false, List, [], ap, Option, None, Some, Err, IsSome, get_or, refl, sym, subst}
 use Rattle.board_model.specs.declared.refusal.Refusal.{Refusal}
-use Rattle.board_model.specs.declared.refusal.Refusal.TheVariants.{Memory, NotPlain, Output}
+use Rattle.board_model.specs.declared.refusal.Refusal.TheVariants.{BadShape, Memory, NotPlain, Output}
 use Rattle.script_lang.specs.Scripts.{script_of}
-use Rattle.bench_program.specs.Written.{IsNotTaken, IsFaultIn, IsFaultOf, IsUnread, IsFault}
+use Rattle.bench_program.specs.Written.{IsNotTaken, IsFaultIn, IsFaultOf, IsNoRow, IsRefusedWith, IsUnread, IsFault}
 use Rattle.command_line.specs.declared.NoWork.{NoWork}
 use Rattle.command_line.specs.declared.NoWork.TheVariants as whys
 use Rattle.payload_files.proofs.FaultKinds.{file_fault}
@@ -11,21 +11,26 @@ use Rattle.std.specs.declared.io.ErrorKind.{ErrorKind}
 use Rattle.command_line.specs.Faults.{fault_of_kind}
 use Rattle.command_line.specs.declared.fault.ProgramFault.{ProgramFault}
 use Rattle.command_line.specs.declared.fault.ProgramFault.TheVariants as causes
-use Rattle.bench_program.specs.Faults.{unread_by, without_work}
+use Rattle.bench_program.specs.Faults.{fault_by, unread_by, without_work}
 use Rattle.bench_program.specs.Usage.{IsNamedBy}
 use Rattle.bench_program.specs.declared.fault.BenchFault.{BenchFault}
-use Rattle.bench_program.specs.declared.fault.BenchFault.TheVariants.{Input, Refused, Closed, Usage, Wrong}
+use Rattle.bench_program.specs.declared.fault.BenchFault.TheVariants.{Input, Refused}
 use Rattle.bench_program.specs.declared.usage.Options.{Options}
-use Rattle.bench_program.specs.declared.usage.Bench.{Bench}
+use Rattle.bench_sweep.specs.Shown.{NoRowOf}
+use Rattle.bench_sweep.specs.declared.plan.Plan.{Plan}
+use Rattle.bench_sweep.specs.declared.shown.WantedRow.{WantedRow}
 use Rattle.bench_program.specs.declared.usage.Work.{Work}
-use Rattle.bench_program.specs.declared.usage.Work.TheVariants.{Recover}
+use Rattle.bench_program.specs.declared.usage.Work.TheVariants.{Recover, ShowRecovered, ShowRow}
 use Rattle.bench_sweep.specs.Swept.{NoBenchRuns, NoRecoveryRuns}
 
 -- a refused work, whose reader may be gone
-pub told : (work : Work) (payloads : List (List ℕ)) (script : List ℕ) (e : Refusal) (fault : BenchFault) → (fault ≡ Closed) ⊎ (fault ≡ Refused e)
-    → (e ≡ Memory) ⊎ (e ≡ Output) ⊎ (script_of script ≡ Err e) ⊎ IsNotTaken work payloads script e → IsFaultIn work payloads script fault
-told work payloads script e fault (inl is) why = let P : BenchFault → Type 0 = λ f. IsFaultIn work payloads script f in subst P (sym is) tt
-told work payloads script e fault (inr is) why = let P : BenchFault → Type 0 = λ f. IsFaultIn work payloads script f in subst P (sym is) why
+pub told : (work : Work) (payloads : List (List ℕ)) (recovery script : List ℕ) (gone : Bool) (e : Refusal) (fault : BenchFault) → fault ≡ fault_by gone e
+    → IsRefusedWith work payloads recovery script e → IsFaultIn work payloads recovery script gone fault
+told work payloads recovery script gone e fault is why = let P : BenchFault → Type 0 = λ f. IsFaultIn work payloads recovery script gone f in subst P (sym is) (by gone)
+  where
+    by : (b : Bool) → IsFaultIn work payloads recovery script b (fault_by b e)
+    by true = refl
+    by false = (refl, why)
 
 -- a report has no fault of a bench
 pub no_bench : (payloads : List (List ℕ)) (script : List ℕ) (e : Refusal) (work : Work) → (e ≡ Memory) ⊎ (e ≡ Output) ⊎ (script_of script ≡ Err e)
@@ -59,13 +64,41 @@ unread_input options fault none (inl is) = inl (inr (is, none))
 unread_input options fault none (inr is) = inr is
 
 -- a bench with a recovery was refused
-pub no_recovery : (bench : Bench) (payloads : List (List ℕ)) (script recovery : List ℕ) (e : Refusal) → (e ≡ Memory) ⊎ (e ≡ Output) ⊎ (script_of script ≡ Err e) ⊎ ((e ≡ NotPlain) × NoBenchRuns script) ⊎ NoRecoveryRuns script recovery e
-    → (e ≡ Memory) ⊎ (e ≡ Output) ⊎ (script_of script ≡ Err e) ⊎ IsNotTaken (Recover bench) payloads script e
-no_recovery bench payloads script recovery e (inl x) = inl x
-no_recovery bench payloads script recovery e (inr (inl x)) = inr (inl x)
-no_recovery bench payloads script recovery e (inr (inr (inl x))) = inr (inr (inl x))
-no_recovery bench payloads script recovery e (inr (inr (inr (inl x)))) = inr (inr (inr (inl x)))
-no_recovery bench payloads script recovery e (inr (inr (inr (inr x)))) = inr (inr (inr (inr (recovery, x))))
+pub no_recovery : (plan : Plan) (payloads : List (List ℕ)) (script recovery : List ℕ) (e : Refusal) → (e ≡ Memory) ⊎ (e ≡ Output) ⊎ (script_of script ≡ Err e) ⊎ ((e ≡ NotPlain) × NoBenchRuns script) ⊎ NoRecoveryRuns script recovery e
+    → IsRefusedWith (Recover plan) payloads recovery script e
+no_recovery plan payloads script recovery e (inl x) = inl (inl x)
+no_recovery plan payloads script recovery e (inr (inl x)) = inl (inr (inl x))
+no_recovery plan payloads script recovery e (inr (inr (inl x))) = inl (inr (inr (inl x)))
+no_recovery plan payloads script recovery e (inr (inr (inr (inl x)))) = inl (inr (inr (inr x)))
+no_recovery plan payloads script recovery e (inr (inr (inr (inr x)))) = inr x
+
+-- a run of a bench was not shown
+pub no_row : (row : WantedRow) (payloads : List (List ℕ)) (script : List ℕ) (e : Refusal)
+    → (e ≡ Memory) ⊎ (e ≡ Output) ⊎ (script_of script ≡ Err e) ⊎ ((e ≡ NotPlain) × NoBenchRuns script) ⊎ ((e ≡ BadShape) × NoRowOf row.bench row.number payloads script None)
+    → IsRefusedWith (ShowRow row) payloads [] script e
+no_row row payloads script e (inl x) = inl x
+no_row row payloads script e (inr (inl x)) = inr (inl x)
+no_row row payloads script e (inr (inr (inl x))) = inr (inr (inl x))
+no_row row payloads script e (inr (inr (inr (inl x)))) = inr (inr (inr (inl x)))
+no_row row payloads script e (inr (inr (inr (inr x)))) = inr (inr (inr (inr x)))
+
+pub no_recovered_row : (row : WantedRow) (payloads : List (List ℕ)) (script recovery : List ℕ) (e : Refusal)
+    → (e ≡ Memory) ⊎ (e ≡ Output) ⊎ (script_of script ≡ Err e) ⊎ ((e ≡ NotPlain) × NoBenchRuns script) ⊎ IsNoRow row payloads recovery script e
+    → IsRefusedWith (ShowRecovered row) payloads recovery script e
+no_recovered_row row payloads script recovery e (inl x) = inl (inl x)
+no_recovered_row row payloads script recovery e (inr (inl x)) = inl (inr (inl x))
+no_recovered_row row payloads script recovery e (inr (inr (inl x))) = inl (inr (inr (inl x)))
+no_recovered_row row payloads script recovery e (inr (inr (inr (inl x)))) = inl (inr (inr (inr x)))
+no_recovered_row row payloads script recovery e (inr (inr (inr (inr x)))) = inr x
+
+-- any work may be refused memory, and fail at its output
+pub of_any : (work : Work) (payloads : List (List ℕ)) (recovery script : List ℕ) (e : Refusal) → (e ≡ Memory) ⊎ (e ≡ Output) → IsRefusedWith work payloads recovery script e
+of_any (Recover plan) payloads recovery script e (inl x) = inl (inl x)
+of_any (Recover plan) payloads recovery script e (inr x) = inl (inr (inl x))
+of_any (ShowRecovered row) payloads recovery script e (inl x) = inl (inl x)
+of_any (ShowRecovered row) payloads recovery script e (inr x) = inl (inr (inl x))
+of_any work payloads recovery script e (inl x) = inl x
+of_any work payloads recovery script e (inr x) = inr (inl x)
 
 -- nor the file of a recovery
 unread_recovered : (options : Options) (why : ProgramFault) (fault : BenchFault) → fault ≡ unread_by why → (why ≡ causes.File) ⊎ (why ≡ causes.Refused Memory) → IsSome options.recovery
@@ -78,8 +111,8 @@ pub unread_recovery : (options : Options) {A : Type 0} (option : Option A) (valu
 unread_recovery options {A} option value why kind fault e is same some = unread_recovered options why fault e (file_fault why kind is) (same (is_some option value some))
 
 -- a fault of options that the words name
-pub of_options : (words : List (List ℕ)) (bytes_at : List ℕ → Option (List ℕ)) (input : Option (List ℕ)) (fault : BenchFault) (options : Options) → IsNamedBy words options
-    → IsUnread options fault ⊎ (fault ≡ Refused Memory) ⊎ IsFaultOf options bytes_at input fault → IsFault words bytes_at input fault
-of_options words bytes_at input fault options named (inl is) = inl (options, named, inl is)
-of_options words bytes_at input fault options named (inr (inl memory)) = inr (inr memory)
-of_options words bytes_at input fault options named (inr (inr is)) = inl (options, named, inr is)
+pub of_options : (words : List (List ℕ)) (bytes_at : List ℕ → Option (List ℕ)) (input : Option (List ℕ)) (gone : Bool) (fault : BenchFault) (options : Options) → IsNamedBy words options
+    → IsUnread options fault ⊎ (fault ≡ Refused Memory) ⊎ IsFaultOf options bytes_at input gone fault → IsFault words bytes_at input gone fault
+of_options words bytes_at input gone fault options named (inl is) = inl (options, named, inl is)
+of_options words bytes_at input gone fault options named (inr (inl memory)) = inr (inr memory)
+of_options words bytes_at input gone fault options named (inr (inr is)) = inl (options, named, inr is)

@@ -1,5 +1,5 @@
 -- The text and the status of each fault with which the program ends. Source: docs/SCRIPT.md.
-use Rattle.std.specs.Prelude.{ℕ, List, [], ◌++◌, Result, Ok, Err}
+use Rattle.std.specs.Prelude.{ℕ, Bool, true, false, List, [], ◌++◌, Result, Ok, Err}
 use Rattle.std.specs.Fmt.{decimal}
 use Rattle.board_model.specs.Views.{number_of_refusal}
 use Rattle.board_model.specs.declared.refusal.Refusal.{Refusal}
@@ -31,6 +31,11 @@ abbrev pub unread_by : ProgramFault → BenchFault
 unread_by (of.Refused e) = Refused e
 unread_by of.File = File
 unread_by of.Usage = Usage
+
+-- the fault of a work that was refused, by whether the output's reader is gone: then nothing is told of it
+abbrev pub fault_by : Bool → Refusal → BenchFault
+fault_by true e = Closed
+fault_by false e = Refused e
 
 -- the status with which the program ends
 abbrev pub status_after : {A : Type 0} → Result A BenchFault → ℕ

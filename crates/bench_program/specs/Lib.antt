@@ -1,4 +1,4 @@
-pub mod Benches
 pub mod Faults
 pub mod Usage
 pub mod Written
+pub mod Taps

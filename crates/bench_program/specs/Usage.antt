@@ -1,5 +1,5 @@
 -- The command as its parser reads it, and what its words ask for. Source: docs/SCRIPT.md, "The program".
-use Rattle.std.specs.Prelude.{◌≡◌, ◌≤◌, ⊤, ℕ, Bool, true, false, List, [], ◌∷◌, Option, Some, None, if◌then◌else◌, nat_lt, bytes_eq, map, string_bytes}
+use Rattle.std.specs.Prelude.{◌≡◌, ◌≤◌, ◌+◌, ◌==◌, ⊤, ℕ, Bool, true, false, List, [], ◌∷◌, Option, Some, None, if◌then◌else◌, nat_lt, bytes_eq, drop, map, position, string_bytes, take}
 use Rattle.std.specs.Option.{option_map}
 use Rattle.clap.specs.Words.{App, IsAmong, Rule, Text, fault_of, first_value, new_rule, one_text, with_rule}
 use Rattle.clap.specs.declared.builder.action.ArgAction.TheVariants.{Set}
@@ -14,10 +14,13 @@ use Rattle.command_line.specs.Options.{option_rule, path_named, path_rule, paylo
 use Rattle.command_line.specs.Parses.{AreParsed}
 use Rattle.command_line.specs.Programs.{named_app}
 use Rattle.command_line.specs.declared.NoWork.{NoWork}
-use Rattle.bench_program.specs.declared.usage.Bench.TheVariants.{Sweep, Faults}
+use Rattle.jobs.specs.declared.part.Part.{Part}
+use Rattle.bench_sweep.specs.Swept.{whole}
+use Rattle.bench_sweep.specs.declared.points.Bench.{Bench}
+use Rattle.bench_sweep.specs.declared.points.Bench.TheVariants.{Cuts, Fails}
 use Rattle.bench_program.specs.declared.usage.Options.{Options}
 use Rattle.bench_program.specs.declared.usage.Work.{Work}
-use Rattle.bench_program.specs.declared.usage.Work.TheVariants.{Report, Judge, Recover, Compare, Show, Shrink, Preempt, ShowOrder}
+use Rattle.bench_program.specs.declared.usage.Work.TheVariants.{Report, Judge, Recover, ShowRow, ShowRecovered, Compare, Show, Shrink, Preempt, ShowOrder}
 use Rattle.bench_program.specs.declared.usage.Savers.{Savers}
 use Rattle.bench_program.specs.declared.usage.Savers.TheVariants.{Turns, Threads}
 use lib.Chars.{codes}
@@ -54,9 +57,14 @@ with_schedules app =
 abbrev pub with_preemptions : App → App
 with_preemptions app = with_rule (with_rule app (count_rule (codes "preemptions"))) (flag_rule (codes "first"))
 
+-- which of the runs of a bench are made and written, and how
+abbrev pub with_manners : App → App
+with_manners app = with_rule (with_rule (with_rule app (option_rule (codes "part"))) (flag_rule (codes "quiet"))) (flag_rule (codes "tap"))
+
 abbrev pub sbibench : ValueParser → App
 sbibench crews =
     with_payloads
+    (with_manners
     (with_preemptions
     (with_schedules
     (with_rule
@@ -64,7 +72,7 @@ sbibench crews =
     (with_rule (with_rule (with_rule (with_rule (named_app (codes "sbibench")) script_rule) (crew_rule crews)) (flag_rule (codes "sweep")))
     (flag_rule (codes "faults")))
     jobs_rule)
-    (path_rule (codes "recover")))))
+    (path_rule (codes "recover"))))))
 
 -- the payload files, by their paths
 abbrev pub payload_files : Options → List (Option (List ℕ))
@@ -89,17 +97,43 @@ pub record IsFlag (f : Found) (id : List ℕ) (b : Bool) : Type 0 where
   pub left : one_text f id ≡ Some (codes "false") → b ≡ false
   pub none : one_text f id ≡ None → b ≡ false
 
+-- the flags of a command line
+pub record Flags (f : Found) : Type 0 where
+  pub sweep : Bool
+  pub faults : Bool
+  pub first : Bool
+  pub quiet : Bool
+  pub tap : Bool
+  pub is_sweep : IsFlag f (codes "sweep") sweep
+  pub is_faults : IsFlag f (codes "faults") faults
+  pub is_first : IsFlag f (codes "first") first
+  pub is_quiet : IsFlag f (codes "quiet") quiet
+  pub is_tap : IsFlag f (codes "tap") tap
+
 -- what is to be done without schedules, by the flags of the benches and by the crew; not both benches
 abbrev pub work_of_flags : Bool → Bool → Savers → Option Work
 work_of_flags true true savers = None
-work_of_flags true false savers = Some (Judge Sweep)
-work_of_flags false true savers = Some (Judge Faults)
+work_of_flags true false savers = Some (Judge (whole Cuts))
+work_of_flags false true savers = Some (Judge (whole Fails))
 work_of_flags false false savers = Some (Report savers)
 
 -- a number from 1 to so many
 abbrev pub number_up_to : ℕ → Option ℕ → Option ℕ
 number_up_to most None = None
 number_up_to most (Some n) = if nat_lt n 1 then None else (if nat_lt most n then None else Some n)
+
+abbrev pub row_numbered : Bench → Option ℕ → Option Work
+row_numbered bench None = None
+row_numbered bench (Some r) = Some (ShowRow (record { bench = bench; number = r }))
+
+abbrev pub row_of : List ℕ → Option Work → Option Work
+row_of word (Some (Judge plan)) = row_numbered plan.bench (number_up_to 1000000 (number_of word))
+row_of word work = None
+
+-- the work of a bench, or its row of that number as a script
+abbrev pub bench_or_row : Option (List ℕ) → Option Work → Option Work
+bench_or_row None work = work
+bench_or_row (Some word) work = row_of word work
 
 -- what schedules are drawn from: 1 if no word says it
 abbrev pub seed_of : Option (List ℕ) → Option ℕ
@@ -116,7 +150,7 @@ shrink_number seed (Some k) = Some (Shrink (record { seed = seed; number = k }))
 
 -- So many schedules are compared, or the one that a word names is shown, or one is shrunk. Not both.
 abbrev pub compare_or_show : ℕ → ℕ → Option (List ℕ) → Option (List ℕ) → Option Work
-compare_or_show runs seed None None = Some (Compare (record { seed = seed; number = runs }))
+compare_or_show runs seed None None = Some (Compare (record { seed = seed; count = runs; part = None }))
 compare_or_show runs seed (Some word) None = show_number seed (number_up_to runs (number_of word))
 compare_or_show runs seed None (Some word) = shrink_number seed (number_up_to runs (number_of word))
 compare_or_show runs seed (Some show) (Some shrink) = None
@@ -143,9 +177,10 @@ without_schedules (Some seed) show shrink work = None
 without_schedules None (Some show) shrink work = None
 without_schedules None None (Some shrink) work = None
 
--- what is to be done, by the flags of the benches, the words of schedules, and the crew: one work
+-- what is to be done, by the flags of the benches, the words of schedules, and the crew: one work; a bench alone may have a row shown
 abbrev pub work_named : Bool → Bool → Option (List ℕ) → Option (List ℕ) → Option (List ℕ) → Option (List ℕ) → Savers → Option Work
-work_named sweep faults None seed show shrink savers = without_schedules seed show shrink (work_of_flags sweep faults savers)
+work_named sweep faults None seed show shrink savers =
+    without_schedules seed None shrink (bench_or_row show (work_of_flags sweep faults savers))
 work_named sweep faults (Some runs) seed show shrink savers = without_benches sweep faults (schedules_named runs seed show shrink)
 
 abbrev pub work_without : Found → Bool → Bool → Option Work
@@ -186,34 +221,85 @@ work_by (Some word) f sweep faults first =
     (without_options (first_value f (codes "schedules")) (first_value f (codes "seed")) (first_value f (codes "shrink"))
     (preemptions_named word (first_value f (codes "show")) first))
 
-abbrev pub work_unrecovered : Found → Bool → Bool → Bool → Option Work
-work_unrecovered f sweep faults first = work_by (first_value f (codes "preemptions")) f sweep faults first
+abbrev pub work_unrecovered : (f : Found) → Flags f → Option Work
+work_unrecovered f flags = work_by (first_value f (codes "preemptions")) f flags.sweep flags.faults flags.first
 
--- a recovery goes with a bench
+-- a recovery goes with a bench, or with one of its rows
 abbrev pub recovered : Option Work → Option Work
-recovered (Some (Judge bench)) = Some (Recover bench)
+recovered (Some (Judge plan)) = Some (Recover plan)
+recovered (Some (ShowRow row)) = Some (ShowRecovered row)
 recovered work = None
 
 abbrev pub with_recovery : Option (List ℕ) → Option Work → Option Work
 with_recovery None work = work
 with_recovery (Some path) work = recovered work
 
-abbrev pub work_asked : Found → Bool → Bool → Bool → Option Work
-work_asked f sweep faults first = with_recovery (first_value f (codes "recover")) (work_unrecovered f sweep faults first)
+-- part k of so many, up to 4,096
+abbrev pub part_between : Option ℕ → Option ℕ → Option Part
+part_between None of = None
+part_between (Some k) None = None
+part_between (Some k) (Some of) =
+    if nat_lt k 1 then None else (if nat_lt of k then None else (if nat_lt 4096 of then None else Some (record { number = k; of = of })))
+
+abbrev pub part_at : List ℕ → Option ℕ → Option Part
+part_at word None = None
+part_at word (Some i) = part_between (number_of (take i word)) (number_of (drop (i + 1) word))
+
+-- the part of a word: both numbers, with a `/` between them
+abbrev pub part_named : List ℕ → Option Part
+part_named word = part_at word (position (λ b. b == 47) word)
+
+-- a part goes with a bench or with schedules
+abbrev pub parted : Option Part → Option Work → Option Work
+parted (Some part) (Some (Judge plan)) = Some (Judge (record plan { part = Some part }))
+parted (Some part) (Some (Recover plan)) = Some (Recover (record plan { part = Some part }))
+parted (Some part) (Some (Compare plan)) = Some (Compare (record plan { part = Some part }))
+parted part work = None
+
+abbrev pub with_part : Option (List ℕ) → Option Work → Option Work
+with_part None work = work
+with_part (Some word) work = parted (part_named word) work
+
+-- `--quiet` goes with a bench
+abbrev pub quietly : Option Work → Option Work
+quietly (Some (Judge plan)) = Some (Judge (record plan { quiet = true }))
+quietly (Some (Recover plan)) = Some (Recover (record plan { quiet = true }))
+quietly work = None
+
+abbrev pub with_quiet : Bool → Option Work → Option Work
+with_quiet false work = work
+with_quiet true work = quietly work
+
+-- `--tap` goes with what counts what is wrong or differs
+abbrev pub tested : Option Work → Option Work
+tested (Some (Judge plan)) = Some (Judge plan)
+tested (Some (Recover plan)) = Some (Recover plan)
+tested (Some (Compare plan)) = Some (Compare plan)
+tested (Some (Preempt within)) = Some (Preempt within)
+tested work = None
+
+abbrev pub with_tap : Bool → Option Work → Option Work
+with_tap false work = work
+with_tap true work = tested work
+
+abbrev pub work_asked : (f : Found) → Flags f → Option Work
+work_asked f flags =
+    with_tap flags.tap
+    (with_quiet flags.quiet
+    (with_part (first_value f (codes "part")) (with_recovery (first_value f (codes "recover")) (work_unrecovered f flags))))
 
 -- the bench of schedules runs at most so many, an order has at most so many preemptions, and orders have numbers from 1 on
 abbrev pub IsBounded : Work → Type 0
-IsBounded (Compare drawn) = drawn.number ≤ 1000000
+IsBounded (Compare plan) = plan.count ≤ 1000000
 IsBounded (Preempt within) = within.most ≤ 3
 IsBounded (ShowOrder wanted) = (wanted.most ≤ 3) × (1 ≤ wanted.number)
 IsBounded work = ⊤
 
 -- what the words of a command line name, as the command's parser reads them: one work
 abbrev pub IsNamedBy : List (List ℕ) → Options → Type 0
-IsNamedBy words options = (crews : ValueParser) × (f : Found) × (sweep faults first : Bool)
+IsNamedBy words options = (crews : ValueParser) × (f : Found) × (flags : Flags f)
     × AreParsed (sbibench crews) words f
-    × IsFlag f (codes "sweep") sweep × IsFlag f (codes "faults") faults × IsFlag f (codes "first") first
-    × (work_asked f sweep faults first ≡ Some options.work)
+    × (work_asked f flags ≡ Some options.work) × (flags.tap ≡ options.tap)
     × (payload_files options ≡ payload_paths f) × (script_file options ≡ path_named (first_value f (codes "SCRIPT")))
     × (recovery_file options ≡ path_named (first_value f (codes "recover")))
 
@@ -223,9 +309,7 @@ abbrev pub NamesNoWork : List (List ℕ) → NoWork → Type 0
 NamesNoWork words why =
     (crews : ValueParser) × (kind : ErrorKind) × IsAmong kind (fault_of (sbibench crews) words) × (why ≡ no_work kind)
 
--- or they name no one work: two, or an option of schedules without them, or out of its range
+-- or they name no one work: two, or an option without the one that it goes with, or out of its range
 abbrev pub NamesConflict : List (List ℕ) → Type 0
-NamesConflict words = (crews : ValueParser) × (f : Found) × (sweep faults first : Bool)
-    × AreParsed (sbibench crews) words f
-    × IsFlag f (codes "sweep") sweep × IsFlag f (codes "faults") faults × IsFlag f (codes "first") first
-    × (work_asked f sweep faults first ≡ None)
+NamesConflict words = (crews : ValueParser) × (f : Found) × (flags : Flags f)
+    × AreParsed (sbibench crews) words f × (work_asked f flags ≡ None)

@@ -1,5 +1,5 @@
 -- What the program writes, by the work that its words ask for. Source: docs/SCRIPT.md, "The program".
-use Rattle.std.specs.Prelude.{◌≡◌, ◌⊎◌, ◌<◌, ⊤, ℕ, Bool, List, [], Option, None, Some, Ok, Err, IfSome, IsSome, get_or, take}
+use Rattle.std.specs.Prelude.{◌≡◌, ◌⊎◌, ◌<◌, ⊤, ℕ, Bool, true, false, List, [], Option, None, Some, Ok, Err, IfSome, IsSome, get_or, take}
 use Rattle.board_model.specs.declared.refusal.Refusal.{Refusal}
 use Rattle.board_model.specs.declared.refusal.Refusal.TheVariants.{BadShape, Memory, Output, NotPlain}
 use Rattle.std.specs.Io.KnownBytes.{Appends}
@@ -9,7 +9,11 @@ use Rattle.bench_report.specs.Prefix.{KeepsPrefixLaw}
 use Rattle.report_lines.specs.Texts.{report_text}
 use Rattle.bench_report.specs.Reports.{AreByFirmware, IsReportWith}
 use Rattle.report_lines.specs.declared.printed.Answer.{Answer}
+use Rattle.bench_sweep.specs.Shown.{IsRowOf, NoneBehindOf, NoRowOf}
 use Rattle.bench_sweep.specs.Swept.{IsBenchOf, IsRecoveredBenchOf, NoBenchRuns, NoRecoveryRuns}
+use Rattle.bench_sweep.specs.declared.plan.Plan.{Plan}
+use Rattle.bench_sweep.specs.declared.recovery.RecoveryFile.{RecoveryFile}
+use Rattle.bench_sweep.specs.declared.shown.WantedRow.{WantedRow}
 use Rattle.bench_sweep.specs.declared.sweeps.Recovered.{Recovered}
 use Rattle.bench_preemptions.specs.Preemptions.{WrotePreemptions}
 use Rattle.bench_preemptions.specs.Shown.{HasNoOrder, ShownOrder}
@@ -19,7 +23,7 @@ use Rattle.bench_schedules.specs.Numbers.{number_of_other, numbers_of}
 use Rattle.bench_schedules.specs.Schedules.{Shown, WroteSchedules}
 use Rattle.bench_shrink.specs.Shrunk.{Shrunk}
 use Rattle.bench_judge.specs.declared.judges.Sweep.{Sweep as Counts}
-use Rattle.bench_program.specs.Benches.{judged}
+use Rattle.bench_program.specs.Taps.{tap_text}
 use Rattle.command_line.specs.declared.NoWork.TheVariants as whys
 use Rattle.payload_files.specs.Named.{AreFilesOf}
 use Rattle.bench_program.specs.Usage.{payload_files, recovery_file, script_file, IsNamedBy, NamesNoWork, NamesConflict}
@@ -27,8 +31,9 @@ use Rattle.bench_program.specs.declared.fault.BenchFault.{BenchFault}
 use Rattle.bench_program.specs.declared.fault.BenchFault.TheVariants.{Usage, Input, File, Refused, Closed, Wrong}
 use Rattle.bench_program.specs.declared.usage.Options.{Options}
 use Rattle.bench_program.specs.declared.usage.Work.{Work}
-use Rattle.bench_program.specs.declared.usage.Bench.{Bench}
-use Rattle.bench_program.specs.declared.usage.Work.TheVariants.{Report, Judge, Recover, Compare, Show, Shrink, Preempt, ShowOrder}
+use Rattle.bench_schedules.specs.declared.benches.Plan.{Plan as Schedules}
+use Rattle.bench_program.specs.declared.usage.Drawn.{Drawn}
+use Rattle.bench_program.specs.declared.usage.Work.TheVariants.{Report, Judge, Recover, ShowRow, ShowRecovered, Compare, Show, Shrink, Preempt, ShowOrder}
 
 -- what was written is a report of the script that begins with these payloads, and nothing else; where no line is a poke,
 -- it keeps the prefix law
@@ -37,75 +42,94 @@ IsReported payloads script old now = (said : Said) × (answers : List Answer) ×
     × (script_of script ≡ Ok said) × IsReportWith payloads said answers end × Appends old now (report_text answers)
     × (AreByFirmware said.lines → KeepsPrefixLaw said.lines answers)
 
--- so many schedules of the script that begins with these payloads were compared with its own run, and told; so many differ
-abbrev pub IsCompared : ℕ → List (List ℕ) → List ℕ → Option (List ℕ) → Option (List ℕ) → ℕ → Type 0
-IsCompared n payloads script old now differ = (said : Said) × (script_of script ≡ Ok said)
-    × WroteSchedules said payloads (number_of_other script said.lines) n old now differ
+-- the schedules of that plan, of the script that begins with these payloads, were compared with its own run, and told; so many differ
+abbrev pub IsCompared : Schedules → List (List ℕ) → List ℕ → Option (List ℕ) → Option (List ℕ) → ℕ → Type 0
+IsCompared plan payloads script old now differ = (said : Said) × (script_of script ≡ Ok said)
+    × WroteSchedules said payloads plan.seed (number_of_other script said.lines) plan.part plan.count old now differ
 
 -- the script that begins with these payloads was run, and its orders with so many preemptions at most; so many differ
 abbrev pub IsPreempted : Within → List (List ℕ) → List ℕ → Option (List ℕ) → Option (List ℕ) → ℕ → Type 0
 IsPreempted within payloads script old now differ = (said : Said) × (script_of script ≡ Ok said) × (orders : ℕ)
     × WrotePreemptions said payloads (numbers_of script) within.most within.first old now orders differ
 
--- a bench ran over the script that begins with these payloads, with that recovery behind each run; so many differ
-abbrev pub IsRecovered : Bench → List (List ℕ) → List ℕ → List ℕ → Option (List ℕ) → Option (List ℕ) → ℕ → Type 0
-IsRecovered bench payloads recovery script old now differ = (done : Recovered)
-    × IsRecoveredBenchOf (judged bench) payloads script recovery (numbers_of recovery) old now done × (done.differ ≡ differ)
+-- a bench ran by that plan over the script that begins with these payloads, with that recovery behind each run; so many differ
+abbrev pub IsRecovered : Plan → List (List ℕ) → List ℕ → List ℕ → Option (List ℕ) → Option (List ℕ) → ℕ → Type 0
+IsRecovered plan payloads recovery script old now differ = (done : Recovered)
+    × IsRecoveredBenchOf plan payloads script recovery (numbers_of recovery) old now done × (done.differ ≡ differ)
 
--- one schedule of the script was written
-abbrev pub IsShown : List ℕ → Option (List ℕ) → Option (List ℕ) → Type 0
-IsShown script old now = (said : Said) × (script_of script ≡ Ok said) × Shown said old now
+-- the schedule of that seed and number was written
+abbrev pub IsShown : Drawn → List ℕ → Option (List ℕ) → Option (List ℕ) → Type 0
+IsShown drawn script old now = (said : Said) × (script_of script ≡ Ok said) × Shown said drawn.seed drawn.number old now
 
--- a schedule of the script was written that differs where the schedule of a number does
-abbrev pub IsShrunk : List (List ℕ) → List ℕ → Option (List ℕ) → Option (List ℕ) → Type 0
-IsShrunk payloads script old now = (said : Said) × (script_of script ≡ Ok said) × Shrunk said payloads old now
+-- a schedule of the script was written that differs where the schedule of that seed and number does
+abbrev pub IsShrunk : Drawn → List (List ℕ) → List ℕ → Option (List ℕ) → Option (List ℕ) → Type 0
+IsShrunk drawn payloads script old now =
+    (said : Said) × (script_of script ≡ Ok said) × Shrunk said payloads drawn.seed drawn.number old now
+
+-- these are the bytes of a recovery, with the numbers of its lines
+abbrev pub IsFileOf : List ℕ → RecoveryFile → Type 0
+IsFileOf recovery file = (file.bytes.now ≡ recovery) × (file.numbers.now ≡ numbers_of recovery)
 
 -- the order of that number was written, of those with so many preemptions at most that differ
 abbrev pub IsOrderShown : Wanted → List (List ℕ) → List ℕ → Option (List ℕ) → Option (List ℕ) → Type 0
 IsOrderShown wanted payloads script old now = (said : Said) × (script_of script ≡ Ok said)
     × ShownOrder said payloads (numbers_of script) wanted.most wanted.number old now
 
--- what was written is what the work makes of the script: its report, the lines of a bench, of which none is wrong, or of its
--- schedules, of which none differs, or one of them, or one that was shrunk, or of its orders with few preemptions, of which none differs, or one that does
+-- the run of that number of a bench was written as a script, with that recovery's lines at its end
+abbrev pub IsRowShown : WantedRow → List (List ℕ) → List ℕ → List ℕ → Option (List ℕ) → Option (List ℕ) → Type 0
+IsRowShown row payloads recovery script old now = (file : RecoveryFile) × IsFileOf recovery file
+    × IsRowOf row.bench row.number payloads script (Some file) old now
+
+-- what was written is what the work makes of the script: its report, the lines of a bench, of which none is wrong, or one of its runs, or
+-- the lines of schedules, of which none differs, or one of them, or one that was shrunk, or of its orders with few preemptions, of which
+-- none differs, or one that does
 abbrev pub IsWritten : Work → List (List ℕ) → List ℕ → Option (List ℕ) → Option (List ℕ) → Type 0
 IsWritten (Report savers) payloads script old now = IsReported payloads script old now
-IsWritten (Judge bench) payloads script old now = (counts : Counts) × IsBenchOf (judged bench) payloads script old now counts
-IsWritten (Recover bench) payloads script old now = ⊥
-IsWritten (Compare drawn) payloads script old now = IsCompared drawn.number payloads script old now 0
-IsWritten (Show drawn) payloads script old now = IsShown script old now
-IsWritten (Shrink drawn) payloads script old now = IsShrunk payloads script old now
+IsWritten (Judge plan) payloads script old now = (counts : Counts) × IsBenchOf plan payloads script old now counts
+IsWritten (Recover plan) payloads script old now = ⊥
+IsWritten (ShowRow row) payloads script old now = IsRowOf row.bench row.number payloads script None old now
+IsWritten (ShowRecovered row) payloads script old now = ⊥
+IsWritten (Compare plan) payloads script old now = IsCompared plan payloads script old now 0
+IsWritten (Show drawn) payloads script old now = IsShown drawn script old now
+IsWritten (Shrink drawn) payloads script old now = IsShrunk drawn payloads script old now
 IsWritten (Preempt within) payloads script old now = IsPreempted within payloads script old now 0
 IsWritten (ShowOrder wanted) payloads script old now = IsOrderShown wanted payloads script old now
 
 -- the same of a work that has a recovery: of none of its runs a look differs
 abbrev pub IsMade : Work → List (List ℕ) → List ℕ → List ℕ → Option (List ℕ) → Option (List ℕ) → Type 0
-IsMade (Recover bench) payloads recovery script old now = IsRecovered bench payloads recovery script old now 0
+IsMade (Recover plan) payloads recovery script old now = IsRecovered plan payloads recovery script old now 0
+IsMade (ShowRecovered row) payloads recovery script old now = IsRowShown row payloads recovery script old now
 IsMade work payloads recovery script old now = IsWritten work payloads script old now
 
 -- what was written is what the work makes of the script, and tells that something is wrong: some schedules or orders differ
 abbrev pub TellsWrong : Work → List (List ℕ) → List ℕ → Option (List ℕ) → Option (List ℕ) → Type 0
-TellsWrong (Compare drawn) payloads script old now = (differ : ℕ) × (0 < differ) × IsCompared drawn.number payloads script old now differ
+TellsWrong (Compare plan) payloads script old now = (differ : ℕ) × (0 < differ) × IsCompared plan payloads script old now differ
 TellsWrong (Preempt within) payloads script old now = (differ : ℕ) × (0 < differ) × IsPreempted within payloads script old now differ
 TellsWrong work payloads script old now = ⊥
 
 -- or the looks of some recoveries
 abbrev pub TellsApart : Work → List (List ℕ) → List ℕ → List ℕ → Option (List ℕ) → Option (List ℕ) → Type 0
-TellsApart (Recover bench) payloads recovery script old now =
-    (differ : ℕ) × (0 < differ) × IsRecovered bench payloads recovery script old now differ
+TellsApart (Recover plan) payloads recovery script old now =
+    (differ : ℕ) × (0 < differ) × IsRecovered plan payloads recovery script old now differ
 TellsApart work payloads recovery script old now = TellsWrong work payloads script old now
 
 -- what is read of a source of these bytes: all of them, but for what is more than any script has
 abbrev pub IsReadOf : List ℕ → List ℕ → Type 0
 IsReadOf script bytes = script ≡ take 268500993 bytes
 
--- the work was done over a source of which these bytes are known
-abbrev pub IsWorked : Work → List (List ℕ) → List ℕ → Option (List ℕ) → Option (List ℕ) → Option (List ℕ) → Type 0
-IsWorked work payloads recovery source old now = (script : List ℕ) × IfSome source (λ bytes. script_of script ≡ script_of bytes)
-    × IfSome source (IsReadOf script) × IsMade work payloads recovery script old now
+-- That was written; or, with `--tap`, what the protocol has of a text that else would be written, where all is well or not.
+abbrev pub IsPut : Bool → Bool → (Option (List ℕ) → Option (List ℕ) → Type 0) → Option (List ℕ) → Option (List ℕ) → Type 0
+IsPut false well That old now = That old now
+IsPut true well That old now = (text : List ℕ) × That (Some []) (Some text) × Appends old now (tap_text well text)
 
-abbrev pub IsWrongOver : Work → List (List ℕ) → List ℕ → Option (List ℕ) → Option (List ℕ) → Option (List ℕ) → Type 0
-IsWrongOver work payloads recovery source old now = (script : List ℕ) × IfSome source (λ bytes. script_of script ≡ script_of bytes)
-    × IfSome source (IsReadOf script) × TellsApart work payloads recovery script old now
+-- the work was done over a source of which these bytes are known
+abbrev pub IsWorked : Options → List (List ℕ) → List ℕ → Option (List ℕ) → Option (List ℕ) → Option (List ℕ) → Type 0
+IsWorked options payloads recovery source old now = (script : List ℕ) × IfSome source (λ bytes. script_of script ≡ script_of bytes)
+    × IfSome source (IsReadOf script) × IsPut options.tap true (IsMade options.work payloads recovery script) old now
+
+abbrev pub IsWrongOver : Options → List (List ℕ) → List ℕ → Option (List ℕ) → Option (List ℕ) → Option (List ℕ) → Type 0
+IsWrongOver options payloads recovery source old now = (script : List ℕ) × IfSome source (λ bytes. script_of script ≡ script_of bytes)
+    × IfSome source (IsReadOf script) × IsPut options.tap false (TellsApart options.work payloads recovery script) old now
 
 -- the bytes that the script is read from: those of the file that is named, or else the input's
 abbrev pub source_at : Option (List ℕ) → (List ℕ → Option (List ℕ)) → Option (List ℕ) → Option (List ℕ)
@@ -126,12 +150,12 @@ IsRecoveryOf bytes_at (Some path) recovery = IfSome (bytes_at path) (IsReadOf re
 abbrev pub AreDone : Options → (List ℕ → Option (List ℕ)) → Option (List ℕ) → Option (List ℕ) → Option (List ℕ) → Type 0
 AreDone options bytes_at input old now = (payloads : List (List ℕ)) × AreFilesOf bytes_at (payload_files options) payloads
     × (recovery : List ℕ) × IsRecoveryOf bytes_at (recovery_file options) recovery
-    × IsWorked options.work payloads recovery (source_of options bytes_at input) old now
+    × IsWorked options payloads recovery (source_of options bytes_at input) old now
 
 abbrev pub AreWrong : Options → (List ℕ → Option (List ℕ)) → Option (List ℕ) → Option (List ℕ) → Option (List ℕ) → Type 0
 AreWrong options bytes_at input old now = (payloads : List (List ℕ)) × AreFilesOf bytes_at (payload_files options) payloads
     × (recovery : List ℕ) × IsRecoveryOf bytes_at (recovery_file options) recovery
-    × IsWrongOver options.work payloads recovery (source_of options bytes_at input) old now
+    × IsWrongOver options payloads recovery (source_of options bytes_at input) old now
 
 -- the work that the words name was done over both
 abbrev pub IsDone : List (List ℕ) → (List ℕ → Option (List ℕ)) → Option (List ℕ) → Option (List ℕ) → Option (List ℕ) → Type 0
@@ -144,45 +168,65 @@ IsWrong words bytes_at input old now =
     (options : Options) × IsNamedBy words options × AreWrong options bytes_at input old now
 
 -- ---- faults
--- The work is a bench, and no bench runs the script: a line of it is not plain, or none formats a disk; or its recovery. Or it shows
--- an order, and there is none of that number to show.
+-- The work is a bench or shows a run of one, and no bench runs the script: a line of it is not plain, or none formats a disk. Or it shows
+-- a run or an order, and there is none of that number to show.
 abbrev pub IsNotTaken : Work → List (List ℕ) → List ℕ → Refusal → Type 0
 IsNotTaken (Report savers) payloads script e = ⊥
-IsNotTaken (Judge bench) payloads script e = (e ≡ NotPlain) × NoBenchRuns script
-IsNotTaken (Recover bench) payloads script e =
-    ((e ≡ NotPlain) × NoBenchRuns script)
-    ⊎ ((recovery : List ℕ) × NoRecoveryRuns script recovery e)
-IsNotTaken (Compare drawn) payloads script e = ⊥
+IsNotTaken (Judge plan) payloads script e = (e ≡ NotPlain) × NoBenchRuns script
+IsNotTaken (Recover plan) payloads script e = (e ≡ NotPlain) × NoBenchRuns script
+IsNotTaken (ShowRow row) payloads script e =
+    ((e ≡ NotPlain) × NoBenchRuns script) ⊎ ((e ≡ BadShape) × NoRowOf row.bench row.number payloads script None)
+IsNotTaken (ShowRecovered row) payloads script e = (e ≡ NotPlain) × NoBenchRuns script
+IsNotTaken (Compare plan) payloads script e = ⊥
 IsNotTaken (Show drawn) payloads script e = ⊥
 IsNotTaken (Shrink drawn) payloads script e = ⊥
 IsNotTaken (Preempt within) payloads script e = ⊥
 IsNotTaken (ShowOrder wanted) payloads script e = (e ≡ BadShape) × (said : Said) × (script_of script ≡ Ok said)
     × HasNoOrder said payloads (numbers_of script) wanted.most wanted.number
 
+-- a work over that script, which begins with these payloads, is refused so: memory was refused, the output failed, the script has the
+-- fault, or the work is none of this script
+abbrev pub IsRefusedAs : Work → List (List ℕ) → List ℕ → Refusal → Type 0
+IsRefusedAs work payloads script e = (e ≡ Memory) ⊎ (e ≡ Output) ⊎ (script_of script ≡ Err e) ⊎ IsNotTaken work payloads script e
+
+-- no bench runs that recovery, or there is no run of that number to show with it
+abbrev pub IsNoRow : WantedRow → List (List ℕ) → List ℕ → List ℕ → Refusal → Type 0
+IsNoRow row payloads recovery script e = (file : RecoveryFile) × IsFileOf recovery file
+    × (NoneBehindOf script (Some file) e ⊎ ((e ≡ BadShape) × NoRowOf row.bench row.number payloads script (Some file)))
+
+-- the same of a work that has a recovery: or no bench runs that
+abbrev pub IsRefusedWith : Work → List (List ℕ) → List ℕ → List ℕ → Refusal → Type 0
+IsRefusedWith (Recover plan) payloads recovery script e =
+    IsRefusedAs (Recover plan) payloads script e ⊎ NoRecoveryRuns script recovery e
+IsRefusedWith (ShowRecovered row) payloads recovery script e =
+    IsRefusedAs (ShowRecovered row) payloads script e ⊎ IsNoRow row payloads recovery script e
+IsRefusedWith work payloads recovery script e = IsRefusedAs work payloads script e
+
 -- a work may tell that something is wrong: the benches of power cuts and failures never do without a recovery
 abbrev pub MayTellWrong : Work → Type 0
-MayTellWrong (Compare drawn) = ⊤
+MayTellWrong (Compare plan) = ⊤
 MayTellWrong (Preempt within) = ⊤
-MayTellWrong (Recover bench) = ⊤
+MayTellWrong (Recover plan) = ⊤
 MayTellWrong work = ⊥
 
--- a fault of a work over that script, which begins with these payloads: memory was refused, the output failed or nobody reads it, the
--- script has it, or the work is none of this script; or it told that something is wrong. The command line has none
-abbrev pub IsFaultIn : Work → List (List ℕ) → List ℕ → BenchFault → Type 0
-IsFaultIn work payloads script (Refused e) =
-    (e ≡ Memory) ⊎ (e ≡ Output) ⊎ (script_of script ≡ Err e) ⊎ IsNotTaken work payloads script e
-IsFaultIn work payloads script Closed = ⊤
-IsFaultIn work payloads script Input = ⊥
-IsFaultIn work payloads script File = ⊥
-IsFaultIn work payloads script Usage = ⊥
-IsFaultIn work payloads script Wrong = MayTellWrong work
+-- A fault of a work over that script, which begins with these payloads, with that recovery where it has one, by whether the output's
+-- reader is gone. Only where it is gone nothing is told; else the work was refused, or it told that something is wrong. The command line
+-- has none, and neither has a file.
+abbrev pub IsFaultIn : Work → List (List ℕ) → List ℕ → List ℕ → Bool → BenchFault → Type 0
+IsFaultIn work payloads recovery script gone (Refused e) = (gone ≡ false) × IsRefusedWith work payloads recovery script e
+IsFaultIn work payloads recovery script gone Closed = gone ≡ true
+IsFaultIn work payloads recovery script gone Input = ⊥
+IsFaultIn work payloads recovery script gone File = ⊥
+IsFaultIn work payloads recovery script gone Usage = ⊥
+IsFaultIn work payloads recovery script gone Wrong = MayTellWrong work
 
--- a fault of the options' work over a source and over files of which these bytes are known
-abbrev pub IsFaultOf : Options → (List ℕ → Option (List ℕ)) → Option (List ℕ) → BenchFault → Type 0
-IsFaultOf options bytes_at input fault = (payloads : List (List ℕ)) × (script : List ℕ)
-    × AreFilesOf bytes_at (payload_files options) payloads
+-- a fault of the options' work over a source and over files of which these bytes are known, the recovery's among them
+abbrev pub IsFaultOf : Options → (List ℕ → Option (List ℕ)) → Option (List ℕ) → Bool → BenchFault → Type 0
+IsFaultOf options bytes_at input gone fault = (payloads : List (List ℕ)) × (recovery : List ℕ) × (script : List ℕ)
+    × AreFilesOf bytes_at (payload_files options) payloads × IsRecoveryOf bytes_at (recovery_file options) recovery
     × IfSome (source_of options bytes_at input) (λ bytes. script_of script ≡ script_of bytes)
-    × IsFaultIn options.work payloads script fault
+    × IfSome (source_of options bytes_at input) (IsReadOf script)
+    × IsFaultIn options.work payloads recovery script gone fault
 
 -- a file could not be read, of those that are named; or the input failed, where none of them is the script's
 abbrev pub IsUnread : Options → BenchFault → Type 0
@@ -192,8 +236,8 @@ IsUnread options fault =
 
 -- a fault of the work that the words name, or of their files; or they name none, or no one work; or memory was refused
 -- to the command line or a file
-abbrev pub IsFault : List (List ℕ) → (List ℕ → Option (List ℕ)) → Option (List ℕ) → BenchFault → Type 0
-IsFault words bytes_at input fault =
+abbrev pub IsFault : List (List ℕ) → (List ℕ → Option (List ℕ)) → Option (List ℕ) → Bool → BenchFault → Type 0
+IsFault words bytes_at input gone fault =
     ((options : Options) × IsNamedBy words options
-    × (IsUnread options fault ⊎ IsFaultOf options bytes_at input fault))
+    × (IsUnread options fault ⊎ IsFaultOf options bytes_at input gone fault))
     ⊎ ((fault ≡ Usage) × (NamesNoWork words whys.Usage ⊎ NamesConflict words)) ⊎ (fault ≡ Refused Memory)

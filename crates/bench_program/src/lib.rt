@@ -4,9 +4,10 @@
 
 mod fault;
 mod streams;
+mod taps;
 mod usage;
 
-ghost use Rattle.std.specs.Prelude.{◌≡◌, ◌⊎◌, ◌≤◌, [], Result, OnOk, IfOk, IfErr, IfSome, Ok, Err};
+ghost use Rattle.std.specs.Prelude.{◌≡◌, ◌⊎◌, ◌≤◌, [], None, Result, OnOk, IfOk, IfErr, IfSome, Ok, Err};
 ghost use Rattle.std.specs.Io.Buffered.{writer_buffer, writer_contents};
 ghost use Rattle.board_model.specs.declared.refusal.Refusal.{Refusal};
 ghost use Rattle.board_model.specs.declared.refusal.Refusal.TheVariants.{BadShape, Memory};
@@ -16,21 +17,23 @@ ghost use Rattle.bench_program.specs.declared.fault.BenchFault.{BenchFault};
 ghost use Rattle.bench_program.specs.declared.fault.BenchFault.TheVariants.{Input, Refused};
 ghost use Rattle.script_lang.specs.Scripts.{script_of, Script as Said};
 ghost use Rattle.bench_sweep.specs.Swept.{IsBenchOf, IsRecoveredBenchOf, IsNotPlain, NoBenchRuns, NoRecoveryRuns};
+ghost use Rattle.bench_sweep.specs.Shown.{IsRowOf, NoRowOf};
 ghost use Rattle.bench_schedules.specs.Numbers.{numbers_of};
 ghost use Rattle.bench_preemptions.specs.Shown.{HasNoOrder};
-ghost use Rattle.bench_program.specs.Benches.{judged};
-ghost use Rattle.bench_program.specs.Written.{IsCompared, IsOrderShown, IsPreempted, IsReadOf, IsReported, IsShown, IsShrunk};
+ghost use Rattle.bench_program.specs.Written.{IsCompared, IsNoRow, IsOrderShown, IsPreempted, IsReadOf, IsReported, IsRowShown, IsShown, IsShrunk};
 
 pub use crate::fault::BenchFault;
 pub use crate::streams::run_on;
 use crate::streams::{end, without_work};
 use crate::usage::USAGE;
-pub use crate::usage::{Bench, Drawn, Options, Savers, Work, options_of};
+pub use crate::usage::{Drawn, Options, Savers, Work, options_of};
 use bench_preemptions::{Preempted, Wanted, Within, preemptions, show_order};
 use bench_report::run_with;
-use bench_schedules::{Compared, line_numbers, schedules, show};
+use bench_schedules::{Compared, Plan as Schedules, line_numbers, schedules, show};
 use bench_shrink::shrink;
-use bench_sweep::{Bench as Swept, Recovered, RecoveryFile, Sweep, run_bench, run_bench_recovered};
+use bench_sweep::{
+    Plan, Recovered, RecoveryFile, Sweep, WantedRow, run_bench, run_bench_recovered, show_row,
+};
 use board::Payloads;
 use board_model::{MAX_LINE_BYTES, MAX_SCRIPT_LINES, Refusal};
 pub use command_line::Pipe;
@@ -94,32 +97,6 @@ pub fn write_report<C: Crew, W: Write + Drop>(
     out.flush().map_err(|_| Refusal::Output)
 }
 
-/// Runs a bench over the script that begins with these payloads. Refused as `bench_sweep::run_bench` is.
-fn run_named_bench<R: Threads + Sync, W: Write + Drop>(
-    jobs: &Jobs<'_, R>,
-    alloc: Global,
-    script: &[u8],
-    bench: Bench,
-    payloads: Payloads,
-    out: &mut BufWriter<W>,
-) -> Result<Sweep, Refusal>
-    ensures wrote { IfOk result (λ sweep. IsBenchOf (judged bench) payloads script.now
-        (writer_contents W.contents out.old) (writer_contents W.contents out.new) sweep) }
-    ensures refused { IfErr result (λ e. (e ≡ Refusal.Memory) ⊎ (e ≡ Refusal.Output) ⊎ (script_of script.now ≡ Err e)
-        ⊎ ((e ≡ Refusal.NotPlain) × NoBenchRuns script.now)) }
-    ensures nothing { (e : Refusal) → script_of script.now ≡ Err e
-        → (writer_contents W.contents out.new ≡ writer_contents W.contents out.old)
-        × ((result ≡ Err e) ⊎ (result ≡ Err Refusal.Memory)) }
-    ensures plain { (said : Said) → script_of script.now ≡ Ok said → IsNotPlain said.lines
-        → (writer_contents W.contents out.new ≡ writer_contents W.contents out.old)
-        × ((result ≡ Err Refusal.NotPlain) ⊎ (result ≡ Err Refusal.Memory)) }
-{
-    match bench {
-        Bench::Sweep => run_bench(jobs, alloc, Swept::Cuts, script, payloads, out),
-        Bench::Faults => run_bench(jobs, alloc, Swept::Fails, script, payloads, out),
-    }
-}
-
 /// Runs a bench over the script that begins with these payloads, and writes its lines to the end. The threads of these jobs
 /// make its runs.
 ///
@@ -128,12 +105,12 @@ pub fn write_bench<R: Threads + Sync, W: Write + Drop>(
     jobs: &Jobs<'_, R>,
     alloc: Global,
     script: &[u8],
-    bench: Bench,
+    plan: Plan,
     payloads: Payloads,
     out: &mut BufWriter<W>,
 ) -> Result<Sweep, Refusal>
     // What was written is a line for each run of that bench, and the line of the counts; none was wrong.
-    ensures wrote { IfOk result (λ sweep. IsBenchOf (judged bench) payloads script.now
+    ensures wrote { IfOk result (λ sweep. IsBenchOf plan payloads script.now
         (writer_contents W.contents out.old) (writer_contents W.contents out.new) sweep) }
     // Nothing of it is held back.
     ensures flushed { OnOk result (writer_buffer out.new ≡ []) }
@@ -148,19 +125,9 @@ pub fn write_bench<R: Threads + Sync, W: Write + Drop>(
         → (writer_contents W.contents out.new ≡ writer_contents W.contents out.old)
         × ((result ≡ Err Refusal.NotPlain) ⊎ (result ≡ Err Refusal.Memory)) }
 {
-    let done = run_named_bench::<R, W>(jobs, alloc, script, bench, payloads, out)?;
+    let done = run_bench(jobs, alloc, plan, script, payloads, out)?;
     out.flush().map_err(|_| Refusal::Output)?;
     Ok(done)
-}
-
-/// The bench as `bench_sweep` knows it.
-fn swept(bench: Bench) -> Swept
-    ensures { result ≡ judged bench }
-{
-    match bench {
-        Bench::Sweep => Swept::Cuts,
-        Bench::Faults => Swept::Fails,
-    }
 }
 
 /// Runs a bench over the script that begins with these payloads, with that recovery behind each run, and writes its lines to
@@ -171,13 +138,13 @@ pub fn write_recovered<R: Threads + Sync, W: Write + Drop>(
     jobs: &Jobs<'_, R>,
     alloc: Global,
     script: &[u8],
-    bench: Bench,
+    plan: Plan,
     recovery: &[u8],
     payloads: Payloads,
     out: &mut BufWriter<W>,
 ) -> Result<Recovered, Refusal>
     // What was written is the lines of each run of that bench, and the line of the counts; none was wrong.
-    ensures wrote { IfOk result (λ done. IsRecoveredBenchOf (judged bench) payloads script.now recovery.now (numbers_of recovery.now)
+    ensures wrote { IfOk result (λ done. IsRecoveredBenchOf plan payloads script.now recovery.now (numbers_of recovery.now)
         (writer_contents W.contents out.old) (writer_contents W.contents out.new) done) }
     // Nothing of it is held back.
     ensures flushed { OnOk result (writer_buffer out.new ≡ []) }
@@ -190,9 +157,67 @@ pub fn write_recovered<R: Threads + Sync, W: Write + Drop>(
         bytes: recovery,
         numbers: &numbers,
     };
-    let done = run_bench_recovered(jobs, alloc, swept(bench), script, recovery, payloads, out)?;
+    let done = run_bench_recovered(jobs, alloc, plan, script, recovery, payloads, out)?;
     match out.flush() {
         Ok(()) => Ok(done),
+        Err(_) => Err(Refusal::Output),
+    }
+}
+
+/// Writes a run of a bench over the script that begins with these payloads, as a script that ends with a power-on, to the end.
+///
+/// Refused as `bench_sweep::show_row` is, and `Output` also where what the writer held back could not be written.
+pub fn write_row<R: Threads + Sync, W: Write + Drop>(
+    alloc: Global,
+    script: &[u8],
+    row: WantedRow,
+    payloads: Payloads,
+    out: &mut BufWriter<W>,
+) -> Result<(), Refusal>
+    // What was written is the run of that number, and is read back as it.
+    ensures wrote { OnOk result (IsRowOf row.bench row.number payloads script.now None
+        (writer_contents W.contents out.old) (writer_contents W.contents out.new)) }
+    // Nothing of it is held back.
+    ensures flushed { OnOk result (writer_buffer out.new ≡ []) }
+    // A refusal is out of memory, or the writer's, or the script's fault, or no bench runs the script, or there is no such run.
+    ensures refused { IfErr result (λ e. (e ≡ Refusal.Memory) ⊎ (e ≡ Refusal.Output) ⊎ (script_of script.now ≡ Err e)
+        ⊎ ((e ≡ Refusal.NotPlain) × NoBenchRuns script.now)
+        ⊎ ((e ≡ BadShape) × NoRowOf row.bench row.number payloads script.now None)) }
+{
+    show_row::<R, BufWriter<W>>(alloc, row, script, None, payloads, out)?;
+    match out.flush() {
+        Ok(()) => Ok(()),
+        Err(_) => Err(Refusal::Output),
+    }
+}
+
+/// Writes a run of a bench, as `write_row` does, with a recovery of these bytes at its end.
+pub fn write_recovered_row<R: Threads + Sync, W: Write + Drop>(
+    alloc: Global,
+    script: &[u8],
+    row: WantedRow,
+    recovery: &[u8],
+    payloads: Payloads,
+    out: &mut BufWriter<W>,
+) -> Result<(), Refusal>
+    // What was written is the run of that number, and is read back as it.
+    ensures wrote { OnOk result (IsRowShown row payloads recovery.now script.now
+        (writer_contents W.contents out.old) (writer_contents W.contents out.new)) }
+    // Nothing of it is held back.
+    ensures flushed { OnOk result (writer_buffer out.new ≡ []) }
+    // A refusal is out of memory, or the writer's, or the script's fault, or no bench runs the script, or its recovery, or there is no
+    // such run.
+    ensures refused { IfErr result (λ e. (e ≡ Refusal.Memory) ⊎ (e ≡ Refusal.Output) ⊎ (script_of script.now ≡ Err e)
+        ⊎ ((e ≡ Refusal.NotPlain) × NoBenchRuns script.now) ⊎ IsNoRow row payloads recovery.now script.now e) }
+{
+    let numbers = line_numbers(alloc, recovery)?;
+    let file = RecoveryFile {
+        bytes: recovery,
+        numbers: &numbers,
+    };
+    show_row::<R, BufWriter<W>>(alloc, row, script, Some(file), payloads, out)?;
+    match out.flush() {
+        Ok(()) => Ok(()),
         Err(_) => Err(Refusal::Output),
     }
 }
@@ -205,13 +230,13 @@ pub fn write_schedules<R: Threads + Sync, W: Write + Drop>(
     jobs: &Jobs<'_, R>,
     alloc: Global,
     script: &[u8],
-    drawn: Drawn,
+    plan: Schedules,
     payloads: &Payloads,
     out: &mut BufWriter<W>,
 ) -> Result<Compared, Refusal>
-    requires most { drawn.number ≤ 1000000 }
-    // All schedules were run and compared with the script's own run, and those that differ were written and counted.
-    ensures wrote { IfOk result (λ count. IsCompared drawn.number payloads.now script.now
+    requires most { plan.count ≤ 1000000 }
+    // The schedules of the plan were run and compared with the script's own run, and those that differ were written and counted.
+    ensures wrote { IfOk result (λ count. IsCompared plan payloads.now script.now
         (writer_contents W.contents out.old) (writer_contents W.contents out.new) count.differ) }
     // Nothing of it is held back.
     ensures flushed { OnOk result (writer_buffer out.new ≡ []) }
@@ -222,15 +247,7 @@ pub fn write_schedules<R: Threads + Sync, W: Write + Drop>(
         → (writer_contents W.contents out.new ≡ writer_contents W.contents out.old)
         × ((result ≡ Err e) ⊎ (result ≡ Err Refusal.Memory)) }
 {
-    let count = schedules::<R, BufWriter<W>>(
-        jobs,
-        alloc,
-        script,
-        payloads,
-        drawn.number,
-        drawn.seed,
-        out,
-    )?;
+    let count = schedules::<R, BufWriter<W>>(jobs, alloc, script, payloads, plan, out)?;
     match out.flush() {
         Ok(()) => Ok(count),
         Err(_) => Err(Refusal::Output),
@@ -248,8 +265,8 @@ pub fn write_schedule<R: Threads + Sync, W: Write + Drop>(
     payloads: &Payloads,
     out: &mut BufWriter<W>,
 ) -> Result<(), Refusal>
-    // What was written is a schedule of the script, and is read back as it.
-    ensures wrote { OnOk result (IsShown script.now (writer_contents W.contents out.old) (writer_contents W.contents out.new)) }
+    // What was written is the schedule of that number, and is read back as it.
+    ensures wrote { OnOk result (IsShown drawn script.now (writer_contents W.contents out.old) (writer_contents W.contents out.new)) }
     // Nothing of it is held back.
     ensures flushed { OnOk result (writer_buffer out.new ≡ []) }
     // A refusal is the script's fault, or out of memory, or the writer's.
@@ -278,7 +295,7 @@ pub fn write_shrunk<R: Threads + Sync, W: Write + Drop>(
     out: &mut BufWriter<W>,
 ) -> Result<(), Refusal>
     // What was written is a schedule of the script that was shrunk, and is read back as it.
-    ensures wrote { OnOk result (IsShrunk payloads.now script.now
+    ensures wrote { OnOk result (IsShrunk drawn payloads.now script.now
         (writer_contents W.contents out.old) (writer_contents W.contents out.new)) }
     // Nothing of it is held back.
     ensures flushed { OnOk result (writer_buffer out.new ≡ []) }

@@ -1,26 +1,32 @@
 //! The program over any streams: it does what the command line asks for, from a reader to a writer.
 
 ghost use Rattle.std.specs.Prelude.{◌≡◌, ◌⊎◌, ◌≤◌, ◌<◌, [], map, Err, Result, OnOk, IfOk, IfErr, IfSome};
-ghost use Rattle.board_model.specs.declared.refusal.Refusal.TheVariants.{Memory};
-ghost use Rattle.std.specs.Io.Buffered.{writer_buffer, writer_contents};
-ghost use Rattle.bench_program.specs.Faults.{status_after, unread_by, without_work};
-ghost use Rattle.command_line.specs.Pipes.{pipe_contents};
+ghost use Rattle.board_model.specs.declared.refusal.Refusal.{Refusal};
+ghost use Rattle.board_model.specs.declared.refusal.Refusal.TheVariants.{Memory, Output};
+ghost use Rattle.std.specs.Io.KnownBytes.{Appends};
+ghost use Rattle.bench_program.specs.Taps.{tap_text};
+ghost use Rattle.std.specs.Io.Buffered.{writer_buffer, writer_contents, writer_inner};
+ghost use Rattle.bench_program.specs.Faults.{fault_by, status_after, unread_by, without_work};
+ghost use Rattle.command_line.specs.Pipes.{is_closed_pipe, pipe_contents, pipe_inner};
 ghost use Rattle.payload_files.specs.Named.{AreFilesOf};
 ghost use Rattle.bench_program.specs.Usage.{payload_files, recovery_file, IsBounded, NamesNoWork};
-ghost use Rattle.bench_program.specs.Written.{AreDone, AreWrong, IsDone, IsFault, IsFaultIn, IsFaultOf, IsMade, IsReadOf, IsRecovered, IsRecoveryOf, IsReported, IsUnread, IsWorked, IsWritten, IsWrong, IsWrongOver, TellsApart, TellsWrong, source_of};
+ghost use Rattle.bench_program.specs.Written.{AreDone, AreWrong, IsDone, IsFault, IsFaultIn, IsFaultOf, IsMade, IsPut, IsReadOf, IsRecovered, IsRecoveryOf, IsReported, IsRowShown, IsUnread, IsWorked, IsWritten, IsWrong, IsWrongOver, TellsApart, TellsWrong, source_of};
 ghost use Rattle.bench_program.specs.declared.fault.BenchFault.{BenchFault};
 ghost use Rattle.bench_program.specs.declared.fault.BenchFault.TheVariants.{Closed, File, Input, Refused, Wrong};
 ghost use Rattle.bench_program.specs.declared.usage.Savers.{Savers};
-ghost use Rattle.bench_program.specs.declared.usage.Work.TheVariants.{Compare, Judge, Recover, Report, Show, ShowOrder, Shrink, Preempt};
+ghost use Rattle.bench_program.specs.declared.usage.Work.TheVariants.{Compare, Judge, Recover, Report, Show, ShowOrder, ShowRecovered, ShowRow, Shrink, Preempt};
 ghost use Rattle.script_lang.specs.Scripts.{script_of};
 
 use crate::fault::{BenchFault, status_of};
-use crate::usage::{Bench, Drawn, MOST_JOBS, Options, Savers, Work, options_of};
+use crate::taps::write_tap;
+use crate::usage::{Drawn, MOST_JOBS, Options, Savers, Work, options_of};
 use crate::{
     READ_AT_MOST, read_script, write_bench, write_order, write_preemptions, write_recovered,
-    write_report, write_schedule, write_schedules, write_shrunk,
+    write_recovered_row, write_report, write_row, write_schedule, write_schedules, write_shrunk,
 };
 use bench_preemptions::{Wanted, Within};
+use bench_schedules::Plan as Schedules;
+use bench_sweep::{Plan, WantedRow};
 use board::Payloads;
 use board_model::Refusal;
 use command_line::{
@@ -34,6 +40,9 @@ use std::convert::AsStr;
 use std::io::{self, BufReader, BufWriter, IsTerminal, Read, Write};
 use std::thread;
 use std::thread::Threads;
+
+/// How many bytes of a bench's text are gathered at once where tests are made of it.
+const HELD_BACK: usize = 65_536;
 
 /// How many bytes of a script are read at once.
 const READ_AT_ONCE: usize = 262_144;
@@ -51,9 +60,9 @@ fn input_script<I: Read + Drop>(alloc: Global, input: I) -> Result<Vec<u8>, Benc
     }
 }
 
-/// The fault of a work that was refused. Where the reader of the output is gone, it is `Closed`, which is not told.
+/// The fault of a work that was refused. Where the reader of the output is gone, it is `Closed`, which is not told; else it is the refusal.
 fn fault_of<O: Write + Drop>(refusal: Refusal, out: &BufWriter<Pipe<O>>) -> BenchFault
-    ensures { (result ≡ Closed) ⊎ (result ≡ Refused refusal) }
+    ensures { result ≡ fault_by (is_closed_pipe (writer_inner out.now)) refusal }
 {
     if out.get_ref().is_closed() {
         BenchFault::Closed
@@ -73,7 +82,8 @@ fn report_with<C: Crew, O: Write + Drop>(
     ensures reported { OnOk result (IsReported payloads script.now
         (writer_contents (pipe_contents O.contents) out.old) (writer_contents (pipe_contents O.contents) out.new)) }
     ensures flushed { OnOk result (writer_buffer out.new ≡ []) }
-    ensures faults { IfErr result (λ fault. (savers : Savers) → IsFaultIn (Report savers) payloads script.now fault) }
+    ensures faults { IfErr result (λ fault. (savers : Savers) → IsFaultIn (Report savers) payloads [] script.now
+        (is_closed_pipe (writer_inner out.new)) fault) }
 {
     match write_report(alloc, script, crew, payloads, out) {
         Ok(()) => Ok(()),
@@ -93,7 +103,8 @@ fn report<R: Threads + Sync, O: Write + Drop>(
     ensures reported { OnOk result (IsReported payloads script.now
         (writer_contents (pipe_contents O.contents) out.old) (writer_contents (pipe_contents O.contents) out.new)) }
     ensures flushed { OnOk result (writer_buffer out.new ≡ []) }
-    ensures faults { IfErr result (λ fault. IsFaultIn (Report savers) payloads script.now fault) }
+    ensures faults { IfErr result (λ fault. IsFaultIn (Report savers) payloads [] script.now
+        (is_closed_pipe (writer_inner out.new)) fault) }
 {
     match savers {
         Savers::Threads => report_with(alloc, script, &crew::Threads::new(threads), payloads, out),
@@ -121,17 +132,18 @@ fn jobs_of<R: Threads>(threads: &R, asked: Option<usize>) -> usize
 fn judge<R: Threads + Sync, O: Write + Drop>(
     jobs: &Jobs<'_, R>,
     alloc: Global,
-    bench: Bench,
+    plan: Plan,
     script: &[u8],
     payloads: Payloads,
     out: &mut BufWriter<Pipe<O>>,
 ) -> Result<(), BenchFault>
-    ensures written { OnOk result (IsWritten (Judge bench) payloads script.now
+    ensures written { OnOk result (IsWritten (Judge plan) payloads script.now
         (writer_contents (pipe_contents O.contents) out.old) (writer_contents (pipe_contents O.contents) out.new)) }
     ensures flushed { OnOk result (writer_buffer out.new ≡ []) }
-    ensures faults { IfErr result (λ fault. IsFaultIn (Judge bench) payloads script.now fault) }
+    ensures faults { IfErr result (λ fault. IsFaultIn (Judge plan) payloads [] script.now
+        (is_closed_pipe (writer_inner out.new)) fault) }
 {
-    match write_bench::<R, Pipe<O>>(jobs, alloc, script, bench, payloads, out) {
+    match write_bench::<R, Pipe<O>>(jobs, alloc, script, plan, payloads, out) {
         Ok(sweep) if sweep.wrong == 0 => Ok(()),
         Ok(_) => Err(BenchFault::Wrong),
         Err(e) => Err(fault_of(e, out)),
@@ -142,21 +154,22 @@ fn judge<R: Threads + Sync, O: Write + Drop>(
 fn judge_recovered<R: Threads + Sync, O: Write + Drop>(
     jobs: &Jobs<'_, R>,
     alloc: Global,
-    bench: Bench,
+    plan: Plan,
     script: &[u8],
     recovery: &[u8],
     payloads: Payloads,
     out: &mut BufWriter<Pipe<O>>,
 ) -> Result<(), BenchFault>
-    ensures written { OnOk result (IsRecovered bench payloads recovery.now script.now
+    ensures written { OnOk result (IsRecovered plan payloads recovery.now script.now
         (writer_contents (pipe_contents O.contents) out.old) (writer_contents (pipe_contents O.contents) out.new) 0) }
     ensures flushed { OnOk result (writer_buffer out.new ≡ []) }
-    ensures wrong { result ≡ Err Wrong → TellsApart (Recover bench) payloads recovery.now script.now
+    ensures wrong { result ≡ Err Wrong → TellsApart (Recover plan) payloads recovery.now script.now
         (writer_contents (pipe_contents O.contents) out.old) (writer_contents (pipe_contents O.contents) out.new) }
     ensures told { result ≡ Err Wrong → writer_buffer out.new ≡ [] }
-    ensures faults { IfErr result (λ fault. IsFaultIn (Recover bench) payloads script.now fault) }
+    ensures faults { IfErr result (λ fault. IsFaultIn (Recover plan) payloads recovery.now script.now
+        (is_closed_pipe (writer_inner out.new)) fault) }
 {
-    match write_recovered::<R, Pipe<O>>(jobs, alloc, script, bench, recovery, payloads, out) {
+    match write_recovered::<R, Pipe<O>>(jobs, alloc, script, plan, recovery, payloads, out) {
         Ok(done) if done.differ == 0 => Ok(()),
         Ok(_) => Err(BenchFault::Wrong),
         Err(e) => Err(fault_of(e, out)),
@@ -167,23 +180,65 @@ fn judge_recovered<R: Threads + Sync, O: Write + Drop>(
 fn compare<R: Threads + Sync, O: Write + Drop>(
     jobs: &Jobs<'_, R>,
     alloc: Global,
-    drawn: Drawn,
+    plan: Schedules,
     script: &[u8],
     payloads: &Payloads,
     out: &mut BufWriter<Pipe<O>>,
 ) -> Result<(), BenchFault>
-    requires most { drawn.number ≤ 1000000 }
-    ensures written { OnOk result (IsWritten (Compare drawn) payloads.now script.now
+    requires most { plan.count ≤ 1000000 }
+    ensures written { OnOk result (IsWritten (Compare plan) payloads.now script.now
         (writer_contents (pipe_contents O.contents) out.old) (writer_contents (pipe_contents O.contents) out.new)) }
     ensures flushed { OnOk result (writer_buffer out.new ≡ []) }
-    ensures wrong { result ≡ Err Wrong → TellsWrong (Compare drawn) payloads.now script.now
+    ensures wrong { result ≡ Err Wrong → TellsWrong (Compare plan) payloads.now script.now
         (writer_contents (pipe_contents O.contents) out.old) (writer_contents (pipe_contents O.contents) out.new) }
     ensures told { result ≡ Err Wrong → writer_buffer out.new ≡ [] }
-    ensures faults { IfErr result (λ fault. IsFaultIn (Compare drawn) payloads.now script.now fault) }
+    ensures faults { IfErr result (λ fault. IsFaultIn (Compare plan) payloads.now [] script.now
+        (is_closed_pipe (writer_inner out.new)) fault) }
 {
-    match write_schedules::<R, Pipe<O>>(jobs, alloc, script, drawn, payloads, out) {
+    match write_schedules::<R, Pipe<O>>(jobs, alloc, script, plan, payloads, out) {
         Ok(count) if count.differ == 0 => Ok(()),
         Ok(_) => Err(BenchFault::Wrong),
+        Err(e) => Err(fault_of(e, out)),
+    }
+}
+
+/// Writes a run of a bench over the script as a script that ends with a power-on.
+fn show_run<R: Threads + Sync, O: Write + Drop>(
+    alloc: Global,
+    row: WantedRow,
+    script: &[u8],
+    payloads: Payloads,
+    out: &mut BufWriter<Pipe<O>>,
+) -> Result<(), BenchFault>
+    ensures written { OnOk result (IsWritten (ShowRow row) payloads script.now
+        (writer_contents (pipe_contents O.contents) out.old) (writer_contents (pipe_contents O.contents) out.new)) }
+    ensures flushed { OnOk result (writer_buffer out.new ≡ []) }
+    ensures faults { IfErr result (λ fault. IsFaultIn (ShowRow row) payloads [] script.now
+        (is_closed_pipe (writer_inner out.new)) fault) }
+{
+    match write_row::<R, Pipe<O>>(alloc, script, row, payloads, out) {
+        Ok(()) => Ok(()),
+        Err(e) => Err(fault_of(e, out)),
+    }
+}
+
+/// Writes a run of a bench over the script as a script that ends with that recovery.
+fn show_recovered<R: Threads + Sync, O: Write + Drop>(
+    alloc: Global,
+    row: WantedRow,
+    script: &[u8],
+    recovery: &[u8],
+    payloads: Payloads,
+    out: &mut BufWriter<Pipe<O>>,
+) -> Result<(), BenchFault>
+    ensures written { OnOk result (IsRowShown row payloads recovery.now script.now
+        (writer_contents (pipe_contents O.contents) out.old) (writer_contents (pipe_contents O.contents) out.new)) }
+    ensures flushed { OnOk result (writer_buffer out.new ≡ []) }
+    ensures faults { IfErr result (λ fault. IsFaultIn (ShowRecovered row) payloads recovery.now script.now
+        (is_closed_pipe (writer_inner out.new)) fault) }
+{
+    match write_recovered_row::<R, Pipe<O>>(alloc, script, row, recovery, payloads, out) {
+        Ok(()) => Ok(()),
         Err(e) => Err(fault_of(e, out)),
     }
 }
@@ -199,7 +254,8 @@ fn show_schedule<R: Threads + Sync, O: Write + Drop>(
     ensures written { OnOk result (IsWritten (Show drawn) payloads.now script.now
         (writer_contents (pipe_contents O.contents) out.old) (writer_contents (pipe_contents O.contents) out.new)) }
     ensures flushed { OnOk result (writer_buffer out.new ≡ []) }
-    ensures faults { IfErr result (λ fault. IsFaultIn (Show drawn) payloads.now script.now fault) }
+    ensures faults { IfErr result (λ fault. IsFaultIn (Show drawn) payloads.now [] script.now
+        (is_closed_pipe (writer_inner out.new)) fault) }
 {
     match write_schedule::<R, Pipe<O>>(alloc, script, drawn, payloads, out) {
         Ok(()) => Ok(()),
@@ -218,7 +274,8 @@ fn show_shrunk<R: Threads + Sync, O: Write + Drop>(
     ensures written { OnOk result (IsWritten (Shrink drawn) payloads.now script.now
         (writer_contents (pipe_contents O.contents) out.old) (writer_contents (pipe_contents O.contents) out.new)) }
     ensures flushed { OnOk result (writer_buffer out.new ≡ []) }
-    ensures faults { IfErr result (λ fault. IsFaultIn (Shrink drawn) payloads.now script.now fault) }
+    ensures faults { IfErr result (λ fault. IsFaultIn (Shrink drawn) payloads.now [] script.now
+        (is_closed_pipe (writer_inner out.new)) fault) }
 {
     match write_shrunk::<R, Pipe<O>>(alloc, script, drawn, payloads, out) {
         Ok(()) => Ok(()),
@@ -242,7 +299,8 @@ fn preempt<R: Threads + Sync, O: Write + Drop>(
     ensures wrong { result ≡ Err Wrong → TellsWrong (Preempt within) payloads.now script.now
         (writer_contents (pipe_contents O.contents) out.old) (writer_contents (pipe_contents O.contents) out.new) }
     ensures told { result ≡ Err Wrong → writer_buffer out.new ≡ [] }
-    ensures faults { IfErr result (λ fault. IsFaultIn (Preempt within) payloads.now script.now fault) }
+    ensures faults { IfErr result (λ fault. IsFaultIn (Preempt within) payloads.now [] script.now
+        (is_closed_pipe (writer_inner out.new)) fault) }
 {
     match write_preemptions::<R, Pipe<O>>(jobs, alloc, script, within, payloads, out) {
         Ok(count) if count.differ == 0 => Ok(()),
@@ -265,7 +323,8 @@ fn show_differing<R: Threads + Sync, O: Write + Drop>(
     ensures written { OnOk result (IsWritten (ShowOrder wanted) payloads.now script.now
         (writer_contents (pipe_contents O.contents) out.old) (writer_contents (pipe_contents O.contents) out.new)) }
     ensures flushed { OnOk result (writer_buffer out.new ≡ []) }
-    ensures faults { IfErr result (λ fault. IsFaultIn (ShowOrder wanted) payloads.now script.now fault) }
+    ensures faults { IfErr result (λ fault. IsFaultIn (ShowOrder wanted) payloads.now [] script.now
+        (is_closed_pipe (writer_inner out.new)) fault) }
 {
     match write_order::<R, Pipe<O>>(jobs, alloc, script, wanted, payloads, out) {
         Ok(()) => Ok(()),
@@ -387,51 +446,123 @@ fn named_files<P: PayloadFiles, F: Write>(
     Ok(Given { payloads, recovery })
 }
 
-/// Does the work over the script, which begins with these payloads, and where the work has one with that recovery.
+/// Does the work of the options over the script, which begins with these payloads, and where the work has one with that recovery.
 fn run_work<R: Threads + Sync, O: Write + Drop>(
     alloc: Global,
     threads: &R,
-    work: Work,
-    jobs: Option<usize>,
+    options: &Options,
     given: Given,
     script: &[u8],
     out: &mut BufWriter<Pipe<O>>,
 ) -> Result<(), BenchFault>
-    requires most { IsBounded work }
-    ensures worked { OnOk result (IsMade work given.payloads given.recovery.items script.now
+    requires most { IsBounded options.now.work }
+    ensures worked { OnOk result (IsMade options.now.work given.payloads given.recovery.items script.now
         (writer_contents (pipe_contents O.contents) out.old) (writer_contents (pipe_contents O.contents) out.new)) }
     ensures flushed { OnOk result (writer_buffer out.new ≡ []) }
-    ensures wrong { result ≡ Err Wrong → TellsApart work given.payloads given.recovery.items script.now
+    ensures wrong { result ≡ Err Wrong → TellsApart options.now.work given.payloads given.recovery.items script.now
         (writer_contents (pipe_contents O.contents) out.old) (writer_contents (pipe_contents O.contents) out.new) }
     ensures told { result ≡ Err Wrong → writer_buffer out.new ≡ [] }
-    ensures faults { IfErr result (IsFaultIn work given.payloads script.now) }
+    ensures faults { IfErr result (IsFaultIn options.now.work given.payloads given.recovery.items script.now
+        (is_closed_pipe (writer_inner out.new))) }
 {
     let Given { payloads, recovery } = given;
-    match work {
+    let jobs = Jobs::new(threads, jobs_of(threads, options.jobs));
+    match options.work {
         Work::Report(savers) => report(alloc, threads, savers, script, payloads, out),
-        Work::Judge(bench) => {
-            let jobs = Jobs::new(threads, jobs_of(threads, jobs));
-            judge(&jobs, alloc, bench, script, payloads, out)
+        Work::Judge(plan) => judge(&jobs, alloc, plan, script, payloads, out),
+        Work::Recover(plan) => {
+            judge_recovered(&jobs, alloc, plan, script, &recovery, payloads, out)
         }
-        Work::Recover(bench) => {
-            let jobs = Jobs::new(threads, jobs_of(threads, jobs));
-            judge_recovered(&jobs, alloc, bench, script, &recovery, payloads, out)
+        Work::ShowRow(row) => show_run::<R, O>(alloc, row, script, payloads, out),
+        Work::ShowRecovered(row) => {
+            show_recovered::<R, O>(alloc, row, script, &recovery, payloads, out)
         }
-        Work::Compare(drawn) => {
-            let jobs = Jobs::new(threads, jobs_of(threads, jobs));
-            compare(&jobs, alloc, drawn, script, &payloads, out)
-        }
+        Work::Compare(plan) => compare(&jobs, alloc, plan, script, &payloads, out),
         Work::Show(drawn) => show_schedule::<R, O>(alloc, drawn, script, &payloads, out),
         Work::Shrink(drawn) => show_shrunk::<R, O>(alloc, drawn, script, &payloads, out),
-        Work::Preempt(within) => {
-            let jobs = Jobs::new(threads, jobs_of(threads, jobs));
-            preempt(&jobs, alloc, within, script, &payloads, out)
-        }
-        Work::ShowOrder(wanted) => {
-            let jobs = Jobs::new(threads, jobs_of(threads, jobs));
-            show_differing(&jobs, alloc, wanted, script, &payloads, out)
-        }
+        Work::Preempt(within) => preempt(&jobs, alloc, within, script, &payloads, out),
+        Work::ShowOrder(wanted) => show_differing(&jobs, alloc, wanted, script, &payloads, out),
     }
+}
+
+/// Writes the tests of what a bench wrote, by whether all is well.
+fn show_tap<O: Write + Drop>(
+    alloc: Global,
+    text: &BufWriter<Pipe<Vec<u8>>>,
+    well: bool,
+    out: &mut BufWriter<Pipe<O>>,
+) -> Result<(), BenchFault>
+    ensures tests { OnOk result (Appends (writer_contents (pipe_contents O.contents) out.old) (writer_contents (pipe_contents O.contents) out.new)
+        (tap_text well (pipe_inner (writer_inner text.now)).items)) }
+    ensures flushed { OnOk result (writer_buffer out.new ≡ []) }
+    ensures faults { IfErr result (λ fault. (e : Refusal) × ((e ≡ Memory) ⊎ (e ≡ Output)) × (fault ≡ fault_by (is_closed_pipe (writer_inner out.new)) e)) }
+{
+    let text = text.get_ref().get_ref();
+    match write_tap::<BufWriter<Pipe<O>>>(alloc, text, well, out) {
+        Err(e) => Err(fault_of(e, out)),
+        Ok(()) => match out.flush() {
+            Ok(()) => Ok(()),
+            Err(_) => Err(fault_of(Refusal::Output, out)),
+        },
+    }
+}
+
+/// Does the work as `run_work` does, into memory, and then writes the tests of what it wrote.
+fn run_tested<R: Threads + Sync, O: Write + Drop>(
+    alloc: Global,
+    threads: &R,
+    options: &Options,
+    given: Given,
+    script: &[u8],
+    out: &mut BufWriter<Pipe<O>>,
+) -> Result<(), BenchFault>
+    requires most { IsBounded options.now.work }
+    ensures worked { OnOk result (IsPut true true (IsMade options.now.work given.payloads given.recovery.items script.now)
+        (writer_contents (pipe_contents O.contents) out.old) (writer_contents (pipe_contents O.contents) out.new)) }
+    ensures flushed { OnOk result (writer_buffer out.new ≡ []) }
+    ensures wrong { result ≡ Err Wrong → IsPut true false (TellsApart options.now.work given.payloads given.recovery.items script.now)
+        (writer_contents (pipe_contents O.contents) out.old) (writer_contents (pipe_contents O.contents) out.new) }
+    ensures told { result ≡ Err Wrong → writer_buffer out.new ≡ [] }
+    ensures faults { IfErr result (IsFaultIn options.now.work given.payloads given.recovery.items script.now
+        (is_closed_pipe (writer_inner out.new))) }
+{
+    let Ok(mut text) = BufWriter::with_capacity(alloc, HELD_BACK, Pipe::new(Vec::new(alloc))) else {
+        return Err(fault_of(Refusal::Memory, out));
+    };
+    match run_work::<R, Vec<u8>>(alloc, threads, options, given, script, &mut text) {
+        Ok(()) => show_tap(alloc, &text, true, out),
+        Err(BenchFault::Wrong) => match show_tap(alloc, &text, false, out) {
+            Ok(()) => Err(BenchFault::Wrong),
+            Err(fault) => Err(fault),
+        },
+        Err(BenchFault::Refused(refusal)) => Err(fault_of(refusal, out)),
+        Err(_) => Err(fault_of(Refusal::Output, out)),
+    }
+}
+
+/// Does the work of the options, and writes what it makes, or the tests of that.
+fn run_either<R: Threads + Sync, O: Write + Drop>(
+    alloc: Global,
+    threads: &R,
+    options: &Options,
+    given: Given,
+    script: &[u8],
+    out: &mut BufWriter<Pipe<O>>,
+) -> Result<(), BenchFault>
+    requires most { IsBounded options.now.work }
+    ensures worked { OnOk result (IsPut options.now.tap true (IsMade options.now.work given.payloads given.recovery.items script.now)
+        (writer_contents (pipe_contents O.contents) out.old) (writer_contents (pipe_contents O.contents) out.new)) }
+    ensures flushed { OnOk result (writer_buffer out.new ≡ []) }
+    ensures wrong { result ≡ Err Wrong → IsPut options.now.tap false (TellsApart options.now.work given.payloads given.recovery.items script.now)
+        (writer_contents (pipe_contents O.contents) out.old) (writer_contents (pipe_contents O.contents) out.new) }
+    ensures told { result ≡ Err Wrong → writer_buffer out.new ≡ [] }
+    ensures faults { IfErr result (IsFaultIn options.now.work given.payloads given.recovery.items script.now
+        (is_closed_pipe (writer_inner out.new))) }
+{
+    if options.tap {
+        return run_tested(alloc, threads, options, given, script, out);
+    }
+    run_work(alloc, threads, options, given, script, out)
 }
 
 /// Does what the options ask for. The files of payloads and of a recovery are read before the script.
@@ -452,19 +583,12 @@ fn run_options<R: Threads + Sync, P: PayloadFiles, I: Read + Drop, O: Write + Dr
         (writer_contents (pipe_contents O.contents) out.old) (writer_contents (pipe_contents O.contents) out.new) }
     ensures told { result ≡ Err Wrong → writer_buffer out.new ≡ [] }
     ensures faults { IfErr result (λ fault. IsUnread options.now fault ⊎ (fault ≡ Refused Memory)
-        ⊎ IsFaultOf options.now (P.bytes_at files.now) (I.remaining input) fault) }
+        ⊎ IsFaultOf options.now (P.bytes_at files.now) (I.remaining input)
+        (is_closed_pipe (writer_inner out.new)) fault) }
 {
     let given = named_files(alloc, files, options, faults)?;
     let script = named_script(alloc, files, options, input, faults)?;
-    run_work(
-        alloc,
-        threads,
-        options.work,
-        options.jobs,
-        given,
-        &script,
-        out,
-    )
+    run_either(alloc, threads, options, given, &script, out)
 }
 
 /// Does the work that the words ask for, or shows what they ask to be shown, or their fault.
@@ -491,7 +615,8 @@ fn run_words<
     ensures wrong { result ≡ Err Wrong → IsWrong (map S.text words.now) (P.bytes_at files.now) (I.remaining input)
         (writer_contents (pipe_contents O.contents) out.old) (writer_contents (pipe_contents O.contents) out.new) }
     ensures told { result ≡ Err Wrong → writer_buffer out.new ≡ [] }
-    ensures faults { IfErr result (λ fault. IsFault (map S.text words.now) (P.bytes_at files.now) (I.remaining input) fault) }
+    ensures faults { IfErr result (λ fault. IsFault (map S.text words.now) (P.bytes_at files.now) (I.remaining input)
+        (is_closed_pipe (writer_inner out.new)) fault) }
 {
     match options_of(alloc, words) {
         Ok(options) => run_options(alloc, threads, files, &options, input, out, faults),
@@ -548,7 +673,8 @@ pub fn run_on<
         (writer_contents (pipe_contents O.contents) out.new)
         × (writer_buffer out.new ≡ []))
         ⊎ NamesNoWork (map S.text words.now) NoWork.Shown)
-        × IfErr done (λ fault. IsFault (map S.text words.now) (P.bytes_at files.now) (I.remaining input) fault)
+        × IfErr done (λ fault. IsFault (map S.text words.now) (P.bytes_at files.now) (I.remaining input)
+        (is_closed_pipe (writer_inner out.new)) fault)
         × (done ≡ Err Wrong → IsWrong (map S.text words.now) (P.bytes_at files.now) (I.remaining input)
         (writer_contents (pipe_contents O.contents) out.old)
         (writer_contents (pipe_contents O.contents) out.new)

@@ -7,14 +7,18 @@ ghost use Rattle.clap.specs.Words.{app_of, first_value, found_of, kind_of, rule_
 ghost use Rattle.clap.specs.declared.builder.value_parser.ValueParser.{ValueParser};
 ghost use Rattle.command_line.specs.Kinds.{no_work};
 ghost use Rattle.command_line.specs.Parses.{AreParsed};
-ghost use Rattle.bench_program.specs.Usage.{number_up_to, count_rule, crew_rule, jobs_rule, work_of_flags, schedules_named, preempt_or_show, preemptions_named, without_options, savers_of, sbibench, script_rule, seed_of, IsBounded, compare_or_show, without_benches, with_preemptions, with_schedules, with_recovery, work_asked, work_by, work_unrecovered, work_without, IsFlag, IsNamedBy, NamesConflict, NamesNoWork};
+ghost use Rattle.bench_sweep.specs.Swept.{whole};
+ghost use Rattle.bench_program.specs.Usage.{bench_or_row, number_up_to, count_rule, crew_rule, jobs_rule, part_between, part_named, parted, work_of_flags, schedules_named, preempt_or_show, preemptions_named, without_options, savers_of, sbibench, script_rule, seed_of, Flags, IsBounded, compare_or_show, without_benches, with_manners, with_part, with_preemptions, with_quiet, with_schedules, with_recovery, with_tap, work_asked, work_by, work_without, IsFlag, IsNamedBy, NamesConflict, NamesNoWork};
 
 use bench_preemptions::{Wanted, Within};
+use bench_schedules::Plan as Schedules;
+use bench_sweep::{Bench, Plan, WantedRow};
 use board_model::refusal_lines;
 use clap::builder::ValueParser;
 use clap::error::ErrorKind;
 use clap::{Arg, ArgAction, ArgMatches, Command, Error};
 use command_line::{flag, option, parse, path, path_given, payload_paths, program, with_payloads};
+use jobs::Part;
 use script_lang::number;
 use std::alloc::{AllocError, Global};
 use std::convert::AsStr;
@@ -45,7 +49,13 @@ told. --show writes the script of one of those orders, to be run again, and
 --shrink that of a shorter one that differs in the same line.
 With --preemptions it runs in every order in which up to K rows of turns are
 parted, each before a turn that does something, and the rest is put off. There
---show writes one of the orders that report otherwise.
+--show writes one of the orders that report otherwise. With --sweep or --faults
+--show R writes the run of line R as a script, that of a recovery with its lines.
+
+With --part K/N a bench makes part K of N of its runs alone, so that N machines
+make all of them; their counts add up. With --quiet the lines of runs in which
+nothing differs are left out. With --tap the end of a bench is written in the
+Test Anything Protocol.
 
 A payload too long for a line of the script comes from a file, by --p0 to --p3:
 its slot boots it until a line 'payload' says otherwise.";
@@ -134,6 +144,15 @@ const JOBS: &str = "jobs";
 /// The option with the file of an operator's recovery.
 const RECOVER: &str = "recover";
 
+/// The option with the part of the runs that are made.
+const PART: &str = "part";
+
+/// The flag by which only the runs that differ are written.
+const QUIET: &str = "quiet";
+
+/// The flag by which tests are written.
+const TAP: &str = "tap";
+
 /// The most of them.
 pub const MOST_JOBS: u64 = 64;
 
@@ -146,11 +165,15 @@ pub enum Work {
     /// The report of the script.
     Report(Savers),
     /// A bench over the script, whose lanes are written one after another.
-    Judge(Bench),
+    Judge(Plan),
     /// The same bench, with an operator's recovery behind each run.
-    Recover(Bench),
-    /// Schedules of the script, from number 1 on, each compared with the script's own run. `number` is how many.
-    Compare(Drawn),
+    Recover(Plan),
+    /// One run of a bench, written as a script that ends with a power-on.
+    ShowRow(WantedRow),
+    /// The same, with an operator's recovery in the place of the power-on.
+    ShowRecovered(WantedRow),
+    /// Schedules of the script, from number 1 on, each compared with the script's own run.
+    Compare(Schedules),
     /// One schedule, written as a script. `number` is which.
     Show(Drawn),
     /// A shorter one that differs where that one does, written as a script.
@@ -173,6 +196,8 @@ pub struct Drawn {
 #[derive(Drop)]
 pub struct Options {
     pub work: Work,
+    /// Whether tests are written in the place of a bench's lines.
+    pub tap: bool,
     /// How many threads make the runs of a bench, where it is said.
     pub jobs: Option<usize>,
     /// The script's file. Where none is named, the script is the input.
@@ -181,15 +206,6 @@ pub struct Options {
     pub recovery: Option<String>,
     /// The file of each boot slot's payload, where one is named. The others are empty.
     pub payloads: [Option<String>; 4],
-}
-
-/// A bench.
-#[derive(Clone, Copy, Drop)]
-pub enum Bench {
-    /// Power is cut at each call.
-    Sweep,
-    /// Each call fails.
-    Faults,
 }
 
 /// Who writes the lanes of an image. No clause compares the reports of two crews: docs/SCRIPT.md, "The program", says where they are one.
@@ -272,6 +288,19 @@ fn jobs<'a>(alloc: Global) -> Arg<'a>
     option(alloc, JOBS, "N", help).value_parser(ValueParser::unsigned(1, MOST_JOBS))
 }
 
+/// The command with the options that say which runs of a bench are made and written, and how.
+fn with_manners<'a>(alloc: Global, command: Command<'a>) -> Result<Command<'a>, AllocError>
+    ensures { IfOk result (λ c. app_of c ≡ with_manners (app_of command.entry)) }
+{
+    let part = "Makes part K of N of the runs of --sweep, --faults or --schedules alone";
+    let quiet = "Leaves out the lines of runs of --sweep or --faults in which nothing differs";
+    let tap = "Writes the end of a bench in the Test Anything Protocol";
+    command
+        .arg(option(alloc, PART, "K/N", part))?
+        .arg(flag(alloc, QUIET, quiet))?
+        .arg(flag(alloc, TAP, tap))
+}
+
 fn command<'a>(alloc: Global) -> Result<Command<'a>, AllocError>
     ensures { IfOk result (λ c. (crews : ValueParser) × (app_of c ≡ sbibench crews)) }
 {
@@ -290,6 +319,7 @@ fn command<'a>(alloc: Global) -> Result<Command<'a>, AllocError>
         ))?;
     let command = with_schedules(alloc, command)?;
     let command = with_preemptions(alloc, command)?;
+    let command = with_manners(alloc, command)?;
     with_payloads(alloc, command)
 }
 
@@ -334,7 +364,11 @@ fn compare_or_show(runs: u64, seed: u64, show: Option<&str>, shrink: Option<&str
     ensures most { IfSome result (λ work. IsBounded work) }
 {
     match (show, shrink) {
-        (None, None) => Some(Work::Compare(Drawn { seed, number: runs })),
+        (None, None) => Some(Work::Compare(Schedules {
+            seed,
+            count: runs,
+            part: None,
+        })),
         (Some(word), None) => {
             let number = number_up_to(runs, word)?;
             Some(Work::Show(Drawn { seed, number }))
@@ -363,6 +397,17 @@ fn schedules_named(
     compare_or_show(runs, seed, show, shrink)
 }
 
+/// The whole of a bench.
+fn whole(bench: Bench) -> Plan
+    ensures { result ≡ whole bench }
+{
+    Plan {
+        bench,
+        part: None,
+        quiet: false,
+    }
+}
+
 /// The work without schedules, by the two flags and the crew. None where both flags stand there.
 fn work_of_flags(sweep: bool, faults: bool, savers: Savers) -> Option<Work>
     ensures value { result ≡ work_of_flags sweep faults savers }
@@ -370,9 +415,29 @@ fn work_of_flags(sweep: bool, faults: bool, savers: Savers) -> Option<Work>
 {
     match (sweep, faults) {
         (true, true) => None,
-        (true, false) => Some(Work::Judge(Bench::Sweep)),
-        (false, true) => Some(Work::Judge(Bench::Faults)),
+        (true, false) => Some(Work::Judge(whole(Bench::Cuts))),
+        (false, true) => Some(Work::Judge(whole(Bench::Fails))),
         (false, false) => Some(Work::Report(savers)),
+    }
+}
+
+/// The work of a bench, or the run of the line that a word names, as a script. None where the word names none, and where the work is
+/// no bench.
+fn bench_or_row(show: Option<&str>, work: Option<Work>) -> Option<Work>
+    requires most { IfSome work (λ w. IsBounded w) }
+    ensures value { result ≡ bench_or_row (option_map (λ s. s.now) show.entry) work }
+    ensures most { IfSome result (λ w. IsBounded w) }
+{
+    match show {
+        None => work,
+        Some(word) => match work {
+            Some(Work::Judge(plan)) => {
+                let number = number_up_to(MOST_SCHEDULES, word)?;
+                let bench = plan.bench;
+                Some(Work::ShowRow(WantedRow { bench, number }))
+            }
+            _ => None,
+        },
     }
 }
 
@@ -454,10 +519,10 @@ fn work_without(matches: &ArgMatches<'_>, sweep: bool, faults: bool) -> Option<W
     match matches.get_str(SCHEDULES) {
         Some(runs) => schedules_alone(sweep, faults, runs, seed, show, shrink),
         None => {
-            if seed.is_some() || show.is_some() || shrink.is_some() {
+            if seed.is_some() || shrink.is_some() {
                 return None;
             }
-            work_of_flags(sweep, faults, savers_of(matches))
+            bench_or_row(show, work_of_flags(sweep, faults, savers_of(matches)))
         }
     }
 }
@@ -487,15 +552,15 @@ fn without_benches(sweep: bool, faults: bool, work: Option<Work>) -> Option<Work
 
 /// The one work that is asked for without a recovery. None where there are two, or where an option stands without the one that
 /// it goes with.
-fn work_unrecovered(matches: &ArgMatches<'_>) -> Option<Work>
-    ensures value { (sweep faults first : Bool) × IsFlag (found_of matches.now) (codes "sweep") sweep
-        × IsFlag (found_of matches.now) (codes "faults") faults × IsFlag (found_of matches.now) (codes "first") first
-        × (result ≡ work_unrecovered (found_of matches.now) sweep faults first) }
+fn work_unrecovered(
+    matches: &ArgMatches<'_>,
+    sweep: bool,
+    faults: bool,
+    first: bool,
+) -> Option<Work>
+    ensures value { result ≡ work_by (first_value (found_of matches.now) (codes "preemptions")) (found_of matches.now) sweep faults first }
     ensures most { IfSome result (λ work. IsBounded work) }
 {
-    let sweep = matches.get_flag(SWEEP);
-    let faults = matches.get_flag(FAULTS);
-    let first = matches.get_flag(FIRST);
     let runs = matches.get_str(SCHEDULES);
     let seed = matches.get_str(SEED);
     let shrink = matches.get_str(SHRINK);
@@ -509,7 +574,7 @@ fn work_unrecovered(matches: &ArgMatches<'_>) -> Option<Work>
     }
 }
 
-/// That work with a recovery, where one is named. None where it is no bench.
+/// That work with a recovery, where one is named. None where it is no bench, and no row of one.
 fn with_recovery(path: Option<&str>, work: Option<Work>) -> Option<Work>
     requires most { IfSome work (λ w. IsBounded w) }
     ensures value { result ≡ with_recovery (option_map (λ s. s.now) path.entry) work }
@@ -518,20 +583,112 @@ fn with_recovery(path: Option<&str>, work: Option<Work>) -> Option<Work>
     match path {
         None => work,
         Some(_) => match work {
-            Some(Work::Judge(bench)) => Some(Work::Recover(bench)),
+            Some(Work::Judge(plan)) => Some(Work::Recover(plan)),
+            Some(Work::ShowRow(row)) => Some(Work::ShowRecovered(row)),
             _ => None,
         },
     }
 }
 
-/// The one work that is asked for. None where there are two, or where an option stands without the one that it goes with.
-fn work_asked(matches: &ArgMatches<'_>) -> Option<Work>
-    ensures value { (sweep faults first : Bool) × IsFlag (found_of matches.now) (codes "sweep") sweep
-        × IsFlag (found_of matches.now) (codes "faults") faults × IsFlag (found_of matches.now) (codes "first") first
-        × (result ≡ work_asked (found_of matches.now) sweep faults first) }
+/// The part of these two words. None where one of them is out of its range.
+fn part_between(number: Option<u64>, of: Option<u64>) -> Option<Part>
+    ensures { result ≡ part_between number of }
+{
+    Part::new(number?, of?)
+}
+
+/// The part that a word names: both numbers, with a `/` between them. None where it names none.
+fn part_named(word: &str) -> Option<Part>
+    ensures { result ≡ part_named word.now }
+{
+    let bytes = word.as_bytes();
+    let place = bytes.iter().position(|b| *b == b'/')?;
+    part_between(number(&bytes[..place]), number(&bytes[place + 1..]))
+}
+
+/// A part of that work. None where it has none.
+fn parted(part: Part, work: Option<Work>) -> Option<Work>
+    requires most { IfSome work (λ w. IsBounded w) }
+    ensures value { result ≡ parted (Some part) work }
+    ensures most { IfSome result (λ w. IsBounded w) }
+{
+    let part = Some(part);
+    match work {
+        Some(Work::Judge(plan)) => Some(Work::Judge(Plan { part, ..plan })),
+        Some(Work::Recover(plan)) => Some(Work::Recover(Plan { part, ..plan })),
+        Some(Work::Compare(plan)) => Some(Work::Compare(Schedules { part, ..plan })),
+        _ => None,
+    }
+}
+
+/// The part of that work that a word names; without a word, all of it. None where the word names none, or the work has none.
+fn with_part(word: Option<&str>, work: Option<Work>) -> Option<Work>
+    requires most { IfSome work (λ w. IsBounded w) }
+    ensures value { result ≡ with_part (option_map (λ s. s.now) word.entry) work }
+    ensures most { IfSome result (λ w. IsBounded w) }
+{
+    match word {
+        None => work,
+        Some(word) => match part_named(word) {
+            None => None,
+            Some(part) => parted(part, work),
+        },
+    }
+}
+
+/// That work, of which only the runs that differ are written. None where it is no bench.
+fn with_quiet(quiet: bool, work: Option<Work>) -> Option<Work>
+    requires most { IfSome work (λ w. IsBounded w) }
+    ensures value { result ≡ with_quiet quiet work }
+    ensures most { IfSome result (λ w. IsBounded w) }
+{
+    if !quiet {
+        return work;
+    }
+    match work {
+        Some(Work::Judge(plan)) => Some(Work::Judge(Plan { quiet, ..plan })),
+        Some(Work::Recover(plan)) => Some(Work::Recover(Plan { quiet, ..plan })),
+        _ => None,
+    }
+}
+
+/// That work, of which tests are written. None where it counts nothing.
+fn with_tap(tap: bool, work: Option<Work>) -> Option<Work>
+    requires most { IfSome work (λ w. IsBounded w) }
+    ensures value { result ≡ with_tap tap work }
+    ensures most { IfSome result (λ w. IsBounded w) }
+{
+    if !tap {
+        return work;
+    }
+    match work {
+        Some(Work::Judge(_) | Work::Recover(_) | Work::Compare(_) | Work::Preempt(_)) => work,
+        _ => None,
+    }
+}
+
+/// The one work that is asked for, where this says whether tests are. None where there are two, or where an option stands without the one that
+/// it goes with.
+fn work_asked(matches: &ArgMatches<'_>, tap: bool) -> Option<Work>
+    requires { IsFlag (found_of matches.now) (codes "tap") tap }
+    ensures value { (flags : Flags (found_of matches.now)) × (flags.tap ≡ tap) × (result ≡ work_asked (found_of matches.now) flags) }
     ensures most { IfSome result (λ work. IsBounded work) }
 {
-    with_recovery(matches.get_str(RECOVER), work_unrecovered(matches))
+    let sweep = matches.get_flag(SWEEP);
+    let faults = matches.get_flag(FAULTS);
+    let first = matches.get_flag(FIRST);
+    let quiet = matches.get_flag(QUIET);
+    let work = work_unrecovered(matches, sweep, faults, first);
+    let work = with_recovery(matches.get_str(RECOVER), work);
+    let work = with_part(matches.get_str(PART), work);
+    with_tap(tap, with_quiet(quiet, work))
+}
+
+/// Whether tests are to be written.
+fn tap_asked(matches: &ArgMatches<'_>) -> bool
+    ensures { IsFlag (found_of matches.now) (codes "tap") result }
+{
+    matches.get_flag(TAP)
 }
 
 /// How many threads are to make the runs of a bench, where the words say it.
@@ -541,8 +698,34 @@ fn jobs_asked(matches: &ArgMatches<'_>) -> Option<usize> {
     Some(count as usize)
 }
 
+/// The text that says why an option is out of place that says which runs are made and written, and how.
+fn misplaced(matches: &ArgMatches<'_>) -> Option<&'static str> {
+    let judges = matches.get_flag(SWEEP) || matches.get_flag(FAULTS);
+    let compares = matches.get_str(SCHEDULES).is_some();
+    let shows = matches.get_str(SHOW).is_some() || matches.get_str(SHRINK).is_some();
+    if let Some(word) = matches.get_str(PART) {
+        if shows || !judges && !compares {
+            return Some("--part goes with --sweep, --faults or --schedules alone");
+        }
+        if part_named(word).is_none() {
+            return Some("--part takes K/N, K from 1 to N, and N up to 4096");
+        }
+    }
+    if matches.get_flag(QUIET) && (shows || !judges) {
+        return Some("--quiet goes with --sweep or --faults alone");
+    }
+    let counts = judges || compares || matches.get_str(PREEMPTIONS).is_some();
+    if matches.get_flag(TAP) && (shows || !counts) {
+        return Some("--tap goes with --sweep, --faults, --schedules or --preemptions alone");
+    }
+    None
+}
+
 /// The text that says why the words name no one work.
 fn conflict(matches: &ArgMatches<'_>) -> &'static str {
+    if let Some(text) = misplaced(matches) {
+        return text;
+    }
     if matches.get_str(RECOVER).is_some() && !matches.get_flag(SWEEP) && !matches.get_flag(FAULTS) {
         return "--recover goes with --sweep or --faults";
     }
@@ -580,18 +763,16 @@ fn parsed<'a, S: AsStr>(alloc: Global, words: &'a [S]) -> Result<ArgMatches<'a>,
     parse(command(alloc)?, words)
 }
 
-/// The one work that is asked for. Words that name no one work are a fault.
-fn one_work<'a>(alloc: Global, matches: &ArgMatches<'a>) -> Result<Work, Error>
-    ensures named { IfOk result (λ work. (sweep faults first : Bool) × IsFlag (found_of matches.now) (codes "sweep") sweep
-        × IsFlag (found_of matches.now) (codes "faults") faults × IsFlag (found_of matches.now) (codes "first") first
-        × (work_asked (found_of matches.now) sweep faults first ≡ Some work)) }
+/// The one work that is asked for, where this says whether tests are. Words that name no one work are a fault.
+fn one_work<'a>(alloc: Global, matches: &ArgMatches<'a>, tap: bool) -> Result<Work, Error>
+    requires { IsFlag (found_of matches.now) (codes "tap") tap }
+    ensures named { IfOk result (λ work. (flags : Flags (found_of matches.now))
+        × (work_asked (found_of matches.now) flags ≡ Some work) × (flags.tap ≡ tap)) }
     ensures most { IfOk result (λ work. IsBounded work) }
     ensures conflict { IfErr result (λ e. (kind_of e ≡ ErrorKind.OutOfMemory) ⊎ ((kind_of e ≡ ErrorKind.ArgumentConflict)
-        × (sweep faults first : Bool) × IsFlag (found_of matches.now) (codes "sweep") sweep
-        × IsFlag (found_of matches.now) (codes "faults") faults × IsFlag (found_of matches.now) (codes "first") first
-        × (work_asked (found_of matches.now) sweep faults first ≡ None))) }
+        × (flags : Flags (found_of matches.now)) × (work_asked (found_of matches.now) flags ≡ None))) }
 {
-    match work_asked(matches) {
+    match work_asked(matches, tap) {
         Some(work) => Ok(work),
         None => {
             let mut again = command(alloc)?;
@@ -612,7 +793,8 @@ pub fn options_of<'a, S: AsStr>(alloc: Global, words: &'a [S]) -> Result<Options
         ⊎ NamesNoWork (map S.text words.now) (no_work (kind_of e))) }
 {
     let matches = parsed(alloc, words)?;
-    let work = match one_work(alloc, &matches) {
+    let tap = tap_asked(&matches);
+    let work = match one_work(alloc, &matches, tap) {
         Ok(work) => work,
         Err(error) => return Err(error),
     };
@@ -622,6 +804,7 @@ pub fn options_of<'a, S: AsStr>(alloc: Global, words: &'a [S]) -> Result<Options
     let payloads = payload_paths(alloc, &matches)?;
     Ok(Options {
         work,
+        tap,
         jobs,
         script,
         recovery,

@@ -5,3 +5,4 @@ pub mod Lines
 pub mod Places
 pub mod Texts
 pub mod DrawnRuns
+pub mod Numbered

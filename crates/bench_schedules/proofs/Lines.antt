@@ -14,7 +14,7 @@ use Rattle.bench_orders.specs.Orders.{IsOrderFor, is_other, other_count}
 use Rattle.bench_live.specs.Lives.{Shows}
 use Rattle.bench_live.specs.declared.live.LiveBench.{LiveBench}
 use Rattle.bench_schedules.specs.declared.runs.Difference.{Difference}
-use Rattle.bench_schedules.specs.Schedules.{IsMemoryRefused, other_answer, other_answers, Ran, RanLike, RanOwn}
+use Rattle.bench_schedules.specs.Schedules.{IsMemoryRefused, other_answer, other_answers, Ran, RanLike, RanOwn, IsNumbered, Source}
 use Rattle.bench_schedules.specs.Compared.{IsDifference, IsNextPlace}
 use Rattle.bench_schedules.specs.RunSoFar.{RunSoFar}
 
@@ -210,10 +210,11 @@ ran_own size start ls i own going past so_far disk =
     )
 
 -- what ran was a schedule
-pub ran_of : (size : Size) (start : List (List ℕ)) (those new : List Line) (own : List Answer) (differs : Option Difference) → IsSize size → IsOrderFor those new → length new ≤ 65535
-    → All (IsLineInRange size) those → All FitsLine those → RanLike size start new own differs → Ran (record { size = size; lines = those }) start own differs
-ran_of size start those new own differs sized order few ranges fits ran = record {
+pub ran_of : (size : Size) (start : List (List ℕ)) (from : Source) (those new : List Line) (own : List Answer) (k : ℕ) (differs : Option Difference) → IsSize size → IsNumbered from k those new → IsOrderFor those new → length new ≤ 65535
+    → All (IsLineInRange size) those → All FitsLine those → RanLike size start new own differs → Ran (record { size = size; lines = those }) start from own k differs
+ran_of size start from those new own k differs sized drawn order few ranges fits ran = record {
   schedule = record { size = size; lines = new };
+  drawn = drawn;
   order = record { board = refl; lines = order.order };
   writable = record { size = sized; few = few; ranges = order.ranges size ranges; fits = order.fits fits };
   ran = ran;

@@ -9,7 +9,7 @@ use Rattle.script_lang.specs.declared.line.Line.{Line}
 use Rattle.report_lines.specs.declared.printed.Answer.{Answer}
 use Rattle.bench_orders.specs.Orders.{other_count}
 use Rattle.bench_schedules.specs.Numbers.{place_of_other}
-use Rattle.bench_schedules.specs.Schedules.{Ran, RunText, differing}
+use Rattle.bench_schedules.specs.Schedules.{Ran, RunText, Source, differing}
 use Rattle.bench_schedules.specs.declared.benches.DrawnRun.{DrawnRun}
 use Rattle.bench_schedules.specs.declared.benches.Report.{Report}
 
@@ -22,9 +22,9 @@ pub record AreDrawable (size : Size) (those : List Line) (own : List Answer) : T
   pub count : length own ≡ other_count those
 
 -- The schedule of that number was run.
-pub record IsDrawn (said : Script) (start : List (List ℕ)) (own : List Answer) (k : ℕ) (drawn : DrawnRun) : Type 0 where
+pub record IsDrawn (said : Script) (start : List (List ℕ)) (from : Source) (own : List Answer) (k : ℕ) (drawn : DrawnRun) : Type 0 where
   pub number : drawn.number ≡ k
-  pub ran : Ran said start own drawn.differs
+  pub ran : Ran said start from own k drawn.differs
 
 -- What is to be said of that schedule was written, and it was counted where it differs.
 pub record TellsDrawn {C W : Type 0} (contents : W → Option (List ℕ)) (old : Report C W) (drawn : DrawnRun) (new : Report C W) : Type 0 where

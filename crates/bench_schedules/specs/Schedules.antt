@@ -1,10 +1,11 @@
 -- The runs of the schedule bench. Source: docs/SCRIPT.md, "Schedules".
-use Rattle.std.specs.Prelude.{Ok, Bool, ◌≡◌, ◌≢◌, ◌⊎◌, ◌+◌, ℕ, suc, List, [], ◌∷◌, ◌++◌, Option, None, Some, All, length, take, if◌then◌else◌}
+use Rattle.std.specs.Prelude.{Ok, Bool, true, ◌≡◌, ◌≢◌, ◌⊎◌, ◌+◌, ◌-◌, ◌==◌, ℕ, suc, List, [], ◌∷◌, ◌++◌, Option, None, Some, All, length, take, if◌then◌else◌}
 use Rattle.std.specs.Fmt.{decimal}
 use Rattle.std.specs.List.{flat_map}
 use Rattle.std.specs.Io.KnownBytes.{Appends}
 use Rattle.board_model.specs.Shapes.{Size}
-use Rattle.script_lang.specs.Lines.{text_of}
+use Rattle.jobs.specs.Parts.{begin_of, end_of, part_text}
+use Rattle.jobs.specs.declared.part.Part.{Part}
 use Rattle.script_lang.specs.Scripts.{Script, script_of}
 use Rattle.script_lang.specs.Spellings.{script_text, IsWritable}
 use Rattle.script_lang.specs.declared.line.Line.{Line}
@@ -12,7 +13,10 @@ use Rattle.bench_report.specs.Bench.{Bench, bench_with}
 use Rattle.bench_report.specs.Steps.{Run}
 use Rattle.report_lines.specs.declared.printed.Answer.{Answer}
 use Rattle.report_lines.specs.declared.printed.Printed.TheVariants as printed
+use Rattle.jobs.specs.Handed.{AreRows}
+use Rattle.bench_orders.specs.Drawn.{answers_from, generator_of, IsDrawnFrom}
 use Rattle.bench_orders.specs.Orders.{IsScheduleOf, is_other}
+use Rattle.bench_orders.specs.declared.quotas.Front.{Front}
 use Rattle.bench_schedules.specs.Told.{IsFirstApart, told_lines}
 use Rattle.bench_schedules.specs.declared.runs.Difference.{Difference}
 use lib.Chars.{codes}
@@ -53,9 +57,19 @@ pub record RanLike (size : Size) (start : List (List ℕ)) (those : List Line) (
   pub ran : RanWell size start (take n those) answers end
   pub like : ToldLike own (other_answers (take n those) answers) differs
 
--- a schedule of the script was run, which began with these payloads as the script did
-pub record Ran (said : Script) (start : List (List ℕ)) (own : List Answer) (differs : Option Difference) : Type 0 where
+-- What schedules are drawn from: a seed and, of each stretch of the script, the part in which its own run did something.
+pub record Source : Type 0 where
+  pub seed : ℕ
+  pub fronts : List Front
+
+-- these lines are the ones that are drawn from those as schedule k
+abbrev pub IsNumbered : Source → ℕ → List Line → List Line → Type 0
+IsNumbered from k old new = IsDrawnFrom (answers_from (generator_of from.seed k)) from.fronts old new
+
+-- schedule k of the script was run, which began with these payloads as the script did
+pub record Ran (said : Script) (start : List (List ℕ)) (from : Source) (own : List Answer) (k : ℕ) (differs : Option Difference) : Type 0 where
   pub schedule : Script
+  pub drawn : IsNumbered from k said.lines schedule.lines
   pub order : IsScheduleOf said schedule
   pub writable : IsWritable schedule
   pub ran : RanLike said.size start schedule.lines own differs
@@ -90,37 +104,52 @@ differing (Some d ∷ runs) = suc (differing runs)
 abbrev pub tight_text : List ℕ → List ℕ
 tight_text numbers = flat_map (λ n. codes "line " ++ decimal n ++ codes " tight\n") numbers
 
-abbrev pub count_text : ℕ → ℕ → List ℕ
-count_text n differ = codes "schedules " ++ decimal n ++ codes " differ " ++ decimal differ ++ 10 ∷ []
+-- the last line, of a part or of the whole
+abbrev pub count_text : Option Part → ℕ → ℕ → List ℕ
+count_text part n differ = part_text part ++ codes "schedules " ++ decimal n ++ codes " differ " ++ decimal differ ++ 10 ∷ []
 
--- These runs were made, from schedule k on: what was written of them, and how many differ.
-pub record Wrote (said : Script) (start : List (List ℕ)) (number : ℕ → ℕ) (own : List Answer) (k n : ℕ) (old new : Option (List ℕ)) (differ : ℕ) : Type 0 where
+-- These runs were made, of the n schedules from number k on: what was written of them, and how many differ.
+pub record Wrote (said : Script) (start : List (List ℕ)) (from : Source) (number : ℕ → ℕ) (own : List Answer) (k n : ℕ)
+    (old new : Option (List ℕ)) (differ : ℕ) : Type 0 where
   pub runs : List (Option Difference)
   pub all : length runs ≡ n
-  pub each : All (Ran said start own) runs
+  pub each : AreRows (Ran said start from own) k runs
   pub count : differ ≡ differing runs
   pub text : List ℕ
   pub tells : RunsText number k runs text
   pub written : Appends old new text
 
--- All n schedules were run, each was compared with the script's own run and counted, and this was written of them.
-pub record WroteSchedules (said : Script) (start : List (List ℕ)) (number : ℕ → ℕ) (n : ℕ) (old new : Option (List ℕ)) (differ : ℕ) : Type 0 where
+-- a run of that part tells of stretches that name few turns: the first does, and one of the whole
+abbrev pub has_tight : Option Part → Bool
+has_tight None = true
+has_tight (Some part) = part.number == 1
+
+abbrev pub own_tight : Option Part → List ℕ → List ℕ
+own_tight part tight = if has_tight part then tight else []
+
+-- how many schedules of n a part has, or the whole
+abbrev pub own_count : Option Part → ℕ → ℕ
+own_count part n = end_of part n - begin_of part n
+
+-- All n schedules of the seed were run, or those of the part, under their own numbers, each was compared with the script's own run and
+-- counted, and this was written of them.
+pub record WroteSchedules (said : Script) (start : List (List ℕ)) (seed : ℕ) (number : ℕ → ℕ) (part : Option Part) (n : ℕ)
+    (old new : Option (List ℕ)) (differ : ℕ) : Type 0 where
   pub own : List Answer
   pub ran : RanOwn said.size start said.lines own
+  pub fronts : List Front
   pub tight : List ℕ
   pub first : Option (List ℕ)
-  pub begun : Appends old first (tight_text tight)
+  pub begun : Appends old first (tight_text (own_tight part tight))
   pub last : Option (List ℕ)
-  pub wrote : Wrote said start number own 1 n first last differ
-  pub ended : Appends last new (count_text n differ)
+  pub wrote : Wrote said start (record { seed = seed; fronts = fronts }) number own (1 + begin_of part n) (own_count part n) first last differ
+  pub ended : Appends last new (count_text part (own_count part n) differ)
 
--- lines as they are written, each with a line feed
-abbrev pub lines_text : List Line → List ℕ
-lines_text those = flat_map (λ line. text_of line ++ 10 ∷ []) those
-
--- `--show`: one schedule of the script, as a text that is read back as it. A line feed ends its last line too.
-pub record Shown (said : Script) (old new : Option (List ℕ)) : Type 0 where
+-- `--show`: schedule k of the seed, as a text that is read back as it. A line feed ends its last line too.
+pub record Shown (said : Script) (seed k : ℕ) (old new : Option (List ℕ)) : Type 0 where
+  pub fronts : List Front
   pub schedule : Script
+  pub drawn : IsNumbered (record { seed = seed; fronts = fronts }) k said.lines schedule.lines
   pub order : IsScheduleOf said schedule
   pub writable : IsWritable schedule
   pub reads : script_of (script_text schedule) ≡ Ok schedule

@@ -1,6 +1,6 @@
 //! Whole benches.
 
-ghost use Rattle.std.specs.Prelude.{◌≡◌, ◌⊎◌, ◌+◌, ◌++◌, ◌≤◌, ◌<◌, ◌^◌, ℕ, slice_index_or, length, All, IfErr, IfOk, OnOk, Ok, Err};
+ghost use Rattle.std.specs.Prelude.{◌≡◌, ◌⊎◌, ◌+◌, ◌-◌, ◌≤◌, ℕ, slice_index_or, length, All, IfErr, IfOk, OnOk, Ok, Err};
 ghost use Rattle.std.specs.Io.KnownBytes.{Appends};
 ghost use Rattle.board_model.specs.Shapes.{IsSize};
 ghost use Rattle.board_model.specs.declared.refusal.Refusal.{Refusal as Refused};
@@ -8,23 +8,23 @@ ghost use Rattle.board_model.specs.declared.refusal.Refusal.TheVariants.{Memory,
 ghost use Rattle.script_lang.specs.Lines.{FitsLine, IsLineInRange};
 ghost use Rattle.script_lang.specs.Scripts.{script_of, Script as Said};
 ghost use Rattle.script_lang.specs.Views.{view};
-ghost use Rattle.bench_orders.specs.Orders.{IsOrderFor, other_count};
+ghost use Rattle.bench_orders.specs.Orders.{other_count};
 ghost use Rattle.bench_schedules.specs.Numbers.{number_of_other, place_of_other};
-ghost use Rattle.bench_schedules.specs.Schedules.{Ran, RanOwn, RunText, Shown, Wrote, WroteSchedules, differing, tight_text};
+ghost use Rattle.bench_schedules.specs.Schedules.{Ran, RanOwn, RunText, Shown, Wrote, WroteSchedules, differing, has_tight, own_count, own_tight, tight_text};
 ghost use Rattle.std.specs.Prelude.{List, ◌∷◌, []};
 
-use crate::lines_fit::fits;
 use crate::numbers::{line_numbers, number_at, number_of_other};
 use crate::own_runs::{OwnRun, run_own};
 use crate::runs::{Difference, run_confirmed, run_until};
-use crate::scripts::write_script;
 use crate::written::{write_count, write_difference, write_tight};
-use bench_orders::{generator, orders_keep_lines, schedule};
+use bench_orders::{
+    fits, generator, orders_keep_lines, schedule, shape_in_range, write_script,
+};
 use bench_report::{Answer, Setting};
 use board::Payloads;
-use board_model::{Refusal, Shape};
+use board_model::Refusal;
 use crew::{Crew, Sequential};
-use jobs::{Jobs, Sink, Task, hand_on_all};
+use jobs::{Jobs, Part, Sink, Task, Window, hand_on_all};
 use script_lang::{Line, Script, parse_script, scripts_read_as_written};
 use std::alloc::Global;
 use std::io::Write;
@@ -35,6 +35,17 @@ use std::thread::Threads;
 pub struct Compared {
     pub runs: u64,
     pub differ: u64,
+}
+
+/// Which schedules of a script are run.
+#[derive(Clone, Copy, Drop)]
+pub struct Plan {
+    /// The seed from which they are drawn.
+    pub seed: u64,
+    /// How many they are, numbered from 1.
+    pub count: u64,
+    /// Of their numbers those of this part alone; where there is none, all.
+    pub part: Option<Part>,
 }
 
 /// A script that is run by schedules.
@@ -52,25 +63,6 @@ struct Runner<'a, C> {
     seed: u64,
 }
 
-/// Runs a schedule of the script, by its lines. Refused `Memory` alone.
-fn run_drawn<C: Crew>(
-    runner: &Runner<'_, C>,
-    lines: &[Line],
-    own: &[Answer],
-) -> Result<Option<Difference>, Refusal>
-    requires size { IsSize runner.now.setting.shape.now }
-    requires ranges { All (IsLineInRange runner.now.setting.shape.now) runner.now.lines.now }
-    requires fits { All FitsLine runner.now.lines.now }
-    requires order { IsOrderFor runner.now.lines.now lines.now }
-    requires few { length lines.now ≤ 65535 }
-    requires count { length own.now ≡ other_count lines.now }
-    ensures ran { IfOk result (λ differs.
-        Ran (record { size = runner.now.setting.shape.now; lines = runner.now.lines.now }) runner.now.payloads.now own.now differs) }
-    ensures refused { IfErr result (λ e. e ≡ Memory) }
-{
-    run_confirmed(&runner.setting, runner.payloads, lines, own)
-}
-
 /// Runs schedule k of the script. Refused `Memory` alone.
 fn run_schedule<C: Crew>(
     runner: &Runner<'_, C>,
@@ -83,7 +75,8 @@ fn run_schedule<C: Crew>(
     requires fits { All FitsLine runner.now.lines.now }
     requires count { length own.now.answers.items ≡ other_count runner.now.lines.now }
     ensures ran { IfOk result (λ differs.
-        Ran (record { size = runner.now.setting.shape.now; lines = runner.now.lines.now }) runner.now.payloads.now own.now.answers.items differs) }
+        Ran (record { size = runner.now.setting.shape.now; lines = runner.now.lines.now }) runner.now.payloads.now
+        (record { seed = runner.now.seed; fronts = own.now.stretches.fronts.items }) own.now.answers.items k differs) }
     ensures refused { IfErr result (λ e. e ≡ Memory) }
 {
     orders_keep_lines();
@@ -94,7 +87,7 @@ fn run_schedule<C: Crew>(
         runner.lines,
         &own.stretches.fronts,
     )?;
-    run_drawn(runner, &lines, &own.answers)
+    run_confirmed(&runner.setting, runner.payloads, &lines, &own.answers)
 }
 
 /// Writes the line of schedule k where its run differs. Answers how many schedules that are: 1, or 0.
@@ -144,7 +137,8 @@ impl<'a, 'b, 'c, C: Crew + Sync> Task for DrawnRuns<'a, 'b, 'c, C> {
         × IsSync C.Handle.row };
 
     ghost is_row = { λ runs k drawn. IsDrawn (record { size = runs.runner.now.setting.shape.now; lines = runs.runner.now.lines.now })
-        runs.runner.now.payloads.now runs.own.now.answers.items k drawn };
+        runs.runner.now.payloads.now (record { seed = runs.runner.now.seed; fronts = runs.own.now.stretches.fronts.items })
+        runs.own.now.answers.items k drawn };
 
     /// Runs the schedule of that number.
     fn row(&self, number: u64) -> Result<DrawnRun, Refusal> {
@@ -175,13 +169,13 @@ impl<'a, 'b, 'c, C, W: Write> Sink<DrawnRun> for Report<'a, 'b, 'c, C, W> {
     }
 }
 
-/// Runs n schedules, from number 1 on, by the threads of these jobs, and writes a line for each that differs. Answers how
-/// many do.
+/// Runs schedules of that window of their numbers, which begin with 1, by the threads of these jobs, and writes a line for each
+/// that differs. Answers how many do.
 fn run_schedules<R: Threads + Sync, C: Crew + Sync, W: Write>(
     jobs: &Jobs<'_, R>,
     runner: &Runner<'_, C>,
     own: &OwnRun,
-    n: u64,
+    within: Window,
     out: &mut W,
 ) -> Result<u64, Refusal>
     requires size { IsSize runner.now.setting.shape.now }
@@ -189,10 +183,11 @@ fn run_schedules<R: Threads + Sync, C: Crew + Sync, W: Write>(
     requires ranges { All (IsLineInRange runner.now.setting.shape.now) runner.now.lines.now }
     requires fits { All FitsLine runner.now.lines.now }
     requires count { length own.now.answers.items ≡ other_count runner.now.lines.now }
-    requires most { n ≤ 1000000 }
+    requires most { within.to ≤ 1000000 }
     ensures wrote { IfOk result (λ differ. Wrote (record { size = runner.now.setting.shape.now; lines = runner.now.lines.now })
-        runner.now.payloads.now (λ place. slice_index_or runner.now.numbers.now (1 + place_of_other place runner.now.lines.now) 0)
-        own.now.answers.items 1 n (W.contents out.old) (W.contents out.new) differ) }
+        runner.now.payloads.now (record { seed = runner.now.seed; fronts = own.now.stretches.fronts.items })
+        (λ place. slice_index_or runner.now.numbers.now (1 + place_of_other place runner.now.lines.now) 0)
+        own.now.answers.items (1 + within.from) (within.to - within.from) (W.contents out.old) (W.contents out.new) differ) }
     ensures err { IfErr result (λ e. (e ≡ Memory) ⊎ (e ≡ Output)) }
 {
     let runs = DrawnRuns { runner, own };
@@ -201,7 +196,15 @@ fn run_schedules<R: Threads + Sync, C: Crew + Sync, W: Write>(
         out,
         differ: 0,
     };
-    hand_on_all(jobs, runner.setting.alloc, &runs, 1, n, &mut report)?;
+    let Window { from, to } = within;
+    hand_on_all(
+        jobs,
+        runner.setting.alloc,
+        &runs,
+        1 + from,
+        to - from,
+        &mut report,
+    )?;
     Ok(report.differ)
 }
 
@@ -216,6 +219,32 @@ fn write_one_tight<W: Write>(numbers: &[u64], place: usize, out: &mut W) -> Resu
     write_tight(out, number_at(numbers, place))
 }
 
+/// Whether a run of that part writes which stretches name few turns: the first does, and one of the whole.
+fn writes_tight(part: Option<Part>) -> bool
+    ensures { result ≡ has_tight part }
+{
+    match part {
+        None => true,
+        Some(part) => part.number == 1,
+    }
+}
+
+/// Writes a line for each stretch that names few turns; of a part only the first does.
+fn write_own_tight<W: Write>(
+    numbers: &[u64],
+    tight: &[usize],
+    part: Option<Part>,
+    out: &mut W,
+) -> Result<(), Refusal>
+    ensures ok { OnOk result ((told : List ℕ) × Appends (W.contents out.old) (W.contents out.new) (tight_text (own_tight part told))) }
+    ensures err { IfErr result (λ e. (e ≡ Memory) ⊎ (e ≡ Output)) }
+{
+    if writes_tight(part) {
+        return write_all_tight(numbers, tight, out);
+    }
+    Ok(())
+}
+
 /// Writes a line for each stretch that names few turns.
 fn write_all_tight<W: Write>(numbers: &[u64], tight: &[usize], out: &mut W) -> Result<(), Refusal>
     ensures ok { OnOk result ((told : List ℕ) × Appends (W.contents out.old) (W.contents out.new) (tight_text told)) }
@@ -225,15 +254,6 @@ fn write_all_tight<W: Write>(numbers: &[u64], tight: &[usize], out: &mut W) -> R
         write_one_tight(numbers, *place, out)?;
     }
     Ok(())
-}
-
-/// Each number of a shape is within its range.
-pub fn shape_in_range(shape: &Shape)
-    ensures { IsSize shape.now }
-{
-    let _harts = shape.harts();
-    let _pages = shape.pages();
-    let _lanes = shape.lanes();
 }
 
 /// The script's own run. It is made twice: where the second one answers otherwise, memory was refused in one of them, and so
@@ -255,48 +275,53 @@ pub fn confirmed_own_run<C: Crew>(
     }
 }
 
-/// Runs the script as it stands, and then n schedules of it. Writes which of its stretches name few turns, which schedules
-/// differ, and how many. Answers how many.
+/// Runs the script as it stands, and then schedules of it, by that plan. Writes which of its stretches name few turns, which
+/// schedules differ, and how many. Answers how many were run, and how many differ.
 fn compare_all<R: Threads + Sync, C: Crew + Sync, W: Write>(
     jobs: &Jobs<'_, R>,
     runner: &Runner<'_, C>,
-    n: u64,
+    plan: Plan,
     out: &mut W,
-) -> Result<u64, Refusal>
+) -> Result<Compared, Refusal>
     requires size { IsSize runner.now.setting.shape.now }
     requires few { length runner.now.lines.now ≤ 65535 }
     requires ranges { All (IsLineInRange runner.now.setting.shape.now) runner.now.lines.now }
     requires fits { All FitsLine runner.now.lines.now }
-    requires most { n ≤ 1000000 }
-    ensures wrote { IfOk result (λ differ. WroteSchedules (record { size = runner.now.setting.shape.now; lines = runner.now.lines.now })
-        runner.now.payloads.now (λ place. slice_index_or runner.now.numbers.now (1 + place_of_other place runner.now.lines.now) 0) n
-        (W.contents out.old) (W.contents out.new) differ) }
+    requires most { plan.count ≤ 1000000 }
+    ensures runs { IfOk result (λ count. count.runs ≡ own_count plan.part plan.count) }
+    ensures wrote { IfOk result (λ count. WroteSchedules (record { size = runner.now.setting.shape.now; lines = runner.now.lines.now })
+        runner.now.payloads.now runner.now.seed
+        (λ place. slice_index_or runner.now.numbers.now (1 + place_of_other place runner.now.lines.now) 0)
+        plan.part plan.count (W.contents out.old) (W.contents out.new) count.differ) }
     ensures err { IfErr result (λ e. (e ≡ Memory) ⊎ (e ≡ Output)) }
 {
     let own = confirmed_own_run(&runner.setting, runner.payloads, runner.lines)?;
-    write_all_tight(runner.numbers, &own.stretches.tight, out)?;
-    let differ = run_schedules(jobs, runner, &own, n, out)?;
-    write_count(out, n, differ)?;
-    Ok(differ)
+    write_own_tight(runner.numbers, &own.stretches.tight, plan.part, out)?;
+    let within = Window::of_part(plan.part, plan.count);
+    let differ = run_schedules(jobs, runner, &own, within, out)?;
+    let Window { from, to } = within;
+    let runs = to - from;
+    write_count(out, plan.part, runs, differ)?;
+    Ok(Compared { runs, differ })
 }
 
-/// Compares n schedules of a script that was read with its own run.
+/// Compares schedules of a script that was read with its own run.
 fn compare_script<'a, R: Threads + Sync, W: Write>(
     jobs: &Jobs<'_, R>,
     alloc: Global,
     script: &'a Script,
     payloads: &'a Payloads,
     numbers: &'a [u64],
-    n: u64,
-    seed: u64,
+    plan: Plan,
     out: &mut W,
-) -> Result<u64, Refusal>
+) -> Result<Compared, Refusal>
     requires few { length script.now.lines.items ≤ 65535 }
     requires ranges { All (IsLineInRange script.now.shape) script.now.lines.items }
-    requires most { n ≤ 1000000 }
-    ensures wrote { IfOk result (λ differ. WroteSchedules (view script.now) payloads.now
-        (λ place. slice_index_or numbers.now (1 + place_of_other place script.now.lines.items) 0) n
-        (W.contents out.old) (W.contents out.new) differ) }
+    requires most { plan.count ≤ 1000000 }
+    ensures runs { IfOk result (λ count. count.runs ≡ own_count plan.part plan.count) }
+    ensures wrote { IfOk result (λ count. WroteSchedules (view script.now) payloads.now plan.seed
+        (λ place. slice_index_or numbers.now (1 + place_of_other place script.now.lines.items) 0)
+        plan.part plan.count (W.contents out.old) (W.contents out.new) count.differ) }
     ensures err { IfErr result (λ e. (e ≡ Memory) ⊎ (e ≡ Output)) }
 {
     let lines = script.lines.as_slice();
@@ -312,9 +337,9 @@ fn compare_script<'a, R: Threads + Sync, W: Write>(
         lines,
         payloads,
         numbers,
-        seed,
+        seed: plan.seed,
     };
-    compare_all(jobs, &runner, n, out)
+    compare_all(jobs, &runner, plan, out)
 }
 
 /// Writes schedule k of a script that was read. The script is run first: its own run tells in which part of each stretch the
@@ -329,7 +354,7 @@ fn show_script<R: Threads + Sync, W: Write>(
 ) -> Result<(), Refusal>
     requires few { length script.now.lines.items ≤ 65535 }
     requires ranges { All (IsLineInRange script.now.shape) script.now.lines.items }
-    ensures shown { OnOk result (Shown (view script.now) (W.contents out.old) (W.contents out.new)) }
+    ensures shown { OnOk result (Shown (view script.now) seed k (W.contents out.old) (W.contents out.new)) }
     ensures err { IfErr result (λ e. (e ≡ Memory) ⊎ (e ≡ Output)) }
 {
     orders_keep_lines();
@@ -350,10 +375,11 @@ fn show_script<R: Threads + Sync, W: Write>(
 }
 
 /// The schedule bench (docs/SCRIPT.md, "Schedules"). It runs a script as it stands, with these payloads in the slots, and
-/// then n schedules of it: the same lines, but with the turns of each stretch in another order. It compares their reports,
+/// then schedules of it, by that plan: the same lines, but with the turns of each stretch in another order. It compares their reports,
 /// leaving out `turn` lines. Where a schedule's report differs, it writes the first line that does, with the number of the
 /// script's line. At the end it writes how many differ. Each schedule is drawn from the seed and its number alone. The
-/// schedules are run by the threads of these jobs; what is written is the same however many these are.
+/// schedules are run by the threads of these jobs; what is written is the same however many these are. Of a plan with a part
+/// those of the part alone are run, under their own numbers, and counted.
 ///
 /// Refused `BadShape` or `BadScript` where the script has a fault, and then nothing is written; `Memory` where memory was
 /// refused in any run, to a power-on, to an examination of the disk or to the disk's record, which is never a difference,
@@ -364,14 +390,15 @@ pub fn schedules<R: Threads + Sync, W: Write>(
     alloc: Global,
     script: &[u8],
     payloads: &Payloads,
-    n: u64,
-    seed: u64,
+    plan: Plan,
     out: &mut W,
 ) -> Result<Compared, Refusal>
-    requires most { n ≤ 1000000 }
-    // All schedules were run and compared with the script's own run, and those that differ were written and counted.
-    ensures wrote { IfOk result (λ count. (count.runs ≡ n) × (said : Said) × (script_of script.now ≡ Ok said)
-        × WroteSchedules said payloads.now (number_of_other script.now said.lines) n (W.contents out.old) (W.contents out.new) count.differ) }
+    requires most { plan.count ≤ 1000000 }
+    // All schedules of the seed, or those of the part, were run and compared with the script's own run, and those that differ were written and
+    // counted.
+    ensures wrote { IfOk result (λ count. (count.runs ≡ own_count plan.part plan.count) × (said : Said) × (script_of script.now ≡ Ok said)
+        × WroteSchedules said payloads.now plan.seed (number_of_other script.now said.lines) plan.part plan.count
+        (W.contents out.old) (W.contents out.new) count.differ) }
     // A refusal is the script's fault, or want of memory, or the writer's.
     ensures refused { IfErr result (λ e. (e ≡ Memory) ⊎ (e ≡ Output) ⊎ (script_of script.now ≡ Err e)) }
     // A script with a fault runs nothing.
@@ -380,8 +407,7 @@ pub fn schedules<R: Threads + Sync, W: Write>(
 {
     let read = parse_script(alloc, script)?;
     let numbers = line_numbers(alloc, script)?;
-    let differ = compare_script::<R, W>(jobs, alloc, &read, payloads, &numbers, n, seed, out)?;
-    Ok(Compared { runs: n, differ })
+    compare_script::<R, W>(jobs, alloc, &read, payloads, &numbers, plan, out)
 }
 
 /// Writes schedule k of a script as a script: the one that [`schedules`] runs by that number, with the same seed and the same
@@ -396,9 +422,9 @@ pub fn show<R: Threads + Sync, W: Write>(
     k: u64,
     out: &mut W,
 ) -> Result<(), Refusal>
-    // What was written is a schedule of the script, and is read back as it.
+    // What was written is schedule k of the script, and is read back as it.
     ensures shown { OnOk result ((said : Said) × (script_of script.now ≡ Ok said)
-        × Shown said (W.contents out.old) (W.contents out.new)) }
+        × Shown said seed k (W.contents out.old) (W.contents out.new)) }
     // A refusal is the script's fault, or want of memory, or the writer's.
     ensures refused { IfErr result (λ e. (e ≡ Memory) ⊎ (e ≡ Output) ⊎ (script_of script.now ≡ Err e)) }
     // A script with a fault runs nothing.

@@ -4,21 +4,17 @@
 
 mod benches;
 mod line_runs;
-mod lines_fit;
 mod numbers;
 mod own_runs;
 mod runs;
-mod scripts;
 mod stretches;
 mod told;
 mod written;
 
-pub use benches::{Compared, confirmed_own_run, schedules, shape_in_range, show};
+pub use benches::{Compared, Plan, confirmed_own_run, schedules, show};
 pub use line_runs::{end_run, run_line};
-pub use lines_fit::fits;
 pub use numbers::{line_numbers, number_at, number_of_other};
 pub use own_runs::OwnRun;
 pub use runs::{Difference, run_confirmed, run_until};
-pub use scripts::write_script;
 pub use stretches::Stretches;
 pub use told::{Apart, ToldLine, first_apart};

@@ -10,6 +10,7 @@ ghost use Rattle.bench_schedules.specs.Told.{IsFirstApart, told_lines, told_text
 use crate::runs::Difference;
 use crate::told::{Apart, first_apart};
 use board_model::Refusal;
+use jobs::{Part, PartText};
 use report_lines::unwritten;
 use std::alloc::Global;
 use std::io::Write;
@@ -56,10 +57,16 @@ pub fn write_difference<W: Write>(
     }
 }
 
-/// Writes the last line of the bench.
-pub fn write_count<W: Write>(out: &mut W, runs: u64, differ: u64) -> Result<(), Refusal>
-    ensures ok { OnOk result (Appends (W.contents out.old) (W.contents out.new) (count_text runs differ)) }
+/// Writes the last line of the bench, or of a part of it.
+pub fn write_count<W: Write>(
+    out: &mut W,
+    part: Option<Part>,
+    runs: u64,
+    differ: u64,
+) -> Result<(), Refusal>
+    ensures ok { OnOk result (Appends (W.contents out.old) (W.contents out.new) (count_text part runs differ)) }
     ensures err { IfErr result (λ e. (e ≡ Memory) ⊎ (e ≡ Output)) }
 {
-    writeln!(out, "schedules {runs} differ {differ}").map_err(|error| unwritten(error))
+    let begin = PartText(part);
+    writeln!(out, "{begin}schedules {runs} differ {differ}").map_err(|error| unwritten(error))
 }

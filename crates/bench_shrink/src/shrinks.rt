@@ -13,11 +13,11 @@ ghost use Rattle.bench_shrink.specs.Shrunk.{IsFound, IsSearchable, IsShortened, 
 use crate::passes::search_all;
 use crate::search::{Kept, Search, confirmed};
 use crate::slices::slices_of;
-use bench_orders::{generator, orders_keep_lines, schedule};
-use bench_report::{Answer, Setting};
-use bench_schedules::{
-    Difference, confirmed_own_run, fits, run_confirmed, shape_in_range, write_script,
+use bench_orders::{
+    fits, generator, orders_keep_lines, schedule, shape_in_range, write_script,
 };
+use bench_report::{Answer, Setting};
+use bench_schedules::{Difference, confirmed_own_run, run_confirmed};
 use board::Payloads;
 use board_model::Refusal;
 use crew::{Crew, Sequential};
@@ -127,7 +127,7 @@ fn shrink_script<R: Threads + Sync, W: Write>(
 ) -> Result<(), Refusal>
     requires few { length script.now.lines.items ≤ 65535 }
     requires ranges { All (IsLineInRange script.now.shape) script.now.lines.items }
-    ensures shrunk { OnOk result (Shrunk (view script.now) payloads.now (W.contents out.old) (W.contents out.new)) }
+    ensures shrunk { OnOk result (Shrunk (view script.now) payloads.now seed k (W.contents out.old) (W.contents out.new)) }
     ensures err { IfErr result (λ e. (e ≡ Memory) ⊎ (e ≡ Output)) }
 {
     scripts_read_as_written();
@@ -160,9 +160,9 @@ pub fn shrink<R: Threads + Sync, W: Write>(
     k: u64,
     out: &mut W,
 ) -> Result<(), Refusal>
-    // What was written is a schedule of the script, is read back as it, and first differs where the drawn one does.
+    // What was written is a schedule of the script, is read back as it, and first differs where schedule k does.
     ensures shrunk { OnOk result ((said : Said) × (script_of script.now ≡ Ok said)
-        × Shrunk said payloads.now (W.contents out.old) (W.contents out.new)) }
+        × Shrunk said payloads.now seed k (W.contents out.old) (W.contents out.new)) }
     // A refusal is the script's fault, or want of memory, or the writer's.
     ensures refused { IfErr result (λ e. (e ≡ Memory) ⊎ (e ≡ Output) ⊎ (script_of script.now ≡ Err e)) }
     // A script with a fault runs nothing.

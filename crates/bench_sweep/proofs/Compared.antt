@@ -17,7 +17,8 @@ use Rattle.report_lines.specs.declared.printed.Printed.{Printed}
 use Rattle.bench_report.specs.Bench.{Bench}
 use Rattle.bench_report.specs.Examined.{OpensOf}
 use Rattle.bench_sweep.specs.Made.{RecoversFrom, IsToldOf}
-use Rattle.bench_sweep.specs.Recovers.{is_look, look_numbers, TellsFirst}
+use Rattle.bench_sweep.specs.Recovers.{Compared, is_look, look_numbers, TellsFirst}
+use Rattle.bench_sweep.specs.Reports.{RunsOver, ToldOver}
 use Rattle.bench_sweep.specs.declared.recovery.Differs.{Differs}
 use Rattle.bench_sweep.proofs.Written.{map_more}
 
@@ -40,6 +41,19 @@ pub told_of : (own : List Printed) (size : Size) (cut : Bench) (lines : List Lin
 told_of [] size cut lines numbers left None said r t = refl
 told_of [] size cut lines numbers left (Some d) said r t = absurd (no_place t.0 t.2 d.own t.4)
 told_of (o ∷ own) size cut lines numbers left differs said r t = (said, r, t)
+
+-- over what a cut leaves
+pub nothing_over : (own : List Printed) (size : Size) (content : Content) (rest : Compared) → length own ≡ 0 → ToldOver own size content rest None
+nothing_over [] size content rest e = refl
+nothing_over (o ∷ own) size content rest e = absurd (omega (arith, e))
+
+pub told_over : (own : List Printed) (size : Size) (content : Content) (rest : Compared) (differs : Option Differs) → own ≡ rest.own → RunsOver size content rest differs → ToldOver own size content rest differs
+told_over [] size content rest None is r = refl
+told_over [] size content rest (Some d) is r =
+    let at = r.sits in
+    let told = r.tells at.0 at.1 in
+    absurd (no_place told.2.0 told.2.2 d.own (is ∙ told.2.4))
+told_over (o ∷ own) size content rest differs is r = r
 
 -- ---- the first look that differs
 -- a list around a place of it

@@ -17,3 +17,4 @@ pub mod Scripts
 pub mod Rowed
 pub mod Looked
 pub mod Compared
+pub mod Nth

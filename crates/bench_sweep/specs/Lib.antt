@@ -8,3 +8,4 @@ pub mod Lines
 pub mod Resumes
 pub mod Reports
 pub mod Recovers
+pub mod Shown

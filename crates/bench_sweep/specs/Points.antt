@@ -1,9 +1,11 @@
 -- The calls at which a bench cuts power, or lets one fail. Source: docs/SCRIPT.md, "The benches".
-use Rattle.std.specs.Prelude.{◌≡◌, ◌+◌, ℕ, List, get_or}
+use Rattle.std.specs.Prelude.{◌≡◌, ◌+◌, ℕ, List, Option, None, Some, get_or}
 use Rattle.disk.specs.declared.device.ArmedFault.{ArmedFault}
 use Rattle.disk.specs.declared.device.ArmedFault.TheVariants.{FailAt, CutAt, FailLane, CutLane}
 use Rattle.simdisk.specs.contracts.logged.SimDiskLogged.TheImpl as sim_logged
 use Rattle.simdisk.specs.declared.SimDisk.{SimDisk}
+use Rattle.simdisk.specs.declared.fill.Fill.{Fill}
+use Rattle.simdisk.specs.declared.fill.Fill.TheVariants.{Byte}
 use Rattle.bench_report.specs.Views.{facts}
 use Rattle.bench_sweep.specs.declared.points.Bench.{Bench}
 use Rattle.bench_sweep.specs.declared.points.Bench.TheVariants.{Cuts, Fails}
@@ -32,3 +34,8 @@ failure_of (Lane i) n = FailLane i n
 abbrev pub fault_at : Bench → Caller → ℕ → ArmedFault
 fault_at Cuts caller n = cut_of caller n
 fault_at Fails caller n = failure_of caller n
+
+-- what a cut leaves of what was not synced, by the fill of its run; a run behind a failure has none, and is cut with zeros
+abbrev pub cut_fill : Option Fill → Fill
+cut_fill None = Byte 0
+cut_fill (Some fill) = fill

@@ -1,30 +1,40 @@
 -- What a bench has written and counted so far. Source: docs/SCRIPT.md, "The benches".
 use Rattle.std.specs.Prelude.{◌≡◌, ◌≤◌, ◌<◌, ◌+◌, ◌^◌, ◌++◌, ◌∷◌, [], ℕ, List, Option, All, length, map, take, drop}
 use Rattle.std.specs.Io.KnownBytes.{Appends}
-use Rattle.disk.specs.Facts.{counted}
+use Rattle.disk.specs.Facts.{Content, counted}
+use Rattle.simdisk.specs.Views.{left_by_fill}
+use Rattle.simdisk.specs.declared.SimDisk.{SimDisk}
+use Rattle.simdisk.specs.declared.fill.Fill.{Fill}
+use Rattle.write_log.specs.WriteLog.{synced}
 use Rattle.board_model.specs.Shapes.{Size}
 use Rattle.script_lang.specs.declared.line.Line.{Line}
 use Rattle.bench_report.specs.Bench.{Bench}
+use Rattle.bench_report.specs.Examined.{OpensOf}
 use Rattle.bench_report.specs.Happens.{unpowered}
+use Rattle.bench_report.specs.Views.{facts, sim_log_of}
 use Rattle.bench_sweep.specs.declared.points.Bench.{Bench as Kind}
 use Rattle.bench_sweep.specs.declared.points.Caller.{Caller}
 use Rattle.bench_sweep.specs.declared.rows.Row.{Row}
 use Rattle.bench_sweep.specs.declared.judging.PointRows.{PointRows}
 use Rattle.bench_sweep.specs.declared.site.Site.{Site}
 use Rattle.bench_sweep.specs.declared.sweeps.Report.{Report}
-use Rattle.bench_sweep.specs.Made.{LooksAt, ShowsState, IsFormatted, IsPlainRun, IsUncut, IsRecovered, RunsWith, IsRunOf}
-use Rattle.bench_sweep.specs.Recovers.{Compared}
+use Rattle.bench_sweep.specs.declared.recovery.Differs.{Differs}
+use Rattle.bench_sweep.specs.Made.{LooksAt, ShowsState, IsFormatted, IsPlainRun, IsUncut, IsRecovered, Recovers, RunsWith, IsRunOf}
+use Rattle.bench_sweep.specs.Points.{cut_fill}
+use Rattle.bench_sweep.specs.Recovers.{Compared, TellsFirst}
 use Rattle.bench_sweep.specs.Rows.{differing_rows}
-use Rattle.bench_sweep.specs.Runs.{RunsAt, Sits}
+use Rattle.bench_sweep.specs.Runs.{LeftAt, RunsAt, Sits, SitsLeft}
 use Rattle.report_lines.specs.declared.printed.Printed.{Printed}
-use Rattle.bench_sweep.specs.Swept.{Cell, Writes, AreSwept, cell_of, rows_text, runs_of, all_runs, callers, total}
+use Rattle.bench_sweep.specs.Swept.{Cell, Spot, Writes, AreSwept, all_points, cell_of, rows_text, runs_at, runs_of, callers}
+use Rattle.jobs.specs.Parts.{own_of}
+use Rattle.jobs.specs.declared.part.Part.{Part}
 
--- The report goes on in the same writer: these runs were made at so many points, one line was written for each, and
--- each was counted. None was wrong, and of each row that holds.
-pub record Reports {W : Type 0} (contents : W → Option (List ℕ)) (Is : Row → Type 0) (old new : Report W) (made : List Cell)
-    (n : ℕ) : Type 0 where
+-- The report goes on in the same writer: the runs at these points were made, what the bench says of each was written, and each
+-- was counted. None was wrong, and of each row that holds.
+pub record Reports {W : Type 0} (contents : W → Option (List ℕ)) (kind : Kind) (Is : Row → Type 0) (old new : Report W) (made : List Spot) : Type 0 where
   pub same : new.out.ghost_name ≡ old.out.ghost_name
-  pub wrote : Writes Is (contents old.out.now) (contents new.out.now) old.done new.done made n
+  pub quiet : new.quiet ≡ old.quiet
+  pub wrote : Writes old.quiet Is (contents old.out.now) (contents new.out.now) old.done new.done (runs_at kind made) (length made)
 
 -- ---- rows so far
 -- a row whose run ended at that bench, where a state was found
@@ -32,6 +42,29 @@ abbrev pub IsLeft : Size → Bench → Compared → Row → Type 0
 IsLeft size end rest row =
     ((after : Bench) × LooksAt size (unpowered end) row.left after) × ShowsState row.left
     × IsRecovered size end rest row.left row.recovered
+
+-- what a cut with that fill leaves of the disk
+abbrev pub cut_content : SimDisk → Fill → Content
+cut_content disk fill = left_by_fill fill (synced (sim_log_of disk)) (sim_log_of disk).written
+
+-- The recovery ran over a disk that holds just that: whatever the bench that it stands for, its looks say so.
+pub record RunsOver (size : Size) (content : Content) (rest : Compared) (differs : Option Differs) : Type 0 where
+  pub site : Site
+  pub holds : (facts site.off.disk).content ≡ content
+  pub sits : SitsLeft size site
+  pub tells : (b : Bench) → LeftAt size b site → (said : List Printed) × Recovers size b rest.lines said × TellsFirst rest.numbers rest.own said differs
+
+-- where the own looks are some; where there are none, nothing is told
+abbrev pub ToldOver : List Printed → Size → Content → Compared → Option Differs → Type 0
+ToldOver [] size content rest differs = differs ≡ None
+ToldOver (o ∷ own) size content rest differs = RunsOver size content rest differs
+
+-- A row whose run ended at that bench, with that disk. What the row's own fill leaves of the disk, and zeros behind a failure, is
+-- what the power-on said that of, and what the recovery ran over.
+pub record IsLeftBy (size : Size) (end : Bench) (disk : SimDisk) (rest : Compared) (row : Row) : Type 0 where
+  pub is : IsLeft size end rest row
+  pub opens : OpensOf (cut_content disk (cut_fill row.fill)) row.left
+  pub over : ToldOver rest.own size (cut_content disk (cut_fill row.fill)) rest row.recovered
 
 -- a row whose run begins at that bench, which is off, where its caller had made so many calls
 abbrev pub RunsRow : Size → Kind → ℕ → Bench → List Line → Compared → Row → Type 0
@@ -73,30 +106,31 @@ IsOfCall size kind caller before lines rest site done rows =
     (b : Bench) → RunsAt size b site
     → Judged (RunsRow size kind before (unpowered b) lines rest) rows (runs_of kind caller (before + done + 1))
 
--- The lines of these rows were written, and their runs are counted with those before.
+-- What the bench says of these rows was written, where none is wrong, and the point and its runs are counted with those before.
 pub record TakesPoint {W : Type 0} (contents : W → Option (List ℕ)) (old : Report W) (rows : PointRows) (new : Report W) : Type 0 where
   pub same : new.out.ghost_name ≡ old.out.ghost_name
-  pub text : Appends (contents old.out.now) (contents new.out.now) (rows_text rows.rows.items)
-  pub points : new.done.sweep.points ≡ old.done.sweep.points
+  pub quiet : new.quiet ≡ old.quiet
+  pub text : rows.sweep.wrong ≡ 0 → Appends (contents old.out.now) (contents new.out.now) (rows_text old.quiet rows.rows.items)
+  pub points : new.done.sweep.points ≡ counted old.done.sweep.points 1
   pub runs : new.done.sweep.runs ≡ counted old.done.sweep.runs rows.sweep.runs
   pub right : rows.sweep.wrong ≡ 0 → new.done.sweep.wrong ≡ old.done.sweep.wrong
   pub differ : new.done.differ ≡ counted old.done.differ (differing_rows rows.rows.items)
 
 -- ---- all rows
--- All lines from that bench on are run as they are, and then the runs at the points of each caller are made.
-pub record ReportsAll {W : Type 0} (contents : W → Option (List ℕ)) (size : Size) (kind : Kind) (first : Bench) (lines : List Line)
+-- All lines from that bench on are run as they are, and then the runs at the points of each caller are made, or at those of a part.
+pub record ReportsAll {W : Type 0} (contents : W → Option (List ℕ)) (size : Size) (kind : Kind) (part : Option Part) (first : Bench) (lines : List Line)
     (after : List Line) (numbers : List ℕ) (old new : Report W) : Type 0 where
   pub plain : IsPlainRun size first lines
   pub counts : List ℕ
   pub five : length counts ≡ 5
   pub own : List Printed
   pub uncut : IsUncut size first lines after own
-  pub runs : Reports contents (IsRow size kind first lines (record { lines = after; numbers = numbers; own = own })) old new (all_runs kind callers counts) (total counts)
+  pub runs : Reports contents kind (IsRow size kind first lines (record { lines = after; numbers = numbers; own = own })) old new (own_of part (all_points callers counts))
 
 -- the same of the lines of a script behind its first format, where it begins with these payloads
-pub record ReportsScript {W : Type 0} (contents : W → Option (List ℕ)) (size : Size) (kind : Kind) (start : List (List ℕ)) (lines : List Line)
+pub record ReportsScript {W : Type 0} (contents : W → Option (List ℕ)) (size : Size) (kind : Kind) (part : Option Part) (start : List (List ℕ)) (lines : List Line)
     (after : List Line) (numbers : List ℕ) (old new : Report W) : Type 0 where
   pub begin : ℕ
   pub first : Bench
   pub format : IsFormatted size start (take begin lines) first
-  pub all : ReportsAll contents size kind (unpowered first) (drop begin lines) after numbers old new
+  pub all : ReportsAll contents size kind part (unpowered first) (drop begin lines) after numbers old new

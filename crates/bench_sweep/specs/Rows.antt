@@ -1,5 +1,5 @@
 -- The lines of a bench. Source: docs/SCRIPT.md, "The benches".
-use Rattle.std.specs.Prelude.{ℕ, List, [], ◌∷◌, ◌++◌, Option, Some, None, is_some}
+use Rattle.std.specs.Prelude.{ℕ, Bool, true, false, List, [], ◌∷◌, ◌++◌, Option, Some, None, is_some}
 use Rattle.std.specs.Fmt.{decimal}
 use Rattle.board_model.specs.declared.durable.Durable.{Durable}
 use Rattle.simdisk.specs.declared.fill.Fill.{Fill}
@@ -13,6 +13,8 @@ use Rattle.bench_sweep.specs.declared.points.Caller.{Caller}
 use Rattle.bench_sweep.specs.declared.points.Caller.TheVariants.{Disk, Lane}
 use Rattle.bench_sweep.specs.declared.rows.Row.{Row}
 use Rattle.bench_sweep.specs.declared.recovery.Differs.{Differs}
+use Rattle.jobs.specs.Parts.{part_text}
+use Rattle.jobs.specs.declared.part.Part.{Part}
 use Rattle.std.specs.List.{count_by}
 use lib.Chars.{codes}
 
@@ -53,14 +55,25 @@ told_part r (Some d) = differs_text r d ++ 10 ∷ []
 abbrev pub row_lines : Row → List ℕ
 row_lines r = row_text r ++ 10 ∷ told_part r r.recovered
 
+-- the lines of a row of which a look differs
+abbrev pub differing_lines : Row → Option Differs → List ℕ
+differing_lines r None = []
+differing_lines r (Some d) = row_lines r
+
+-- what is written of a row: by a quiet bench only the lines of one of which a look differs
+abbrev pub shown_lines : Bool → Row → List ℕ
+shown_lines false r = row_lines r
+shown_lines true r = differing_lines r r.recovered
+
 -- of how many rows a look differs
 abbrev pub differing_rows : List Row → ℕ
 differing_rows rows = count_by (λ (r : Row). is_some r.recovered) rows
 
--- the last line
-abbrev pub sweep_text : Sweep → List ℕ
-sweep_text s = codes "points " ++ decimal s.points ++ codes " runs " ++ decimal s.runs ++ codes " wrong " ++ decimal s.wrong
+-- the last line, of a part or of the whole
+abbrev pub sweep_text : Option Part → Sweep → List ℕ
+sweep_text part s =
+    part_text part ++ codes "points " ++ decimal s.points ++ codes " runs " ++ decimal s.runs ++ codes " wrong " ++ decimal s.wrong
 
 -- the last line of a bench with a recovery
-abbrev pub recovered_text : Sweep → ℕ → List ℕ
-recovered_text s differ = sweep_text s ++ codes " differ " ++ decimal differ
+abbrev pub recovered_text : Option Part → Sweep → ℕ → List ℕ
+recovered_text part s differ = sweep_text part s ++ codes " differ " ++ decimal differ

@@ -1,8 +1,10 @@
 -- What a bench wrote and counted. Source: docs/SCRIPT.md, "The benches".
-use Rattle.std.specs.Prelude.{◌≡◌, ◌≢◌, ◌⊎◌, ◌+◌, ℕ, zero, suc, List, [], ◌∷◌, ◌++◌, ⊤, Option, None, Some, Ok, All, length, map, take, drop}
+use Rattle.std.specs.Prelude.{◌≡◌, ◌≢◌, ◌⊎◌, ◌+◌, ℕ, Bool, false, zero, suc, List, [], ◌∷◌, ◌++◌, ⊤, Option, None, Some, Ok, All, length, map, take, drop}
 use Rattle.std.specs.List.{flat_map}
 use Rattle.std.specs.Io.KnownBytes.{Appends}
 use Rattle.disk.specs.Facts.{counted}
+use Rattle.jobs.specs.Parts.{part_of, piece}
+use Rattle.jobs.specs.declared.part.Part.{Part}
 use Rattle.simdisk.specs.declared.fill.Fill.{Fill}
 use Rattle.simdisk.specs.declared.fill.Fill.TheVariants.{Byte, Alternating, Old, New}
 use Rattle.board_model.specs.Shapes.{Size}
@@ -15,6 +17,7 @@ use Rattle.bench_report.specs.Bench.{Bench as ModelBench}
 use Rattle.bench_report.specs.Happens.{unpowered}
 use Rattle.bench_report.specs.Deeds.{ArmFault, CutPower, WritePast, Deed, Format, Beside, deed_of}
 use Rattle.bench_judge.specs.declared.judges.Sweep.{Sweep}
+use Rattle.bench_sweep.specs.declared.plan.Plan.{Plan}
 use Rattle.bench_sweep.specs.declared.points.Bench.{Bench}
 use Rattle.bench_sweep.specs.declared.points.Bench.TheVariants.{Cuts, Fails}
 use Rattle.bench_sweep.specs.declared.points.Caller.{Caller}
@@ -22,7 +25,7 @@ use Rattle.bench_sweep.specs.declared.points.Caller.TheVariants.{Disk, Lane}
 use Rattle.bench_sweep.specs.declared.rows.Row.{Row}
 use Rattle.bench_sweep.specs.Made.{IsFormatted, IsPlainRun, IsUncut, IsRunOf}
 use Rattle.bench_sweep.specs.Recovers.{look_numbers, nothing_compared, IsFaulty, Says}
-use Rattle.bench_sweep.specs.Rows.{differing_rows, row_lines, recovered_text, sweep_text}
+use Rattle.bench_sweep.specs.Rows.{differing_rows, recovered_text, shown_lines, sweep_text}
 use Rattle.bench_sweep.specs.declared.sweeps.Recovered.{Recovered}
 use Rattle.report_lines.specs.declared.printed.Printed.{Printed}
 
@@ -89,20 +92,44 @@ all_runs bench [] ns = []
 all_runs bench (caller ∷ more) [] = []
 all_runs bench (caller ∷ more) (n ∷ ns) = runs_from bench caller 1 n ++ all_runs bench more ns
 
+-- ---- points
+-- a point: a call of that caller, by its number, from 1
+pub record Spot : Type 0 where
+  pub caller : Caller
+  pub number : ℕ
+
+abbrev pub spot : Caller → ℕ → Spot
+spot caller number = record { caller = caller; number = number }
+
+-- so many points of a caller, the first of which has that number
+abbrev pub points_from : Caller → ℕ → ℕ → List Spot
+points_from caller first zero = []
+points_from caller first (suc n) = points_from caller first n ++ spot caller (counted first n) ∷ []
+
+-- the points of these callers, of each so many, from number 1 on, in the order of the report
+abbrev pub all_points : List Caller → List ℕ → List Spot
+all_points [] ns = []
+all_points (caller ∷ more) [] = []
+all_points (caller ∷ more) (n ∷ ns) = points_from caller 1 n ++ all_points more ns
+
+-- the runs of these points, in order
+abbrev pub runs_at : Bench → List Spot → List Cell
+runs_at bench spots = flat_map (λ (s : Spot). runs_of bench s.caller s.number) spots
+
 -- ---- what was written
-abbrev pub rows_text : List Row → List ℕ
-rows_text rows = flat_map row_lines rows
+abbrev pub rows_text : Bool → List Row → List ℕ
+rows_text quiet rows = flat_map (λ (row : Row). shown_lines quiet row) rows
 
 -- a count went on by so many
 abbrev pub GoesOn : ℕ → ℕ → ℕ → Type 0
 GoesOn before after n = (k : ℕ) → before ≡ counted 0 k → after ≡ counted 0 (k + n)
 
--- These runs were made at so many points, the lines of each were written, and each was counted, and each of which a look
+-- These runs were made at so many points, what a bench says of each was written, and each was counted, and each of which a look
 -- differs. None was wrong. Of each row that holds.
-pub record Writes (Is : Row → Type 0) (old now : Option (List ℕ)) (s t : Recovered) (made : List Cell) (n : ℕ) : Type 0 where
+pub record Writes (quiet : Bool) (Is : Row → Type 0) (old now : Option (List ℕ)) (s t : Recovered) (made : List Cell) (n : ℕ) : Type 0 where
   pub rows : List Row
   pub each : All Is rows
-  pub text : Appends old now (rows_text rows)
+  pub text : Appends old now (rows_text quiet rows)
   pub cells : map cell_of rows ≡ made
   pub points : GoesOn s.sweep.points t.sweep.points n
   pub runs : GoesOn s.sweep.runs t.sweep.runs (length rows)
@@ -113,9 +140,28 @@ abbrev pub total : List ℕ → ℕ
 total [] = 0
 total (n ∷ ns) = n + total ns
 
--- Of each caller so many points; the runs at them, in order, each of the script's own lines behind its first format, a
--- line for each, and then the line of the counts. No run was wrong.
-pub record WroteAll (bench : Bench) (size : Size) (start : List (List ℕ)) (lines : List Line) (old now : Option (List ℕ)) (sweep : Sweep)
+-- which runs a bench makes where the callers make so many calls: those of all points, or of the points of a part alone
+abbrev pub own_runs : Bench → Option Part → List ℕ → List Cell
+own_runs bench None counts = all_runs bench callers counts
+own_runs bench (Some part) counts = runs_at bench (part_of part (all_points callers counts))
+
+-- and at how many points
+abbrev pub own_total : Option Part → List ℕ → ℕ
+own_total None counts = total counts
+own_total (Some part) counts = length (part_of part (all_points callers counts))
+
+-- the rows of the first k parts of so many, one part behind another
+abbrev pub joined_runs : Bench → ℕ → ℕ → List ℕ → List Cell
+joined_runs bench zero of counts = []
+joined_runs bench (suc k) of counts = joined_runs bench k of counts ++ runs_at bench (piece (suc k) of (all_points callers counts))
+
+-- the whole of a bench
+abbrev pub whole : Bench → Plan
+whole bench = record { bench = bench; part = None; quiet = false }
+
+-- Of each caller so many points; the runs at them, or at those of the plan's part, in order, each of the script's own lines
+-- behind its first format, what the plan has of each, and then the line of the counts. No run was wrong.
+pub record WroteAll (plan : Plan) (size : Size) (start : List (List ℕ)) (lines : List Line) (old now : Option (List ℕ)) (sweep : Sweep)
     : Type 0 where
   pub begin : ℕ
   pub first : ModelBench
@@ -124,17 +170,17 @@ pub record WroteAll (bench : Bench) (size : Size) (start : List (List ℕ)) (lin
   pub counts : List ℕ
   pub five : length counts ≡ 5
   pub rows : List Row
-  pub each : All (λ (row : Row). IsRunOf size bench row.caller row.number (unpowered first) (drop begin lines) nothing_compared row.left row.recovered) rows
-  pub cells : map cell_of rows ≡ all_runs bench callers counts
-  pub text : Appends old now (rows_text rows ++ (sweep_text sweep ++ 10 ∷ []))
-  pub points : sweep.points ≡ counted 0 (total counts)
+  pub each : All (λ (row : Row). IsRunOf size plan.bench row.caller row.number (unpowered first) (drop begin lines) nothing_compared row.left row.recovered) rows
+  pub cells : map cell_of rows ≡ own_runs plan.bench plan.part counts
+  pub text : Appends old now (rows_text plan.quiet rows ++ (sweep_text plan.part sweep ++ 10 ∷ []))
+  pub points : sweep.points ≡ counted 0 (own_total plan.part counts)
   pub runs : sweep.runs ≡ counted 0 (length rows)
   pub right : sweep.wrong ≡ 0
 
 -- The rows of a bench with a recovery of these lines, of which the looks have those numbers: it runs behind the script's own
 -- end, and over what each run left; behind the line of a run of which a look says something else than behind that end there
 -- stands a line that tells the first, and those runs are counted.
-pub record WroteRows (bench : Bench) (size : Size) (start : List (List ℕ)) (lines after : List Line) (numbers : List ℕ)
+pub record WroteRows (plan : Plan) (size : Size) (start : List (List ℕ)) (lines after : List Line) (numbers : List ℕ)
     (old now : Option (List ℕ)) (done : Recovered) : Type 0 where
   pub begin : ℕ
   pub first : ModelBench
@@ -145,32 +191,32 @@ pub record WroteRows (bench : Bench) (size : Size) (start : List (List ℕ)) (li
   pub counts : List ℕ
   pub five : length counts ≡ 5
   pub rows : List Row
-  pub each : All (λ (row : Row). IsRunOf size bench row.caller row.number (unpowered first) (drop begin lines)
+  pub each : All (λ (row : Row). IsRunOf size plan.bench row.caller row.number (unpowered first) (drop begin lines)
       (record { lines = after; numbers = numbers; own = own }) row.left row.recovered) rows
-  pub cells : map cell_of rows ≡ all_runs bench callers counts
-  pub text : Appends old now (rows_text rows)
-  pub points : done.sweep.points ≡ counted 0 (total counts)
+  pub cells : map cell_of rows ≡ own_runs plan.bench plan.part counts
+  pub text : Appends old now (rows_text plan.quiet rows)
+  pub points : done.sweep.points ≡ counted 0 (own_total plan.part counts)
   pub runs : done.sweep.runs ≡ counted 0 (length rows)
   pub right : done.sweep.wrong ≡ 0
   pub differ : done.differ ≡ counted 0 (differing_rows rows)
 
 -- and then the line of the counts
-abbrev pub WroteRecovered : Bench → Size → List (List ℕ) → List Line → List Line → List ℕ → Option (List ℕ) → Option (List ℕ) → Recovered → Type 0
-WroteRecovered bench size start lines after numbers old now done =
-    (mid : Option (List ℕ)) × WroteRows bench size start lines after numbers old mid done
-    × Appends mid now (recovered_text done.sweep done.differ ++ 10 ∷ [])
+abbrev pub WroteRecovered : Plan → Size → List (List ℕ) → List Line → List Line → List ℕ → Option (List ℕ) → Option (List ℕ) → Recovered → Type 0
+WroteRecovered plan size start lines after numbers old now done =
+    (mid : Option (List ℕ)) × WroteRows plan size start lines after numbers old mid done
+    × Appends mid now (recovered_text plan.part done.sweep done.differ ++ 10 ∷ [])
 
--- what a bench of that kind makes of a script that begins with these payloads
-abbrev pub IsBenchOf : Bench → List (List ℕ) → List ℕ → Option (List ℕ) → Option (List ℕ) → Sweep → Type 0
-IsBenchOf bench start script old now sweep =
-    (said : Script) × (script_of script ≡ Ok said) × WroteAll bench said.size start said.lines old now sweep
+-- what a bench makes by that plan of a script that begins with these payloads
+abbrev pub IsBenchOf : Plan → List (List ℕ) → List ℕ → Option (List ℕ) → Option (List ℕ) → Sweep → Type 0
+IsBenchOf plan start script old now sweep =
+    (said : Script) × (script_of script ≡ Ok said) × WroteAll plan said.size start said.lines old now sweep
 
 -- what it makes of a script with that recovery, of whose lines these are the numbers
-abbrev pub IsRecoveredBenchOf : Bench → List (List ℕ) → List ℕ → List ℕ → List ℕ → Option (List ℕ) → Option (List ℕ) → Recovered → Type 0
-IsRecoveredBenchOf bench start script recovery numbers old now done =
+abbrev pub IsRecoveredBenchOf : Plan → List (List ℕ) → List ℕ → List ℕ → List ℕ → Option (List ℕ) → Option (List ℕ) → Recovered → Type 0
+IsRecoveredBenchOf plan start script recovery numbers old now done =
     (said : Script) × (after : List Line) × (script_of script ≡ Ok said) × Says said.size recovery after
     × All IsPlainLine after × All IsNoFormat after × (look_numbers after numbers ≢ [])
-    × WroteRecovered bench said.size start said.lines after (look_numbers after numbers) old now done
+    × WroteRecovered plan said.size start said.lines after (look_numbers after numbers) old now done
 
 -- no bench runs a recovery of the script, which has no fault: for that fault of its bytes, or since a line of it is not plain or
 -- formats a disk, or none looks

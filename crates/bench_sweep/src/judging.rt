@@ -8,16 +8,13 @@ ghost use Rattle.bench_report.specs.Bench.{Bench as ModelBench};
 ghost use Rattle.bench_report.specs.Happens.{off, unpowered};
 ghost use Rattle.bench_sweep.specs.Runs.{Runs, RunsAt, LeftAt, Sits, SitsLeft};
 ghost use Rattle.bench_sweep.specs.Swept.{AreSwept, cell, runs_of};
-ghost use Rattle.bench_sweep.specs.Reports.{Keeps, Judged, IsLeft, RunsRow};
+ghost use Rattle.bench_sweep.specs.Reports.{cut_content, Keeps, Judged, IsLeftBy, RunsRow, ToldOver};
 ghost use Rattle.bench_sweep.specs.Recovers.{compared};
 ghost use Rattle.bench_sweep.specs.Made.{IsRecovered};
 ghost use Rattle.bench_report.specs.Examined.{OpensOf};
-ghost use Rattle.bench_report.specs.Views.{sim_log_of};
-ghost use Rattle.simdisk.specs.Views.{left_by_fill};
-ghost use Rattle.write_log.specs.WriteLog.{synced};
 
 use crate::finds::count_run;
-use crate::points::{Bench, Caller, FILLS, Point};
+use crate::points::{Bench, Caller, FILLS, Point, cut_fill};
 use crate::recovery::Differs;
 use crate::rows::Row;
 use crate::runner::Runner;
@@ -57,7 +54,7 @@ impl PointRows {
     }
 }
 
-/// Runs the recovery over what a cut of that fill leaves, where it has a look, and tells the first that differs. A power-on
+/// Runs the recovery over just what a cut of that fill leaves, where it has a look, and tells the first that differs. A power-on
 /// over it said that, and found a state: refused `Memory` where it did not.
 fn recovered<C: Crew>(
     runner: &Runner<'_, C>,
@@ -67,11 +64,12 @@ fn recovered<C: Crew>(
 ) -> Result<Option<Differs>, Refusal>
     requires lines { AreSwept runner.now.setting.shape.now runner.now.recovery.lines.now }
     requires sits { Sits runner.now.setting.shape.now site.now }
-    requires exact { OpensOf (left_by_fill fill (synced (sim_log_of site.now.off.disk)) (sim_log_of site.now.off.disk).written)
-        left.now }
+    requires exact { OpensOf (cut_content site.now.off.disk fill) left.now }
     ensures tells { IfOk result (λ differs. (b : ModelBench)
         → RunsAt runner.now.setting.shape.now b site.now
         → IsRecovered runner.now.setting.shape.now b (compared runner.now.recovery) left.now differs) }
+    ensures over { IfOk result (λ differs. ToldOver runner.now.recovery.own.now runner.now.setting.shape.now
+        (cut_content site.now.off.disk fill) (compared runner.now.recovery) differs) }
     ensures refused { IfErr result (λ e. e ≡ Memory) }
 {
     if runner.recovery.own.is_empty() {
@@ -99,10 +97,10 @@ fn judge_run<C: Crew>(
     requires sits { Sits runner.now.setting.shape.now site.now }
     ensures kept { OnOk result ((b : ModelBench)
         → RunsAt runner.now.setting.shape.now b site.now
-        → Keeps (IsLeft runner.now.setting.shape.now b (compared runner.now.recovery)) made.old made.new (cell point.caller point.number fill)) }
+        → Keeps (IsLeftBy runner.now.setting.shape.now b site.now.off.disk (compared runner.now.recovery)) made.old made.new (cell point.caller point.number fill)) }
     ensures refused { IfErr result (λ e. e ≡ Memory) }
 {
-    let bytes = fill.unwrap_or(Fill::Byte(0));
+    let bytes = cut_fill(fill);
     let off = cut_by(&site.off, bytes)?;
     let left = count_run(
         runner.setting.alloc,
@@ -133,7 +131,7 @@ fn judge_each_fill<C: Crew>(
     requires sits { Sits runner.now.setting.shape.now site.now }
     ensures judged { IfOk result (λ made. (b : ModelBench)
         → RunsAt runner.now.setting.shape.now b site.now
-        → Judged (IsLeft runner.now.setting.shape.now b (compared runner.now.recovery)) made (runs_of Bench.Cuts point.caller point.number)) }
+        → Judged (IsLeftBy runner.now.setting.shape.now b site.now.off.disk (compared runner.now.recovery)) made (runs_of Bench.Cuts point.caller point.number)) }
     ensures refused { IfErr result (λ e. e ≡ Memory) }
 {
     let mut made = PointRows::none(runner.setting.alloc);
@@ -210,7 +208,7 @@ pub fn turn_off(going: Going, struck: bool) -> Result<Site, Refusal>
 
 /// Turns the board off behind all of so many lines, in which its disk failed: before them it had so often. Refused
 /// `Memory` where it did not. As with a cut, only a run that was refused memory can have missed the call.
-fn turn_off_failed(went: Went, all: usize, failed: u64) -> Result<Site, Refusal>
+pub fn turn_off_failed(went: Went, all: usize, failed: u64) -> Result<Site, Refusal>
     ensures whole { OnOk result (all ≤ went.count) }
     ensures runs { IfOk result (λ site. (size : Size) (b : ModelBench)
         → Runs size b went.going.power went.going.payloads went.going.ledger

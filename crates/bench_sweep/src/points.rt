@@ -1,7 +1,7 @@
 //! Places at which power is cut, or a call fails, and what the cuts leave.
 
-ghost use Rattle.std.specs.Prelude.{◌≡◌, ◌+◌};
-ghost use Rattle.bench_sweep.specs.Points.{calls_of, cut_of, failure_of, fault_at};
+ghost use Rattle.std.specs.Prelude.{◌≡◌, ◌≤◌, ◌+◌};
+ghost use Rattle.bench_sweep.specs.Points.{calls_of, cut_fill, cut_of, failure_of, fault_at};
 
 use disk::ArmedFault;
 use simdisk::{Fill, SimDisk};
@@ -79,6 +79,18 @@ pub struct Point {
     ghost counts: { number ≡ before + call },
 }
 
+/// Which run of a bench a row is.
+#[derive(Clone, Copy, Drop)]
+pub struct RunAt {
+    /// At whose call power is cut, or which call fails.
+    pub caller: Caller,
+    /// The number of the call from the first `format ok` on, from 1.
+    pub call: u64,
+    /// What the cut leaves of what was written since the last sync.
+    pub fill: Option<Fill>,
+    ghost some: { 1 ≤ call },
+}
+
 /// In the order of their points.
 pub const CALLERS: [Caller; 5] = [
     Caller::Disk,
@@ -96,3 +108,14 @@ pub const FILLS: [Fill; 5] = [
     Fill::Old,
     Fill::New,
 ];
+
+/// What a cut leaves of what was written since the last sync, by the fill of its run: a run behind a failure has none, and is cut
+/// with zeros.
+pub fn cut_fill(fill: Option<Fill>) -> Fill
+    ensures { result ≡ cut_fill fill }
+{
+    match fill {
+        None => Fill::Byte(0),
+        Some(fill) => fill,
+    }
+}

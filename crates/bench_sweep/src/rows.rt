@@ -3,7 +3,7 @@
 ghost use Rattle.std.specs.Prelude.{◌≡◌, ◌⊎◌, ◌++◌, ◌∷◌, [], Some, OnOk, IfErr};
 ghost use Rattle.std.specs.Io.KnownBytes.{Appends};
 ghost use Rattle.board_model.specs.declared.refusal.Refusal.TheVariants.{Memory, Output};
-ghost use Rattle.bench_sweep.specs.Rows.{call_text, caller_text, differing_rows, differs_text, fill_part, left_text, recovered_text, row_lines, row_text, sweep_text, told_part};
+ghost use Rattle.bench_sweep.specs.Rows.{call_text, caller_text, differing_rows, differs_text, fill_part, left_text, recovered_text, row_lines, row_text, shown_lines, sweep_text, told_part};
 ghost use Rattle.bench_sweep.specs.Swept.{rows_text};
 
 use crate::points::Caller;
@@ -12,6 +12,7 @@ use crate::sweeps::Recovered;
 use bench_judge::Sweep;
 use board_console::StateText;
 use board_model::Refusal;
+use jobs::{Part, PartText};
 use report_lines::{Answer, unwritten};
 use simdisk::Fill;
 use std::fmt;
@@ -171,13 +172,24 @@ fn write_row<W: Write>(out: &mut W, row: Row) -> Result<(), Refusal>
     out.flush().map_err(|error| unwritten(error))
 }
 
-/// Writes these lines of a bench.
-pub fn write_rows<W: Write>(out: &mut W, rows: &[Row]) -> Result<(), Refusal>
-    ensures ok { OnOk result (Appends (W.contents out.old) (W.contents out.new) (rows_text rows.now)) }
+/// Writes the lines of a run; where the bench is quiet, only if a look of its recovery differs.
+fn write_shown<W: Write>(out: &mut W, quiet: bool, row: Row) -> Result<(), Refusal>
+    ensures ok { OnOk result (Appends (W.contents out.old) (W.contents out.new) (shown_lines quiet row)) }
+    ensures err { IfErr result (λ e. (e ≡ Memory) ⊎ (e ≡ Output)) }
+{
+    if quiet && row.recovered.is_none() {
+        return Ok(());
+    }
+    write_row(out, row)
+}
+
+/// Writes what a bench says of these runs.
+pub fn write_rows<W: Write>(out: &mut W, quiet: bool, rows: &[Row]) -> Result<(), Refusal>
+    ensures ok { OnOk result (Appends (W.contents out.old) (W.contents out.new) (rows_text quiet rows.now)) }
     ensures err { IfErr result (λ e. (e ≡ Memory) ⊎ (e ≡ Output)) }
 {
     for row in rows {
-        write_row(out, *row)?;
+        write_shown(out, quiet, *row)?;
     }
     Ok(())
 }
@@ -198,8 +210,12 @@ pub fn differing(rows: &[Row]) -> u64
 
 /// Writes the last line of a bench with a recovery.
 #[tactic(auto, using(crate::proofs::Written::handed_on))]
-pub fn write_recovered<W: Write>(out: &mut W, done: Recovered) -> Result<(), Refusal>
-    ensures ok { OnOk result (Appends (W.contents out.old) (W.contents out.new) (recovered_text done.sweep done.differ ++ 10 ∷ [])) }
+pub fn write_recovered<W: Write>(
+    out: &mut W,
+    part: Option<Part>,
+    done: Recovered,
+) -> Result<(), Refusal>
+    ensures ok { OnOk result (Appends (W.contents out.old) (W.contents out.new) (recovered_text part done.sweep done.differ ++ 10 ∷ [])) }
     ensures err { IfErr result (λ e. (e ≡ Memory) ⊎ (e ≡ Output)) }
 {
     let Recovered { sweep, differ } = done;
@@ -208,9 +224,10 @@ pub fn write_recovered<W: Write>(out: &mut W, done: Recovered) -> Result<(), Ref
         runs,
         wrong,
     } = sweep;
+    let begin = PartText(part);
     writeln!(
         out,
-        "points {points} runs {runs} wrong {wrong} differ {differ}",
+        "{begin}points {points} runs {runs} wrong {wrong} differ {differ}",
     )
     .map_err(|error| unwritten(error))?;
     out.flush().map_err(|error| unwritten(error))
@@ -218,8 +235,8 @@ pub fn write_recovered<W: Write>(out: &mut W, done: Recovered) -> Result<(), Ref
 
 /// Writes the last line of a bench.
 #[tactic(auto, using(crate::proofs::Written::handed_on))]
-pub fn write_sweep<W: Write>(out: &mut W, sweep: Sweep) -> Result<(), Refusal>
-    ensures ok { OnOk result (Appends (W.contents out.old) (W.contents out.new) (sweep_text sweep ++ 10 ∷ [])) }
+pub fn write_sweep<W: Write>(out: &mut W, part: Option<Part>, sweep: Sweep) -> Result<(), Refusal>
+    ensures ok { OnOk result (Appends (W.contents out.old) (W.contents out.new) (sweep_text part sweep ++ 10 ∷ [])) }
     ensures err { IfErr result (λ e. (e ≡ Memory) ⊎ (e ≡ Output)) }
 {
     let Sweep {
@@ -227,6 +244,9 @@ pub fn write_sweep<W: Write>(out: &mut W, sweep: Sweep) -> Result<(), Refusal>
         runs,
         wrong,
     } = sweep;
-    writeln!(out, "points {points} runs {runs} wrong {wrong}").map_err(|error| unwritten(error))?;
+    let begin = PartText(part);
+    writeln!(out, "{begin}points {points} runs {runs} wrong {wrong}").map_err(|error| unwritten(
+        error,
+    ))?;
     out.flush().map_err(|error| unwritten(error))
 }

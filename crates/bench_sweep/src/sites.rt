@@ -18,6 +18,7 @@ ghost use Rattle.bench_report.specs.Happens.{armed_with, off, unpowered};
 ghost use Rattle.bench_report.specs.Views.{arms, facts, sim_log_of};
 ghost use Rattle.bench_sweep.specs.Lines.{LineMoves, LineSays, PowerMoves};
 ghost use Rattle.bench_sweep.specs.Points.{calls_of, fault_at};
+ghost use Rattle.bench_sweep.specs.Reports.{cut_content};
 ghost use Rattle.bench_sweep.specs.Runs.{Runs, RunsAt, RunsCalm, LeftAt, RanTo, SettlesAt, StopsOff};
 ghost use Rattle.bench_sweep.specs.Swept.{IsPlainLine};
 ghost use Rattle.bench_sweep.specs.Told.{moves_harts, powers_on};
@@ -96,6 +97,7 @@ impl Site {
             × (found.now ≡ durable_of s) }
         ensures settles { IfOk result (λ left. (size : Size) (b : Bench) → RunsAt size b self.now
             → SettlesAt size (unpowered b) found.now left) }
+        ensures exact { IfOk result (λ left. (facts left.off.disk).content ≡ cut_content self.now.off.disk fill) }
         ensures refused { IfErr result (λ e. e ≡ Memory) }
     {
         one_standing();

@@ -1,6 +1,6 @@
 //! Whole benches.
 
-ghost use Rattle.std.specs.Prelude.{◌≡◌, ◌⊎◌, ◌↔◌, ◌≤◌, ◌<◌, ◌+◌, ◌^◌, ◌∷◌, [], ℕ, List, None, false, length, take, All, Ok, Err, IsTrue, IfOk, IfErr, OnOk};
+ghost use Rattle.std.specs.Prelude.{◌≡◌, ◌⊎◌, ◌↔◌, ◌≤◌, ◌<◌, ◌+◌, ◌^◌, ℕ, List, length, All, Ok, Err, IsTrue, IfOk, IfErr, OnOk};
 ghost use Rattle.std.specs.List.{AllZip};
 ghost use Rattle.board_model.specs.Shapes.{Size};
 ghost use Rattle.board_model.specs.declared.refusal.Refusal.{Refusal};
@@ -10,14 +10,17 @@ ghost use Rattle.script_lang.specs.Scripts.{script_of, Script as Said};
 ghost use Rattle.bench_report.specs.Bench.{Bench as ModelBench};
 ghost use Rattle.bench_report.specs.Happens.{off, unpowered};
 ghost use Rattle.bench_sweep.specs.Points.{calls_of, MadeCalls};
+ghost use Rattle.bench_sweep.specs.declared.points.Bench.{Bench as Kind};
 ghost use Rattle.bench_sweep.specs.Runs.{Runs, RunsAt, LeftAt, Sits, SitsLeft, IsEnd, IsLife};
-ghost use Rattle.bench_sweep.specs.Swept.{IsPlainLine, IsNoFormat, IsNotPlain, NoBenchRuns, NoRecoveryRuns, AreSwept, cell, runs_of, runs_from, all_runs, callers, total, WroteRows, IsBenchOf, IsRecoveredBenchOf};
+ghost use Rattle.bench_sweep.specs.Swept.{IsPlainLine, IsNoFormat, IsNotPlain, NoBenchRuns, NoRecoveryRuns, AreSwept, all_points, all_runs, callers, joined_runs, points_from, total, WroteRows, IsBenchOf, IsRecoveredBenchOf};
 ghost use Rattle.bench_sweep.specs.Recovers.{compared};
+ghost use Rattle.jobs.specs.Parts.{own_of, window};
 ghost use Rattle.bench_sweep.specs.Reports.{Reports, ReportsAll, ReportsScript, IsLeft, RunsRow, IsRow};
 
 use crate::begins::run_to_format;
 use crate::judging::{PointRows, RunsAtCalls, turn_off};
-use crate::points::{Bench, CALLERS, Caller};
+use crate::plan::Plan;
+use crate::points::{CALLERS, Caller};
 use crate::recovery::{Recovery, RecoveryFile, looks_of, numbers_of_looks, recovery_lines};
 use crate::rows::{differing, write_recovered, write_rows, write_sweep};
 use crate::runner::Runner;
@@ -28,7 +31,7 @@ use bench_report::Setting;
 use board::Payloads;
 use board_model::Refusal;
 use crew::{Crew, Sequential};
-use jobs::{Jobs, Sink, hand_on_all};
+use jobs::{Jobs, Part, Sink, Window, hand_on_all};
 use script_lang::{Line, Script, parse_script};
 use std::alloc::Global;
 use std::io::Write;
@@ -39,6 +42,8 @@ use std::thread::Threads;
 struct Report<'a, W> {
     out: &'a mut W,
     done: Recovered,
+    /// Only runs of which a look differs are written.
+    quiet: bool,
 }
 
 impl<'a, W: Write> Sink<PointRows> for Report<'a, W> {
@@ -46,10 +51,12 @@ impl<'a, W: Write> Sink<PointRows> for Report<'a, W> {
 
     ghost takes = { λ old made new. TakesPoint W.contents old made new };
 
-    /// Writes the lines of a point, and counts its runs.
+    /// Writes the lines of a point, and counts it and its runs. Where one is wrong, all are written.
     fn take(&mut self, made: PointRows) -> Result<(), Refusal> {
         let PointRows { rows, sweep } = made;
-        write_rows(self.out, rows.as_slice())?;
+        let quiet = self.quiet && sweep.wrong == 0;
+        write_rows(self.out, quiet, rows.as_slice())?;
+        self.done.sweep.points = self.done.sweep.points.saturating_add(1);
         self.done.differ = self.done.differ.saturating_add(differing(rows.as_slice()));
         self.done.sweep.runs = self.done.sweep.runs.saturating_add(sweep.runs);
         self.done.sweep.wrong = self.done.sweep.wrong.saturating_add(sweep.wrong);
@@ -67,13 +74,15 @@ struct Calls {
     count: u64,
 }
 
-/// Makes the runs at those calls, which the lines make from the site on. So many lines stand up to the next site.
+/// Makes the runs at those calls, which the lines make from the site on: at those within a window of them. So many lines stand
+/// up to the next site.
 fn run_at_calls<R: Threads + Sync, C: Crew + Sync, W: Write>(
     jobs: &Jobs<'_, R>,
     runner: &Runner<'_, C>,
     count: usize,
     site: &Site,
     calls: Calls,
+    within: Window,
     report: &mut Report<'_, W>,
 ) -> Result<(), Refusal>
     requires few { count ≤ length runner.now.lines.now }
@@ -83,8 +92,8 @@ fn run_at_calls<R: Threads + Sync, C: Crew + Sync, W: Write>(
     requires sits { Sits runner.now.setting.shape.now site.now }
     ensures wrote { OnOk result ((b : ModelBench)
         → RunsAt runner.now.setting.shape.now b site.now
-        → Reports W.contents (RunsRow runner.now.setting.shape.now runner.now.bench calls.made (unpowered b) runner.now.lines.now (compared runner.now.recovery))
-        report.old report.new (runs_from runner.now.bench calls.caller (calls.made + 1) calls.count) 0) }
+        → Reports W.contents runner.now.bench (RunsRow runner.now.setting.shape.now runner.now.bench calls.made (unpowered b) runner.now.lines.now (compared runner.now.recovery))
+        report.old report.new (window within.from within.to (points_from calls.caller (calls.made + 1) calls.count))) }
     ensures refused { IfErr result (λ e. (e ≡ Memory) ⊎ (e ≡ Output)) }
 {
     let task = RunsAtCalls {
@@ -94,7 +103,9 @@ fn run_at_calls<R: Threads + Sync, C: Crew + Sync, W: Write>(
         caller: calls.caller,
         before: calls.made,
     };
-    hand_on_all(jobs, runner.setting.alloc, &task, 0, calls.count, report)
+    let from = within.from.min(calls.count);
+    let to = within.to.min(calls.count);
+    hand_on_all(jobs, runner.setting.alloc, &task, from, to - from, report)
 }
 
 /// Lines of the plain run up to the next moment at which the board is off.
@@ -126,7 +137,7 @@ fn stretch_of<C: Crew>(runner: &Runner<'_, C>, site: &Site) -> Result<Stretch, R
 }
 
 /// How many calls of that caller were made from the one site to the other. A disk never counts back.
-fn calls_between(caller: Caller, from: &Site, to: &Site) -> Result<u64, Refusal>
+pub fn calls_between(caller: Caller, from: &Site, to: &Site) -> Result<u64, Refusal>
     ensures calls { IfOk result (λ n. calls_of caller to.now.off.disk ≡ calls_of caller from.now.off.disk + n) }
     ensures below { IfOk result (λ n. calls_of caller to.now.off.disk < 2 ^ 64) }
     ensures refused { IfErr result (λ e. e ≡ Memory) }
@@ -139,15 +150,16 @@ fn calls_between(caller: Caller, from: &Site, to: &Site) -> Result<u64, Refusal>
     Ok(after - before)
 }
 
-/// Goes over the points of that caller in the lines up to the next moment at which the board is off, and puts the board
-/// of that moment in the place of this one. So many points were before them. Answers how many lines they are, and how
-/// many calls they made.
+/// Goes over the points of that caller in the lines up to the next moment at which the board is off, as far as they lie within
+/// the window, and puts the board of that moment in the place of this one. So many calls were before them. Answers how many
+/// lines they are, and how many calls they made.
 fn sweep_stretch<R: Threads + Sync, C: Crew + Sync, W: Write>(
     jobs: &Jobs<'_, R>,
     runner: &Runner<'_, C>,
     site: &mut Site,
     caller: Caller,
     made: u64,
+    within: Window,
     report: &mut Report<'_, W>,
 ) -> Result<(usize, u64), Refusal>
     requires lines { AreSwept runner.now.setting.shape.now runner.now.lines.now }
@@ -164,8 +176,8 @@ fn sweep_stretch<R: Threads + Sync, C: Crew + Sync, W: Write>(
         → IsLife runner.now.setting.shape.now b runner.now.lines.now did.0 site.new) }
     ensures wrote { IfOk result (λ did. (b : ModelBench)
         → RunsAt runner.now.setting.shape.now b site.old
-        → Reports W.contents (RunsRow runner.now.setting.shape.now runner.now.bench made (unpowered b) runner.now.lines.now (compared runner.now.recovery))
-        report.old report.new (runs_from runner.now.bench caller (made + 1) did.1) 0) }
+        → Reports W.contents runner.now.bench (RunsRow runner.now.setting.shape.now runner.now.bench made (unpowered b) runner.now.lines.now (compared runner.now.recovery))
+        report.old report.new (window within.from within.to (points_from caller (made + 1) did.1))) }
     ensures refused { IfErr result (λ e. (e ≡ Memory) ⊎ (e ≡ Output)) }
 {
     let Stretch { count, next } = stretch_of(runner, site)?;
@@ -175,18 +187,19 @@ fn sweep_stretch<R: Threads + Sync, C: Crew + Sync, W: Write>(
         made,
         count: made_here,
     };
-    run_at_calls(jobs, runner, count, site, calls, report)?;
+    run_at_calls(jobs, runner, count, site, calls, within, report)?;
     *site = next;
     Ok((count, made_here))
 }
 
-/// Goes over the points of that caller, and answers how many they were. Each run begins at the last moment before its
-/// call at which the board was off.
+/// Goes over the points of that caller that lie within the window, and answers how many calls it made. Each run begins at the
+/// last moment before its call at which the board was off.
 fn sweep_caller<R: Threads + Sync, C: Crew + Sync, W: Write>(
     jobs: &Jobs<'_, R>,
     runner: &Runner<'_, C>,
     begin: &Site,
     caller: Caller,
+    within: Window,
     report: &mut Report<'_, W>,
 ) -> Result<u64, Refusal>
     requires lines { AreSwept runner.now.setting.shape.now runner.now.lines.now }
@@ -194,13 +207,14 @@ fn sweep_caller<R: Threads + Sync, C: Crew + Sync, W: Write>(
     requires sits { Sits runner.now.setting.shape.now begin.now }
     ensures wrote { IfOk result (λ n. (b : ModelBench)
         → RunsAt runner.now.setting.shape.now b begin.now
-        → Reports W.contents (IsRow runner.now.setting.shape.now runner.now.bench (unpowered b) runner.now.lines.now (compared runner.now.recovery))
-        report.old report.new (runs_from runner.now.bench caller 1 n) n) }
+        → Reports W.contents runner.now.bench (IsRow runner.now.setting.shape.now runner.now.bench (unpowered b) runner.now.lines.now (compared runner.now.recovery))
+        report.old report.new (window within.from within.to (points_from caller 1 n))) }
     ensures refused { IfErr result (λ e. (e ≡ Memory) ⊎ (e ≡ Output)) }
 {
     let mut site = begin.copy(runner.setting.alloc)?;
     let mut from = 0;
     let mut made = 0u64;
+    let mut left = within;
     while from < runner.lines.len() {
         let rest = Runner {
             setting: runner.setting,
@@ -208,17 +222,17 @@ fn sweep_caller<R: Threads + Sync, C: Crew + Sync, W: Write>(
             lines: &runner.lines[from..],
             recovery: runner.recovery,
         };
-        let (count, calls) = sweep_stretch(jobs, &rest, &mut site, caller, made, report)?;
+        let (count, calls) = sweep_stretch(jobs, &rest, &mut site, caller, made, left, report)?;
         from += count;
         made += calls;
+        left = left.behind(calls);
     }
-    report.done.sweep.points = report.done.sweep.points.saturating_add(made);
     Ok(made)
 }
 
 /// Runs the lines from that site on as they are, and answers the board then, turned off. Refused `Memory` where the
 /// disk's record found none.
-fn run_plain<C: Crew>(runner: &Runner<'_, C>, begin: &Site) -> Result<Site, Refusal>
+pub fn run_plain<C: Crew>(runner: &Runner<'_, C>, begin: &Site) -> Result<Site, Refusal>
     requires lines { AreSwept runner.now.setting.shape.now runner.now.lines.now }
     requires sits { Sits runner.now.setting.shape.now begin.now }
     ensures ends { IfOk result (λ end. (b : ModelBench)
@@ -245,14 +259,32 @@ fn run_plain<C: Crew>(runner: &Runner<'_, C>, begin: &Site) -> Result<Site, Refu
     Ok(site)
 }
 
-/// Goes over the points of each caller in turn, over the lines from that site on. Of each there are as many as it made
-/// calls up to that end of the plain run. Refused `Memory` where another run of the lines made others: then the one or
-/// the other was refused some.
+/// How many calls all callers made from the one site to the other. Refused `Memory` where a disk counted back, or they are more
+/// than a number holds.
+fn calls_of_all(from: &Site, to: &Site) -> Result<u64, Refusal>
+    ensures calls { IfOk result (λ n. (counts : List ℕ) × AllZip (MadeCalls from.now.off.disk to.now.off.disk) callers counts × (n ≡ total counts)) }
+    ensures refused { IfErr result (λ e. e ≡ Memory) }
+{
+    let mut all = 0u64;
+    for caller in CALLERS {
+        let calls = calls_between(caller, from, to)?;
+        match all.checked_add(calls) {
+            Some(more) => all = more,
+            None => return Err(Refusal::Memory),
+        }
+    }
+    Ok(all)
+}
+
+/// Goes over the points of each caller in turn, over the lines from that site on, as far as they are of the part. Of each caller
+/// there are as many as it made calls up to that end of the plain run. Refused `Memory` where another run of the lines made
+/// others: then the one or the other was refused some.
 fn sweep_all_callers<R: Threads + Sync, C: Crew + Sync, W: Write>(
     jobs: &Jobs<'_, R>,
     runner: &Runner<'_, C>,
     site: &Site,
     end: &Site,
+    part: Option<Part>,
     report: &mut Report<'_, W>,
 ) -> Result<(), Refusal>
     requires lines { AreSwept runner.now.setting.shape.now runner.now.lines.now }
@@ -261,25 +293,29 @@ fn sweep_all_callers<R: Threads + Sync, C: Crew + Sync, W: Write>(
     ensures wrote { OnOk result ((b : ModelBench)
         → RunsAt runner.now.setting.shape.now b site.now
         → (counts : List ℕ) × AllZip (MadeCalls site.now.off.disk end.now.off.disk) callers counts
-        × Reports W.contents (IsRow runner.now.setting.shape.now runner.now.bench (unpowered b) runner.now.lines.now (compared runner.now.recovery))
-        report.old report.new (all_runs runner.now.bench callers counts) (total counts)) }
+        × Reports W.contents runner.now.bench (IsRow runner.now.setting.shape.now runner.now.bench (unpowered b) runner.now.lines.now (compared runner.now.recovery))
+        report.old report.new (own_of part (all_points callers counts))) }
     ensures refused { IfErr result (λ e. (e ≡ Memory) ⊎ (e ≡ Output)) }
 {
+    let all = calls_of_all(site, end)?;
+    let mut within = Window::of_part(part, all);
     for caller in CALLERS {
         let calls = calls_between(caller, site, end)?;
-        let made = sweep_caller(jobs, runner, site, caller, report)?;
+        let made = sweep_caller(jobs, runner, site, caller, within, report)?;
         if made != calls {
             return Err(Refusal::Memory);
         }
+        within = within.behind(made);
     }
     Ok(())
 }
 
-/// Runs the lines from that site on as they are, and then goes over the points of each caller.
+/// Runs the lines from that site on as they are, and then goes over the points of each caller, as far as they are of the part.
 fn sweep_site<R: Threads + Sync, C: Crew + Sync, W: Write>(
     jobs: &Jobs<'_, R>,
     runner: &Runner<'_, C>,
     site: &Site,
+    part: Option<Part>,
     report: &mut Report<'_, W>,
 ) -> Result<(), Refusal>
     requires lines { AreSwept runner.now.setting.shape.now runner.now.lines.now }
@@ -287,7 +323,7 @@ fn sweep_site<R: Threads + Sync, C: Crew + Sync, W: Write>(
     requires sits { Sits runner.now.setting.shape.now site.now }
     ensures wrote { OnOk result ((b : ModelBench)
         → RunsAt runner.now.setting.shape.now b site.now
-        → ReportsAll W.contents runner.now.setting.shape.now runner.now.bench (unpowered b) runner.now.lines.now
+        → ReportsAll W.contents runner.now.setting.shape.now runner.now.bench part (unpowered b) runner.now.lines.now
         runner.now.recovery.lines.now runner.now.recovery.numbers.now report.old report.new) }
     ensures refused { IfErr result (λ e. (e ≡ Memory) ⊎ (e ≡ Output)) }
 {
@@ -305,7 +341,7 @@ fn sweep_site<R: Threads + Sync, C: Crew + Sync, W: Write>(
         lines: runner.lines,
         recovery,
     };
-    sweep_all_callers(jobs, &compared, site, &end, report)
+    sweep_all_callers(jobs, &compared, site, &end, part, report)
 }
 
 /// Whether a bench runs the line: it cuts nothing, lets nothing fail, and leaves the disk to the firmware.
@@ -343,7 +379,7 @@ fn format_none(lines: &[Line]) -> bool
 }
 
 /// Refused `NotPlain` exactly where no bench runs a script of these lines.
-fn check_plain(lines: &[Line]) -> Result<(), Refusal>
+pub fn check_plain(lines: &[Line]) -> Result<(), Refusal>
     ensures plain { OnOk result (All IsPlainLine lines.now) }
     ensures runs { OnOk result (IsNotPlain lines.now → ⊥) }
     ensures refused { IfErr result (λ e. (e ≡ NotPlain) × IsNotPlain lines.now) }
@@ -358,7 +394,7 @@ fn check_plain(lines: &[Line]) -> Result<(), Refusal>
 }
 
 /// Refused `NotPlain` exactly where these lines are no recovery: one of them is not plain, or formats a disk.
-fn check_recovery(lines: &[Line]) -> Result<(), Refusal>
+pub fn check_recovery(lines: &[Line]) -> Result<(), Refusal>
     ensures plain { OnOk result (All IsPlainLine lines.now × All IsNoFormat lines.now) }
     ensures refused { IfErr result (λ e. e ≡ NotPlain) }
 {
@@ -380,7 +416,7 @@ pub struct Recovered {
 fn sweep_lines<'a, R: Threads + Sync, C: Crew + Sync, W: Write>(
     jobs: &Jobs<'_, R>,
     setting: &Setting<'a, C>,
-    bench: Bench,
+    plan: Plan,
     lines: &'a [Line],
     recovery: Recovery<'a>,
     payloads: &Payloads,
@@ -388,25 +424,25 @@ fn sweep_lines<'a, R: Threads + Sync, C: Crew + Sync, W: Write>(
 ) -> Result<(), Refusal>
     requires lines { AreSwept setting.now.shape.now lines.now }
     requires recovery { AreSwept setting.now.shape.now recovery.lines.now }
-    ensures wrote { OnOk result (ReportsScript W.contents setting.now.shape.now bench payloads.now lines.now
+    ensures wrote { OnOk result (ReportsScript W.contents setting.now.shape.now plan.bench plan.part payloads.now lines.now
         recovery.entry.lines.now recovery.entry.numbers.now report.old report.new) }
     ensures refused { IfErr result (λ e. (e ≡ Memory) ⊎ (e ≡ Output)) }
 {
     let (count, site) = run_to_format(setting, lines, payloads)?;
     let runner = Runner {
         setting: *setting,
-        bench,
+        bench: plan.bench,
         lines: &lines[count..],
         recovery,
     };
-    sweep_site(jobs, &runner, &site, report)
+    sweep_site(jobs, &runner, &site, plan.part, report)
 }
 
 /// Writes the rows that the bench makes of those lines, and answers their counts.
 fn write_swept<'a, R: Threads + Sync, C: Crew + Sync, W: Write>(
     jobs: &Jobs<'_, R>,
     setting: &Setting<'a, C>,
-    bench: Bench,
+    plan: Plan,
     lines: &'a [Line],
     recovery: Recovery<'a>,
     payloads: &Payloads,
@@ -414,7 +450,7 @@ fn write_swept<'a, R: Threads + Sync, C: Crew + Sync, W: Write>(
 ) -> Result<Recovered, Refusal>
     requires lines { AreSwept setting.now.shape.now lines.now }
     requires recovery { AreSwept setting.now.shape.now recovery.lines.now }
-    ensures wrote { IfOk result (λ done. WroteRows bench setting.now.shape.now payloads.now lines.now recovery.entry.lines.now
+    ensures wrote { IfOk result (λ done. WroteRows plan setting.now.shape.now payloads.now lines.now recovery.entry.lines.now
         recovery.entry.numbers.now (W.contents out.old) (W.contents out.new) done) }
     ensures refused { IfErr result (λ e. (e ≡ Memory) ⊎ (e ≡ Output)) }
 {
@@ -424,16 +460,20 @@ fn write_swept<'a, R: Threads + Sync, C: Crew + Sync, W: Write>(
         wrong: 0,
     };
     let done = Recovered { sweep, differ: 0 };
-    let mut report = Report { out, done };
-    sweep_lines(jobs, setting, bench, lines, recovery, payloads, &mut report)?;
+    let mut report = Report {
+        out,
+        done,
+        quiet: plan.quiet,
+    };
+    sweep_lines(jobs, setting, plan, lines, recovery, payloads, &mut report)?;
     Ok(report.done)
 }
 
-/// Runs that bench over a script whose lines are all plain, with a recovery of which they are too.
+/// Runs a bench by that plan over a script whose lines are all plain, with a recovery of which they are too.
 fn sweep_plain_script<R: Threads + Sync, W: Write>(
     jobs: &Jobs<'_, R>,
     alloc: Global,
-    bench: Bench,
+    plan: Plan,
     script: &Script,
     recovery: Recovery<'_>,
     payloads: &Payloads,
@@ -442,7 +482,7 @@ fn sweep_plain_script<R: Threads + Sync, W: Write>(
     requires ranges { All (IsLineInRange script.now.shape) script.now.lines.items }
     requires plain { All IsPlainLine script.now.lines.items }
     requires recovery { AreSwept script.now.shape recovery.lines.now }
-    ensures wrote { IfOk result (λ done. WroteRows bench script.now.shape payloads.now script.now.lines.items recovery.entry.lines.now
+    ensures wrote { IfOk result (λ done. WroteRows plan script.now.shape payloads.now script.now.lines.items recovery.entry.lines.now
         recovery.entry.numbers.now (W.contents out.old) (W.contents out.new) done) }
     ensures refused { IfErr result (λ e. (e ≡ Memory) ⊎ (e ≡ Output)) }
 {
@@ -452,16 +492,13 @@ fn sweep_plain_script<R: Threads + Sync, W: Write>(
         crew: &crew,
         shape: &script.shape,
     };
-    write_swept(
-        jobs,
-        &setting,
-        bench,
-        &script.lines,
-        recovery,
-        payloads,
-        out,
-    )
+    write_swept(jobs, &setting, plan, &script.lines, recovery, payloads, out)
 }
+
+/// The parts of a bench make the whole: their rows, one part behind another, are those of the bench without parts.
+pub fn parts_make_a_bench()
+    ensures { (bench : Kind) (of : ℕ) (counts : List ℕ) → 0 < of → joined_runs bench of of counts ≡ all_runs bench callers counts }
+{}
 
 /// A bench (docs/SCRIPT.md, "The benches") over the script that begins with these payloads: a slot boots its own until a
 /// line `payload` says otherwise.
@@ -470,7 +507,8 @@ fn sweep_plain_script<R: Threads + Sync, W: Write>(
 /// bench cuts power, and lets the cut leave what each of five fills says of what was written since the last sync. The
 /// fault bench lets the call fail, runs the script to its end, and then cuts power. Behind each run a board is powered on
 /// that keeps its image, and what it found is judged. A line is written for each run, and one with the counts. The runs
-/// are made by the threads of these jobs; what is written is the same however many these are.
+/// are made by the threads of these jobs; what is written is the same however many these are. Of a plan with a part only the
+/// points of that part are run, and counted; a quiet one writes the last line alone, since none of these runs is wrong.
 ///
 /// Refused `BadShape` or `BadScript` where the script has a fault, and `NotPlain` where a line of it arms a cut or a
 /// failure, cuts power or pokes, or none is `format`: then nothing is written. Refused `Memory` where memory was, and
@@ -478,15 +516,15 @@ fn sweep_plain_script<R: Threads + Sync, W: Write>(
 pub fn run_bench<R: Threads + Sync, W: Write>(
     jobs: &Jobs<'_, R>,
     alloc: Global,
-    bench: Bench,
+    plan: Plan,
     script: &[u8],
     payloads: Payloads,
     out: &mut W,
 ) -> Result<Sweep, Refusal>
     // What was written is a line for each run, in order, and the line of the counts. The runs are those of the points
-    // of each caller, from number 1 on: as many as the script makes calls of it. Each is a run of the script's own lines
-    // with that call armed, and tells what a power-on then said. None was wrong.
-    ensures wrote { IfOk result (λ sweep. IsBenchOf bench payloads script.now (W.contents out.old) (W.contents out.new) sweep) }
+    // of each caller, from number 1 on, or those of the plan's part of them: as many as the script makes calls of it. Each is a
+    // run of the script's own lines with that call armed, and tells what a power-on then said. None was wrong.
+    ensures wrote { IfOk result (λ sweep. IsBenchOf plan payloads script.now (W.contents out.old) (W.contents out.new) sweep) }
     // A refusal is want of memory, or the writer's, or the script's fault, or no bench runs the script.
     ensures refused { IfErr result (λ e. (e ≡ Memory) ⊎ (e ≡ Output) ⊎ (script_of script.now ≡ Err e)
         ⊎ ((e ≡ NotPlain) × NoBenchRuns script.now)) }
@@ -503,28 +541,29 @@ pub fn run_bench<R: Threads + Sync, W: Write>(
         numbers: &[],
         own: &[],
     };
-    let done = sweep_plain_script::<R, W>(jobs, alloc, bench, &script, nothing, &payloads, out)?;
-    write_sweep(out, done.sweep)?;
+    let done = sweep_plain_script::<R, W>(jobs, alloc, plan, &script, nothing, &payloads, out)?;
+    write_sweep(out, plan.part, done.sweep)?;
     Ok(done.sweep)
 }
 
 /// The same bench, with an operator's recovery: lines that follow a power-off, for the board of the script, whose slots
 /// boot what they boot at the cut. They run behind the script's own end, with power cut there, and over what each run left;
 /// what the looks among them say (`mem`, `reg`, `csr`, `pc`, `pending` and `inspect`) is compared. Behind the line of a run
-/// of which a look says something else a line tells the first, and the line of the counts ends with how many runs those are.
+/// of which a look says something else a line tells the first, and the line of the counts ends with how many runs those are. A
+/// quiet plan writes the lines of those runs alone, and the counts.
 ///
 /// Refused as `run_bench` is, and `BadScript` or `NotPlain` also for a line of the recovery that is none, or that formats,
 /// arms, cuts power or pokes; `NotPlain` also where none of them looks.
 pub fn run_bench_recovered<R: Threads + Sync, W: Write>(
     jobs: &Jobs<'_, R>,
     alloc: Global,
-    bench: Bench,
+    plan: Plan,
     script: &[u8],
     recovery: RecoveryFile<'_>,
     payloads: Payloads,
     out: &mut W,
 ) -> Result<Recovered, Refusal>
-    ensures wrote { IfOk result (λ done. IsRecoveredBenchOf bench payloads script.now recovery.entry.bytes.now recovery.entry.numbers.now
+    ensures wrote { IfOk result (λ done. IsRecoveredBenchOf plan payloads script.now recovery.entry.bytes.now recovery.entry.numbers.now
         (W.contents out.old) (W.contents out.new) done) }
     // A refusal is want of memory, or the writer's, or the script's fault, or no bench runs the script, or its recovery.
     ensures refused { IfErr result (λ e. (e ≡ Memory) ⊎ (e ≡ Output) ⊎ (script_of script.now ≡ Err e)
@@ -544,7 +583,7 @@ pub fn run_bench_recovered<R: Threads + Sync, W: Write>(
         numbers: &numbers,
         own: &[],
     };
-    let done = sweep_plain_script::<R, W>(jobs, alloc, bench, &script, behind, &payloads, out)?;
-    write_recovered(out, done)?;
+    let done = sweep_plain_script::<R, W>(jobs, alloc, plan, &script, behind, &payloads, out)?;
+    write_recovered(out, plan.part, done)?;
     Ok(done)
 }

@@ -4,6 +4,7 @@ ghost use Rattle.std.specs.Prelude.{◌≡◌, ◌⊎◌, ◌+◌, ◌<◌, ◌�
 ghost use Rattle.board_model.specs.declared.refusal.Refusal.TheVariants.{Memory, Output};
 ghost use Rattle.jobs.specs.Handed.{IsMade, Handed};
 
+use crate::progress::Progress;
 use board_model::Refusal;
 use std::alloc::Global;
 use std::thread;
@@ -12,19 +13,29 @@ use std::thread::Threads;
 /// How many rows are made at a time for each thread, where there are several.
 const ROWS_EACH: usize = 16;
 
-/// How many threads make rows, and how many rows they make before these are handed on.
+/// How many threads make rows, how many rows they make before these are handed on, and who is told how far they are.
 #[derive(Drop)]
-pub struct Jobs<'a, R> {
+pub struct Jobs<'a, R, P = ()> {
     rt: &'a R,
     count: usize,
     window: usize,
+    progress: P,
     ghost some: { 0 < count },
     ghost room: { 0 < window },
 }
 
-impl<'a, R> Jobs<'a, R> {
-    /// At most so many threads, of which the handle makes them. One hands on each row as it is made.
-    pub fn new(rt: &'a R, count: usize) -> Jobs<'a, R>
+impl<'a, R> Jobs<'a, R, ()> {
+    /// At most so many threads, of which the handle makes them. One hands on each row as it is made. Nobody is told how far they are.
+    pub fn new(rt: &'a R, count: usize) -> Jobs<'a, R, ()>
+        requires { 0 < count }
+    {
+        Jobs::telling(rt, count, ())
+    }
+}
+
+impl<'a, R, P: Progress> Jobs<'a, R, P> {
+    /// The same threads, and who is told how far they are.
+    pub fn telling(rt: &'a R, count: usize, progress: P) -> Jobs<'a, R, P>
         requires { 0 < count }
     {
         let window = if count == 1 {
@@ -32,7 +43,17 @@ impl<'a, R> Jobs<'a, R> {
         } else {
             count.saturating_mul(ROWS_EACH)
         };
-        Jobs { rt, count, window }
+        Jobs {
+            rt,
+            count,
+            window,
+            progress,
+        }
+    }
+
+    /// Tells how many rows are about to be made, of all that are handed on.
+    pub fn begin(&self, rows: u64) {
+        self.progress.begin(rows);
     }
 }
 
@@ -58,30 +79,28 @@ pub trait Sink<Row> {
     /// From the first to the second it takes that row.
     ghost takes: { Self → Row → Self → Type 0 };
 
-    /// Takes a row. Refused `Memory` or `Output`.
-    fn take(&mut self, row: Row) -> Result<(), Refusal>
+    /// Takes a row, and pauses what tells how far the run is before it writes. Refused `Memory` or `Output`.
+    fn take<P: Progress>(&mut self, row: Row, progress: &P) -> Result<(), Refusal>
         ensures took { OnOk result (takes self.old row self.new) }
         ensures refused { IfErr result (λ e. (e ≡ Memory) ⊎ (e ≡ Output)) };
 }
 
-/// Makes the row of each slot, by at most so many threads. The first slot has that number.
-fn make_each<R: Threads + Sync, T: Task>(
-    rt: &R,
+/// Makes the row of each slot, by the threads of these jobs. The first slot has that number.
+fn make_each<R: Threads + Sync, P: Progress, T: Task>(
+    jobs: &Jobs<'_, R, P>,
     task: &T,
-    jobs: usize,
     first: u64,
     slots: &mut [Option<Result<T::Row, Refusal>>],
 )
-    requires jobs { 0 < jobs }
     requires room { first + length slots.old < 2 ^ 64 }
     requires has { (i : ℕ) → i < length slots.old → T.has task.now (first + i) }
     ensures each { (i : ℕ) (d : _) → i < length slots.old → IsMade (T.is_row task.now) (first + i) (slice_index_or slots.new i d) }
     ensures as_many { length slots.new ≡ length slots.old }
 {
     thread::for_each_mut(
-        rt,
+        jobs.rt,
         slots,
-        jobs,
+        jobs.count,
         &|i, slot| *slot = Some(task.row(first + i as u64)),
     );
 }
@@ -105,11 +124,12 @@ fn row_in<T: Task>(
 }
 
 /// Hands on the rows of the slots, in order, up to the first that was refused.
-fn hand_on<T: Task, S: Sink<T::Row>>(
+fn hand_on<P: Progress, T: Task, S: Sink<T::Row>>(
     task: &T,
     first: u64,
     slots: &mut [Option<Result<T::Row, Refusal>>],
     sink: &mut S,
+    progress: &P,
 ) -> Result<(), Refusal>
     requires room { first + length slots.old < 2 ^ 64 }
     requires made { (i : ℕ) (d : _) → i < length slots.old → IsMade (T.is_row task.now) (first + i) (slice_index_or slots.old i d) }
@@ -119,42 +139,40 @@ fn hand_on<T: Task, S: Sink<T::Row>>(
 {
     for i in 0..slots.len() {
         let row = row_in(task, first + i as u64, &mut slots[i])?;
-        sink.take(row)?;
+        sink.take(row, progress)?;
     }
     Ok(())
 }
 
-/// Makes the rows of the slots, and hands them on.
-fn run_window<R: Threads + Sync, T: Task, S: Sink<T::Row>>(
-    rt: &R,
+/// Makes the rows of the slots, hands them on, and tells so.
+fn run_window<R: Threads + Sync, P: Progress, T: Task, S: Sink<T::Row>>(
+    jobs: &Jobs<'_, R, P>,
     task: &T,
-    jobs: usize,
     first: u64,
     slots: &mut [Option<Result<T::Row, Refusal>>],
     sink: &mut S,
 ) -> Result<(), Refusal>
-    requires jobs { 0 < jobs }
     requires room { first + length slots.old < 2 ^ 64 }
     requires has { (i : ℕ) → i < length slots.old → T.has task.now (first + i) }
     ensures handed { OnOk result (Handed (T.is_row task.now) S.takes first (length slots.old) sink.old sink.new) }
     ensures as_many { length slots.new ≡ length slots.old }
     ensures refused { IfErr result (λ e. (e ≡ Memory) ⊎ (e ≡ Output)) }
 {
-    make_each(rt, task, jobs, first, slots);
-    hand_on(task, first, slots, sink)
+    make_each(jobs, task, first, slots);
+    hand_on(task, first, slots, sink, &jobs.progress)?;
+    jobs.progress.went(slots.len() as u64);
+    Ok(())
 }
 
 /// Makes the rows of so many of the slots, from the first on, and hands them on.
-fn run_front<R: Threads + Sync, T: Task, S: Sink<T::Row>>(
-    rt: &R,
+fn run_front<R: Threads + Sync, P: Progress, T: Task, S: Sink<T::Row>>(
+    jobs: &Jobs<'_, R, P>,
     task: &T,
-    jobs: usize,
     first: u64,
     size: usize,
     slots: &mut [Option<Result<T::Row, Refusal>>],
     sink: &mut S,
 ) -> Result<(), Refusal>
-    requires jobs { 0 < jobs }
     requires size { size ≤ length slots.old }
     requires room { first + size < 2 ^ 64 }
     requires has { (i : ℕ) → i < size → T.has task.now (first + i) }
@@ -162,20 +180,18 @@ fn run_front<R: Threads + Sync, T: Task, S: Sink<T::Row>>(
     ensures as_many { length slots.new ≡ length slots.old }
     ensures refused { IfErr result (λ e. (e ≡ Memory) ⊎ (e ≡ Output)) }
 {
-    run_window(rt, task, jobs, first, &mut slots[..size], sink)
+    run_window(jobs, task, first, &mut slots[..size], sink)
 }
 
 /// Makes so many rows from that number on, as many at a time as there are slots, and hands them on.
-fn run_windows<R: Threads + Sync, T: Task, S: Sink<T::Row>>(
-    rt: &R,
+fn run_windows<R: Threads + Sync, P: Progress, T: Task, S: Sink<T::Row>>(
+    jobs: &Jobs<'_, R, P>,
     task: &T,
-    jobs: usize,
     first: u64,
     count: u64,
     slots: &mut [Option<Result<T::Row, Refusal>>],
     sink: &mut S,
 ) -> Result<(), Refusal>
-    requires jobs { 0 < jobs }
     requires some { 0 < length slots.old }
     requires room { first + count < 2 ^ 64 }
     requires has { (i : ℕ) → i < count → T.has task.now (first + i) }
@@ -186,7 +202,7 @@ fn run_windows<R: Threads + Sync, T: Task, S: Sink<T::Row>>(
     let mut done = 0;
     while done < count {
         let size = (count - done).min(window as u64);
-        run_front(rt, task, jobs, first + done, size as usize, slots, sink)?;
+        run_front(jobs, task, first + done, size as usize, slots, sink)?;
         done += size;
     }
     Ok(())
@@ -208,12 +224,12 @@ fn no_rows<Row: Drop>(
 }
 
 /// Makes so many rows from that number on, by the threads of these jobs, and hands them on in order. A window of rows is
-/// kept at a time, which are handed on once all of them are made.
+/// kept at a time, which are handed on once all of them are made; who is told how far the run is, is told behind each.
 ///
 /// It ends at the first row that is refused, or that the sink refuses, with that refusal: `Memory`, or `Output` of the sink.
 /// All rows before it were handed on then, and none behind it.
-pub fn hand_on_all<R: Threads + Sync, T: Task, S: Sink<T::Row>>(
-    jobs: &Jobs<'_, R>,
+pub fn hand_on_all<R: Threads + Sync, P: Progress, T: Task, S: Sink<T::Row>>(
+    jobs: &Jobs<'_, R, P>,
     alloc: Global,
     task: &T,
     first: u64,
@@ -227,13 +243,5 @@ pub fn hand_on_all<R: Threads + Sync, T: Task, S: Sink<T::Row>>(
     ensures refused { IfErr result (λ e. (e ≡ Memory) ⊎ (e ≡ Output)) }
 {
     let mut slots = no_rows::<T::Row>(alloc, jobs.window)?;
-    run_windows(
-        jobs.rt,
-        task,
-        jobs.count,
-        first,
-        count,
-        slots.as_mut_slice(),
-        sink,
-    )
+    run_windows(jobs, task, first, count, slots.as_mut_slice(), sink)
 }

@@ -1,12 +1,11 @@
 use Rattle.std.specs.Io.Buffered.{writer_contents}
 use Rattle.board_model.specs.declared.refusal.Refusal.TheVariants.{Memory, NotPlain}
-use Rattle.bench_program.specs.Benches.{judged}
 use Rattle.bench_program.proofs.Judged.{not_refused, wrote_on}
 use Rattle.bench_program.proofs.write_bench.Goals as goal
 
 pub returns-clause-wrote : goal.returns-clause-wrote
 returns-clause-wrote g c =
-    wrote_on (judged c.args.bench) c.args.payloads c.args.script.now (writer_contents g.W.Write.contents c.args.out.now) (writer_contents g.W.Write.contents c.run_named_bench.new.out) (writer_contents g.W.Write.contents c.flush.new.self) c.in_ok-done.done
+    wrote_on c.args.plan c.args.payloads c.args.script.now (writer_contents g.W.Write.contents c.args.out.now) (writer_contents g.W.Write.contents c.run_bench.new.out) (writer_contents g.W.Write.contents c.flush.new.self) c.in_ok-done.done
     c.in_ok-done.ensures.wrote c.flush.ensures.bytes
 
 pub returns-clause-plain : goal.returns-clause-plain

@@ -11,19 +11,19 @@ returns-clause-done g c =
     let source = source_of c.args.options.now (g.P.PayloadFiles.bytes_at c.args.files.now) (g.I.Read.remaining c.args.input) in
     let script = c.in_ok-script.script.items in
     let bytes = c.in_ok-script.ensures.bytes in
-    on_ok_weaker c.run_work.result
-    (λ done. (c.in_ok-given.given.payloads, c.in_ok-given.ensures.payloads, c.in_ok-given.given.recovery.items, c.in_ok-given.ensures.recovery, (script, read_says source script bytes, bytes, rw (sym c.deref.ensures.value) done))) c.run_work.ensures.worked
+    on_ok_weaker c.run_either.result
+    (λ done. (c.in_ok-given.given.payloads, c.in_ok-given.ensures.payloads, c.in_ok-given.given.recovery.items, c.in_ok-given.ensures.recovery, (script, read_says source script bytes, bytes, rw (sym c.deref.ensures.value) done))) c.run_either.ensures.worked
 
 pub returns-clause-wrong : goal.returns-clause-wrong
 returns-clause-wrong g c = λ is.
     let source = source_of c.args.options.now (g.P.PayloadFiles.bytes_at c.args.files.now) (g.I.Read.remaining c.args.input) in
     let script = c.in_ok-script.script.items in
     let bytes = c.in_ok-script.ensures.bytes in
-    (c.in_ok-given.given.payloads, c.in_ok-given.ensures.payloads, c.in_ok-given.given.recovery.items, c.in_ok-given.ensures.recovery, (script, read_says source script bytes, bytes, rw (sym c.deref.ensures.value) (c.run_work.ensures.wrong is)))
+    (c.in_ok-given.given.payloads, c.in_ok-given.ensures.payloads, c.in_ok-given.given.recovery.items, c.in_ok-given.ensures.recovery, (script, read_says source script bytes, bytes, rw (sym c.deref.ensures.value) (c.run_either.ensures.wrong is)))
 
 pub returns-clause-faults : goal.returns-clause-faults
 returns-clause-faults g c =
     let source = source_of c.args.options.now (g.P.PayloadFiles.bytes_at c.args.files.now) (g.I.Read.remaining c.args.input) in
     let script = c.in_ok-script.script.items in
     let bytes = c.in_ok-script.ensures.bytes in
-    IfErr-weaker c.run_work.result _ _ (λ fault is. inr (inr (c.in_ok-given.given.payloads, script, c.in_ok-given.ensures.payloads, read_says source script bytes, rw (sym c.deref.ensures.value) is))) c.run_work.ensures.faults
+    IfErr-weaker c.run_either.result _ _ (λ fault is. inr (inr (c.in_ok-given.given.payloads, c.in_ok-given.given.recovery.items, script, c.in_ok-given.ensures.payloads, c.in_ok-given.ensures.recovery, read_says source script bytes, bytes, rw (sym c.deref.ensures.value) is))) c.run_either.ensures.faults

@@ -1,5 +1,5 @@
 use Rattle.std.proofs.Common.{sym}
-use Rattle.std.proofs.lemmas.Result.{on_ok_weaker}
+use Rattle.std.proofs.lemmas.Result.{on_ok_weaker, IfErr-weaker}
 use Rattle.bench_program.proofs.streams.run_work.Goals as goal
 
 -- the recovery is the file's text
@@ -9,3 +9,12 @@ returns-in-Recover-clause-worked g c =
 
 pub returns-in-Recover-clause-wrong : goal.returns-in-Recover-clause-wrong
 returns-in-Recover-clause-wrong g c = rw c.in-Recover.is (λ is. rw (sym c.deref.ensures.value) (c.judge_recovered.ensures.wrong is))
+
+pub returns-in-Recover-clause-faults : goal.returns-in-Recover-clause-faults
+returns-in-Recover-clause-faults g c = ?
+
+pub returns-in-ShowRecovered-clause-worked : goal.returns-in-ShowRecovered-clause-worked
+returns-in-ShowRecovered-clause-worked g c = ?
+
+pub returns-in-ShowRecovered-clause-faults : goal.returns-in-ShowRecovered-clause-faults
+returns-in-ShowRecovered-clause-faults g c = ?

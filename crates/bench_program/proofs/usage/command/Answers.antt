@@ -2,7 +2,7 @@ use Rattle.std.proofs.Common.{◌∙◌, ap, ap₂}
 use Rattle.std.proofs.lemmas.Result.{IfOk-weaker}
 use Rattle.clap.specs.Words.{with_rule}
 use Rattle.command_line.specs.Options.{with_payloads}
-use Rattle.bench_program.specs.Usage.{with_preemptions, with_schedules}
+use Rattle.bench_program.specs.Usage.{with_manners, with_preemptions, with_schedules}
 use Rattle.bench_program.proofs.usage.command.Goals as goal
 
 pub returns : goal.returns
@@ -16,4 +16,5 @@ returns c =
     let recover = c.in_ok-command.ensures.shape c.path.ensures.local ∙ ap₂ with_rule jobs c.path.ensures.rule in
     let four = c.in_ok-command-2.ensures ∙ ap with_schedules recover in
     let five = c.in_ok-command-3.ensures ∙ ap with_preemptions four in
-    IfOk-weaker c.with_payloads.result _ _ (λ r h. (crews, h ∙ ap with_payloads five)) c.with_payloads.ensures
+    let six = c.in_ok-command-4.ensures ∙ ap with_manners five in
+    IfOk-weaker c.with_payloads.result _ _ (λ r h. (crews, h ∙ ap with_payloads six)) c.with_payloads.ensures

@@ -6,12 +6,12 @@ pub returns-clause-named : goal.returns-clause-named
 returns-clause-named g c =
     let parsed = c.in_ok-matches.ensures.parsed in
     let asked = c.in-Ok.ensures.named in
-    (parsed.0, found_of c.in_ok-matches.matches, asked.0, asked.1, asked.2, parsed.1, asked.3, asked.4, asked.5, asked.6, c.in_ok-payloads.ensures, c.in_ok-script.ensures.named, c.in_ok-recovery.ensures.named)
+    (parsed.0, found_of c.in_ok-matches.matches, asked.0, parsed.1, asked.1, asked.2, c.in_ok-payloads.ensures, c.in_ok-script.ensures.named, c.in_ok-recovery.ensures.named)
 
 pub returns-in-Err-clause-refused : goal.returns-in-Err-clause-refused
 returns-in-Err-clause-refused g c =
     let parsed = c.in_ok-matches.ensures.parsed in
     elim c.in-Err.ensures.conflict [
       | inl memory ↦ inl memory
-      | inr two ↦ inr (inl (two.0, (parsed.0, found_of c.in_ok-matches.matches, two.1, two.2, two.3, parsed.1, two.4, two.5, two.6, two.7)))
+      | inr two ↦ inr (inl (two.0, (parsed.0, found_of c.in_ok-matches.matches, two.1, parsed.1, two.2)))
     ]

@@ -6,6 +6,7 @@ returns-clause-wrote g c =
     record {
       own = c.in_ok-own.own.answers.items;
       ran = c.in_ok-own.ensures.ran;
+      fronts = c.in_ok-own.own.stretches.fronts.items;
       tight = tight.0;
       first = g.W.Write.contents c.write_all_tight.new.out;
       begun = tight.1;

@@ -4,6 +4,9 @@ use Rattle.board_model.specs.Views.{durable_of}
 use Rattle.disk.specs.Facts.{Content}
 use Rattle.bench_report.specs.Examined.{OpensOf}
 use Rattle.bench_report.specs.Happens.{unpowered}
+use Rattle.simdisk.specs.declared.fill.Fill.{Fill}
+use Rattle.bench_sweep.specs.Recovers.{compared}
+use Rattle.bench_sweep.specs.Reports.{cut_content, ToldOver}
 use Rattle.bench_sweep.proofs.Left.{left_by}
 use Rattle.bench_sweep.proofs.judging.judge_run.Goals as goal
 
@@ -21,9 +24,18 @@ recovered-requires-clause-exact g c κs within =
 pub returns-clause-kept : goal.returns-clause-kept
 returns-clause-kept g c = λ b r.
     let size = c.args.runner.now.setting.shape.now in
-    let did = c.in_ok-left.ensures in record {
+    let disk = c.args.site.now.off.disk in
+    let rest = compared c.args.runner.now.recovery in
+    let did = c.in_ok-left.ensures in
+    let O : Fill → Type 0 = λ fill. OpensOf (cut_content disk fill) c.in_ok-left.left in
+    let T : Fill → Type 0 = λ fill. ToldOver rest.own size (cut_content disk fill) rest c.in_ok-recovered.recovered in
+    let P : Content → Type 0 = λ content. OpensOf content c.in_ok-left.left in record {
       row = record { caller = c.args.point.caller; number = c.args.point.number; fill = c.args.fill; left = c.in_ok-left.left; recovered = c.in_ok-recovered.recovered };
-      is = (did.says (unpowered b) (c.in_ok-off.ensures.left size b r.agrees), (durable_of (state_in did.judged.plain), did.judged.says), c.in_ok-recovered.ensures.tells b r);
+      is = record {
+        is = (did.says (unpowered b) (c.in_ok-off.ensures.left size b r.agrees), (durable_of (state_in did.judged.plain), did.judged.says), c.in_ok-recovered.ensures.tells b r);
+        opens = subst O c.cut_fill-bytes.ensures (subst P c.in_ok-off.ensures.exact did.exact);
+        over = subst T c.cut_fill-bytes.ensures c.in_ok-recovered.ensures.over;
+      };
       cell = refl;
       rows = c.in_ok-push.ensures.items;
       runs = did.runs;

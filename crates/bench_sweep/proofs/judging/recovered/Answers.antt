@@ -1,8 +1,8 @@
-use Rattle.std.proofs.Common.{◌≡◌, ◌∙◌, Some, ap, arith, length}
+use Rattle.std.proofs.Common.{◌≡◌, ◌∙◌, Some, ap, arith, length, refl}
 use Rattle.std.proofs.lemmas.Bool.Decides.{nat_tests}
 use Rattle.std.proofs.lemmas.Result.{IfOk-weaker}
 use Rattle.bench_report.specs.Happens.{settled, unpowered}
-use Rattle.bench_sweep.proofs.Compared.{nothing_told, opened_as, told_of}
+use Rattle.bench_sweep.proofs.Compared.{nothing_over, nothing_told, opened_as, told_of, told_over}
 use Rattle.bench_sweep.proofs.judging.recovered.Goals as goal
 
 pub settled-requires : goal.settled-requires
@@ -21,4 +21,19 @@ returns-in_ok-settled-in-Some-clause-tells g c = IfOk-weaker c.compare.result _ 
     let told = did (settled at.changes (unpowered b)) at.left in
     told_of c.args.runner.now.recovery.own.now size (unpowered b) _ _ c.args.left.now differs told.0
     (record { changes = at.changes; may = at.may; found = c.in-Some.is ∙ ap Some at.is; recovers = told.1 }) told.2))
+    c.compare.ensures.tells
+
+pub returns-then-is_empty-clause-over : goal.returns-then-is_empty-clause-over
+returns-then-is_empty-clause-over g c =
+    let own = c.args.runner.now.recovery.own.now in
+    let none : length own ≡ 0 = grind (arith, nat_tests, c.is_empty.ensures, c.if-is_empty.true) in
+    nothing_over own c.args.runner.now.setting.shape.now _ _ none
+
+pub returns-in_ok-settled-in-Some-clause-over : goal.returns-in_ok-settled-in-Some-clause-over
+returns-in_ok-settled-in-Some-clause-over g c = IfOk-weaker c.compare.result _ _ (λ differs did.
+    (let size = c.args.runner.now.setting.shape.now in
+    let settled = c.in_ok-settled-in-Some in
+    let sits = c.requires.sits in
+    let at = settled.ensures.settles size sits.0 sits.1 in
+    told_over c.args.runner.now.recovery.own.now size _ _ differs refl (record { site = settled.settled; holds = settled.ensures.exact; sits = (_, at.left); tells = did })))
     c.compare.ensures.tells

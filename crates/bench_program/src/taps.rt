@@ -1,0 +1,148 @@
+//! The lines of a bench as the Test Anything Protocol has them.
+
+ghost use Rattle.std.specs.Prelude.{◌≡◌, ◌⊎◌, ◌+◌, ◌==◌, ◌≤◌, ◌<◌, ◌^◌, ◌++◌, ◌∷◌, [], map, length, codes, IfOk, IfErr, OnOk};
+ghost use Rattle.std.specs.List.{slice_split};
+ghost use Rattle.std.specs.Io.KnownBytes.{Appends};
+ghost use Rattle.board_model.specs.declared.refusal.Refusal.TheVariants.{Memory, Output};
+ghost use Rattle.bench_program.specs.Taps.{counts_text, failed_count, failed_lines, failed_text, last_behind, last_of_two, tap_lines, tap_text, tells_apart, well_word};
+
+use board_model::Refusal;
+use report_lines::unwritten;
+use std::alloc::{AllocError, Global};
+use std::io::Write;
+
+/// What stands in a line of a bench before what the script's own run said.
+const OWN: &[u8] = b" own ";
+
+/// Whether a line tells of a difference.
+fn tells_apart(line: &[u8]) -> bool
+    ensures { result ≡ tells_apart line.now }
+{
+    for place in 0..line.len() {
+        if line[place..].starts_with(OWN) {
+            return true;
+        }
+    }
+    false
+}
+
+/// The lines of a text. After a line feed at its end there is one more, which is empty.
+fn parts(alloc: Global, text: &[u8]) -> Result<Vec<&[u8]>, AllocError>
+    ensures { IfOk result (λ v. map (λ w. w.now) v.items ≡ slice_split (λ b. b == 10) text.now) }
+{
+    text.split(|b| *b == b'\n').collect(alloc)
+}
+
+/// Writes a line that tells of a difference, as a test that failed.
+#[tactic(auto, using(report_lines::proofs::Written::appended))]
+fn write_failed<W: Write>(out: &mut W, number: u64, line: &[u8]) -> Result<(), Refusal>
+    ensures ok { OnOk result (Appends (W.contents out.old) (W.contents out.new) (failed_text number line.now)) }
+    ensures err { IfErr result (λ e. (e ≡ Memory) ⊎ (e ≡ Output)) }
+{
+    write!(out, "not ok {number} - ").map_err(|error| unwritten(error))?;
+    out.write_all(line).map_err(|error| unwritten(error))?;
+    writeln!(out).map_err(|error| unwritten(error))
+}
+
+/// Writes a line, behind so many that were written, as a test that failed where it tells of a difference. Answers how many were
+/// written then.
+fn write_failure<W: Write>(out: &mut W, told: u64, line: &[u8]) -> Result<u64, Refusal>
+    requires { told < 2 ^ 63 }
+    ensures ok { OnOk result (Appends (W.contents out.old) (W.contents out.new) (failed_lines told (line.now ∷ []))) }
+    ensures count { IfOk result (λ n. n ≡ told + failed_count (line.now ∷ [])) }
+    ensures few { IfOk result (λ n. n ≤ told + 1) }
+    ensures err { IfErr result (λ e. (e ≡ Memory) ⊎ (e ≡ Output)) }
+{
+    if !tells_apart(line) {
+        return Ok(told);
+    }
+    write_failed(out, told + 1, line)?;
+    Ok(told + 1)
+}
+
+/// Writes each of these lines that tells of a difference, as a test that failed, from number 1 on. Answers how many those are.
+fn write_failures<W: Write>(out: &mut W, lines: &[&[u8]]) -> Result<u64, Refusal>
+    ensures ok { OnOk result (Appends (W.contents out.old) (W.contents out.new) (failed_lines 0 (map (λ w. w.now) lines.now))) }
+    ensures count { IfOk result (λ n. n ≡ failed_count (map (λ w. w.now) lines.now)) }
+    ensures few { IfOk result (λ n. n ≤ length lines.now) }
+    ensures err { IfErr result (λ e. (e ≡ Memory) ⊎ (e ≡ Output)) }
+{
+    let mut told = 0u64;
+    for line in lines {
+        told = write_failure(out, told, line)?;
+    }
+    Ok(told)
+}
+
+/// The later of two lines, where it is not empty.
+fn last_of_two<'a>(before: &'a [u8], line: &'a [u8]) -> &'a [u8]
+    ensures { result.now ≡ last_of_two before.now line.now }
+{
+    if line.is_empty() { before } else { line }
+}
+
+/// The last line that is not empty; an empty one where there is none.
+fn last_line<'a>(lines: &[&'a [u8]]) -> &'a [u8]
+    ensures { result.now ≡ last_behind [] (map (λ w. w.now) lines.now) }
+{
+    let mut last: &[u8] = &[];
+    for line in lines {
+        last = last_of_two(last, line);
+    }
+    last
+}
+
+/// How the last test begins.
+fn well_word(well: bool) -> &'static str
+    ensures { result.now ≡ well_word well }
+{
+    if well { "ok" } else { "not ok" }
+}
+
+/// Writes the last test, with the line of the counts, and the plan.
+#[tactic(auto, using(report_lines::proofs::Written::appended))]
+fn write_counts<W: Write>(out: &mut W, well: bool, number: u64, line: &[u8]) -> Result<(), Refusal>
+    ensures ok { OnOk result (Appends (W.contents out.old) (W.contents out.new) (counts_text well number line.now)) }
+    ensures err { IfErr result (λ e. (e ≡ Memory) ⊎ (e ≡ Output)) }
+{
+    let word = well_word(well);
+    write!(out, "{word} {number} - ").map_err(|error| unwritten(error))?;
+    out.write_all(line).map_err(|error| unwritten(error))?;
+    writeln!(out, "\n1..{number}").map_err(|error| unwritten(error))
+}
+
+/// Writes the first line.
+fn write_version<W: Write>(out: &mut W) -> Result<(), Refusal>
+    ensures ok { OnOk result (Appends (W.contents out.old) (W.contents out.new) (codes "TAP version 13\n")) }
+    ensures err { IfErr result (λ e. (e ≡ Memory) ⊎ (e ≡ Output)) }
+{
+    writeln!(out, "TAP version 13").map_err(|error| unwritten(error))
+}
+
+/// Writes what the Test Anything Protocol has of these lines of a bench.
+fn write_lines<W: Write>(out: &mut W, well: bool, lines: &[&[u8]]) -> Result<(), Refusal>
+    requires { length lines.now < 2 ^ 63 }
+    ensures ok { OnOk result (Appends (W.contents out.old) (W.contents out.new) (tap_lines well (map (λ w. w.now) lines.now))) }
+    ensures err { IfErr result (λ e. (e ≡ Memory) ⊎ (e ≡ Output)) }
+{
+    write_version(out)?;
+    let failed = write_failures(out, lines)?;
+    write_counts(out, well, failed + 1, last_line(lines))
+}
+
+/// Writes what the Test Anything Protocol has of a bench's text: a test for each line that tells of a difference, and the last for
+/// the line of the counts, by whether all is well.
+///
+/// Refused `Memory` where memory was refused, to the writer too; `Output` where the writer failed else. Any part may be written then.
+pub fn write_tap<W: Write>(
+    alloc: Global,
+    text: &[u8],
+    well: bool,
+    out: &mut W,
+) -> Result<(), Refusal>
+    ensures ok { OnOk result (Appends (W.contents out.old) (W.contents out.new) (tap_text well text.now)) }
+    ensures err { IfErr result (λ e. (e ≡ Memory) ⊎ (e ≡ Output)) }
+{
+    let lines = parts(alloc, text)?;
+    write_lines(out, well, &lines)
+}

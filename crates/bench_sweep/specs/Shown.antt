@@ -1,0 +1,178 @@
+-- A row of a bench, written as a script. Source: docs/SCRIPT.md, "The benches".
+use Rattle.std.specs.Prelude.{◌≡◌, ◌≢◌, ◌⊎◌, ◌≤◌, ◌<◌, ◌+◌, ℕ, List, [], ◌∷◌, ◌++◌, ⊤, Option, None, Some, Ok, All, length, take, drop, get_or}
+use Rattle.std.specs.Io.KnownBytes.{Appends}
+use Rattle.board_model.specs.Shapes.{Size}
+use Rattle.board_model.specs.declared.boot_mode.BootMode.TheVariants.{Keep}
+use Rattle.board_model.specs.declared.refusal.Refusal.{Refusal}
+use Rattle.board_model.specs.declared.refusal.Refusal.TheVariants.{NotPlain}
+use Rattle.simdisk.specs.declared.fill.Fill.{Fill}
+use Rattle.simdisk.specs.declared.fill.Fill.TheVariants.{Byte, Alternating, Old, New}
+use Rattle.script_lang.specs.Armings.{IsArmingInRange}
+use Rattle.script_lang.specs.Scripts.{Script, script_of}
+use Rattle.script_lang.specs.Spellings.{script_text, IsWritable}
+use Rattle.script_lang.specs.declared.armings.Arming.{Arming}
+use Rattle.script_lang.specs.declared.armings.Arming.TheVariants.{CutAt, CutLane, FailAt, FailLane}
+use Rattle.script_lang.specs.declared.line.Line.{Line}
+use Rattle.script_lang.specs.declared.line.Line.TheVariants as lines
+use Rattle.report_lines.specs.declared.printed.Answer.{Answer}
+use Rattle.bench_report.specs.Bench.{Bench}
+use Rattle.bench_report.specs.Happens.{unpowered, armed_with}
+use Rattle.bench_report.specs.Steps.{Run}
+use Rattle.bench_sweep.specs.declared.points.Bench.{Bench as Kind}
+use Rattle.bench_sweep.specs.declared.points.Bench.TheVariants.{Cuts, Fails}
+use Rattle.bench_sweep.specs.declared.points.Caller.{Caller}
+use Rattle.bench_sweep.specs.declared.points.Caller.TheVariants.{Disk, Lane}
+use Rattle.bench_sweep.specs.declared.recovery.RecoveryFile.{RecoveryFile}
+use Rattle.bench_sweep.specs.declared.points.RunAt.{RunAt}
+use Rattle.bench_sweep.specs.Made.{IsFormatted, IsPlainRun, WasRefusedNoMemory, EndsAs}
+use Rattle.bench_sweep.specs.Points.{cut_fill, fault_at}
+use Rattle.bench_sweep.specs.Recovers.{look_numbers, IsFaulty, Says}
+use Rattle.bench_sweep.specs.Swept.{Cell, IsNoFormat, IsPlainLine, all_runs, callers, cell}
+
+-- ---- which run it is
+-- how many runs are made at each point
+abbrev pub runs_each : Kind → ℕ
+runs_each Cuts = 5
+runs_each Fails = 1
+
+-- what the cut leaves in the run of that place at a point, from 0
+abbrev pub fill_at : Kind → ℕ → Option Fill
+fill_at Cuts place = Some (get_or (Byte 0 ∷ Byte 255 ∷ Alternating ∷ Old ∷ New ∷ []) place (Byte 0))
+fill_at Fails place = None
+
+-- Where the callers make so many calls, the run of that number, from 1, is that one.
+pub record IsNthRun (kind : Kind) (counts : List ℕ) (number : ℕ) (run : Cell) : Type 0 where
+  pub before : List Cell
+  pub later : List Cell
+  pub all : all_runs kind callers counts ≡ before ++ run ∷ later
+  pub nth : number ≡ length before + 1
+
+abbrev pub run_cell : RunAt → Cell
+run_cell run = cell run.caller run.call run.fill
+
+-- there is none of that number
+abbrev pub HasFewer : Kind → List ℕ → ℕ → Type 0
+HasFewer kind counts number = (number ≡ 0) ⊎ (length (all_runs kind callers counts) < number)
+
+-- ---- its script
+-- what the line arms: at that call, with that fill
+abbrev pub arming_of : Kind → Caller → ℕ → Option Fill → Arming
+arming_of Cuts Disk call fill = CutAt call (cut_fill fill)
+arming_of Cuts (Lane lane) call fill = CutLane lane call (cut_fill fill)
+arming_of Fails Disk call fill = FailAt call
+arming_of Fails (Lane lane) call fill = FailLane lane call
+
+abbrev pub arming : Kind → Cell → Arming
+arming kind run = arming_of kind run.caller run.number run.fill
+
+-- a line names that call of the caller, for a board of that size
+abbrev pub HasCaller : Size → Caller → Type 0
+HasCaller size Disk = ⊤
+HasCaller size (Lane lane) = lane < size.lanes
+
+abbrev pub IsNamed : Size → Caller → ℕ → Type 0
+IsNamed size caller call = HasCaller size caller × (call ≤ 1000000)
+
+-- behind a run with a failure power is cut
+abbrev pub cut_part : Kind → List Line
+cut_part Cuts = []
+cut_part Fails = lines.Cut (cut_fill None) ∷ []
+
+-- the lines in front of what is armed, those that then run, and those behind its end
+abbrev pub row_lines : Kind → List Line → Arming → List Line → List Line → List Line
+row_lines kind front armed back behind = front ++ lines.Arm armed ∷ back ++ cut_part kind ++ behind
+
+-- what runs behind a row: the lines of a recovery that a bench takes, or a power-on that keeps the image
+abbrev pub IsBehind : Size → Option RecoveryFile → List Line → Type 0
+IsBehind size None behind = behind ≡ lines.On Keep ∷ []
+IsBehind size (Some file) behind =
+    Says size file.bytes.now behind × All IsPlainLine behind × All IsNoFormat behind
+    × (look_numbers behind file.numbers.now ≢ [])
+
+-- With what the bench does in that run armed, so many lines run, and no memory is refused: with a cut up to the one within which
+-- it strikes, with a failure all.
+pub record RunsArmed (size : Size) (kind : Kind) (run : Cell) (b : Bench) (those : List Line) (count : ℕ) : Type 0 where
+  pub few : count ≤ length those
+  pub answers : List Answer
+  pub end : Bench
+  pub ran : Run size (armed_with (fault_at kind run.caller run.number) b) (take count those) answers end
+  pub ends : EndsAs kind those count answers
+  pub refused_none : WasRefusedNoMemory end
+
+-- The script was written as a text that is read back as it. A line feed ends its last line too.
+pub record WroteScript (script : Script) (old new : Option (List ℕ)) : Type 0 where
+  pub writable : IsWritable script
+  pub reads : script_of (script_text script) ≡ Ok script
+  pub text : Appends old new (script_text script ++ 10 ∷ [])
+
+-- The lines run as they are, by which the callers make so many calls; the run of that number is that one.
+pub record HasRun (kind : Kind) (size : Size) (b : Bench) (those : List Line) (number : ℕ) (run : Cell) : Type 0 where
+  pub plain : IsPlainRun size b those
+  pub counts : List ℕ
+  pub five : length counts ≡ 5
+  pub nth : IsNthRun kind counts number run
+
+-- there is none of that number
+pub record HasNoRun (kind : Kind) (size : Size) (b : Bench) (those : List Line) (number : ℕ) : Type 0 where
+  pub plain : IsPlainRun size b those
+  pub counts : List ℕ
+  pub five : length counts ≡ 5
+  pub fewer : HasFewer kind counts number
+
+-- The row of that number was written: its lines in front of it, those from that bench on that then run, and those behind its end.
+pub record ShowsFrom (kind : Kind) (size : Size) (b : Bench) (front those behind : List Line) (number : ℕ) (old new : Option (List ℕ))
+    : Type 0 where
+  pub run : Cell
+  pub has : HasRun kind size b those number run
+  pub count : ℕ
+  pub armed : RunsArmed size kind run b those count
+  pub written : WroteScript (record { size = size; lines = row_lines kind front (arming kind run) (take count those) behind }) old new
+
+-- the row has more lines than a script may have
+pub record IsTooLong (kind : Kind) (size : Size) (b : Bench) (front those behind : List Line) (run : Cell) : Type 0 where
+  pub count : ℕ
+  pub armed : RunsArmed size kind run b those count
+  pub long : 65535 < length (row_lines kind front (arming kind run) (take count those) behind)
+
+-- such a run is not written: no line of a script arms its call, or it is too long
+pub record IsNotWritten (kind : Kind) (size : Size) (b : Bench) (front those behind : List Line) (number : ℕ) : Type 0 where
+  pub run : Cell
+  pub has : HasRun kind size b those number run
+  pub why : (IsArmingInRange size (arming kind run) → ⊥) ⊎ IsTooLong kind size b front those behind run
+
+-- there is no such row to write: the bench has fewer runs, or that run is not written
+abbrev pub ShowsNone : Kind → Size → Bench → List Line → List Line → List Line → ℕ → Type 0
+ShowsNone kind size b front those behind number = HasNoRun kind size b those number ⊎ IsNotWritten kind size b front those behind number
+
+-- `--show`: the row of that number was written, behind the lines of which the last formatted the disk.
+pub record ShownRow (kind : Kind) (size : Size) (start : List (List ℕ)) (those behind : List Line) (number : ℕ) (old new : Option (List ℕ))
+    : Type 0 where
+  pub begin : ℕ
+  pub first : Bench
+  pub format : IsFormatted size start (take begin those) first
+  pub shows : ShowsFrom kind size (unpowered first) (take begin those) (drop begin those) behind number old new
+
+pub record NoRow (kind : Kind) (size : Size) (start : List (List ℕ)) (those behind : List Line) (number : ℕ) : Type 0 where
+  pub begin : ℕ
+  pub first : Bench
+  pub format : IsFormatted size start (take begin those) first
+  pub none : ShowsNone kind size (unpowered first) (take begin those) (drop begin those) behind number
+
+-- no lines run behind a row: for that fault of the recovery's bytes, or since no bench takes them
+abbrev pub NoneBehind : Size → Option RecoveryFile → Refusal → Type 0
+NoneBehind size None e = ⊥
+NoneBehind size (Some file) e = (e ≡ NotPlain) ⊎ IsFaulty size file.bytes.now e
+
+-- of a script that has no fault, with that recovery behind the row
+abbrev pub IsRowOf : Kind → ℕ → List (List ℕ) → List ℕ → Option RecoveryFile → Option (List ℕ) → Option (List ℕ) → Type 0
+IsRowOf kind number start script recovery old new =
+    (said : Script) × (behind : List Line) × (script_of script ≡ Ok said) × IsBehind said.size recovery behind
+    × ShownRow kind said.size start said.lines behind number old new
+
+abbrev pub NoRowOf : Kind → ℕ → List (List ℕ) → List ℕ → Option RecoveryFile → Type 0
+NoRowOf kind number start script recovery =
+    (said : Script) × (behind : List Line) × (script_of script ≡ Ok said) × IsBehind said.size recovery behind
+    × NoRow kind said.size start said.lines behind number
+
+abbrev pub NoneBehindOf : List ℕ → Option RecoveryFile → Refusal → Type 0
+NoneBehindOf script recovery e = (said : Script) × (script_of script ≡ Ok said) × NoneBehind said.size recovery e

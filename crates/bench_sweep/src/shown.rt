@@ -1,0 +1,427 @@
+//! A row of a bench is written as a script.
+
+ghost use Rattle.std.specs.Prelude.{◌≡◌, ◌⊎◌, ◌↔◌, ◌≤◌, ◌<◌, ◌+◌, ◌*◌, ◌++◌, length, All, Ok, Err, IsTrue, IfOk, IfErr, OnOk, MatchOption};
+ghost use Rattle.std.specs.List.{AllZip};
+ghost use Rattle.board_model.specs.Shapes.{Size, IsSize};
+ghost use Rattle.board_model.specs.declared.refusal.Refusal.{Refusal as Refused};
+ghost use Rattle.board_model.specs.declared.refusal.Refusal.TheVariants.{BadShape, Memory, NotPlain, Output};
+ghost use Rattle.script_lang.specs.Armings.{IsArmingInRange};
+ghost use Rattle.script_lang.specs.Lines.{IsLineInRange};
+ghost use Rattle.script_lang.specs.Scripts.{script_of, Script as Said};
+ghost use Rattle.bench_report.specs.Bench.{Bench as ModelBench};
+ghost use Rattle.bench_report.specs.Happens.{unpowered};
+ghost use Rattle.bench_sweep.specs.Points.{MadeCalls};
+ghost use Rattle.bench_sweep.specs.Runs.{RunsAt, Sits};
+ghost use Rattle.bench_sweep.specs.Shown.{arming, fill_at, row_lines, run_cell, runs_each, HasFewer, HasNoRun, HasRun, IsBehind, IsNamed, IsNthRun, IsRowOf, NoneBehind, NoneBehindOf, NoRow, NoRowOf, RunsArmed, ShowsFrom, ShowsNone, ShownRow, WroteScript};
+ghost use Rattle.bench_sweep.specs.Swept.{callers, AreSwept, IsNotPlain, IsPlainLine, NoBenchRuns};
+
+use crate::begins::run_to_format;
+use crate::judging::{turn_off, turn_off_failed};
+use crate::points::{Bench, CALLERS, Caller, FILLS, Point, RunAt, cut_fill};
+use crate::recovery::{Recovery, RecoveryFile, numbers_of_looks, recovery_lines};
+use crate::runner::Runner;
+use crate::site::Site;
+use crate::sites::run_lines;
+use crate::sweeps::{calls_between, check_plain, check_recovery, run_plain};
+use bench_orders::{copied, fits, shape_in_range, write_script};
+use bench_report::Setting;
+use board::Payloads;
+use board_model::{BootMode, Refusal, Shape};
+use crew::{Crew, Sequential};
+use disk::Disk;
+use script_lang::{Arming, Line, Script, parse_script, scripts_read_as_written};
+use simdisk::Fill;
+use std::alloc::{AllocError, Global};
+use std::io::Write;
+use std::thread::Threads;
+
+/// How many lines a script has at most behind its board line.
+const MOST_LINES: usize = 65_535;
+
+/// The last call that a line of a script arms.
+const LAST_CALL: u64 = 1_000_000;
+
+/// Which row of a bench is written as a script.
+#[derive(Clone, Copy, Drop)]
+pub struct WantedRow {
+    pub bench: Bench,
+    /// Its number among the runs of the report, from 1 on.
+    pub number: u64,
+}
+
+/// At which point of a bench the run of that place is, and which of the point's it is, both from 0 on.
+fn point_of(bench: Bench, place: u64) -> (u64, u64)
+    ensures value { place ≡ result.0 * runs_each bench + result.1 }
+    ensures range { result.1 < runs_each bench }
+{
+    match bench {
+        Bench::Cuts => (place / 5, place % 5),
+        Bench::Fails => (place, 0),
+    }
+}
+
+/// What the cut leaves in the run of that place at a point. A run with a failure has no fill.
+fn fill_at(bench: Bench, place: u64) -> Option<Fill>
+    requires { place < runs_each bench }
+    ensures { result ≡ fill_at bench place }
+{
+    match bench {
+        Bench::Cuts => Some(FILLS[place as usize]),
+        Bench::Fails => None,
+    }
+}
+
+/// How many calls each caller made from the one site to the other.
+fn counts_of(alloc: Global, from: &Site, to: &Site) -> Result<Vec<u64>, Refusal>
+    ensures counts { IfOk result (λ counts. AllZip (MadeCalls from.now.off.disk to.now.off.disk) callers counts.items) }
+    ensures refused { IfErr result (λ e. e ≡ Memory) }
+{
+    let mut counts = Vec::new(alloc);
+    for caller in CALLERS {
+        let calls = calls_between(caller, from, to)?;
+        counts.push(calls)?;
+    }
+    Ok(counts)
+}
+
+/// The run of that number, where the callers made so many calls.
+fn run_of_number(bench: Bench, counts: &[u64], number: u64) -> Option<RunAt>
+    requires { length counts.now ≡ 5 }
+    ensures { MatchOption result (HasFewer bench counts.now number) (λ run. IsNthRun bench counts.now number (run_cell run)) }
+{
+    if number == 0 {
+        return None;
+    }
+    let (mut point, place) = point_of(bench, number - 1);
+    for i in 0..5 {
+        if point < counts[i] {
+            return Some(RunAt {
+                caller: CALLERS[i],
+                call: point + 1,
+                fill: fill_at(bench, place),
+            });
+        }
+        point -= counts[i];
+    }
+    None
+}
+
+/// Runs the lines as they are, and answers which run of the bench has that number. Refused `BadShape` where none has.
+fn find_run<C: Crew>(runner: &Runner<'_, C>, site: &Site, number: u64) -> Result<RunAt, Refusal>
+    requires lines { AreSwept runner.now.setting.shape.now runner.now.lines.now }
+    requires sits { Sits runner.now.setting.shape.now site.now }
+    ensures found { IfOk result (λ run. (b : ModelBench)
+        → RunsAt runner.now.setting.shape.now b site.now
+        → HasRun runner.now.bench runner.now.setting.shape.now (unpowered b) runner.now.lines.now number (run_cell run)) }
+    ensures refused { IfErr result (λ e. (e ≡ Memory) ⊎ ((e ≡ BadShape) × ((b : ModelBench)
+        → RunsAt runner.now.setting.shape.now b site.now
+        → HasNoRun runner.now.bench runner.now.setting.shape.now (unpowered b) runner.now.lines.now number))) }
+{
+    let end = run_plain(runner, site)?;
+    let counts = counts_of(runner.setting.alloc, site, &end)?;
+    match run_of_number(runner.bench, &counts, number) {
+        None => Err(Refusal::BadShape),
+        Some(run) => Ok(run),
+    }
+}
+
+/// Whether a line of a script for a board of that shape arms something in that run: the board has that caller, and the number
+/// of the call is at most 1,000,000.
+fn is_named(shape: &Shape, run: RunAt) -> bool
+    ensures { IsTrue result ↔ IsNamed shape.now run.caller run.call }
+{
+    if LAST_CALL < run.call {
+        return false;
+    }
+    match run.caller {
+        Caller::Disk => true,
+        Caller::Lane(lane) => lane < shape.lanes() as usize,
+    }
+}
+
+/// What the line arms in that run.
+fn arming_at(bench: Bench, run: RunAt) -> Arming
+    requires { (size : Size) × IsSize size × IsNamed size run.caller run.call }
+    ensures { result ≡ arming bench (run_cell run) }
+{
+    let call = run.call as u32;
+    let fill = cut_fill(run.fill);
+    match bench {
+        Bench::Cuts => match run.caller {
+            Caller::Disk => Arming::CutAt(call, fill),
+            Caller::Lane(lane) => Arming::CutLane(lane as u32, call, fill),
+        },
+        Bench::Fails => match run.caller {
+            Caller::Disk => Arming::FailAt(call),
+            Caller::Lane(lane) => Arming::FailLane(lane as u32, call),
+        },
+    }
+}
+
+/// What a line arms in that run. Refused `BadShape` where none does.
+fn arming_of(shape: &Shape, bench: Bench, run: RunAt) -> Result<Arming, Refusal>
+    ensures arms { IfOk result (λ a. (a ≡ arming bench (run_cell run)) × IsArmingInRange shape.now a) }
+    ensures refused { IfErr result (λ e. (e ≡ BadShape) × (IsArmingInRange shape.now (arming bench (run_cell run)) → ⊥)) }
+{
+    shape_in_range(shape);
+    if !is_named(shape, run) {
+        return Err(Refusal::BadShape);
+    }
+    Ok(arming_at(bench, run))
+}
+
+/// Runs the lines with what the bench does in that run armed, and answers how many ran: with a cut up to the one within which it
+/// strikes, with a failure all. Refused `Memory` alone.
+fn count_armed<C: Crew>(runner: &Runner<'_, C>, site: &Site, run: RunAt) -> Result<usize, Refusal>
+    requires lines { AreSwept runner.now.setting.shape.now runner.now.lines.now }
+    requires sits { Sits runner.now.setting.shape.now site.now }
+    ensures armed { IfOk result (λ count. (b : ModelBench)
+        → RunsAt runner.now.setting.shape.now b site.now
+        → RunsArmed runner.now.setting.shape.now runner.now.bench (run_cell run) (unpowered b) runner.now.lines.now count) }
+    ensures few { IfOk result (λ count. count ≤ length runner.now.lines.now) }
+    ensures refused { IfErr result (λ e. e ≡ Memory) }
+{
+    let point = Point {
+        caller: run.caller,
+        number: run.call,
+        call: run.call,
+        before: 0,
+    };
+    let from = site.copy(runner.setting.alloc)?;
+    let failed = from.off.disk.failures();
+    let armed = from.armed(runner.bench, point);
+    let went = run_lines(&runner.setting, runner.lines, false, armed)?;
+    let count = went.count;
+    match runner.bench {
+        Bench::Cuts => turn_off(went.going, true)?,
+        Bench::Fails => turn_off_failed(went, runner.lines.len(), failed)?,
+    };
+    Ok(count)
+}
+
+/// The lines of a row.
+#[derive(Drop)]
+struct RowLines<'a> {
+    bench: Bench,
+    /// Those in front of what is armed, the last of which formatted the disk.
+    front: &'a [Line],
+    arming: Arming,
+    /// Those that then run.
+    back: &'a [Line],
+    /// Those behind its end.
+    behind: &'a [Line],
+}
+
+/// Puts copies of lines behind others.
+fn add_lines(alloc: Global, all: &mut Vec<Line>, lines: &[Line]) -> Result<(), AllocError>
+    ensures { OnOk result (all.new.items ≡ all.old.items ++ lines.now) }
+{
+    for line in lines {
+        let line = copied(alloc, line)?;
+        all.push(line)?;
+    }
+    Ok(())
+}
+
+/// Those lines as a script has them: behind a run with a failure power is cut with zeros.
+fn script_lines(alloc: Global, row: &RowLines<'_>) -> Result<Vec<Line>, AllocError>
+    ensures { IfOk result (λ v. v.items ≡ row_lines row.now.bench row.now.front.now row.now.arming row.now.back.now row.now.behind.now) }
+{
+    let mut lines = Vec::new(alloc);
+    add_lines(alloc, &mut lines, row.front)?;
+    lines.push(Line::Arm(row.arming))?;
+    add_lines(alloc, &mut lines, row.back)?;
+    match row.bench {
+        Bench::Cuts => {}
+        Bench::Fails => lines.push(Line::Cut(cut_fill(None)))?,
+    }
+    add_lines(alloc, &mut lines, row.behind)?;
+    Ok(lines)
+}
+
+/// Writes a row as a script. Refused `BadShape` where it has more lines than a script may have.
+fn write_shown<W: Write>(
+    alloc: Global,
+    shape: &Shape,
+    row: &RowLines<'_>,
+    out: &mut W,
+) -> Result<(), Refusal>
+    requires front { All (IsLineInRange shape.now) row.now.front.now }
+    requires arming { IsArmingInRange shape.now row.now.arming }
+    requires back { All (IsLineInRange shape.now) row.now.back.now }
+    requires behind { All (IsLineInRange shape.now) row.now.behind.now }
+    ensures wrote { OnOk result (WroteScript (record {
+      size = shape.now;
+      lines = row_lines row.now.bench row.now.front.now row.now.arming
+          row.now.back.now row.now.behind.now;
+    }) (W.contents out.old) (W.contents out.new)) }
+    ensures refused { IfErr result (λ e. (e ≡ Memory) ⊎ (e ≡ Output) ⊎ ((e ≡ BadShape)
+        × (65535 < length (row_lines row.now.bench row.now.front.now row.now.arming row.now.back.now row.now.behind.now)))) }
+    ensures none { result ≡ Err BadShape → W.contents out.new ≡ W.contents out.old }
+{
+    scripts_read_as_written();
+    shape_in_range(shape);
+    let lines = script_lines(alloc, row)?;
+    fits(&lines);
+    if MOST_LINES < lines.len() {
+        return Err(Refusal::BadShape);
+    }
+    write_script(out, shape, &lines)
+}
+
+/// What runs behind a row: the lines of the recovery, or `on keep`. Refused as a bench is with that recovery.
+fn lines_behind(
+    alloc: Global,
+    shape: &Shape,
+    recovery: Option<RecoveryFile<'_>>,
+) -> Result<Vec<Line>, Refusal>
+    ensures behind { IfOk result (λ v. IsBehind shape.now recovery.entry v.items) }
+    ensures ranges { IfOk result (λ v. All (IsLineInRange shape.now) v.items) }
+    ensures refused { IfErr result (λ e. (e ≡ Memory) ⊎ NoneBehind shape.now recovery.entry e) }
+{
+    match recovery {
+        None => {
+            let mut lines = Vec::new(alloc);
+            lines.push(Line::On(BootMode::Keep))?;
+            Ok(lines)
+        }
+        Some(file) => {
+            let lines = recovery_lines(alloc, shape, file.bytes)?;
+            check_recovery(&lines)?;
+            if numbers_of_looks(alloc, &lines, file.numbers)?.is_empty() {
+                return Err(Refusal::NotPlain);
+            }
+            Ok(lines)
+        }
+    }
+}
+
+/// Writes the row of that number of a bench over those lines, from a site on, with the lines in front of it and behind.
+fn show_from<C: Crew, W: Write>(
+    runner: &Runner<'_, C>,
+    site: &Site,
+    number: u64,
+    front: &[Line],
+    behind: &[Line],
+    out: &mut W,
+) -> Result<(), Refusal>
+    requires lines { AreSwept runner.now.setting.shape.now runner.now.lines.now }
+    requires sits { Sits runner.now.setting.shape.now site.now }
+    requires front { All (IsLineInRange runner.now.setting.shape.now) front.now }
+    requires behind { All (IsLineInRange runner.now.setting.shape.now) behind.now }
+    ensures shown { OnOk result ((b : ModelBench)
+        → RunsAt runner.now.setting.shape.now b site.now
+        → ShowsFrom runner.now.bench runner.now.setting.shape.now (unpowered b) front.now runner.now.lines.now behind.now number
+        (W.contents out.old) (W.contents out.new)) }
+    ensures refused { IfErr result (λ e. (e ≡ Memory) ⊎ (e ≡ Output) ⊎ ((e ≡ BadShape) × ((b : ModelBench)
+        → RunsAt runner.now.setting.shape.now b site.now
+        → ShowsNone runner.now.bench runner.now.setting.shape.now (unpowered b) front.now runner.now.lines.now behind.now number))) }
+    ensures none { result ≡ Err BadShape → W.contents out.new ≡ W.contents out.old }
+{
+    let run = find_run(runner, site, number)?;
+    let arming = arming_of(runner.setting.shape, runner.bench, run)?;
+    let count = count_armed(runner, site, run)?;
+    let row = RowLines {
+        bench: runner.bench,
+        front,
+        arming,
+        back: &runner.lines[..count],
+        behind,
+    };
+    write_shown(runner.setting.alloc, runner.setting.shape, &row, out)
+}
+
+/// Writes the wanted row of a bench over lines of a script that begins with these payloads.
+fn show_lines<C: Crew, W: Write>(
+    setting: &Setting<'_, C>,
+    wanted: WantedRow,
+    lines: &[Line],
+    behind: &[Line],
+    payloads: &Payloads,
+    out: &mut W,
+) -> Result<(), Refusal>
+    requires lines { AreSwept setting.now.shape.now lines.now }
+    requires behind { All (IsLineInRange setting.now.shape.now) behind.now }
+    ensures shown { OnOk result (ShownRow wanted.bench setting.now.shape.now payloads.now lines.now behind.now wanted.number
+        (W.contents out.old) (W.contents out.new)) }
+    ensures refused { IfErr result (λ e. (e ≡ Memory) ⊎ (e ≡ Output)
+        ⊎ ((e ≡ BadShape) × NoRow wanted.bench setting.now.shape.now payloads.now lines.now behind.now wanted.number)) }
+    ensures none { result ≡ Err BadShape → W.contents out.new ≡ W.contents out.old }
+{
+    let (begin, site) = run_to_format(setting, lines, payloads)?;
+    let runner = Runner {
+        setting: *setting,
+        bench: wanted.bench,
+        lines: &lines[begin..],
+        recovery: Recovery {
+            lines: &[],
+            numbers: &[],
+            own: &[],
+        },
+    };
+    show_from(&runner, &site, wanted.number, &lines[..begin], behind, out)
+}
+
+/// Writes the wanted row of a bench over a script whose lines are all plain.
+fn show_plain_script<R: Threads + Sync, W: Write>(
+    alloc: Global,
+    wanted: WantedRow,
+    script: &Script,
+    behind: &[Line],
+    payloads: &Payloads,
+    out: &mut W,
+) -> Result<(), Refusal>
+    requires ranges { All (IsLineInRange script.now.shape) script.now.lines.items }
+    requires plain { All IsPlainLine script.now.lines.items }
+    requires behind { All (IsLineInRange script.now.shape) behind.now }
+    ensures shown { OnOk result (ShownRow wanted.bench script.now.shape payloads.now script.now.lines.items behind.now wanted.number
+        (W.contents out.old) (W.contents out.new)) }
+    ensures refused { IfErr result (λ e. (e ≡ Memory) ⊎ (e ≡ Output)
+        ⊎ ((e ≡ BadShape) × NoRow wanted.bench script.now.shape payloads.now script.now.lines.items behind.now wanted.number)) }
+    ensures none { result ≡ Err BadShape → W.contents out.new ≡ W.contents out.old }
+{
+    let crew = Sequential::<R>::new([0, 1, 2, 3])?;
+    let setting = Setting {
+        alloc,
+        crew: &crew,
+        shape: &script.shape,
+    };
+    show_lines(&setting, wanted, &script.lines, behind, payloads, out)
+}
+
+/// Writes a row of a bench as a script (docs/SCRIPT.md, "The benches"): the script's lines up to its first `format` that is
+/// answered ok, then what the row arms. Of the power-cut bench there follow the lines up to the one within which the cut
+/// strikes, of the fault bench all lines and `cut 00`. Then come the recovery's lines, or `on keep`, which says what the row
+/// says. The script is run twice, once as it is and once with that armed, by these payloads; they are no part of what is
+/// written.
+///
+/// Refused as `run_bench_recovered` is, and `BadShape` where the bench has no run of that number, where no line arms its call,
+/// or where the row has more lines than a script may have. Then nothing is written.
+pub fn show_row<R: Threads + Sync, W: Write>(
+    alloc: Global,
+    wanted: WantedRow,
+    script: &[u8],
+    recovery: Option<RecoveryFile<'_>>,
+    payloads: Payloads,
+    out: &mut W,
+) -> Result<(), Refusal>
+    // What was written is the run of that number, and is read back as it. With just that armed its lines run to its end.
+    ensures shown { OnOk result (IsRowOf wanted.bench wanted.number payloads script.now recovery.entry (W.contents out.old) (W.contents out.new)) }
+    // A refusal is want of memory, or the writer's, or the script's fault, or no bench runs the script, or its recovery, or there
+    // is no such row.
+    ensures refused { IfErr result (λ e. (e ≡ Memory) ⊎ (e ≡ Output) ⊎ (script_of script.now ≡ Err e)
+        ⊎ ((e ≡ NotPlain) × NoBenchRuns script.now) ⊎ NoneBehindOf script.now recovery.entry e
+        ⊎ ((e ≡ BadShape) × NoRowOf wanted.bench wanted.number payloads script.now recovery.entry)) }
+    // A script with a fault runs nothing, and neither does one that no bench runs.
+    ensures nothing { (e : Refused) → script_of script.now ≡ Err e
+        → (W.contents out.new ≡ W.contents out.old) × ((result ≡ Err e) ⊎ (result ≡ Err Memory)) }
+    ensures plain { (said : Said) → script_of script.now ≡ Ok said → IsNotPlain said.lines
+        → (W.contents out.new ≡ W.contents out.old) × ((result ≡ Err NotPlain) ⊎ (result ≡ Err Memory)) }
+    // Where there is no such row, nothing is written.
+    ensures none { result ≡ Err BadShape → W.contents out.new ≡ W.contents out.old }
+{
+    let script = parse_script(alloc, script)?;
+    check_plain(&script.lines)?;
+    let behind = lines_behind(alloc, &script.shape, recovery)?;
+    show_plain_script::<R, W>(alloc, wanted, &script, &behind, &payloads, out)
+}
