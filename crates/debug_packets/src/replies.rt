@@ -167,8 +167,8 @@ pub(crate) fn reply_of<C: Crew>(
         | Look::AnyThread
         | Look::SetPoint(_)
         | Look::ClearPoint(_)
-        | Look::SetWatch(_, _)
-        | Look::ClearWatch(_, _)
+        | Look::SetWatch(_, _, _)
+        | Look::ClearWatch(_, _, _)
         | Look::NoAcks
         | Look::Detach => Ok(Some(Vec::from_slice(alloc, b"OK")?)),
         Look::Write | Look::Malformed => Ok(Some(Vec::from_slice(alloc, b"E01")?)),

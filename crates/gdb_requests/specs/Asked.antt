@@ -1,10 +1,12 @@
 -- What a packet asks. Source: "Debugging with GDB", appendix "GDB Remote Serial Protocol", "Packets" and "General Query
 -- Packets".
-use Rattle.std.specs.Prelude.{ℕ, Bool, true, false, List, [], ◌∷◌, Option, Some, None, ◌==◌, if◌then◌else◌, bytes_eq}
+use Rattle.std.specs.Prelude.{ℕ, Bool, true, false, List, [], ◌∷◌, Option, Some, None, ◌==◌, ◌&&◌, nat_le, if◌then◌else◌, bytes_eq}
 use Rattle.gdb_requests.specs.Fields.{behind_prefix, number_of, two_numbers}
 use Rattle.gdb_requests.specs.declared.requests.Object.{Object}
 use Rattle.gdb_requests.specs.declared.requests.Object.TheVariants as objects
 use Rattle.gdb_requests.specs.declared.requests.Look.TheVariants as looks
+use Rattle.gdb_requests.specs.declared.requests.Watching.{Watching}
+use Rattle.gdb_requests.specs.declared.requests.Watching.TheVariants as watch
 use Rattle.gdb_requests.specs.declared.requests.Move.TheVariants as moves
 use Rattle.gdb_requests.specs.declared.requests.Request.{Request}
 use Rattle.gdb_requests.specs.declared.requests.Request.TheVariants as asks
@@ -50,14 +52,24 @@ abbrev pub choice : List ℕ → Request
 choice [] = asks.Look looks.Unknown
 choice (kind ∷ thread) = chosen kind thread
 
--- Z and z: 0 and 1 are breakpoints, 2 is a watch on writes
+-- Z and z: 0 and 1 are breakpoints; 2 is a watch on writes, 3 on reads, and 4 on both
+abbrev pub watching : ℕ → Option Watching
+watching kind =
+    if kind == 50 then Some watch.Writes else
+    (if kind == 51 then Some watch.Reads else
+    (if kind == 52 then Some watch.Accesses else None))
+
+abbrev pub watch_or_point : Bool → Option Watching → ℕ → ℕ → Request
+watch_or_point true (Some what) address count = asks.Look (looks.SetWatch what address count)
+watch_or_point false (Some what) address count = asks.Look (looks.ClearWatch what address count)
+watch_or_point true None address count = asks.Look (looks.SetPoint address)
+watch_or_point false None address count = asks.Look (looks.ClearPoint address)
+
 abbrev pub point_at : Bool → ℕ → ℕ → ℕ → Request
-point_at sets kind address count =
-    if kind == 50 then (if sets then asks.Look (looks.SetWatch address count) else asks.Look (looks.ClearWatch address count)) else
-    (if sets then asks.Look (looks.SetPoint address) else asks.Look (looks.ClearPoint address))
+point_at sets kind address count = watch_or_point sets (watching kind) address count
 
 abbrev pub is_point : ℕ → Bool
-is_point kind = if kind == 48 then true else (if kind == 49 then true else kind == 50)
+is_point kind = nat_le 48 kind && nat_le kind 52
 
 abbrev pub placed : Bool → ℕ → List ℕ → Request
 placed sets kind place = if is_point kind then by_numbers (point_at sets kind) (two_numbers place) else (asks.Look looks.Unknown)

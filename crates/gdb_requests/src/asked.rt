@@ -1,10 +1,10 @@
 //! Packets, read as requests.
 
 ghost use Rattle.std.specs.Prelude.{◌≡◌};
-ghost use Rattle.gdb_requests.specs.Asked.{alone, backward, by_letter, by_number, by_numbers, choice, chosen, chosen_thread, is_any, is_point, is_write, looked, moved, part, placed, plain_query, point, point_at, query, request_of, setting, talk, transfer, unchosen, verbose};
+ghost use Rattle.gdb_requests.specs.Asked.{alone, backward, by_letter, by_number, by_numbers, choice, chosen, chosen_thread, is_any, is_point, is_write, looked, moved, part, placed, plain_query, point, point_at, query, request_of, setting, talk, transfer, unchosen, verbose, watching};
 
 use crate::fields::{behind, number, two_numbers};
-use crate::requests::{Look, Move, Object, Request};
+use crate::requests::{Look, Move, Object, Request, Watching};
 
 /// What has nothing behind it.
 fn alone(asked: Request, rest: &[u8]) -> Request
@@ -69,22 +69,34 @@ fn choice(rest: &[u8]) -> Request
     }
 }
 
-/// Whether a kind of point is there: breakpoints, and watches on writes.
+/// Whether a kind of point is there: breakpoints, and watches.
 fn is_point(kind: u8) -> bool
     ensures { result ≡ is_point kind }
 {
-    kind == b'0' || kind == b'1' || kind == b'2'
+    b'0' <= kind && kind <= b'4'
+}
+
+/// What a kind of point watches, if it does.
+fn watching(kind: u8) -> Option<Watching>
+    ensures { result ≡ watching kind }
+{
+    match kind {
+        b'2' => Some(Watching::Writes),
+        b'3' => Some(Watching::Reads),
+        b'4' => Some(Watching::Accesses),
+        _ => None,
+    }
 }
 
 /// A point that is set, or cleared.
 fn point_at(sets: bool, kind: u8, address: u64, count: u64) -> Request
     ensures { result ≡ point_at sets kind address count }
 {
-    match (kind == b'2', sets) {
-        (true, true) => Request::Look(Look::SetWatch(address, count)),
-        (true, false) => Request::Look(Look::ClearWatch(address, count)),
-        (false, true) => Request::Look(Look::SetPoint(address)),
-        (false, false) => Request::Look(Look::ClearPoint(address)),
+    match (watching(kind), sets) {
+        (Some(what), true) => Request::Look(Look::SetWatch(what, address, count)),
+        (Some(what), false) => Request::Look(Look::ClearWatch(what, address, count)),
+        (None, true) => Request::Look(Look::SetPoint(address)),
+        (None, false) => Request::Look(Look::ClearPoint(address)),
     }
 }
 

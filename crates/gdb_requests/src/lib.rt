@@ -10,4 +10,4 @@ mod requests;
 pub use actions::{Action, action_for, are_known, parts};
 pub use asked::request_of;
 pub use fields::{behind, number, parted, two_numbers};
-pub use requests::{Look, Move, Object, Request};
+pub use requests::{Look, Move, Object, Request, Watching};

@@ -11,6 +11,17 @@ pub enum Object {
     Threads,
 }
 
+/// What a watchpoint minds.
+#[derive(Clone, Copy, Drop)]
+pub enum Watching {
+    /// Writes.
+    Writes,
+    /// Reads.
+    Reads,
+    /// Both.
+    Accesses,
+}
+
 /// What is asked without moving the board. The number of a thread is one more than that of its hart.
 #[derive(Clone, Copy, Drop)]
 pub enum Look {
@@ -36,10 +47,10 @@ pub enum Look {
     SetPoint(u64),
     /// `z0` and `z1`: none any more.
     ClearPoint(u64),
-    /// `Z2`: a watch on writes to so many bytes from that address on.
-    SetWatch(u64, u64),
-    /// `z2`: none any more.
-    ClearWatch(u64, u64),
+    /// `Z2`, `Z3` and `Z4`: a watch on writes, on reads or on both, of so many bytes from that address on.
+    SetWatch(Watching, u64, u64),
+    /// `z2`, `z3` and `z4`: none any more.
+    ClearWatch(Watching, u64, u64),
     /// `G`, `P` and `M`: registers or memory are to be written.
     Write,
     /// `qSupported`: what there is.
