@@ -8,12 +8,12 @@ use Rattle.debug_session.specs.declared.stops.Stops.{Stops}
 use Rattle.debug_session.specs.declared.stops.Watch.{Watch}
 use Rattle.debug_session.specs.declared.stops.WatchKind.{WatchKind}
 use Rattle.debug_session.specs.declared.stops.WatchKind.TheVariants as kinds
-use Rattle.gdb_packets.specs.declared.requests.Look.{Look}
-use Rattle.gdb_packets.specs.declared.requests.Look.TheVariants as looks
-use Rattle.gdb_packets.specs.declared.requests.Watching.{Watching}
-use Rattle.gdb_packets.specs.declared.requests.Watching.TheVariants as watching
-use Rattle.gdb_packets.specs.declared.requests.Request.{Request}
-use Rattle.gdb_packets.specs.declared.requests.Request.TheVariants as asks
+use Rattle.gdb_protocol.specs.declared.requests.Look.{Look}
+use Rattle.gdb_protocol.specs.declared.requests.Look.TheVariants as looks
+use Rattle.gdb_protocol.specs.declared.requests.Watching.{Watching}
+use Rattle.gdb_protocol.specs.declared.requests.Watching.TheVariants as watching
+use Rattle.gdb_protocol.specs.declared.requests.Request.{Request}
+use Rattle.gdb_protocol.specs.declared.requests.Request.TheVariants as asks
 use Rattle.debug_packets.specs.declared.talk.Talk.{Talk}
 use Rattle.debug_packets.specs.Replies.{hart_named}
 use Rattle.debug_packets.specs.Talks.{acknowledges_in, is_over_in, last_in, runner_in, session_in, takes_in}

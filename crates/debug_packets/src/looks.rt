@@ -13,7 +13,7 @@ use crate::talk::Talk;
 use board_model::Refusal;
 use crew::Crew;
 use debug_session::{Watch, WatchKind};
-use gdb_packets::{Look, Watching, behind, parts};
+use gdb_protocol::{Look, Watching, behind, parts};
 
 /// The watchpoint that a packet names. A watch on writes sees changes.
 fn watch_of(what: Watching, address: u64, count: u64) -> Watch

@@ -2,8 +2,8 @@
 
 ghost use Rattle.std.specs.Prelude.{◌≡◌, ◌+◌, ◌++◌, ◌∷◌, [], codes, IfOk};
 ghost use Rattle.std.specs.Option.{option_map};
-ghost use Rattle.gdb_packets.specs.Packets.{digit_of};
-ghost use Rattle.gdb_packets.specs.Replies.{registers_text};
+ghost use Rattle.gdb_protocol.specs.Packets.{digit_of};
+ghost use Rattle.gdb_protocol.specs.Replies.{registers_text};
 ghost use Rattle.debug_timeline.specs.Lives.{memory_in, register_in};
 ghost use Rattle.debug_session.specs.Sessions.{bench_of, machine_of_session, size_of};
 ghost use Rattle.debug_packets.specs.Replies.{features_text, hart_named, memory_reply, register_reply, thread_reply, IsLookReply, IsPart};
@@ -14,7 +14,7 @@ use crate::texts::threads_object;
 use board_model::{HartId, Refusal, Shape};
 use crew::Crew;
 use debug_session::{REGISTERS, Session, Stop};
-use gdb_packets::{
+use gdb_protocol::{
     DESCRIPTION, Look, Object, digit, memory_map, part, put_hex, put_register, threads,
 };
 use std::alloc::Global;

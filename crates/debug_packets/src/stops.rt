@@ -5,7 +5,7 @@ ghost use Rattle.debug_packets.specs.Stops.{reason_text, signal_text, stop_text,
 
 use board_model::HartId;
 use debug_session::{Halt, Stop, Watch, WatchKind};
-use gdb_packets::digit;
+use gdb_protocol::digit;
 use std::alloc::{AllocError, Global};
 
 /// The number of GDB's signal that says why nothing runs, as two digits: SIGINT, SIGPWR where the board is off or

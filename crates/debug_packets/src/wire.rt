@@ -6,12 +6,12 @@ ghost use Rattle.debug_timeline.specs.Ats.{IsAt};
 ghost use Rattle.debug_session.specs.Sessions.{size_of, timeline_of};
 ghost use Rattle.debug_packets.specs.Answers.{IsReplied, again_text, front_text};
 ghost use Rattle.debug_packets.specs.Talks.{session_in};
-ghost use Rattle.gdb_packets.specs.Replies.{packets_of};
+ghost use Rattle.gdb_protocol.specs.Replies.{packets_of};
 
 use crate::talk::Talk;
 use board_model::Refusal;
 use crew::Crew;
-use gdb_packets::packets;
+use gdb_protocol::packets;
 use std::alloc::Global;
 use std::io::Write;
 use std::sync::atomic::AtomicBool;

@@ -19,7 +19,7 @@ use crew::{Crew, Sequential};
 use crossbeam_channel::{Receiver, bounded};
 use debug_packets::{Talk, acknowledge, reply, reply_again};
 use debug_session::{Plan, Session};
-use gdb_packets::Heard;
+use gdb_protocol::Heard;
 use script_lang::Script;
 use std::alloc::Global;
 use std::io::{self, BufReader, Write};

@@ -2,7 +2,7 @@ use Rattle.std.proofs.Common.{rules, ◌≡◌, ℕ, List, OnOk, map, refl}
 use Rattle.std.proofs.lemmas.Result.{on_ok_weaker}
 use Rattle.std.specs.Io.KnownBytes.{Appends}
 use Rattle.debug_packets.specs.Answers.{IsAnswer}
-use Rattle.gdb_packets.specs.Replies.{packets_of}
+use Rattle.gdb_protocol.specs.Replies.{packets_of}
 use Rattle.debug_packets.proofs.wire.reply.Goals as goal
 
 pub returns-clause-sent : goal.returns-clause-sent

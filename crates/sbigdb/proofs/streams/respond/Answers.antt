@@ -1,7 +1,7 @@
 use Rattle.std.proofs.Common.{ℕ, List, [], refl, sym, subst}
 use Rattle.report_lines.proofs.Written.{unwritten}
-use Rattle.gdb_packets.specs.declared.heard.Heard.{Heard}
-use Rattle.gdb_packets.specs.Replies.{packets_of}
+use Rattle.gdb_protocol.specs.declared.heard.Heard.{Heard}
+use Rattle.gdb_protocol.specs.Replies.{packets_of}
 use Rattle.debug_packets.specs.Answers.{IsReplied}
 use Rattle.sbigdb.specs.Responses.{Says}
 use Rattle.sbigdb.proofs.Responses.{says_nothing}
