@@ -28,7 +28,7 @@ pub(crate) enum Silence {
 pub(crate) struct Signals {
     /// The debugger asks that what runs stop.
     pub(crate) interrupt: AtomicBool,
-    /// A packet was handed on, and its answer is still to be sent.
+    /// A packet was handed on, and nothing of its answer is sent yet.
     pub(crate) answering: AtomicBool,
 }
 
@@ -54,7 +54,7 @@ fn ends_talk(asked: Request) -> bool
 }
 
 /// Hands on what was heard, but for an interrupt, which is told at once: whether more is to be read. That an answer came
-/// damaged is passed over while it is still to be sent: the debugger grew impatient.
+/// damaged is passed over while nothing of it is sent: the debugger grew impatient.
 pub(crate) fn hand_on<R: Wait>(
     rt: &R,
     what: Heard,
