@@ -14,11 +14,15 @@ use crate::help::{
     MOST, MOST_QUANTUM, MOST_TURNS, ORDER, PREEMPTIONS, QUANTUM, SCHEDULE, SCRIPT, SEED, command,
 };
 use clap::error::ErrorKind;
-use clap::{ArgMatches, Error};
-use command_line::{out_of_range, parse, path_given, payload_paths};
+use clap::{ArgMatches, Command, Error};
+use command_line::{parse, path_given, payload_paths};
 use script_lang::number as number_in;
 use std::alloc::{AllocError, Global};
 use std::convert::AsStr;
+
+/// What is said of options that do not go together.
+const APART: &str =
+    "--order goes with --preemptions, and --seed, a number below 2^64, with --schedule alone";
 
 /// A number that was given, 1 to `most`, in decimal digits.
 fn number(matches: &ArgMatches<'_>, id: &str, most: u64) -> Option<u32>
@@ -86,6 +90,13 @@ fn parsed<'a, S: AsStr>(alloc: Global, words: &'a [S]) -> Result<ArgMatches<'a>,
     parse(command(alloc)?, words)
 }
 
+/// The fault of options that do not go together.
+fn apart(mut command: Command<'_>) -> Result<Error, AllocError>
+    ensures { IfOk result (λ e. kind_of e ≡ ErrorKind.ValueValidation) }
+{
+    command.error(ErrorKind::ValueValidation, APART)
+}
+
 /// Reads a command line, the program's name first. The error is the command line's own text, which is the help or the
 /// version too, or says that memory was refused.
 pub fn options_of<'a, S: AsStr>(alloc: Global, words: &'a [S]) -> Result<Options, Error>
@@ -100,7 +111,7 @@ pub fn options_of<'a, S: AsStr>(alloc: Global, words: &'a [S]) -> Result<Options
     match options_in(alloc, &matches)? {
         Some(options) => Ok(options),
         None => {
-            let fault = out_of_range(command(alloc)?)?;
+            let fault = apart(command(alloc)?)?;
             Err(fault)
         }
     }

@@ -1,5 +1,5 @@
 -- Where a session begins. Source: docs/DEBUGGING.md, "A race that a bench found"; docs/SCRIPT.md, "Schedules" and "Preemptions".
-use Rattle.std.specs.Prelude.{◌≡◌, ◌==◌, ◌&&◌, ℕ, Bool, false, List, ◌∷◌, ◌++◌, Option, None, Some, Ok, if◌then◌else◌, min, slice_get}
+use Rattle.std.specs.Prelude.{◌≡◌, ◌==◌, ◌&&◌, ℕ, Bool, false, List, [], ◌∷◌, ◌++◌, Option, None, Some, Ok, if◌then◌else◌, min}
 use Rattle.std.specs.Option.{option_to_list}
 use Rattle.script_lang.specs.Scripts.{Script, script_of}
 use Rattle.script_lang.specs.declared.line.Line.{Line}
@@ -16,14 +16,11 @@ abbrev pub turns_of_both : Line → Line → Option Line
 turns_of_both (lines.Turn h n) (lines.Turn g m) = if h == g then Some (lines.Turn h (min n m)) else None
 turns_of_both a b = None
 
-abbrev pub turns_of_next : Option Line → Option Line → Option Line
-turns_of_next None b = None
-turns_of_next (Some a) None = None
-turns_of_next (Some a) (Some b) = turns_of_both a b
-
 -- those of the first of both
 abbrev pub both_turn : List Line → List Line → List Line
-both_turn left right = option_to_list (turns_of_next (slice_get left 0) (slice_get right 0))
+both_turn [] right = []
+both_turn (a ∷ left) [] = []
+both_turn (a ∷ left) (b ∷ right) = option_to_list (turns_of_both a b)
 
 -- Lines up to where two scripts part: those with which both begin, as many as there are, and then the turns that both make.
 pub record PartsAt (own other stands : List Line) : Type 0 where

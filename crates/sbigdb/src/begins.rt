@@ -1,6 +1,7 @@
 //! Where a session begins: at the end of its script, or where what a bench found of it parts from it.
 
-ghost use Rattle.std.specs.Prelude.{◌≡◌, ◌⊎◌, ◌≤◌, ◌<◌, ◌++◌, ◌∷◌, [], ℕ, List, All, Ok, Err, IfErr, IfOk, drop, length, option_copied, take};
+ghost use Rattle.std.specs.Prelude.{◌≡◌, ◌⊎◌, ◌≤◌, ◌<◌, ◌++◌, ◌∷◌, [], ℕ, List, All, Ok, Err, IfErr, IfOk, drop, length, take};
+ghost use Rattle.std.specs.Option.{option_to_list};
 ghost use Rattle.board_model.specs.Shapes.{Size};
 ghost use Rattle.board_model.specs.declared.refusal.Refusal.TheVariants.{BadShape, Memory, Output};
 ghost use Rattle.script_lang.specs.Lines.{IsLineInRange};
@@ -11,7 +12,7 @@ ghost use Rattle.script_lang.specs.declared.line.Line.{Line as SaidLine};
 ghost use Rattle.bench_orders.specs.Orders.{AreOrderOf, IsScheduleOf};
 ghost use Rattle.bench_schedules.specs.Numbers.{numbers_of};
 ghost use Rattle.debug_options.specs.Limits.{IsBounded, IsUpTo};
-ghost use Rattle.sbigdb.specs.Begins.{BeginsAt, HasNone, IsFound, PartsAt, is_same_row, turns_of_both, turns_of_next};
+ghost use Rattle.sbigdb.specs.Begins.{BeginsAt, HasNone, IsFound, PartsAt, both_turn, is_same_row, turns_of_both};
 
 use bench_preemptions::{Wanted, show_order};
 use bench_schedules::show;
@@ -61,17 +62,15 @@ fn turns_of_both(one: &Line, other: &Line) -> Option<Line>
     }
 }
 
-/// The same of lines that may be missing.
-fn turns_of_next(one: Option<&Line>, other: Option<&Line>) -> Option<Line>
-    ensures { result ≡ turns_of_next (option_copied one.entry) (option_copied other.entry) }
+/// Those of the first line of both.
+#[tactic(auto, using(crate::proofs::Begins::both_first, crate::proofs::Begins::none_left, crate::proofs::Begins::none_right))]
+fn first_turns(left: &[Line], right: &[Line]) -> Option<Line>
+    ensures { option_to_list result ≡ both_turn left.now right.now }
 {
-    match one {
-        None => None,
-        Some(one) => match other {
-            None => None,
-            Some(other) => turns_of_both(one, other),
-        },
+    if left.is_empty() || right.is_empty() {
+        return None;
     }
+    turns_of_both(&left[0], &right[0])
 }
 
 /// How many lines both scripts begin with.
@@ -100,7 +99,7 @@ fn lines_to(own: &[Line], other: Vec<Line>) -> Result<Vec<Line>, AllocError>
         → All (IsLineInRange size) other.items → All (IsLineInRange size) lines.items) }
 {
     let place = parting(own, &other);
-    let next = turns_of_next(own[place..].first(), other[place..].first());
+    let next = first_turns(&own[place..], &other[place..]);
     let mut lines = other;
     lines.truncate(place);
     if let Some(row) = next {

@@ -42,7 +42,8 @@ pub fn start_read<R: Threads + Sync>(
     let bytes = script_bytes(rt, &options.script)?;
     let own = parse_script(alloc, &bytes).map_err(FileFault::refused)?;
     let payloads = read_payloads(alloc, rt, &options.payloads)?;
-    let script = begun(threads, alloc, options.begin, own, &bytes, &payloads)
-        .map_err(FileFault::refused)?;
+    let script = begun(threads, alloc, options.begin, own, &bytes, &payloads).map_err(
+        FileFault::refused,
+    )?;
     Ok(Start { script, payloads })
 }
