@@ -44,10 +44,13 @@ fn is_interrupted(board: &mut Board<SimDisk>, hart: HartId) -> bool
     ensures same { board.new ≡ board.old }
     ensures is { result ≡ is_interrupted (machine_in board.old) hart }
 {
-    let pending = is_set(register_of(board, hart, 41));
-    let enabled = is_set(register_of(board, hart, 34));
-    let open = is_set(register_of(board, hart, 33));
-    pending && enabled && open
+    if !is_set(register_of(board, hart, 41)) {
+        return false;
+    }
+    if !is_set(register_of(board, hart, 34)) {
+        return false;
+    }
+    is_set(register_of(board, hart, 33))
 }
 
 /// Whether the next turn of a hart is that of an instruction.
