@@ -1,5 +1,5 @@
 -- What the words of a command line name. Source: docs/DEBUGGING.md, "Options and statuses".
-use Rattle.std.specs.Prelude.{◌≡◌, ◌⊎◌, ℕ, List, Some, map, option_and_then, string_bytes}
+use Rattle.std.specs.Prelude.{◌≡◌, ◌⊎◌, ℕ, List, Option, None, Some, if◌then◌else◌, map, nat_lt, option_and_then, string_bytes}
 use Rattle.std.specs.Option.{option_map}
 use Rattle.clap.specs.Words.{IsAmong, fault_of, first_value}
 use Rattle.clap.specs.declared.error.kind.ErrorKind.{ErrorKind}
@@ -10,13 +10,61 @@ use Rattle.command_line.specs.Parses.{AreParsed}
 use Rattle.script_lang.specs.Words.{number_of}
 use Rattle.debug_options.specs.Limits.{IsUpTo}
 use Rattle.debug_options.specs.Lines.{sbigdb}
+use Rattle.debug_options.specs.declared.given.Begin.{Begin}
+use Rattle.debug_options.specs.declared.given.Begin.TheVariants.{End, Order, Schedule}
 use Rattle.debug_options.specs.declared.given.Options.{Options}
 use lib.Chars.{codes}
+
+-- a number from 1 to so many
+abbrev pub number_up_to : ℕ → Option ℕ → Option ℕ
+number_up_to most None = None
+number_up_to most (Some n) = if nat_lt n 1 then None else (if nat_lt most n then None else Some n)
+
+-- what schedules are drawn from: 1 if no word says it
+abbrev pub seed_of : Option (List ℕ) → Option ℕ
+seed_of None = Some 1
+seed_of (Some word) = number_of word
+
+abbrev pub drawn_by : Option ℕ → Option ℕ → Option Begin
+drawn_by None seed = None
+drawn_by (Some number) None = None
+drawn_by (Some number) (Some seed) = Some (Schedule (record { seed = seed; number = number }))
+
+abbrev pub ordered_by : Option ℕ → Option ℕ → Option Begin
+ordered_by None number = None
+ordered_by (Some most) None = None
+ordered_by (Some most) (Some number) = Some (Order (record { most = most; number = number }))
+
+-- without `--schedule`: an order, by the words of `--preemptions` and `--order`, which go together; or the end
+abbrev pub order_named : Option (List ℕ) → Option (List ℕ) → Option Begin
+order_named None None = Some End
+order_named None (Some number) = None
+order_named (Some most) None = None
+order_named (Some most) (Some number) = ordered_by (number_up_to 3 (number_of most)) (number_up_to 1000000 (number_of number))
+
+-- no order is named beside it
+abbrev pub without_order : Option (List ℕ) → Option (List ℕ) → Option Begin → Option Begin
+without_order None None begin = begin
+without_order None (Some number) begin = None
+without_order (Some most) number begin = None
+
+-- Where the session begins, by the words of `--schedule`, `--seed`, `--preemptions` and `--order`. A seed goes with a schedule.
+abbrev pub begin_named : Option (List ℕ) → Option (List ℕ) → Option (List ℕ) → Option (List ℕ) → Option Begin
+begin_named None None most order = order_named most order
+begin_named None (Some seed) most order = None
+begin_named (Some number) seed most order =
+    without_order most order (drawn_by (number_up_to 1000000 (number_of number)) (seed_of seed))
+
+abbrev pub begin_in : Found → Option Begin
+begin_in f =
+    begin_named (first_value f (codes "schedule")) (first_value f (codes "seed")) (first_value f (codes "preemptions"))
+    (first_value f (codes "order"))
 
 -- each option is what the value of its name says
 pub record ReadsOptions (f : Found) (o : Options) : Type 0 where
   pub script : path_named (first_value f (codes "SCRIPT")) ≡ Some (string_bytes o.script)
   pub payloads : map (option_map string_bytes) o.payloads ≡ payload_paths f
+  pub begin : begin_in f ≡ Some o.begin
   pub quantum : option_and_then number_of (first_value f (codes "quantum")) ≡ Some o.quantum
   pub most : option_and_then number_of (first_value f (codes "most")) ≡ Some o.most
 

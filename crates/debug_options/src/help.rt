@@ -1,16 +1,19 @@
 //! The command, its options, and what `--help` says.
 
-ghost use Rattle.std.specs.Prelude.{◌≡◌, false, IfOk};
-ghost use Rattle.clap.specs.Words.{app_of, rule_of};
-ghost use Rattle.debug_options.specs.Lines.{sbigdb, script_rule};
+ghost use Rattle.std.specs.Prelude.{◌≡◌, false, codes, IfOk};
+ghost use Rattle.clap.specs.Words.{app_of, rule_of, with_rule};
+ghost use Rattle.clap.specs.declared.builder.value_parser.ValueParser.TheVariants.{Unsigned};
+ghost use Rattle.command_line.specs.Options.{number_rule, value_rule};
+ghost use Rattle.debug_options.specs.Lines.{sbigdb, script_rule, with_begins};
 
 use clap::builder::ValueParser;
 use clap::{Arg, ArgAction, Command};
-use command_line::{number, program, with_payloads};
+use command_line::{number, option, program, with_payloads};
 use std::alloc::{AllocError, Global};
 
 /// How the program is called.
-pub const USAGE: &str = "sbigdb SCRIPT [--p0 PATH .. --p3 PATH] [--quantum N] [--most N]";
+pub const USAGE: &str =
+    "sbigdb SCRIPT [--schedule K | --preemptions K --order N] [--p0 PATH .. --p3 PATH]";
 
 const ABOUT: &str = "\
 Debugs the modelled RISC-V board that a script leaves: speaks GDB's Remote Serial
@@ -21,7 +24,11 @@ Protocol on standard input and output.
 Harts are threads. GDB's commands step, go on, and go back, also over power cuts
 and suspensions; nothing that it asks changes the board. `monitor LINE` runs a
 line of the script language, `monitor script` prints the session as a script that
-sbibench runs to the same reports, and `monitor help` tells the rest.";
+sbibench runs to the same reports, and `monitor help` tells the rest.
+
+--schedule and --order take a script that sbibench found: the one that its
+--schedules --show K, or --preemptions K --show N, writes. The session begins
+where the turns of that script part from those of SCRIPT.";
 
 const STATUS: &str = "\
 Status:
@@ -42,6 +49,24 @@ pub const QUANTUM: &str = "quantum";
 /// How many turns a command makes at most.
 pub const MOST: &str = "most";
 
+/// A schedule, by its number.
+pub const SCHEDULE: &str = "schedule";
+
+/// What it is drawn from.
+pub const SEED: &str = "seed";
+
+/// How many preemptions an order has at most.
+pub const PREEMPTIONS: &str = "preemptions";
+
+/// An order that differs, by its number.
+pub const ORDER: &str = "order";
+
+/// The highest number of a schedule, or of an order.
+pub const MOST_NUMBER: u64 = 1_000_000;
+
+/// The most preemptions of an order.
+pub const MOST_PREEMPTIONS: u64 = 3;
+
 /// The most turns of a hart before the next one's: those of a line of a script.
 pub const MOST_QUANTUM: u64 = 1_000_000;
 
@@ -60,14 +85,47 @@ fn script<'a>(alloc: Global) -> Arg<'a>
         .help("The file of the script whose end the session begins at")
 }
 
+/// An option with a number from 1 to `most`, which has no default.
+fn count<'a>(alloc: Global, id: &'a str, most: u64, value: &'a str, help: &'a str) -> Arg<'a>
+    ensures rule { rule_of result ≡ value_rule id.entry.now (Unsigned 1 most) }
+    ensures local { result.global ≡ false }
+{
+    option(alloc, id, value, help).value_parser(ValueParser::unsigned(1, most))
+}
+
+/// The command with the options that say where a session begins.
+fn with_begins<'a>(alloc: Global, command: Command<'a>) -> Result<Command<'a>, AllocError>
+    ensures { IfOk result (λ c. app_of c ≡ with_begins (app_of command.entry)) }
+{
+    let schedule = "Begins where schedule K parts from the script";
+    let seed = "The number that schedules are drawn from; 1 if not given";
+    let preemptions = "With --order: orders with at most K preemptions, 1 to 3";
+    let order = "Begins where the N-th order that reports otherwise parts from the script";
+    command
+        .arg(count(alloc, SCHEDULE, MOST_NUMBER, "K", schedule))?
+        .arg(option(alloc, SEED, "S", seed))?
+        .arg(count(alloc, PREEMPTIONS, MOST_PREEMPTIONS, "K", preemptions))?
+        .arg(count(alloc, ORDER, MOST_NUMBER, "N", order))
+}
+
+/// The command with the options of every session.
+fn with_numbers<'a>(alloc: Global, command: Command<'a>) -> Result<Command<'a>, AllocError>
+    ensures { IfOk result (λ c. app_of c ≡ with_rule (with_rule (app_of command.entry)
+        (number_rule (codes "quantum") 1000000 (codes "1000"))) (number_rule (codes "most") 1000000000 (codes "20000000"))) }
+{
+    let quantum = "How many turns a hart makes before the next one's, 1 to 1000000";
+    let most = "How many turns a command makes at most, 1 to 1000000000";
+    command
+        .arg(number(alloc, QUANTUM, MOST_QUANTUM, "1000", quantum))?
+        .arg(number(alloc, MOST, MOST_TURNS, "20000000", most))
+}
+
 /// The command.
 pub fn command<'a>(alloc: Global) -> Result<Command<'a>, AllocError>
     ensures { IfOk result (λ c. app_of c ≡ sbigdb) }
 {
-    let quantum = "How many turns a hart makes before the next one's, 1 to 1000000";
-    let most = "How many turns a command makes at most, 1 to 1000000000";
     let command = program(alloc, "sbigdb", USAGE, ABOUT, STATUS).arg(script(alloc))?;
-    with_payloads(alloc, command)?
-        .arg(number(alloc, QUANTUM, MOST_QUANTUM, "1000", quantum))?
-        .arg(number(alloc, MOST, MOST_TURNS, "20000000", most))
+    let command = with_payloads(alloc, command)?;
+    let command = with_numbers(alloc, command)?;
+    with_begins(alloc, command)
 }

@@ -2,10 +2,11 @@
 //! `--help` says, and what its words ask for.
 #![tactic(auto)]
 
+mod begins;
 mod given;
 mod help;
 mod parsed;
 
-pub use given::Options;
+pub use given::{Begin, Drawn, Options, Preempted};
 pub use help::USAGE;
 pub use parsed::options_of;

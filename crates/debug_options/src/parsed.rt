@@ -4,18 +4,25 @@ ghost use Rattle.std.specs.Prelude.{◌≡◌, ◌<◌, ◌⊎◌, ◌^◌, ℕ,
 ghost use Rattle.clap.specs.Words.{HasKind, fault_of, first_value, found_of, kind_of};
 ghost use Rattle.command_line.specs.Parses.{AreParsed};
 ghost use Rattle.script_lang.specs.Words.{number_of};
-ghost use Rattle.debug_options.specs.Limits.{IsUpTo};
+ghost use Rattle.debug_options.specs.Limits.{IsBounded, IsUpTo};
 ghost use Rattle.debug_options.specs.Lines.{sbigdb};
-ghost use Rattle.debug_options.specs.Reads.{GivesNone, IsNamedBy, NamesNone, ReadsOptions};
+ghost use Rattle.debug_options.specs.Reads.{GivesNone, IsNamedBy, NamesNone, ReadsOptions, begin_in};
 
-use crate::given::Options;
-use crate::help::{MOST, MOST_QUANTUM, MOST_TURNS, QUANTUM, SCRIPT, command};
+use crate::begins::begin_named;
+use crate::given::{Begin, Options};
+use crate::help::{
+    MOST, MOST_QUANTUM, MOST_TURNS, ORDER, PREEMPTIONS, QUANTUM, SCHEDULE, SCRIPT, SEED, command,
+};
 use clap::error::ErrorKind;
-use clap::{ArgMatches, Error};
-use command_line::{out_of_range, parse, path_given, payload_paths};
+use clap::{ArgMatches, Command, Error};
+use command_line::{parse, path_given, payload_paths};
 use script_lang::number as number_in;
 use std::alloc::{AllocError, Global};
 use std::convert::AsStr;
+
+/// What is said of options that do not go together.
+const APART: &str =
+    "--order goes with --preemptions, and --seed, a number below 2^64, with --schedule alone";
 
 /// A number that was given, 1 to `most`, in decimal digits.
 fn number(matches: &ArgMatches<'_>, id: &str, most: u64) -> Option<u32>
@@ -32,16 +39,33 @@ fn number(matches: &ArgMatches<'_>, id: &str, most: u64) -> Option<u32>
     Some(number as u32)
 }
 
-/// The options of a command line that was parsed. None where a value is missing or out of range. The parser's own checks
-/// let no such command line through.
+/// Where the session of a command line that was parsed begins. None where the words do not go together.
+fn begin(matches: &ArgMatches<'_>) -> Option<Begin>
+    ensures value { result ≡ begin_in (found_of matches.now) }
+    ensures bounded { IfSome result IsBounded }
+{
+    begin_named(
+        matches.get_str(SCHEDULE),
+        matches.get_str(SEED),
+        matches.get_str(PREEMPTIONS),
+        matches.get_str(ORDER),
+    )
+}
+
+/// The options of a command line that was parsed. None where a value is missing or out of range, which the parser's own
+/// checks let through nowhere, or where two of them do not go together.
 fn options_in(alloc: Global, matches: &ArgMatches<'_>) -> Result<Option<Options>, AllocError>
     ensures reads { IfOk result (λ found. IfSome found (ReadsOptions (found_of matches.now))) }
+    ensures bounded { IfOk result (λ found. IfSome found (λ o. IsBounded o.begin)) }
     ensures none { IfOk result (λ found. found ≡ None → GivesNone (found_of matches.now)) }
 {
     let Some(script) = path_given(alloc, matches, SCRIPT)? else {
         return Ok(None);
     };
     let payloads = payload_paths(alloc, matches)?;
+    let Some(begin) = begin(matches) else {
+        return Ok(None);
+    };
     let Some(quantum) = number(matches, QUANTUM, MOST_QUANTUM) else {
         return Ok(None);
     };
@@ -51,6 +75,7 @@ fn options_in(alloc: Global, matches: &ArgMatches<'_>) -> Result<Option<Options>
     Ok(Some(Options {
         script,
         payloads,
+        begin,
         quantum,
         most,
     }))
@@ -65,11 +90,19 @@ fn parsed<'a, S: AsStr>(alloc: Global, words: &'a [S]) -> Result<ArgMatches<'a>,
     parse(command(alloc)?, words)
 }
 
+/// The fault of options that do not go together.
+fn apart(mut command: Command<'_>) -> Result<Error, AllocError>
+    ensures { IfOk result (λ e. kind_of e ≡ ErrorKind.ValueValidation) }
+{
+    command.error(ErrorKind::ValueValidation, APART)
+}
+
 /// Reads a command line, the program's name first. The error is the command line's own text, which is the help or the
 /// version too, or says that memory was refused.
 pub fn options_of<'a, S: AsStr>(alloc: Global, words: &'a [S]) -> Result<Options, Error>
     // Each option is what the words say, as the command line's parser reads them.
     ensures named { IfOk result (IsNamedBy (map S.text words.now)) }
+    ensures bounded { IfOk result (λ o. IsBounded o.begin) }
     // Else memory was refused, or the words name no session. The kind of the error says which.
     ensures refused { IfErr result (λ e. (kind_of e ≡ ErrorKind.OutOfMemory)
         ⊎ NamesNone (map S.text words.now) (kind_of e)) }
@@ -78,7 +111,7 @@ pub fn options_of<'a, S: AsStr>(alloc: Global, words: &'a [S]) -> Result<Options
     match options_in(alloc, &matches)? {
         Some(options) => Ok(options),
         None => {
-            let fault = out_of_range(command(alloc)?)?;
+            let fault = apart(command(alloc)?)?;
             Err(fault)
         }
     }

@@ -6,10 +6,14 @@ use Rattle.debug_session.specs.Sessions.{size_of}
 use Rattle.debug_session.specs.declared.halts.Stop.{Stop}
 use Rattle.debug_session.specs.declared.stops.Stops.{Stops}
 use Rattle.debug_session.specs.declared.stops.Watch.{Watch}
-use Rattle.gdb_requests.specs.declared.requests.Look.{Look}
-use Rattle.gdb_requests.specs.declared.requests.Look.TheVariants as looks
-use Rattle.gdb_requests.specs.declared.requests.Request.{Request}
-use Rattle.gdb_requests.specs.declared.requests.Request.TheVariants as asks
+use Rattle.debug_session.specs.declared.stops.WatchKind.{WatchKind}
+use Rattle.debug_session.specs.declared.stops.WatchKind.TheVariants as kinds
+use Rattle.gdb_protocol.specs.declared.requests.Look.{Look}
+use Rattle.gdb_protocol.specs.declared.requests.Look.TheVariants as looks
+use Rattle.gdb_protocol.specs.declared.requests.Watching.{Watching}
+use Rattle.gdb_protocol.specs.declared.requests.Watching.TheVariants as watching
+use Rattle.gdb_protocol.specs.declared.requests.Request.{Request}
+use Rattle.gdb_protocol.specs.declared.requests.Request.TheVariants as asks
 use Rattle.debug_packets.specs.declared.talk.Talk.{Talk}
 use Rattle.debug_packets.specs.Replies.{hart_named}
 use Rattle.debug_packets.specs.Talks.{acknowledges_in, is_over_in, last_in, runner_in, session_in, takes_in}
@@ -20,10 +24,19 @@ points_after (looks.SetPoint address) points = with_point address points
 points_after (looks.ClearPoint address) points = without_point address points
 points_after look points = points
 
+-- a watch on writes sees changes
+abbrev pub kind_of : Watching → WatchKind
+kind_of watching.Writes = kinds.Changes
+kind_of watching.Reads = kinds.Reads
+kind_of watching.Accesses = kinds.Accesses
+
+abbrev pub watch_of : Watching → ℕ → ℕ → Watch
+watch_of what address count = record { kind = kind_of what; address = address; count = count }
+
 -- the watchpoints behind it
 abbrev pub watches_after : Look → List Watch → List Watch
-watches_after (looks.SetWatch address count) watches = with_watch (record { address = address; count = count }) watches
-watches_after (looks.ClearWatch address count) watches = without_watch (record { address = address; count = count }) watches
+watches_after (looks.SetWatch what address count) watches = with_watch (watch_of what address count) watches
+watches_after (looks.ClearWatch what address count) watches = without_watch (watch_of what address count) watches
 watches_after look watches = watches
 
 -- both lists behind a request; one that moves the board leaves them

@@ -25,13 +25,13 @@ use Rattle.debug_session.specs.declared.session.Session.{Session}
 use Rattle.debug_session.specs.declared.stops.Stops.{Stops}
 use Rattle.debug_timeline.specs.Ats.{Ran}
 use Rattle.debug_timeline.specs.declared.timeline.Timeline.{Timeline}
-use Rattle.gdb_requests.specs.Fields.{behind_prefix}
+use Rattle.gdb_protocol.specs.Fields.{behind_prefix}
 use Rattle.debug_packets.specs.declared.asked.Asked.{Asked}
 use Rattle.debug_packets.specs.declared.asked.Asked.TheVariants as asked
-use Rattle.gdb_requests.specs.declared.requests.Move.{Move}
-use Rattle.gdb_requests.specs.declared.requests.Move.TheVariants as moves
-use Rattle.gdb_requests.specs.declared.requests.Request.{Request}
-use Rattle.gdb_requests.specs.declared.requests.Request.TheVariants as asks
+use Rattle.gdb_protocol.specs.declared.requests.Move.{Move}
+use Rattle.gdb_protocol.specs.declared.requests.Move.TheVariants as moves
+use Rattle.gdb_protocol.specs.declared.requests.Request.{Request}
+use Rattle.gdb_protocol.specs.declared.requests.Request.TheVariants as asks
 use Rattle.script_lang.specs.Scripts.{Script, script_of}
 use Rattle.script_lang.specs.Words.{decoded, number_of}
 use Rattle.script_lang.specs.declared.line.Line.{Line}

@@ -5,16 +5,16 @@ use Rattle.std.specs.Fmt.{digits}
 use Rattle.board_model.specs.Shapes.{Size}
 use Rattle.debug_timeline.specs.Lives.{machine_of, memory_in, register_in}
 use Rattle.debug_timeline.specs.declared.debugged.DebuggedBench.{DebuggedBench}
-use Rattle.gdb_packets.specs.Packets.{digit_of}
+use Rattle.gdb_protocol.specs.Packets.{digit_of}
 use Rattle.debug_packets.specs.Talks.{hart_or}
 use Rattle.debug_packets.specs.Texts.{threads_object}
-use Rattle.gdb_replies.specs.Replies.{memory_map_text, pairs_of, part_text, register_text, registers_text, threads_text}
-use Rattle.gdb_requests.specs.declared.requests.Look.{Look}
-use Rattle.gdb_requests.specs.declared.requests.Look.TheVariants as looks
-use Rattle.gdb_requests.specs.declared.requests.Object.{Object}
-use Rattle.gdb_requests.specs.declared.requests.Object.TheVariants as objects
-use Rattle.gdb_requests.specs.declared.requests.Request.{Request}
-use Rattle.gdb_requests.specs.declared.requests.Request.TheVariants as asks
+use Rattle.gdb_protocol.specs.Replies.{memory_map_text, pairs_of, part_text, register_text, registers_text, threads_text}
+use Rattle.gdb_protocol.specs.declared.requests.Look.{Look}
+use Rattle.gdb_protocol.specs.declared.requests.Look.TheVariants as looks
+use Rattle.gdb_protocol.specs.declared.requests.Object.{Object}
+use Rattle.gdb_protocol.specs.declared.requests.Object.TheVariants as objects
+use Rattle.gdb_protocol.specs.declared.requests.Request.{Request}
+use Rattle.gdb_protocol.specs.declared.requests.Request.TheVariants as asks
 use lib.Chars.{codes}
 
 -- the hart of a thread, whose number is one more
@@ -70,8 +70,8 @@ IsLookReply looks.AnyThread size h b stands out = Says (codes "OK") out
 IsLookReply (looks.IsAlive thread) size h b stands out = Says (thread_reply size thread) out
 IsLookReply (looks.SetPoint address) size h b stands out = Says (codes "OK") out
 IsLookReply (looks.ClearPoint address) size h b stands out = Says (codes "OK") out
-IsLookReply (looks.SetWatch address count) size h b stands out = Says (codes "OK") out
-IsLookReply (looks.ClearWatch address count) size h b stands out = Says (codes "OK") out
+IsLookReply (looks.SetWatch what address count) size h b stands out = Says (codes "OK") out
+IsLookReply (looks.ClearWatch what address count) size h b stands out = Says (codes "OK") out
 IsLookReply looks.Write size h b stands out = Says (codes "E01") out
 IsLookReply looks.Supports size h b stands out = Says features_text out
 IsLookReply (looks.Part object offset count) size h b stands out = SaysPart object size b offset count out

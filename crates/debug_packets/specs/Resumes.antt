@@ -4,9 +4,9 @@ use Rattle.std.specs.List.{slice_split}
 use Rattle.board_model.specs.Shapes.{Size}
 use Rattle.debug_packets.specs.declared.asked.Asked.{Asked}
 use Rattle.debug_packets.specs.declared.asked.Asked.TheVariants as asked
-use Rattle.gdb_requests.specs.Actions.{are_known, first_asked}
-use Rattle.gdb_requests.specs.declared.actions.Action.{Action}
-use Rattle.gdb_requests.specs.declared.actions.Action.TheVariants.{Step, StepWithin, Go}
+use Rattle.gdb_protocol.specs.Actions.{are_known, first_asked}
+use Rattle.gdb_protocol.specs.declared.actions.Action.{Action}
+use Rattle.gdb_protocol.specs.declared.actions.Action.TheVariants.{Step, StepWithin, Go}
 
 abbrev pub goes : Option Action → Bool
 goes None = false

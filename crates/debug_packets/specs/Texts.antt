@@ -9,7 +9,7 @@ use Rattle.debug_session.specs.Turns.{lives_begun, turns_told}
 use Rattle.script_lang.specs.declared.line.Line.{Line}
 use Rattle.debug_timeline.specs.Lives.{machine_of, pc_in}
 use Rattle.debug_timeline.specs.declared.debugged.DebuggedBench.{DebuggedBench}
-use Rattle.gdb_replies.specs.Replies.{pairs_of}
+use Rattle.gdb_protocol.specs.Replies.{pairs_of}
 use lib.Chars.{codes}
 
 abbrev pub board_line : Size → List ℕ

@@ -6,7 +6,7 @@ ghost use Rattle.debug_session.specs.Sessions.{plan_of, size_of, stops_of, timel
 ghost use Rattle.debug_packets.specs.Kept.{IsTalk};
 ghost use Rattle.debug_packets.specs.Moved.{IsTold, MovedBy, ResumedBy, SteppedOnce, WentAlone, WentBack, WentFarBack, WentOn};
 ghost use Rattle.debug_packets.specs.Talks.{runs_in};
-ghost use Rattle.gdb_requests.specs.Fields.{behind_prefix};
+ghost use Rattle.gdb_protocol.specs.Fields.{behind_prefix};
 
 use crate::answers::Payloads;
 use crate::asked::Asked;
@@ -18,7 +18,7 @@ use bench_report::Answer;
 use board_model::{HartId, Refusal};
 use crew::Crew;
 use debug_session::{Halt, Stop};
-use gdb_requests::Move;
+use gdb_protocol::Move;
 use std::sync::atomic::AtomicBool;
 
 impl<'a, C: Crew> Talk<'a, C> {

@@ -8,15 +8,15 @@ ghost use Rattle.debug_packets.specs.Kept.{IsKept, IsTalk, Keeps, Listed, points
 ghost use Rattle.debug_packets.specs.Moved.{Moved};
 ghost use Rattle.debug_packets.specs.Stops.{stop_text};
 ghost use Rattle.debug_packets.specs.Talks.{acknowledges_in, hart_in, is_over_in, last_in, runner_in, sent_in, session_in, takes_in};
-ghost use Rattle.gdb_requests.specs.Asked.{request_of};
-ghost use Rattle.gdb_requests.specs.declared.requests.Look.{Look};
-ghost use Rattle.gdb_requests.specs.declared.requests.Request.TheVariants as asks;
+ghost use Rattle.gdb_protocol.specs.Asked.{request_of};
+ghost use Rattle.gdb_protocol.specs.declared.requests.Look.{Look};
+ghost use Rattle.gdb_protocol.specs.declared.requests.Request.TheVariants as asks;
 
 use crate::talk::Talk;
 use board_model::Refusal;
 use crew::Crew;
 use debug_session::{Halt, Session, Stop};
-use gdb_requests::{Look, Move, Request, request_of};
+use gdb_protocol::{Look, Move, Request, request_of};
 use std::alloc::Global;
 use std::sync::atomic::AtomicBool;
 

@@ -16,4 +16,4 @@ mod wire;
 
 pub use answers::Payloads;
 pub use talk::Talk;
-pub use wire::{acknowledge, reply, reply_again};
+pub use wire::{acknowledge, prepare, reply_again, send_answer};

@@ -3,7 +3,7 @@
 ghost use Rattle.std.specs.Prelude.{◌≡◌, IfOk, OnOk};
 ghost use Rattle.std.specs.Option.{option_map};
 ghost use Rattle.debug_session.specs.Sessions.{bench_of, plan_of, points_of, size_of, timeline_of, watches_of};
-ghost use Rattle.debug_packets.specs.Kept.{IsKept, IsTalk, StaysOpen, named_or, points_after, watches_after};
+ghost use Rattle.debug_packets.specs.Kept.{IsKept, IsTalk, StaysOpen, named_or, points_after, watch_of, watches_after};
 ghost use Rattle.debug_packets.specs.Stops.{stop_text};
 ghost use Rattle.debug_packets.specs.Replies.{hart_named, hart_shown, IsLookReply};
 ghost use Rattle.debug_packets.specs.Talks.{hart_or};
@@ -12,8 +12,24 @@ use crate::replies::{hart_of, reply_of};
 use crate::talk::Talk;
 use board_model::Refusal;
 use crew::Crew;
-use debug_session::Watch;
-use gdb_requests::{Look, behind, parts};
+use debug_session::{Watch, WatchKind};
+use gdb_protocol::{Look, Watching, behind, parts};
+
+/// The watchpoint that a packet names. A watch on writes sees changes.
+fn watch_of(what: Watching, address: u64, count: u64) -> Watch
+    ensures { result ≡ watch_of what address count }
+{
+    let kind = match what {
+        Watching::Writes => WatchKind::Changes,
+        Watching::Reads => WatchKind::Reads,
+        Watching::Accesses => WatchKind::Accesses,
+    };
+    Watch {
+        kind,
+        address,
+        count,
+    }
+}
 
 impl<'a, C: Crew> Talk<'a, C> {
     /// Answers a request that moves nothing: none where nothing is to be sent.
@@ -67,9 +83,11 @@ impl<'a, C: Crew> Talk<'a, C> {
                 self.session.clear_point(address);
                 Ok(())
             }
-            Look::SetWatch(address, count) => self.session.set_watch(Watch { address, count }),
-            Look::ClearWatch(address, count) => {
-                self.session.clear_watch(Watch { address, count });
+            Look::SetWatch(what, address, count) => {
+                self.session.set_watch(watch_of(what, address, count))
+            }
+            Look::ClearWatch(what, address, count) => {
+                self.session.clear_watch(watch_of(what, address, count));
                 Ok(())
             }
             Look::Supports => self.hear_offers(packet),

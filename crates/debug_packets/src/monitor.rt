@@ -7,7 +7,7 @@ ghost use Rattle.debug_session.specs.Sessions.{begins_of, history_of, plan_of, s
 ghost use Rattle.debug_packets.specs.Kept.{StaysOpen};
 ghost use Rattle.debug_packets.specs.Moved.{GotoOr, LineRan, MonitoredBy, TextSaid, WentForth, WentOver, goto_in, hexed, just_one, line_in, script_text};
 ghost use Rattle.debug_session.specs.Turns.{turns_made};
-ghost use Rattle.gdb_requests.specs.Fields.{behind_prefix};
+ghost use Rattle.gdb_protocol.specs.Fields.{behind_prefix};
 ghost use Rattle.script_lang.specs.Lines.{IsLineInRange};
 
 use crate::answers::Payloads;
@@ -16,7 +16,7 @@ use crate::texts::{answer_text, board_text, harts_text, report_text, tell, when_
 use board_model::{HartId, Refusal, Shape};
 use crew::Crew;
 use debug_session::Session;
-use gdb_requests::behind;
+use gdb_protocol::behind;
 use hex::FromHexError;
 use script_lang::{Line, number, parse_script};
 use std::alloc::Global;

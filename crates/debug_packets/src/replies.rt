@@ -2,8 +2,8 @@
 
 ghost use Rattle.std.specs.Prelude.{◌≡◌, ◌+◌, ◌++◌, ◌∷◌, [], codes, IfOk};
 ghost use Rattle.std.specs.Option.{option_map};
-ghost use Rattle.gdb_packets.specs.Packets.{digit_of};
-ghost use Rattle.gdb_replies.specs.Replies.{registers_text};
+ghost use Rattle.gdb_protocol.specs.Packets.{digit_of};
+ghost use Rattle.gdb_protocol.specs.Replies.{registers_text};
 ghost use Rattle.debug_timeline.specs.Lives.{memory_in, register_in};
 ghost use Rattle.debug_session.specs.Sessions.{bench_of, machine_of_session, size_of};
 ghost use Rattle.debug_packets.specs.Replies.{features_text, hart_named, memory_reply, register_reply, thread_reply, IsLookReply, IsPart};
@@ -14,9 +14,9 @@ use crate::texts::threads_object;
 use board_model::{HartId, Refusal, Shape};
 use crew::Crew;
 use debug_session::{REGISTERS, Session, Stop};
-use gdb_packets::digit;
-use gdb_replies::{DESCRIPTION, memory_map, part, put_hex, put_register, threads};
-use gdb_requests::{Look, Object};
+use gdb_protocol::{
+    DESCRIPTION, Look, Object, digit, memory_map, part, put_hex, put_register, threads,
+};
 use std::alloc::Global;
 
 /// The most bytes of a packet, as GDB is told.
@@ -167,8 +167,8 @@ pub(crate) fn reply_of<C: Crew>(
         | Look::AnyThread
         | Look::SetPoint(_)
         | Look::ClearPoint(_)
-        | Look::SetWatch(_, _)
-        | Look::ClearWatch(_, _)
+        | Look::SetWatch(_, _, _)
+        | Look::ClearWatch(_, _, _)
         | Look::NoAcks
         | Look::Detach => Ok(Some(Vec::from_slice(alloc, b"OK")?)),
         Look::Write | Look::Malformed => Ok(Some(Vec::from_slice(alloc, b"E01")?)),

@@ -2,12 +2,12 @@
 
 ghost use Rattle.std.specs.Prelude.{◌≡◌, ◌<◌, ◌+◌, false, map, codes, IfOk, IfNone, IfSome};
 ghost use Rattle.debug_packets.specs.Resumes.{goers_by, is_going, steps, IsAskedBy, IsAskedIn, NoneSteps};
-ghost use Rattle.gdb_requests.specs.Actions.{first_asked};
-ghost use Rattle.gdb_requests.specs.Fields.{behind_prefix};
+ghost use Rattle.gdb_protocol.specs.Actions.{first_asked};
+ghost use Rattle.gdb_protocol.specs.Fields.{behind_prefix};
 
 use crate::asked::Asked;
 use board_model::{Refusal, Shape};
-use gdb_requests::{Action, action_for, are_known, behind, parts};
+use gdb_protocol::{Action, action_for, are_known, behind, parts};
 use std::alloc::Global;
 
 /// The step that a hart is to make, if it is to make one.

@@ -1,11 +1,11 @@
 //! Why nothing runs, as a packet.
 
 ghost use Rattle.std.specs.Prelude.{◌≡◌, ◌++◌, IfOk, OnOk};
-ghost use Rattle.debug_packets.specs.Stops.{reason_text, signal_text, stop_text, watch_text};
+ghost use Rattle.debug_packets.specs.Stops.{reason_text, signal_text, stop_text, watch_text, watch_word};
 
 use board_model::HartId;
-use debug_session::{Halt, Stop};
-use gdb_packets::digit;
+use debug_session::{Halt, Stop, Watch, WatchKind};
+use gdb_protocol::digit;
 use std::alloc::{AllocError, Global};
 
 /// The number of GDB's signal that says why nothing runs, as two digits: SIGINT, SIGPWR where the board is off or
@@ -33,17 +33,30 @@ fn put_reason(
 {
     match halt {
         Halt::Point if takes_swbreak => out.extend_from_slice(b"swbreak:;"),
-        Halt::Watched(address) => put_watch(alloc, out, address),
+        Halt::Watched(watch) => put_watch(alloc, out, watch),
         Halt::Begin => out.extend_from_slice(b"replaylog:begin;"),
         _ => Ok(()),
     }
 }
 
-/// Writes what was watched.
-fn put_watch(alloc: Global, out: &mut Vec<u8>, address: u64) -> Result<(), AllocError>
-    ensures { OnOk result (out.new.items ≡ out.old.items ++ watch_text address) }
+/// GDB's word for a watchpoint.
+fn watch_word(kind: WatchKind) -> &'static str
+    ensures { result.now ≡ watch_word kind }
 {
-    let text = format!(in alloc; "watch:{address:x};")?;
+    match kind {
+        WatchKind::Changes => "watch",
+        WatchKind::Reads => "rwatch",
+        WatchKind::Accesses => "awatch",
+    }
+}
+
+/// Writes the watchpoint that was touched.
+fn put_watch(alloc: Global, out: &mut Vec<u8>, watch: Watch) -> Result<(), AllocError>
+    ensures { OnOk result (out.new.items ≡ out.old.items ++ watch_text watch) }
+{
+    let word = watch_word(watch.kind);
+    let address = watch.address;
+    let text = format!(in alloc; "{word}:{address:x};")?;
     out.extend_from_slice(text.as_bytes())
 }
 

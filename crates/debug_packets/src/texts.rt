@@ -11,7 +11,7 @@ use board_console::StateText;
 use board_model::{Durable, HartId, Refusal, Shape};
 use crew::Crew;
 use debug_session::Session;
-use gdb_replies::put_hex;
+use gdb_protocol::put_hex;
 use std::alloc::{AllocError, Global};
 
 /// The most bytes of a text for the console in one packet.

@@ -5,13 +5,12 @@ ghost use Rattle.std.specs.Io.KnownBytes.{Appends};
 ghost use Rattle.debug_timeline.specs.Ats.{IsAt};
 ghost use Rattle.debug_session.specs.Sessions.{size_of, timeline_of};
 ghost use Rattle.debug_packets.specs.Answers.{IsReplied, again_text, front_text};
-ghost use Rattle.debug_packets.specs.Talks.{session_in};
-ghost use Rattle.gdb_replies.specs.Replies.{packets_of};
+ghost use Rattle.debug_packets.specs.Talks.{sent_in, session_in};
 
 use crate::talk::Talk;
 use board_model::Refusal;
 use crew::Crew;
-use gdb_replies::packets;
+use gdb_protocol::packets;
 use std::alloc::Global;
 use std::io::Write;
 use std::sync::atomic::AtomicBool;
@@ -37,24 +36,31 @@ pub fn acknowledge<W: Write>(acknowledges: bool, out: &mut W) -> Result<(), Refu
     }
 }
 
-/// Answers a packet on a writer: the payloads of its answer, each in its packet. The talk keeps them, since they may be
-/// wanted again.
+/// Makes the answer to a packet: its payloads, each in its packet. The talk keeps it, to be sent, and again where that is wanted.
+/// Nothing is sent yet.
 ///
-/// Refused `Output` where the debugger does not read, and `Memory`; then the talk is of no use.
-pub fn reply<C: Crew, W: Write>(
+/// Refused `Memory`, and then the talk is of no use.
+pub fn prepare<C: Crew>(
     talk: &mut Talk<'_, C>,
     alloc: Global,
     packet: &[u8],
     interrupt: &AtomicBool,
-    out: &mut W,
 ) -> Result<(), Refusal>
     requires at { IsAt (size_of (session_in talk.old)) (timeline_of (session_in talk.old)) }
     ensures at { OnOk result (IsAt (size_of (session_in talk.new)) (timeline_of (session_in talk.new))) }
-    ensures sent { OnOk result ((payloads : List (List ℕ)) × IsReplied packet.now talk.old talk.new payloads
-        × Appends (W.contents out.old) (W.contents out.new) (packets_of payloads)) }
+    ensures prepared { OnOk result ((payloads : List (List ℕ)) × IsReplied packet.now talk.old talk.new payloads) }
 {
     let payloads = talk.answer(packet, interrupt)?;
     talk.sent = packets(alloc, &payloads)?;
+    Ok(())
+}
+
+/// Sends the answer that the talk keeps.
+///
+/// Refused `Output` where the debugger does not read.
+pub fn send_answer<C: Crew, W: Write>(talk: &Talk<'_, C>, out: &mut W) -> Result<(), Refusal>
+    ensures { OnOk result (Appends (W.contents out.old) (W.contents out.new) (sent_in talk.now)) }
+{
     send(out, &talk.sent)
 }
 
@@ -65,7 +71,7 @@ pub fn reply_again<C: Crew, W: Write>(talk: &Talk<'_, C>, out: &mut W) -> Result
     ensures { OnOk result (Appends (W.contents out.old) (W.contents out.new) (again_text talk.now)) }
 {
     if talk.acknowledges() {
-        send(out, &talk.sent)
+        send_answer(talk, out)
     } else {
         send(out, b"")
     }

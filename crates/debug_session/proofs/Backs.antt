@@ -16,13 +16,14 @@ use Rattle.debug_timeline.specs.Ats.{IsPlace}
 use Rattle.debug_timeline.specs.declared.timeline.Timeline.{Timeline}
 use Rattle.debug_timeline.proofs.Histories.{left_moments, place_at, place_before}
 use Rattle.debug_session.specs.Backs.{BackTo, EndsAt, FoundIn, FoundOf, IsEnd, IsPassed, IsRowPast, IsSeen, IsWhyBack, MayMove, PassBack, before_place, halt_back, later_place, later_turn}
-use Rattle.debug_session.specs.Firsts.{changed_by, is_at_point, one_turn}
+use Rattle.debug_session.specs.Firsts.{Touches, is_at_point, one_turn}
 use Rattle.debug_session.specs.Steps.{MakesNone}
 use Rattle.debug_session.specs.declared.back.Place.{Place}
 use Rattle.debug_session.specs.declared.halts.Halt.{Halt}
 use Rattle.debug_session.specs.declared.halts.Halt.TheVariants as halts
 use Rattle.debug_session.specs.declared.halts.Stop.{Stop}
 use Rattle.debug_session.specs.declared.stops.Stops.{Stops}
+use Rattle.debug_session.specs.declared.stops.Watch.{Watch}
 
 -- a run, and then another
 run_append : (size : Size) (xs ys : List Line) (answers : List Answer) (a b c : Bench) → Run size a xs answers b → Leaves size b ys c → Leaves size a (xs ++ ys) c
@@ -88,10 +89,10 @@ module _ (size : Size) (stops : Stops) where
   pass_run (x ∷ xs) b new (next, (move, is), passed) = let more = pass_run xs next new passed in (move.0 ∷ more.0, (next, move.1, more.1))
 
   -- what is seen of a turn
-  pub is_seen : (h : ℕ) (b new : Bench) (stands : Bool) (changed : Option ℕ) → is_at_point stops h b ≡ stands → changed_by stops b new ≡ changed → IsSeen (halt_back stands changed) stops h b new
+  pub is_seen : (h : ℕ) (b new : Bench) (stands : Bool) (touched : Option Watch) → is_at_point stops h b ≡ stands → Touches stops h b new touched → IsSeen (halt_back stands touched) stops h b new
   is_seen h b new true None at told = at
   is_seen h b new false None at told = (at, told)
-  is_seen h b new stands (Some address) at told = told
+  is_seen h b new stands (Some w) at told = told
 
   -- a line that makes no turns is passed
   pub other_passed : (line : Line) (b new : Bench) → ((h n : ℕ) → line ≡ lines.Turn h n → ⊥) → MayMove size line b new → PassBack size stops (singles line) b new
@@ -190,7 +191,7 @@ module _ (size : Size) (stops : Stops) where
   why_back halts.Begin h before b new seen = absurd seen
   why_back halts.Stepped h before b new seen = seen
   why_back halts.Point h before b new seen = seen
-  why_back (halts.Watched address) h before b new seen = seen
+  why_back (halts.Watched w) h before b new seen = seen
   why_back halts.Ended h before b new seen = seen
   why_back halts.Off h before b new seen = seen
   why_back halts.Idle h before b new seen = seen

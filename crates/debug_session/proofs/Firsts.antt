@@ -1,7 +1,7 @@
 -- Running forward ends at the first halt.
 use Rattle.std.proofs.Common.{Result, Ok, Err, ◌≡◌, ◌<◌, ◌==◌, take, get_or, length, ◌+◌, ◌-◌, ℕ, zero, suc, Bool, true, false, List, [], ◌∷◌, ◌++◌, Option, Some, None, refl, sym, ap, ◌∙◌, subst, append_assoc, arith}
 use Rattle.std.specs.Option.{is_some}
-use Rattle.std.specs.Prelude.{IfOk, map, replicate, bytes_eq, if◌then◌else◌}
+use Rattle.std.specs.Prelude.{IfOk, map, replicate, if◌then◌else◌}
 use Rattle.std.proofs.lemmas.List.{append-nil, map-append, replicate-append-replicate, take_more}
 use Rattle.board_model.specs.Shapes.{Size}
 use Rattle.machine.specs.Machine.{Machine}
@@ -20,13 +20,16 @@ use Rattle.debug_timeline.specs.declared.timeline.Timeline.{Timeline}
 use Rattle.debug_timeline.specs.Ats.{IsLeft}
 use Rattle.debug_timeline.specs.Lives.{machine_of, pc_in, stands_in}
 use Rattle.debug_timeline.specs.Passes.{GoesTo, Passes, machine_left}
+use Rattle.debug_timeline.specs.Loads.{LoadsNext}
+use Rattle.debug_timeline.specs.declared.loads.Load.{Load}
 use Rattle.debug_timeline.proofs.Passed.{shown_machine}
+use Rattle.debug_timeline.proofs.OneLoad.{one_load}
 use Rattle.debug_session.specs.declared.halts.Halt.{Halt}
 use Rattle.debug_session.specs.declared.halts.Halt.TheVariants as halts
 use Rattle.debug_session.specs.declared.stops.Stops.{Stops}
 use Rattle.debug_session.specs.declared.stops.Watch.{Watch}
 use Rattle.debug_session.specs.Steps.{halt_step}
-use Rattle.debug_session.specs.Firsts.{KeepsWatched, PassAll, RanBy, RanTo, Stretched, ToHalt, changed_by, changed_in, changed_since, halt_after, halt_seen, halts_all, is_at_point, is_of_turn, one_turn, seen_all, seen_by}
+use Rattle.debug_session.specs.Firsts.{KeepsWatched, PassAll, RanBy, RanTo, Stretched, ToHalt, Touches, halt_after, halt_seen, halts_all, is_at_point, is_of_turn, is_quiet, one_turn, seen_all, seen_by, touched_by, touched_in, touched_since}
 
 pub ok_more : {A E : Type 0} (r : Result A E) (P Q : A → Type 0) → ((x : A) → P x → Q x) → IfOk r P → IfOk r Q
 ok_more (Ok x) P Q more h = more x h
@@ -42,10 +45,10 @@ seen_more watches i d m less =
     ap (seen_all m) (take_more watches i d less) ∙ map-append (λ w. (w, seen_by m w)) (take i watches) (get_or watches i d ∷ [])
 
 -- of what was seen, the first that is another now
-since_seen : (before now : Option Machine) (watches : List Watch) → changed_since now (seen_all before watches) ≡ changed_in before now watches
-since_seen before now [] = refl
-since_seen before now (w ∷ more) =
-    ap (λ (rest : Option ℕ). if bytes_eq (seen_by before w) (seen_by now w) then rest else Some w.address) (since_seen before now more)
+since_seen : (before now : Option Machine) (load : Option Load) (watches : List Watch) → touched_since now load (seen_all before watches) ≡ touched_in before now load watches
+since_seen before now load [] = refl
+since_seen before now load (w ∷ more) =
+    ap (λ (rest : Option Watch). if is_quiet load w (seen_by before w) (seen_by now w) then rest else Some w) (since_seen before now load more)
 
 module _ (size : Size) (stops : Stops) where
   -- ---- turns, and then others
@@ -63,16 +66,18 @@ module _ (size : Size) (stops : Stops) where
   ran_more h (Some halt) xs ys b mid new one two = by_more (is_of_turn halt) h halt xs ys b mid new one two
 
   -- ---- one turn
-  -- what was seen before a turn tells what it changed, where both machines are those of its benches
-  pub changed_along : (was now : Option Machine) (before : List (Watch × List ℕ)) (changed : Option ℕ) (b new : Bench) → before ≡ seen_all was stops.watches.items → was ≡ machine_left b.power → now ≡ machine_left new.power
-      → changed ≡ changed_since now before → changed_by stops b new ≡ changed
-  changed_along was now before changed b new had at_first at_last is =
-      let P : Option Machine → Type 0 = λ m. changed ≡ changed_in m now stops.watches.items in
-      let Q : Option Machine → Type 0 = λ m. changed ≡ changed_in (machine_left b.power) m stops.watches.items in
-      sym (subst Q at_last (subst P at_first (is ∙ ap (changed_since now) had ∙ since_seen was now stops.watches.items)))
+  -- what was seen before a turn tells what it touched, where both machines are those of its benches
+  pub touched_along : (h : ℕ) (was now : Option Machine) (load : Option Load) (before : List (Watch × List ℕ)) (touched : Option Watch) (b new : Bench) → before ≡ seen_all was stops.watches.items → was ≡ machine_left b.power → now ≡ machine_left new.power
+      → LoadsNext was h load → touched ≡ touched_since now load before → Touches stops h b new touched
+  touched_along h was now load before touched b new had at_first at_last loads is other reads =
+      let P : Option Machine → Type 0 = λ m. touched ≡ touched_in m now load stops.watches.items in
+      let Q : Option Machine → Type 0 = λ m. touched ≡ touched_in (machine_left b.power) m load stops.watches.items in
+      let R : Option Machine → Type 0 = λ m. LoadsNext m h load in
+      let same : other ≡ load = one_load (machine_left b.power) h other load reads (subst R at_first loads) in
+      ap (λ (x : Option Load). touched_by stops x b new) same ∙ sym (subst Q at_last (subst P at_first (is ∙ ap (touched_since now load) had ∙ since_seen was now load stops.watches.items)))
 
-  made_ran : (h : ℕ) (word : Word) (changed : Option ℕ) (b new : Bench) (ended stands : Bool) → halts_all word ≡ ended → is_at_point stops h new ≡ stands
-      → RowMoves size h (rows.Made 1 word) b new → changed_by stops b new ≡ changed
+  made_ran : (h : ℕ) (word : Word) (changed : Option Watch) (b new : Bench) (ended stands : Bool) → halts_all word ≡ ended → is_at_point stops h new ≡ stands
+      → RowMoves size h (rows.Made 1 word) b new → Touches stops h b new changed
       → RanTo size stops h (halt_seen (if ended then Some halts.Ended else (if stands then Some halts.Point else None)) changed) (h ∷ []) b new
   made_ran h word changed b new true stands e s moves same = ([], b, rows.Made 1 word, refl, refl, refl, moves, e)
   made_ran h word (Some a) b new false true e s moves same = ([], b, rows.Made 1 word, refl, refl, refl, moves, same)
@@ -81,10 +86,10 @@ module _ (size : Size) (stops : Stops) where
   made_ran h word None b new false false e s moves same = (new, (word, moves, e, s, same), refl)
 
   -- the row of one turn, or of none
-  pub one_ran : (h : ℕ) (row : Row) (rests : Bool) (changed : Option ℕ) (b new : Bench) → IsWithin 1 row → RowMoves size h row b new → (made_in row ≡ 0 → changed ≡ None)
-      → (made_in row ≡ 1 → changed_by stops b new ≡ changed)
+  pub one_ran : (h : ℕ) (row : Row) (rests : Bool) (changed : Option Watch) (b new : Bench) → IsWithin 1 row → RowMoves size h row b new → (made_in row ≡ 0 → changed ≡ None)
+      → (made_in row ≡ 1 → Touches stops h b new changed)
       → RanTo size stops h (halt_seen (halt_after row rests (is_at_point stops h new)) changed) (replicate (made_in row) h) b new
-  one_ran h rows.Off true changed b new one moves none same = let P : Option ℕ → Type 0 = λ c. RanTo size stops h (halt_seen None c) [] b new in subst P (sym (none refl)) moves
+  one_ran h rows.Off true changed b new one moves none same = let P : Option Watch → Type 0 = λ c. RanTo size stops h (halt_seen None c) [] b new in subst P (sym (none refl)) moves
   one_ran h rows.Off false changed b new one moves none same = moves
   one_ran h (rows.Lost n) rests changed b new one moves none same =
       let single : n ≡ 1 = omega (arith, one) in
@@ -109,9 +114,9 @@ module _ (size : Size) (stops : Stops) where
   runs_on (words.Goes dids.Resumed) e = refl
   runs_on (words.Goes dids.Next) e = refl
 
-  unwatched : stops.watches.items ≡ [] → (b new : Bench) → KeepsWatched stops b new
-  unwatched none b new =
-      let P : List Watch → Type 0 = λ ws. changed_in (machine_left b.power) (machine_left new.power) ws ≡ None in subst P (sym none) refl
+  unwatched : stops.watches.items ≡ [] → (h : ℕ) (b new : Bench) → KeepsWatched stops h b new
+  unwatched none h b new load loads =
+      let P : List Watch → Type 0 = λ ws. touched_in (machine_left b.power) (machine_left new.power) load ws ≡ None in subst P (sym none) refl
 
   replicate_snoc : (n h : ℕ) → replicate n h ++ h ∷ [] ≡ replicate (suc n) h
   replicate_snoc zero h = refl
@@ -120,7 +125,7 @@ module _ (size : Size) (stops : Stops) where
   passes_ran : stops.watches.items ≡ [] → (h n : ℕ) (b new : Bench) → Passes size h stops.points.items n b new → PassAll size stops (replicate n h) b new
   passes_ran none h zero b new passed = passed
   passes_ran none h (suc n) b new (mid, passed, (word, moves, runs, stands)) =
-      let one : PassAll size stops (h ∷ []) mid new = (new, (word, moves, runs_on word runs, stands, unwatched none mid new), refl) in
+      let one : PassAll size stops (h ∷ []) mid new = (new, (word, moves, runs_on word runs, stands, unwatched none h mid new), refl) in
       let P : List ℕ → Type 0 = λ xs. PassAll size stops xs b new in
       subst P (replicate_snoc n h) (pass_more (replicate n h) (h ∷ []) b mid new (passes_ran none h n b mid passed) one)
 
@@ -155,7 +160,7 @@ module _ (size : Size) (stops : Stops) where
       → RanTo size stops h (halt_after row rests (is_at_point stops h new)) (replicate (made_in row) h) b new
   row_ran none h most row rests b new within (mid, passed, last) =
       let stands = is_at_point stops h new in
-      let one = one_ran h (last_of row) rests None mid new (last_within row) last (λ e. refl) (λ e. unwatched none mid new) in
+      let one = one_ran h (last_of row) rests None mid new (last_within row) last (λ e. refl) (λ e. unwatched none h mid new) in
       let P : Option Halt → Type 0 = λ halt. RanTo size stops h halt (replicate (made_in (last_of row)) h) mid new in
       let there = subst P (seen_none (halt_after (last_of row) rests stands) ∙ last_after row rests stands) one in
       let all = ran_more h (halt_after row rests stands) (replicate (made_in row - 1) h) (replicate (made_in (last_of row)) h) b mid new (passes_ran none h (made_in row - 1) b mid passed) there in
@@ -182,17 +187,17 @@ module _ (size : Size) (stops : Stops) where
   }
 
   -- one turn, where bytes are watched
-  pub watched_halts : (h made : ℕ) (rests : Bool) (at halt : Option Halt) (changed : Option ℕ) (before : List (Watch × List ℕ)) (old new : Timeline) → Stretched size h 1 stops.points.items made rests at old new
+  pub watched_halts : (h made : ℕ) (rests : Bool) (at halt : Option Halt) (load : Option Load) (changed : Option Watch) (before : List (Watch × List ℕ)) (old new : Timeline) → LoadsNext (machine_of old.bench) h load → Stretched size h 1 stops.points.items made rests at old new
       → halt ≡ halt_seen at changed → (made ≡ 0 → changed ≡ None) → before ≡ seen_all (machine_of old.bench) stops.watches.items
-      → ((made ≡ 0 → ⊥) → changed ≡ changed_since (machine_of new.bench) before)
+      → ((made ≡ 0 → ⊥) → changed ≡ touched_since (machine_of new.bench) load before)
       → ToHalt size stops h halt old new
-  watched_halts h made rests at halt changed before old new (row, turns, count, within, why, is) seen none had same = record {
+  watched_halts h made rests at halt load changed before old new loads (row, turns, count, within, why, is) seen none had same = record {
     harts = replicate (made_in row) h;
     grew = turns.grew ∙ ap (λ (xs : List Line). moments old.history ++ xs) (map_turns (made_in row) h);
     ran = λ b left. (let did = turns.moves b left in
         let stands : stands_in stops.points.items (pc_in h (machine_of new.bench)) ≡ is_at_point stops h did.0 = ap (λ (m : Option Machine). stands_in stops.points.items (pc_in h m)) (shown new did.0 did.2) in
         let P : Option Halt → Type 0 = λ x. RanTo size stops h x (replicate (made_in row) h) b did.0 in
-        let facts = λ (one : made_in row ≡ 1). changed_along (machine_of old.bench) (machine_of new.bench) before changed b did.0 had (shown old b left) (shown new did.0 did.2) (same (λ zero. absurd (omega (arith, one, zero, count)))) in
+        let facts = λ (one : made_in row ≡ 1). touched_along h (machine_of old.bench) (machine_of new.bench) load before changed b did.0 had (shown old b left) (shown new did.0 did.2) loads (same (λ zero. absurd (omega (arith, one, zero, count)))) in
         (did.0, subst P (sym (seen ∙ ap (λ (x : Option Halt). halt_seen x changed) (is ∙ ap (halt_after row rests) stands))) (one_ran h row rests changed b did.0 within did.1 (λ e. none (count ∙ e)) facts), did.2));
   }
 

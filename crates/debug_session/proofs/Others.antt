@@ -1,16 +1,17 @@
--- The first watchpoint that changed, as the code finds it.
+-- The first watchpoint that a turn touched, as the code finds it.
 use Rattle.std.proofs.Common.{◌≡◌, ℕ, Bool, true, false, List, [], ◌∷◌, Option, Some, None, refl, ap, ◌∙◌}
-use Rattle.std.specs.Prelude.{bytes_eq, if◌then◌else◌}
+use Rattle.std.specs.Prelude.{if◌then◌else◌}
 use Rattle.machine.specs.Machine.{Machine}
 use Rattle.debug_session.specs.declared.stops.Watch.{Watch}
-use Rattle.debug_session.specs.Firsts.{changed_since, seen_by}
+use Rattle.debug_session.specs.Firsts.{is_quiet, seen_by, touched_since}
+use Rattle.debug_timeline.specs.declared.loads.Load.{Load}
 use Rattle.debug_session.specs.Others.{first_other, or_later, other_of}
 
-either : (e : Bool) (address : ℕ) (later : Option ℕ) → or_later (if e then None else Some address) later ≡ (if e then later else Some address)
-either true address later = refl
-either false address later = refl
+either : (quiet : Bool) (w : Watch) (later : Option Watch) → or_later (if quiet then None else Some w) later ≡ (if quiet then later else Some w)
+either true w later = refl
+either false w later = refl
 
-pub first_since : (now : Option Machine) (seen : List (Watch × List ℕ)) → first_other now seen ≡ changed_since now seen
-first_since now [] = refl
-first_since now (was ∷ more) =
-    ap (or_later (other_of now was)) (first_since now more) ∙ either (bytes_eq was.1 (seen_by now was.0)) was.0.address (changed_since now more)
+pub first_since : (now : Option Machine) (load : Option Load) (seen : List (Watch × List ℕ)) → first_other now load seen ≡ touched_since now load seen
+first_since now load [] = refl
+first_since now load (was ∷ more) =
+    ap (or_later (other_of now load was)) (first_since now load more) ∙ either (is_quiet load was.0 was.1 (seen_by now was.0)) was.0 (touched_since now load more)

@@ -19,21 +19,22 @@ use Rattle.debug_session.specs.declared.forth.Part.{Part}
 use Rattle.debug_session.specs.declared.forth.Within.{Within}
 use Rattle.debug_session.specs.declared.halts.Halt.{Halt}
 use Rattle.debug_session.specs.declared.halts.Halt.TheVariants as halts
+use Rattle.debug_session.specs.declared.stops.Watch.{Watch}
 use Rattle.debug_session.specs.Firsts.{Stretched, halt_after, halt_seen, halts_all, is_of_turn, one_turn}
 use Rattle.debug_session.specs.Withins.{HaltsBy, LeftBy, MadeOne, StayedWithin, StaysWithin, IsSpent, StepsTo, StepsWithin, TurnsOnce, is_in, is_pc_in}
 
 -- ---- one turn at most
-behind_turn : (ended stands : Bool) (changed : Option ℕ) → IfSome (halt_seen (if ended then Some halts.Ended else (if stands then Some halts.Point else None)) changed) (λ x. is_of_turn x ≡ true)
+behind_turn : (ended stands : Bool) (changed : Option Watch) → IfSome (halt_seen (if ended then Some halts.Ended else (if stands then Some halts.Point else None)) changed) (λ x. is_of_turn x ≡ true)
 behind_turn true stands changed = refl
 behind_turn false true None = refl
-behind_turn false true (Some address) = refl
+behind_turn false true (Some w) = refl
 behind_turn false false None = tt
-behind_turn false false (Some address) = refl
+behind_turn false false (Some w) = refl
 
 or_never : (P : Type 0) → (◌≡◌ {A = ℕ} 1 0) ⊎ P → P
 or_never P either = elim either [ inl never ↦ absurd (omega (arith, never)) | inr p ↦ p ]
 
-halts_by : (row : Row) (rests stands : Bool) (pc : Option ℕ) (changed : Option ℕ) (halt : Option Halt) → halt ≡ halt_seen (halt_after row rests stands) changed → (made_in row ≡ 0 → changed ≡ None)
+halts_by : (row : Row) (rests stands : Bool) (pc : Option ℕ) (changed : Option Watch) (halt : Option Halt) → halt ≡ halt_seen (halt_after row rests stands) changed → (made_in row ≡ 0 → changed ≡ None)
     → (is_off row ≡ true → rests ≡ false → (◌≡◌ {A = ℕ} 1 0) ⊎ (pc ≡ None)) → HaltsBy row rests pc halt
 halts_by rows.Off true stands pc changed halt is none why = is ∙ ap (halt_seen None) (none refl)
 halts_by rows.Off false stands pc changed halt is none why = (is, or_never (pc ≡ None) (why refl refl))
@@ -41,7 +42,7 @@ halts_by (rows.Made n word) rests stands pc changed halt is none why =
     let P : Option Halt → Type 0 = λ x. IfSome x (λ y. is_of_turn y ≡ true) in subst P (sym is) (behind_turn (halts_all word) stands changed)
 halts_by (rows.Lost n) rests stands pc changed halt is none why = is
 
-pub made_one : (size : Size) (h made : ℕ) (points : List ℕ) (rests : Bool) (at halt : Option Halt) (changed : Option ℕ) (old new : Timeline) → Stretched size h 1 points made rests at old new → halt ≡ halt_seen at changed → (made ≡ 0 → changed ≡ None)
+pub made_one : (size : Size) (h made : ℕ) (points : List ℕ) (rests : Bool) (at halt : Option Halt) (changed : Option Watch) (old new : Timeline) → Stretched size h 1 points made rests at old new → halt ≡ halt_seen at changed → (made ≡ 0 → changed ≡ None)
     → (row : Row) × MadeTurns size h points row rests old new × IsWithin 1 row × (made ≡ made_in row) × HaltsBy row rests (pc_in h (machine_of new.bench)) halt
 made_one size h made points rests at halt changed old new (row, turns, count, within, why, is) seen none =
     (row, turns, within, count, halts_by row rests _ (pc_in h (machine_of new.bench)) changed halt (seen ∙ ap (λ (x : Option Halt). halt_seen x changed) is) (λ e. none (count ∙ e)) why)
@@ -49,7 +50,7 @@ made_one size h made points rests at halt changed old new (row, turns, count, wi
 left_by : (within : Within) (h : ℕ) (halt : Halt) (b : Bench) → is_of_turn halt ≡ true → LeftBy within h halt b
 left_by within h halts.Stepped b of_turn = absurd (let never : ⊥ = cc in never)
 left_by within h halts.Point b of_turn = of_turn
-left_by within h (halts.Watched address) b of_turn = of_turn
+left_by within h (halts.Watched w) b of_turn = of_turn
 left_by within h halts.Ended b of_turn = of_turn
 left_by within h halts.Off b of_turn = of_turn
 left_by within h halts.Idle b of_turn = of_turn

@@ -16,18 +16,19 @@ use Rattle.debug_session.specs.declared.halts.Halt.{Halt}
 use Rattle.debug_session.specs.declared.halts.Halt.TheVariants as halts
 use Rattle.debug_session.specs.declared.halts.Stop.{Stop}
 use Rattle.debug_session.specs.declared.stops.Stops.{Stops}
-use Rattle.debug_session.specs.Firsts.{KeepsWatched, changed_by, is_at_point, one_turn}
+use Rattle.debug_session.specs.declared.stops.Watch.{Watch}
+use Rattle.debug_session.specs.Firsts.{KeepsWatched, Touches, is_at_point, one_turn}
 use Rattle.debug_session.specs.Steps.{MakesNone}
 
 -- a line may make that of the bench
 abbrev pub MayMove : Size → Line → Bench → Bench → Type 0
 MayMove size line b new = (answer : Answer) × Moves size line b answer new
 
--- Whether the way back ends before a turn of hart h: the hart stood at a breakpoint, or the turn changed what is watched.
+-- Whether the way back ends before a turn of hart h: the hart stood at a breakpoint, or the turn touched a watchpoint.
 abbrev pub IsSeen : Option Halt → Stops → ℕ → Bench → Bench → Type 0
-IsSeen None stops h b new = (is_at_point stops h b ≡ false) × KeepsWatched stops b new
+IsSeen None stops h b new = (is_at_point stops h b ≡ false) × KeepsWatched stops h b new
 IsSeen (Some halts.Point) stops h b new = is_at_point stops h b ≡ true
-IsSeen (Some (halts.Watched address)) stops h b new = changed_by stops b new ≡ Some address
+IsSeen (Some (halts.Watched w)) stops h b new = Touches stops h b new (Some w)
 IsSeen (Some halt) stops h b new = ⊥
 
 -- a line before which it does not end
@@ -101,10 +102,10 @@ IsEnd size stops place past b =
 abbrev pub IsRowPast : Line → ℕ × Stop → Type 0
 IsRowPast line f = (n : ℕ) × (line ≡ lines.Turn f.1.hart n) × (f.0 < n)
 
--- by whether the hart stood at a breakpoint, and what is told of a change
-abbrev pub halt_back : Bool → Option ℕ → Option Halt
+-- by whether the hart stood at a breakpoint, and the watchpoint that was touched
+abbrev pub halt_back : Bool → Option Watch → Option Halt
 halt_back stands None = if stands then Some halts.Point else None
-halt_back stands (Some address) = Some (halts.Watched address)
+halt_back stands (Some w) = Some (halts.Watched w)
 
 -- what was found before, or later: the turn of hart h behind k others
 abbrev pub later_turn : Option (ℕ × Stop) → ℕ → ℕ → Option Halt → Option (ℕ × Stop)

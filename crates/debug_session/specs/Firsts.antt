@@ -1,5 +1,5 @@
 -- Running forward ends at the first halt.
-use Rattle.std.specs.Prelude.{◌≡◌, ◌⊎◌, ℕ, Bool, true, false, List, [], ◌∷◌, ◌++◌, Option, Some, None, map, bytes_eq, if◌then◌else◌}
+use Rattle.std.specs.Prelude.{◌≡◌, ◌⊎◌, ◌+◌, ◌&&◌, ℕ, Bool, true, false, List, [], ◌∷◌, ◌++◌, Option, Some, None, map, bytes_eq, nat_lt, not, if◌then◌else◌}
 use Rattle.board_model.specs.Shapes.{Size}
 use Rattle.machine.specs.Machine.{Machine}
 use Rattle.sbi.specs.declared.words.Word.{Word}
@@ -16,11 +16,15 @@ use Rattle.bench_live.specs.Rows.{IsWithin, RowMoves, is_off, made_in}
 use Rattle.debug_timeline.specs.declared.timeline.Timeline.{Timeline}
 use Rattle.debug_timeline.specs.Ats.{IsLeft, MadeTurns}
 use Rattle.debug_timeline.specs.Lives.{machine_of, memory_in, pc_in, stands_in}
+use Rattle.debug_timeline.specs.Loads.{LoadsNext}
 use Rattle.debug_timeline.specs.Passes.{machine_left}
+use Rattle.debug_timeline.specs.declared.loads.Load.{Load}
 use Rattle.debug_session.specs.declared.halts.Halt.{Halt}
 use Rattle.debug_session.specs.declared.halts.Halt.TheVariants as halts
 use Rattle.debug_session.specs.declared.stops.Stops.{Stops}
 use Rattle.debug_session.specs.declared.stops.Watch.{Watch}
+use Rattle.debug_session.specs.declared.stops.WatchKind.{WatchKind}
+use Rattle.debug_session.specs.declared.stops.WatchKind.TheVariants as kinds
 
 -- ---- what is watched
 abbrev pub bytes_seen : Option (List ℕ) → List ℕ
@@ -30,11 +34,37 @@ bytes_seen (Some bytes) = bytes
 abbrev pub seen_by : Option Machine → Watch → List ℕ
 seen_by m w = bytes_seen (memory_in w.address w.count m)
 
--- the first of these whose bytes are others now, by its address
-abbrev pub changed_in : Option Machine → Option Machine → List Watch → Option ℕ
-changed_in before now [] = None
-changed_in before now (w ∷ more) =
-    if bytes_eq (seen_by before w) (seen_by now w) then changed_in before now more else Some w.address
+-- what a watchpoint of that kind minds
+abbrev pub minds_changes : WatchKind → Bool
+minds_changes kinds.Changes = true
+minds_changes kinds.Reads = false
+minds_changes kinds.Accesses = true
+
+abbrev pub minds_reads : WatchKind → Bool
+minds_reads kinds.Changes = false
+minds_reads kinds.Reads = true
+minds_reads kinds.Accesses = true
+
+-- one of its bytes at least is read
+abbrev pub is_read : Watch → Option Load → Bool
+is_read w None = false
+is_read w (Some load) = nat_lt w.address (load.address + load.count) && nat_lt load.address (w.address + w.count)
+
+-- its bytes are as they were, where it minds that; and none of them is read, where it minds that
+abbrev pub is_kept : Watch → List ℕ → List ℕ → Bool
+is_kept w was now = if minds_changes w.kind then bytes_eq was now else true
+
+abbrev pub is_unread : Watch → Option Load → Bool
+is_unread w load = if minds_reads w.kind then not (is_read w load) else true
+
+abbrev pub is_quiet : Option Load → Watch → List ℕ → List ℕ → Bool
+is_quiet load w was now = is_kept w was now && is_unread w load
+
+-- the first of these that a turn touches, which reads that
+abbrev pub touched_in : Option Machine → Option Machine → Option Load → List Watch → Option Watch
+touched_in before now load [] = None
+touched_in before now load (w ∷ more) =
+    if is_quiet load w (seen_by before w) (seen_by now w) then touched_in before now load more else Some w
 
 -- ---- a turn behind which nothing halts
 abbrev pub is_dozing : Did → Bool
@@ -55,19 +85,23 @@ ends_all (rows.Lost n) = true
 abbrev pub is_at_point : Stops → ℕ → Bench → Bool
 is_at_point stops h b = stands_in stops.points.items (pc_in h (machine_left b.power))
 
--- the first watchpoint whose bytes a turn changed
-abbrev pub changed_by : Stops → Bench → Bench → Option ℕ
-changed_by stops b new = changed_in (machine_left b.power) (machine_left new.power) stops.watches.items
+-- the first watchpoint that a turn touches, which reads that
+abbrev pub touched_by : Stops → Option Load → Bench → Bench → Option Watch
+touched_by stops load b new = touched_in (machine_left b.power) (machine_left new.power) load stops.watches.items
 
--- what is watched is as it was
-abbrev pub KeepsWatched : Stops → Bench → Bench → Type 0
-KeepsWatched stops b new = changed_by stops b new ≡ None
+-- The first watchpoint that a turn of hart h touches, if it touches one. It reads what the hart's next turn reads before it.
+abbrev pub Touches : Stops → ℕ → Bench → Bench → Option Watch → Type 0
+Touches stops h b new found = (load : Option Load) → LoadsNext (machine_left b.power) h load → touched_by stops load b new ≡ found
 
--- A turn of hart h: the life goes on, the hart stands at no breakpoint, and what is watched is as it was.
+-- it touches none
+abbrev pub KeepsWatched : Stops → ℕ → Bench → Bench → Type 0
+KeepsWatched stops h b new = Touches stops h b new None
+
+-- A turn of hart h: the life goes on, the hart stands at no breakpoint, and no watchpoint is touched.
 abbrev pub PassesBy : Size → Stops → ℕ → Bench → Bench → Type 0
 PassesBy size stops h b new =
     (word : Word) × RowMoves size h (rows.Made 1 word) b new × (halts_all word ≡ false)
-    × (is_at_point stops h new ≡ false) × KeepsWatched stops b new
+    × (is_at_point stops h new ≡ false) × KeepsWatched stops h b new
 
 -- such turns, each of the hart that stands in the list
 abbrev pub PassAll : Size → Stops → List ℕ → Bench → Bench → Type 0
@@ -79,13 +113,13 @@ PassAll size stops (h ∷ more) b new = (mid : Bench) × PassesBy size stops h b
 abbrev pub is_of_turn : Halt → Bool
 is_of_turn halts.Ended = true
 is_of_turn halts.Point = true
-is_of_turn (halts.Watched address) = true
+is_of_turn (halts.Watched w) = true
 is_of_turn halt = false
 
 abbrev pub IsWhy : Halt → Stops → ℕ → Row → Bench → Bench → Type 0
 IsWhy halts.Ended stops h row b new = ends_all row ≡ true
 IsWhy halts.Point stops h row b new = is_at_point stops h new ≡ true
-IsWhy (halts.Watched address) stops h row b new = changed_by stops b new ≡ Some address
+IsWhy (halts.Watched w) stops h row b new = Touches stops h b new (Some w)
 IsWhy halt stops h row b new = ⊥
 
 -- Turns of these harts, one after another. Where a turn is why all halts, it is the last, of hart h; behind each other nothing
@@ -117,24 +151,25 @@ halt_after (rows.Lost n) rests stands = Some halts.Ended
 halt_after (rows.Made n word) rests stands =
     if halts_all word then Some halts.Ended else (if stands then Some halts.Point else None)
 
--- and where what is watched has changed, by the first address that has
-abbrev pub watch_or : Option Halt → Option ℕ → Option Halt
+-- and where a watchpoint is touched, by the first that is
+abbrev pub watch_or : Option Halt → Option Watch → Option Halt
 watch_or halt None = halt
-watch_or halt (Some address) = Some (halts.Watched address)
+watch_or halt (Some w) = Some (halts.Watched w)
 
-abbrev pub halt_seen : Option Halt → Option ℕ → Option Halt
-halt_seen None changed = watch_or None changed
-halt_seen (Some halts.Point) changed = watch_or (Some halts.Point) changed
-halt_seen (Some halt) changed = Some halt
+abbrev pub halt_seen : Option Halt → Option Watch → Option Halt
+halt_seen None touched = watch_or None touched
+halt_seen (Some halts.Point) touched = watch_or (Some halts.Point) touched
+halt_seen (Some halt) touched = Some halt
 
 -- what is watched, with the bytes that were seen of it
 abbrev pub seen_all : Option Machine → List Watch → List (Watch × List ℕ)
 seen_all m watches = map (λ w. (w, seen_by m w)) watches
 
--- the first of that whose bytes are others now
-abbrev pub changed_since : Option Machine → List (Watch × List ℕ) → Option ℕ
-changed_since now [] = None
-changed_since now (was ∷ more) = if bytes_eq was.1 (seen_by now was.0) then changed_since now more else Some was.0.address
+-- the first of that which a turn touched, which read that
+abbrev pub touched_since : Option Machine → Option Load → List (Watch × List ℕ) → Option Watch
+touched_since now load [] = None
+touched_since now load (was ∷ more) =
+    if is_quiet load was.0 was.1 (seen_by now was.0) then touched_since now load more else Some was.0
 
 -- a row of a hart to the first that halts there
 abbrev pub Stretched : Size → ℕ → ℕ → List ℕ → ℕ → Bool → Option Halt → Timeline → Timeline → Type 0

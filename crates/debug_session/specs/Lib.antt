@@ -15,5 +15,5 @@ pub mod Firsts
 pub mod Withins
 -- Running back ends at the last halt.
 pub mod Backs
--- How the code finds the first watchpoint that changed.
+-- How the code finds the first watchpoint that a turn touched.
 pub mod Others

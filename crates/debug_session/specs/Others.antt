@@ -1,18 +1,19 @@
--- How the code finds the first watchpoint that changed.
-use Rattle.std.specs.Prelude.{ℕ, List, [], ◌∷◌, Option, Some, None, bytes_eq, if◌then◌else◌}
+-- How the code finds the first watchpoint that a turn touched.
+use Rattle.std.specs.Prelude.{ℕ, List, [], ◌∷◌, Option, Some, None, if◌then◌else◌}
 use Rattle.machine.specs.Machine.{Machine}
 use Rattle.debug_session.specs.declared.stops.Watch.{Watch}
-use Rattle.debug_session.specs.Firsts.{seen_by}
+use Rattle.debug_session.specs.Firsts.{is_quiet, seen_by}
+use Rattle.debug_timeline.specs.declared.loads.Load.{Load}
 
--- the address of what was seen, where its bytes are others now
-abbrev pub other_of : Option Machine → Watch × List ℕ → Option ℕ
-other_of now was = if bytes_eq was.1 (seen_by now was.0) then None else Some was.0.address
+-- what was seen, where it was touched
+abbrev pub other_of : Option Machine → Option Load → Watch × List ℕ → Option Watch
+other_of now load was = if is_quiet load was.0 was.1 (seen_by now was.0) then None else Some was.0
 
-abbrev pub or_later : Option ℕ → Option ℕ → Option ℕ
+abbrev pub or_later : Option Watch → Option Watch → Option Watch
 or_later None later = later
-or_later (Some address) later = Some address
+or_later (Some w) later = Some w
 
 -- the first of these
-abbrev pub first_other : Option Machine → List (Watch × List ℕ) → Option ℕ
-first_other now [] = None
-first_other now (was ∷ more) = or_later (other_of now was) (first_other now more)
+abbrev pub first_other : Option Machine → Option Load → List (Watch × List ℕ) → Option Watch
+first_other now load [] = None
+first_other now load (was ∷ more) = or_later (other_of now load was) (first_other now load more)

@@ -14,7 +14,7 @@ ghost use Rattle.debug_timeline.specs.Lives.{IsSound, Shows};
 ghost use Rattle.script_lang.specs.Lines.{IsLineInRange};
 
 use crate::halts::{Halt, Stop};
-use crate::stops::{Stops, first_changed};
+use crate::stops::{Stops, Watch, first_touched};
 use bench_report::Setting;
 use board_model::{HartId, Refusal};
 use crew::Crew;
@@ -63,18 +63,18 @@ fn first_turn<C: Crew>(setting: &Setting<'_, C>, lines: &[Line]) -> Option<Place
     None
 }
 
-/// Why the way back ends before a turn, by whether the hart stood at a breakpoint, and what it changed of what is watched.
-fn halt_back(stands: bool, changed: Option<u64>) -> Option<Halt>
-    ensures { result ≡ halt_back stands changed }
+/// Why the way back ends before a turn, by whether the hart stood at a breakpoint, and the watchpoint that it touched.
+fn halt_back(stands: bool, touched: Option<Watch>) -> Option<Halt>
+    ensures { result ≡ halt_back stands touched }
 {
-    match changed {
-        Some(address) => Some(Halt::Watched(address)),
+    match touched {
+        Some(watch) => Some(Halt::Watched(watch)),
         None => { if stands { Some(Halt::Point) } else { None } }
     }
 }
 
-/// One turn of a hart: why the way back ends before it, if it does. The hart stood at a breakpoint, or the turn changed
-/// what is watched.
+/// One turn of a hart: why the way back ends before it, if it does. The hart stood at a breakpoint, or the turn touched
+/// a watchpoint.
 fn seen_back<C: Crew>(
     setting: &Setting<'_, C>,
     stops: &Stops,
@@ -87,11 +87,12 @@ fn seen_back<C: Crew>(
     ensures sound { OnOk result (IsSound bench.new) }
     ensures refused { IfErr result (λ e. e ≡ Memory) }
 {
+    let load = bench.next_load(hart);
     let stands = bench.stands_at(hart, stops.points());
     let before = stops.watched(setting.alloc, bench)?;
     bench.turns(setting, hart, 1);
-    let changed = first_changed(bench, &before);
-    Ok(halt_back(stands, changed))
+    let touched = first_touched(bench, load, &before);
+    Ok(halt_back(stands, touched))
 }
 
 /// What was found before, or later: the turn of a hart behind so many.
@@ -166,8 +167,8 @@ fn last_halt_of<C: Crew>(
     }
 }
 
-/// Runs the history again, turn by turn: the last turn before which its hart stood at a breakpoint, or that changed
-/// what is watched. The interrupt is looked at before each line.
+/// Runs the history again, turn by turn: the last turn before which its hart stood at a breakpoint, or that touched
+/// a watchpoint. The interrupt is looked at before each line.
 fn last_halt<C: Crew>(
     setting: &Setting<'_, C>,
     stops: &Stops,
@@ -194,8 +195,8 @@ fn last_halt<C: Crew>(
     Ok(Way::Ended(found))
 }
 
-/// Where the way back ends: before the last turn of which the hart stood at a breakpoint, or that changed what is
-/// watched; where there is none, before the first turn.
+/// Where the way back ends: before the last turn of which the hart stood at a breakpoint, or that touched a
+/// watchpoint; where there is none, before the first turn.
 fn place_back<C: Crew>(
     setting: &Setting<'_, C>,
     stops: &Stops,
@@ -219,7 +220,7 @@ fn place_back<C: Crew>(
     }
 }
 
-/// Goes back to before the last turn of which the hart stood at a breakpoint, or that changed what is watched; where
+/// Goes back to before the last turn of which the hart stood at a breakpoint, or that touched a watchpoint; where
 /// there is none, to before the first turn. Interrupted it leaves the timeline as it was.
 #[tactic(auto, using(debug_timeline::proofs::Histories::place_hart))]
 pub(crate) fn go_back<C: Crew>(

@@ -7,16 +7,17 @@ ghost use Rattle.bench_live.specs.Rows.{IsWithin, is_off, made_in};
 ghost use Rattle.debug_timeline.specs.Ats.{IsAt, MadeTurns};
 ghost use Rattle.debug_session.specs.Steps.{IsStep, Went, halt_step};
 ghost use Rattle.debug_session.specs.Withins.{MadeOne, StepsWithin, is_in};
-ghost use Rattle.debug_session.specs.Firsts.{Stretched, ToHalt, changed_since, halt_after, halt_seen, halts_all};
+ghost use Rattle.debug_session.specs.Firsts.{Stretched, ToHalt, halt_after, halt_seen, halts_all, touched_since};
 ghost use Rattle.debug_timeline.specs.Lives.{machine_of, pc_in, stands_in};
+ghost use Rattle.debug_timeline.specs.Loads.{LoadsNext};
 
 use crate::halts::{Halt, Stop};
-use crate::stops::{Seen, Stops, first_changed};
+use crate::stops::{Seen, Stops, Watch, first_touched};
 use bench_live::Row;
 use bench_report::{Answer, Setting};
 use board_model::{HartId, Refusal, Shape};
 use crew::Crew;
-use debug_timeline::Timeline;
+use debug_timeline::{Load, Timeline};
 use machine::{Did, Word};
 use std::sync::atomic::{AtomicBool, Ordering};
 
@@ -145,27 +146,32 @@ fn halt_behind(
     }
 }
 
-/// Why a turn halts, where what is watched may have changed.
-fn halt_seen(halt: Option<Halt>, changed: Option<u64>) -> Option<Halt>
-    ensures { result ≡ halt_seen halt changed }
+/// Why a turn halts, which may have touched a watchpoint.
+fn halt_seen(halt: Option<Halt>, touched: Option<Watch>) -> Option<Halt>
+    ensures { result ≡ halt_seen halt touched }
 {
-    match (halt, changed) {
-        (None, Some(address)) => Some(Halt::Watched(address)),
-        (Some(Halt::Point), Some(address)) => Some(Halt::Watched(address)),
+    match (halt, touched) {
+        (None, Some(watch)) => Some(Halt::Watched(watch)),
+        (Some(Halt::Point), Some(watch)) => Some(Halt::Watched(watch)),
         (_, _) => halt,
     }
 }
 
-/// What so many turns changed of what is watched.
-fn change_behind(timeline: &Timeline, made: u32, before: &Vec<Seen>) -> Option<u64>
+/// The first watchpoint that a turn touched, which read that, where one was made.
+fn touched_behind(
+    timeline: &Timeline,
+    made: u32,
+    load: Option<Load>,
+    before: &Vec<Seen>,
+) -> Option<Watch>
     ensures none { made ≡ 0 → result ≡ None }
-    ensures told { (made ≡ 0 → ⊥) → result ≡ changed_since (machine_of timeline.now.bench)
+    ensures told { (made ≡ 0 → ⊥) → result ≡ touched_since (machine_of timeline.now.bench) load
         (map (λ was. (was.watch, was.bytes.items)) before.now.items) }
 {
     if made == 0 {
         return None;
     }
-    first_changed(timeline.bench(), before)
+    first_touched(timeline.bench(), load, before)
 }
 
 /// Up to so many turns of a hart, to the first that halts everything; what the line `turn` would have said of the
@@ -199,6 +205,37 @@ fn stretch<C: Crew>(
     })
 }
 
+/// One turn of a hart, which reads that, where bytes are watched.
+fn loading_turn<C: Crew>(
+    setting: &Setting<'_, C>,
+    stops: &Stops,
+    timeline: &mut Timeline,
+    hart: HartId,
+    load: Option<Load>,
+    told: &mut Vec<Answer>,
+) -> Result<Part, Refusal>
+    requires at { IsAt setting.now.shape.now timeline.old }
+    requires hart { hart < setting.now.shape.now.harts }
+    requires loads { LoadsNext (machine_of timeline.old.bench) hart load }
+    ensures at { OnOk result (IsAt setting.now.shape.now timeline.new) }
+    ensures went { IfOk result (λ part. Went (λ h. h ≡ hart) part.made setting.now.shape.now timeline.old timeline.new) }
+    ensures first { IfOk result (λ part. ToHalt setting.now.shape.now stops.now hart part.halt timeline.old timeline.new) }
+    ensures one { IfOk result (λ part. part.made ≤ 1) }
+    ensures made { IfOk result (λ part. MadeOne setting.now.shape.now hart stops.now.points.items part timeline.old timeline.new) }
+    ensures begins { timeline.new.begins ≡ timeline.old.begins }
+    ensures refused { IfErr result (λ e. e ≡ Memory) }
+{
+    let before = stops.watched(setting.alloc, timeline.bench())?;
+    let part = stretch(setting, stops.points(), timeline, hart, 1, told)?;
+    let touched = touched_behind(timeline, part.made, load, &before);
+    let halt = halt_seen(part.halt, touched);
+    Ok(Part {
+        halt,
+        made: part.made,
+        rests: part.rests,
+    })
+}
+
 /// One turn of a hart, where bytes are watched.
 fn watched_turn<C: Crew>(
     setting: &Setting<'_, C>,
@@ -217,15 +254,8 @@ fn watched_turn<C: Crew>(
     ensures begins { timeline.new.begins ≡ timeline.old.begins }
     ensures refused { IfErr result (λ e. e ≡ Memory) }
 {
-    let before = stops.watched(setting.alloc, timeline.bench())?;
-    let part = stretch(setting, stops.points(), timeline, hart, 1, told)?;
-    let changed = change_behind(timeline, part.made, &before);
-    let halt = halt_seen(part.halt, changed);
-    Ok(Part {
-        halt,
-        made: part.made,
-        rests: part.rests,
-    })
+    let load = timeline.next_load(hart);
+    loading_turn(setting, stops, timeline, hart, load, told)
 }
 
 /// A hart's part of a round where bytes are watched, turn by turn.

@@ -1,5 +1,6 @@
 //! Why a board stands.
 
+use crate::stops::Watch;
 use board_model::HartId;
 
 /// Why nothing runs.
@@ -9,8 +10,8 @@ pub enum Halt {
     Stepped,
     /// A hart came to a breakpoint.
     Point,
-    /// A turn changed what is watched at this address.
-    Watched(u64),
+    /// A turn touched this watchpoint.
+    Watched(Watch),
     /// The board dozes, its life is over, or an armed cut struck: the console has the line.
     Ended,
     /// The board is off.

@@ -13,4 +13,4 @@ mod stops;
 pub use debug_timeline::{DebuggedBench, PC, REGISTERS, Row, Timeline};
 pub use halts::{Halt, Stop};
 pub use session::{Plan, Session};
-pub use stops::Watch;
+pub use stops::{Watch, WatchKind};

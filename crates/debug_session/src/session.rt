@@ -407,7 +407,7 @@ impl<'a, C: Crew> Session<'a, C> {
         Ok(Stop { hart, halt })
     }
 
-    /// Goes back to before the last turn of which the hart stood at a breakpoint, or that changed what is watched;
+    /// Goes back to before the last turn of which the hart stood at a breakpoint, or that touched a watchpoint;
     /// where there is none, to before the first turn; and forgets whatever came after. Where no turn was made nothing
     /// changes, nor where the interrupt asks that it end, which is looked at before each line of the history.
     pub fn go_back(&mut self, hart: HartId, interrupt: &AtomicBool) -> Result<Stop, Refusal>

@@ -1,20 +1,53 @@
-//! Where a debugged board halts: at addresses, and where bytes change.
+//! Where a debugged board halts: at addresses, and where bytes change or are read.
 
-ghost use Rattle.std.specs.Prelude.{◌≡◌, [], true, false, ◌==◌, ◌++◌, map, IfErr, IfOk, OnErr, OnOk};
+ghost use Rattle.std.specs.Prelude.{◌≡◌, ◌+◌, [], true, false, ◌==◌, ◌++◌, map, nat_lt, IfErr, IfOk, OnErr, OnOk};
 ghost use Rattle.std.specs.List.{list_any};
 ghost use Rattle.debug_session.specs.Points.{with_point, with_watch, without_point, without_watch};
-ghost use Rattle.debug_session.specs.Firsts.{changed_since, seen_all, seen_by};
+ghost use Rattle.debug_session.specs.Firsts.{is_kept, is_read, is_unread, minds_changes, minds_reads, seen_all, seen_by, touched_since};
 ghost use Rattle.debug_session.specs.Others.{first_other, other_of};
 ghost use Rattle.debug_timeline.specs.Lives.{machine_of};
 ghost use Rattle.board_model.specs.declared.refusal.Refusal.TheVariants.{Memory};
 
 use board_model::Refusal;
-use debug_timeline::DebuggedBench;
+use debug_timeline::{DebuggedBench, Load};
 use std::alloc::Global;
 
-/// Bytes of memory that a turn is not to change unseen.
+/// What a watchpoint minds.
+#[derive(Clone, Copy, PartialEq, Eq, Drop)]
+pub enum WatchKind {
+    /// That its bytes change.
+    Changes,
+    /// That one of them is read.
+    Reads,
+    /// Either.
+    Accesses,
+}
+
+impl WatchKind {
+    fn minds_changes(self) -> bool
+        ensures { result ≡ minds_changes self }
+    {
+        match self {
+            WatchKind::Changes | WatchKind::Accesses => true,
+            WatchKind::Reads => false,
+        }
+    }
+
+    fn minds_reads(self) -> bool
+        ensures { result ≡ minds_reads self }
+    {
+        match self {
+            WatchKind::Reads | WatchKind::Accesses => true,
+            WatchKind::Changes => false,
+        }
+    }
+}
+
+/// A watchpoint: bytes of memory that a turn is not to touch unseen.
 #[derive(Clone, Copy, PartialEq, Eq, Drop)]
 pub struct Watch {
+    /// What it minds.
+    pub kind: WatchKind,
     /// Where the bytes begin.
     pub address: u64,
     /// How many they are.
@@ -131,33 +164,84 @@ fn bytes_of(bench: &DebuggedBench, watch: Watch) -> &[u8]
     }
 }
 
-/// The address of what was seen, where its bytes are others now.
-fn other_now(bench: &DebuggedBench, was: &Seen) -> Option<u64>
-    ensures { result ≡ other_of (machine_of bench.now) (was.now.watch, was.now.bytes.items) }
+/// Whether an address lies before the end of so many bytes from another on.
+fn is_before(address: u64, first: u64, count: u64) -> bool
+    ensures { result ≡ nat_lt address (first + count) }
 {
-    if was.bytes.as_slice() == bytes_of(bench, was.watch) {
-        None
-    } else {
-        Some(was.watch.address)
+    if address < first {
+        return true;
+    }
+    address - first < count
+}
+
+/// Whether a turn that reads that reads one of the bytes that are watched.
+fn is_read(watch: Watch, load: Option<Load>) -> bool
+    ensures { result ≡ is_read watch load }
+{
+    match load {
+        Some(load) => {
+            is_before(watch.address, load.address, load.count)
+                && is_before(load.address, watch.address, watch.count)
+        }
+        None => false,
     }
 }
 
-/// The first of these whose bytes are others now, by its address.
-fn first_in(bench: &DebuggedBench, before: &[Seen]) -> Option<u64>
-    ensures { result ≡ first_other (machine_of bench.now) (map (λ was. (was.watch, was.bytes.items)) before.now) }
+/// Whether nothing is changed that a watchpoint minds.
+fn is_kept(watch: Watch, was: &[u8], now: &[u8]) -> bool
+    ensures { result ≡ is_kept watch was.now now.now }
+{
+    if watch.kind.minds_changes() {
+        was == now
+    } else {
+        true
+    }
+}
+
+/// Whether nothing is read that a watchpoint minds.
+fn is_unread(watch: Watch, load: Option<Load>) -> bool
+    ensures { result ≡ is_unread watch load }
+{
+    if watch.kind.minds_reads() {
+        !is_read(watch, load)
+    } else {
+        true
+    }
+}
+
+/// The watchpoint of what was seen, where a turn that read that touched it.
+fn other_now(bench: &DebuggedBench, load: Option<Load>, was: &Seen) -> Option<Watch>
+    ensures { result ≡ other_of (machine_of bench.now) load (was.now.watch, was.now.bytes.items) }
+{
+    let kept = is_kept(was.watch, was.bytes.as_slice(), bytes_of(bench, was.watch));
+    if kept && is_unread(was.watch, load) {
+        None
+    } else {
+        Some(was.watch)
+    }
+}
+
+/// The first of these that a turn touched, which read that.
+fn first_in(bench: &DebuggedBench, load: Option<Load>, before: &[Seen]) -> Option<Watch>
+    ensures { result ≡ first_other (machine_of bench.now) load (map (λ was. (was.watch, was.bytes.items)) before.now) }
 {
     for was in before {
-        if let Some(address) = other_now(bench, was) {
-            return Some(address);
+        if let Some(watch) = other_now(bench, load, was) {
+            return Some(watch);
         }
     }
     None
 }
 
-/// The first of what was seen before a turn whose bytes are others now, by its address.
+/// The first of what was seen before a turn that it touched, which read that.
 #[tactic(auto, using(crate::proofs::Others::first_since))]
-pub(crate) fn first_changed(bench: &DebuggedBench, before: &Vec<Seen>) -> Option<u64>
-    ensures { result ≡ changed_since (machine_of bench.now) (map (λ was. (was.watch, was.bytes.items)) before.now.items) }
+pub(crate) fn first_touched(
+    bench: &DebuggedBench,
+    load: Option<Load>,
+    before: &Vec<Seen>,
+) -> Option<Watch>
+    ensures { result ≡ touched_since (machine_of bench.now) load
+        (map (λ was. (was.watch, was.bytes.items)) before.now.items) }
 {
-    first_in(bench, before)
+    first_in(bench, load, before)
 }

@@ -1,3 +1,4 @@
 pub mod Lives
+pub mod Loads
 pub mod Passes
 pub mod Ats

@@ -3,12 +3,14 @@
 #![tactic(auto)]
 
 mod debugged;
+mod loads;
 mod looks;
 mod replays;
 mod timeline;
 
 pub use bench_live::Row;
 pub use debugged::DebuggedBench;
+pub use loads::Load;
 pub use looks::{PC, REGISTERS};
 pub use replays::replay;
 pub use timeline::Timeline;

@@ -38,7 +38,7 @@ fn csr_at(number: u64) -> u32
 }
 
 /// A register of a hart that a board has.
-fn register_of(board: &mut Board<SimDisk>, hart: HartId, number: u64) -> Option<u64>
+pub(crate) fn register_of(board: &mut Board<SimDisk>, hart: HartId, number: u64) -> Option<u64>
     requires { hart < length (machine_in board.old).harts }
     ensures same { board.new ≡ board.old }
     ensures shown { result ≡ register_at (machine_in board.old) hart number }

@@ -9,11 +9,13 @@ ghost use Rattle.bench_report.specs.Steps.{Moves};
 ghost use Rattle.bench_live.specs.Notes.{AreInRange};
 ghost use Rattle.debug_timeline.specs.Ats.{IsAt, IsBefore, IsLeft, IsPlace, MadeTurns, Ran};
 ghost use Rattle.debug_timeline.specs.Lives.{HasHalted, machine_of, register_in, state_in};
+ghost use Rattle.debug_timeline.specs.Loads.{LoadsNext};
 ghost use Rattle.bench_live.specs.Rows.{IsWithin, made_in, row_answer};
 ghost use Rattle.script_lang.specs.Lines.{IsLineInRange};
 ghost use Rattle.script_lang.specs.declared.line.Line.TheVariants as lines;
 
 use crate::debugged::DebuggedBench;
+use crate::loads::Load;
 use crate::replays::replayed;
 use bench_live::{History, Row, note};
 use bench_report::{Answer, Setting};
@@ -85,6 +87,14 @@ impl Timeline {
         ensures shown { result ≡ state_in hart (machine_of self.old.bench) }
     {
         self.bench.state(hart)
+    }
+
+    /// What the next turn of a hart reads, as `DebuggedBench::next_load` shows it.
+    pub fn next_load(&mut self, hart: HartId) -> Option<Load>
+        ensures same { self.new ≡ self.old }
+        ensures loads { LoadsNext (machine_of self.old.bench) hart result }
+    {
+        self.bench.next_load(hart)
     }
 
     /// Up to so many turns of a hart, which become part of the history: what came of them. Refused `Memory` alone,

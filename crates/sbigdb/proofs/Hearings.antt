@@ -1,8 +1,8 @@
 -- What is heard, byte by byte.
 use Rattle.std.proofs.Common.{◌≡◌, ℕ, Bool, true, List, [], ◌∷◌, ◌++◌, Option, sym, subst}
 use Rattle.std.specs.Io.KnownBytes.{Consumes}
-use Rattle.gdb_packets.specs.Streams.{Completes, Hears, Standing, standing_after}
-use Rattle.gdb_packets.specs.declared.heard.Heard.{Heard}
+use Rattle.gdb_protocol.specs.Streams.{Completes, Hears, Standing, standing_after}
+use Rattle.gdb_protocol.specs.declared.heard.Heard.{Heard}
 use Rattle.sbigdb.specs.Hearings.{AreTaken, newly}
 
 -- a byte more, and what it completes

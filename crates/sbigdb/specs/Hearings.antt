@@ -2,14 +2,14 @@
 use Rattle.std.specs.Prelude.{◌≡◌, ℕ, Bool, true, false, List, [], ◌∷◌, ◌++◌, Option}
 use Rattle.std.specs.Io.KnownBytes.{Consumes, IsAtEnd}
 use Rattle.std.specs.List.{FoldsTo}
-use Rattle.gdb_packets.specs.Streams.{Hears, Standing}
-use Rattle.gdb_packets.specs.declared.heard.Heard.{Heard}
-use Rattle.gdb_packets.specs.declared.heard.Heard.TheVariants as heards
-use Rattle.gdb_requests.specs.Asked.{request_of}
-use Rattle.gdb_requests.specs.declared.requests.Look.TheVariants as looks
-use Rattle.gdb_requests.specs.declared.requests.Request.{Request}
-use Rattle.gdb_requests.specs.declared.requests.Request.TheVariants as asks
-use Rattle.gdb_packets.specs.declared.heard.Place.TheVariants.{Between}
+use Rattle.gdb_protocol.specs.Streams.{Hears, Standing}
+use Rattle.gdb_protocol.specs.declared.heard.Heard.{Heard}
+use Rattle.gdb_protocol.specs.declared.heard.Heard.TheVariants as heards
+use Rattle.gdb_protocol.specs.Asked.{request_of}
+use Rattle.gdb_protocol.specs.declared.requests.Look.TheVariants as looks
+use Rattle.gdb_protocol.specs.declared.requests.Request.{Request}
+use Rattle.gdb_protocol.specs.declared.requests.Request.TheVariants as asks
+use Rattle.gdb_protocol.specs.declared.heard.Place.TheVariants.{Between}
 use Rattle.sbigdb.specs.declared.listening.Silence.{Silence}
 use Rattle.sbigdb.specs.declared.listening.Silence.TheVariants as silences
 

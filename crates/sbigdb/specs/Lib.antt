@@ -1,3 +1,4 @@
+pub mod Begins
 pub mod Tellings
 pub mod Hearings
 pub mod Responses

@@ -7,9 +7,9 @@ use Rattle.debug_timeline.specs.Ats.{IsAt}
 use Rattle.debug_session.specs.Sessions.{begins_of, history_of, plan_of, points_of, size_of, timeline_of, watches_of}
 use Rattle.debug_session.specs.Steps.{AreNoted}
 use Rattle.debug_session.specs.declared.session.Plan.{Plan}
-use Rattle.gdb_packets.specs.declared.heard.Heard.{Heard}
-use Rattle.gdb_packets.specs.declared.heard.Heard.TheVariants as heards
-use Rattle.gdb_replies.specs.Replies.{packets_of}
+use Rattle.gdb_protocol.specs.declared.heard.Heard.{Heard}
+use Rattle.gdb_protocol.specs.declared.heard.Heard.TheVariants as heards
+use Rattle.gdb_protocol.specs.Replies.{packets_of}
 use Rattle.debug_packets.specs.Answers.{IsReplied, again_text, front_text}
 use Rattle.debug_packets.specs.Talks.{acknowledges_in, hart_in, is_over_in, runner_in, sent_in, session_in}
 use Rattle.debug_packets.specs.declared.talk.Talk.{Talk}

@@ -4,8 +4,7 @@ ghost use Rattle.std.specs.Prelude.{◌≡◌, true, false};
 ghost use Rattle.sbigdb.specs.Hearings.{HandedOn, ends_talk, is_last};
 
 use crossbeam_channel::Sender;
-use gdb_packets::{Decoder, Heard};
-use gdb_requests::{Look, Request, request_of};
+use gdb_protocol::{Decoder, Heard, Look, Request, request_of};
 use std::alloc::Global;
 use std::io::Read;
 use std::sync::Wait;
@@ -29,7 +28,7 @@ pub(crate) enum Silence {
 pub(crate) struct Signals {
     /// The debugger asks that what runs stop.
     pub(crate) interrupt: AtomicBool,
-    /// A packet was handed on, and its answer is still to be sent.
+    /// A packet was handed on, and nothing of its answer is sent yet.
     pub(crate) answering: AtomicBool,
 }
 
@@ -55,7 +54,7 @@ fn ends_talk(asked: Request) -> bool
 }
 
 /// Hands on what was heard, but for an interrupt, which is told at once: whether more is to be read. That an answer came
-/// damaged is passed over while it is still to be sent: the debugger grew impatient.
+/// damaged is passed over while nothing of it is sent: the debugger grew impatient.
 pub(crate) fn hand_on<R: Wait>(
     rt: &R,
     what: Heard,

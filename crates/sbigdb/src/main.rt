@@ -1,8 +1,9 @@
-//! `sbigdb SCRIPT [--p0 PATH ..] [--quantum N] [--most N]`: GDB's Remote Serial Protocol on standard input and output,
-//! over the board that the script leaves (docs/DEBUGGING.md). Status 0; 1 for a refusal or a file that could not be
-//! read; 2 for a fault of the command line.
+//! `sbigdb SCRIPT [--schedule K | --preemptions K --order N] [--p0 PATH ..]`: GDB's Remote Serial Protocol on standard input
+//! and output, over the board that the script leaves (docs/DEBUGGING.md). Status 0; 1 for a refusal or a file that could not
+//! be read; 2 for a fault of the command line.
 #![tactic(auto)]
 
+mod begins;
 mod files;
 mod listening;
 mod program;

@@ -17,9 +17,9 @@ use bench_report::Setting;
 use board_model::Refusal;
 use crew::{Crew, Sequential};
 use crossbeam_channel::{Receiver, bounded};
-use debug_packets::{Talk, acknowledge, reply, reply_again};
+use debug_packets::{Talk, acknowledge, prepare, reply_again, send_answer};
 use debug_session::{Plan, Session};
-use gdb_packets::Heard;
+use gdb_protocol::Heard;
 use script_lang::Script;
 use std::alloc::Global;
 use std::io::{self, BufReader, Write};
@@ -67,9 +67,10 @@ fn respond<C: Crew, W: Write>(
 {
     match what {
         Heard::Packet(packet) => {
-            reply(talk, alloc, &packet, &signals.interrupt, out)?;
+            prepare(talk, alloc, &packet, &signals.interrupt)?;
+            // From its first byte on the answer may be said to have come damaged.
             signals.answering.store(false, Ordering::SeqCst);
-            Ok(())
+            send_answer(talk, out)
         }
         Heard::Damaged => {
             let again = again(talk);

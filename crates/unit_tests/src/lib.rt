@@ -1,6 +1,6 @@
 //! Tests of crates that hold no board. Values are compared with the standard, docs/, an outside assembler or an outside debugger:
 //! instructions and their words (`rv_decode`), refusals (`board_model`), the sectors of the store (`layout`), SBI calls by their
-//! registers (`sbi_abi`), scripts (`script_lang`) and a debugger's packets (`gdb_packets`). Steps of a hart are programs that an outside
+//! registers (`sbi_abi`), scripts (`script_lang`) and a debugger's packets (`gdb_protocol`). Steps of a hart are programs that an outside
 //! assembler made, with what an outside emulator or the manual says that they do. Beside them: which pages of a memory are kept decoded;
 //! and the hart table and the pending interrupts under threads.
 //!

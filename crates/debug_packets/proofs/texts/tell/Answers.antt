@@ -1,7 +1,7 @@
 use Rattle.std.proofs.Common.{ℕ, List, [], ◌∷◌, ◌++◌, Vec, Global, map, ◌∙◌, refl, sym, ap}
 use Rattle.std.proofs.lemmas.List.{append-nil, map-append, nil_from_length}
 use Rattle.std.specs.Slice.Iter.{chunks_rest}
-use Rattle.gdb_replies.specs.Replies.{pairs_of}
+use Rattle.gdb_protocol.specs.Replies.{pairs_of}
 use Rattle.debug_packets.specs.Texts.{console_packet}
 use Rattle.debug_packets.proofs.Console.{joined, joined_more, told_more}
 use Rattle.debug_packets.proofs.texts.tell.Goals as goal

@@ -1,27 +1,34 @@
 use Rattle.std.proofs.Common.{◌≡◌, List, ℕ, Option, sym, ap, ◌∙◌, subst}
 use Rattle.machine.specs.Machine.{Machine}
 use Rattle.bench_live.specs.Rows.{row_answer}
-use Rattle.debug_timeline.specs.Lives.{machine_of, pc_in, stands_in}
+use Rattle.debug_timeline.specs.Lives.{Shows, machine_of, pc_in, stands_in}
+use Rattle.debug_timeline.specs.Loads.{LoadsNext}
+use Rattle.debug_timeline.specs.declared.debugged.DebuggedBench.{DebuggedBench}
 use Rattle.debug_timeline.specs.Passes.{machine_left}
 use Rattle.debug_timeline.proofs.Passed.{shown_machine}
 use Rattle.debug_session.specs.declared.halts.Halt.{Halt}
 use Rattle.debug_session.specs.Backs.{IsSeen}
 use Rattle.debug_session.proofs.Backs.{is_seen}
-use Rattle.debug_session.proofs.Firsts.{changed_along}
+use Rattle.debug_session.proofs.Firsts.{touched_along}
 use Rattle.debug_session.proofs.back.seen_back.Goals as goal
 
 pub returns-clause-seen : goal.returns-clause-seen
 returns-clause-seen g c = λ size b shows.
     let stops = c.args.stops.now in
     let h = c.args.hart in
-    let was = c.args.bench.now in
-    let did = c.turns.ensures.reported size b shows in
+    let was = c.next_load-load.new.self in
+    let load = c.next_load-load.result in
+    let same : c.args.bench.now ≡ was = sym c.next_load-load.ensures.same in
+    let S : DebuggedBench → Type 0 = λ bench. Shows size b bench in
+    let L : DebuggedBench → Type 0 = λ bench. LoadsNext (machine_of bench) h load in
+    let shown : S was = subst S same shows in
+    let did = c.turns.ensures.reported size b shown in
     let now = c.turns.new.self in
     let new = did.0 in
-    let changed = c.first_changed-changed.result in
-    let seen_was : machine_of was ≡ machine_left b.power = shown_machine size b was.live.power was.live.payloads shows in
+    let touched = c.first_touched-touched.result in
+    let seen_was : machine_of was ≡ machine_left b.power = shown_machine size b was.live.power was.live.payloads shown in
     let seen_now : machine_of now ≡ machine_left new.power = shown_machine size new now.live.power now.live.payloads did.3 in
     let stands = ap (λ (m : Option Machine). stands_in stops.points.items (pc_in h m)) (sym seen_was) ∙ ap (λ (ps : List ℕ). stands_in ps (pc_in h (machine_of was))) (sym c.points.ensures) ∙ sym c.stands_at-stands.ensures in
-    let told = changed_along size stops (machine_of was) (machine_of now) _ changed b new c.in_ok-before.ensures.seen seen_was seen_now c.first_changed-changed.ensures in
+    let told = touched_along size stops h (machine_of was) (machine_of now) load _ touched b new c.in_ok-before.ensures.seen seen_was seen_now (subst L same c.next_load-load.ensures.loads) c.first_touched-touched.ensures in
     let P : Option Halt → Type 0 = λ halt. IsSeen halt stops h b new in
-    (new, ((row_answer h c.turns.result, did.2), subst P (sym c.halt_back.ensures) (is_seen size stops h b new c.stands_at-stands.result changed stands told)), did.3)
+    (new, ((row_answer h c.turns.result, did.2), subst P (sym c.halt_back.ensures) (is_seen size stops h b new c.stands_at-stands.result touched stands told)), did.3)

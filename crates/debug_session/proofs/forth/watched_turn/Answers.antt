@@ -1,25 +1,22 @@
-use Rattle.std.proofs.Common.{◌≡◌, List, ℕ, map, subst}
-use Rattle.debug_timeline.specs.declared.debugged.DebuggedBench.{DebuggedBench}
-use Rattle.debug_timeline.specs.Lives.{machine_of}
-use Rattle.debug_session.specs.declared.stops.Watch.{Watch}
-use Rattle.debug_session.specs.Firsts.{Stretched, seen_all}
-use Rattle.debug_session.proofs.Firsts.{watched_halts}
-use Rattle.debug_session.proofs.Withins.{made_one}
+use Rattle.std.proofs.Common.{◌≡◌, subst}
+use Rattle.std.specs.Prelude.{IfOk}
+use Rattle.debug_timeline.specs.declared.timeline.Timeline.{Timeline}
+use Rattle.debug_session.specs.Firsts.{ToHalt}
+use Rattle.debug_session.specs.Steps.{Went}
+use Rattle.debug_session.specs.Withins.{MadeOne}
 use Rattle.debug_session.proofs.forth.watched_turn.Goals as goal
+
+pub returns-clause-went : goal.returns-clause-went
+returns-clause-went g c =
+    let P : Timeline → Type 0 = λ t. IfOk c.loading_turn.result (λ part. Went (λ h. h ≡ c.args.hart) part.made c.args.setting.now.shape.now t c.loading_turn.new.timeline) in
+    subst P c.next_load-load.ensures.same c.loading_turn.ensures.went
 
 pub returns-clause-first : goal.returns-clause-first
 returns-clause-first g c =
-    let stops = c.args.stops.now in
-    let part = c.in_ok-part.part in
-    let told = c.change_behind-changed.ensures in
-    let P : List ℕ → Type 0 = λ points. Stretched c.args.setting.now.shape.now c.args.hart 1 points part.made part.rests part.halt c.args.timeline.now c.stretch.new.timeline in
-    let before : List (Watch × List ℕ) = map (λ was. (was.watch, was.bytes.items)) c.in_ok-before.before.items in
-    let Q : DebuggedBench → Type 0 = λ bench. before ≡ seen_all (machine_of bench) stops.watches.items in
-    watched_halts c.args.setting.now.shape.now stops c.args.hart part.made part.rests part.halt c.halt_seen-halt.result c.change_behind-changed.result before c.args.timeline.now c.stretch.new.timeline (subst P c.points.ensures c.in_ok-part.ensures.made) c.halt_seen-halt.ensures told.none (subst Q c.bench.ensures c.in_ok-before.ensures.seen) told.told
+    let P : Timeline → Type 0 = λ t. IfOk c.loading_turn.result (λ part. ToHalt c.args.setting.now.shape.now c.args.stops.now c.args.hart part.halt t c.loading_turn.new.timeline) in
+    subst P c.next_load-load.ensures.same c.loading_turn.ensures.first
 
 pub returns-clause-made : goal.returns-clause-made
 returns-clause-made g c =
-    let part = c.in_ok-part.part in
-    let told = c.change_behind-changed.ensures in
-    let P : List ℕ → Type 0 = λ points. Stretched c.args.setting.now.shape.now c.args.hart 1 points part.made part.rests part.halt c.args.timeline.now c.stretch.new.timeline in
-    made_one c.args.setting.now.shape.now c.args.hart part.made c.args.stops.now.points.items part.rests part.halt c.halt_seen-halt.result c.change_behind-changed.result c.args.timeline.now c.stretch.new.timeline (subst P c.points.ensures c.in_ok-part.ensures.made) c.halt_seen-halt.ensures told.none
+    let P : Timeline → Type 0 = λ t. IfOk c.loading_turn.result (λ part. MadeOne c.args.setting.now.shape.now c.args.hart c.args.stops.now.points.items part t c.loading_turn.new.timeline) in
+    subst P c.next_load-load.ensures.same c.loading_turn.ensures.made

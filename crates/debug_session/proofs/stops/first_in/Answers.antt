@@ -12,5 +12,5 @@ returns-in-Some c =
     let xs : List Seen = c.args.before.now in
     let i = c.loop-was.was-index in
     let pair : Seen → Watch × List ℕ = λ was. (was.watch, was.bytes.items) in
-    let rest : Option ℕ = first_other m (map pair (drop (suc i) xs)) in
-    sym (c.loop-was.invariant ∙ ap (λ (ys : List Seen). first_other m (map pair ys)) (drop-cons xs i c.was-item.result c.loop-was-test.true) ∙ ap (λ (x : Seen). or_later (other_of m (pair x)) rest) (sym c.was-item.is) ∙ ap (λ (o : Option ℕ). or_later o rest) (sym c.other_now.ensures ∙ c.in-Some.is))
+    let rest : Option Watch = first_other m c.args.load (map pair (drop (suc i) xs)) in
+    sym (c.loop-was.invariant ∙ ap (λ (ys : List Seen). first_other m c.args.load (map pair ys)) (drop-cons xs i c.was-item.result c.loop-was-test.true) ∙ ap (λ (x : Seen). or_later (other_of m c.args.load (pair x)) rest) (sym c.was-item.is) ∙ ap (λ (o : Option Watch). or_later o rest) (sym c.other_now.ensures ∙ c.in-Some.is))

@@ -1,7 +1,7 @@
 use Rattle.std.proofs.Common.{[], Option, refl, sym, subst}
 use Rattle.std.proofs.lemmas.Result.{on_ok_weaker}
 use Rattle.report_lines.proofs.Written.{unwritten}
-use Rattle.gdb_packets.specs.declared.heard.Heard.{Heard}
+use Rattle.gdb_protocol.specs.declared.heard.Heard.{Heard}
 use Rattle.sbigdb.specs.Responses.{AnswersFrom}
 use Rattle.sbigdb.proofs.streams.answers_from.Goals as goal
 

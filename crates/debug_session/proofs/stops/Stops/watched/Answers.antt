@@ -3,6 +3,7 @@ use Rattle.std.proofs.lemmas.List.{map-append}
 use Rattle.debug_timeline.specs.Lives.{machine_of}
 use Rattle.debug_session.specs.declared.stops.Seen.{Seen}
 use Rattle.debug_session.specs.declared.stops.Watch.{Watch}
+use Rattle.debug_session.specs.declared.stops.WatchKind.TheVariants as kinds
 use Rattle.debug_session.specs.Firsts.{seen_all, seen_by}
 use Rattle.debug_session.proofs.Firsts.{seen_more}
 use Rattle.debug_session.proofs.stops.Stops.watched.Goals as goal
@@ -11,7 +12,7 @@ pub loop-watch-preserved : goal.loop-watch-preserved
 loop-watch-preserved c =
     let m = machine_of c.args.bench.now in
     let pair : Seen → Watch × List ℕ = λ was. (was.watch, was.bytes.items) in
-    let d : Watch = record { address = 0; count = 0 } in
+    let d : Watch = record { kind = kinds.Changes; address = 0; count = 0 } in
     let i = c.loop-watch.watch-index in
     let same = c.deref-watch-items.ensures.value in
     let items = c.deref-watch-items.result.now in

@@ -1,0 +1,106 @@
+//! Where a session begins, by the words of its options.
+
+ghost use Rattle.std.specs.Prelude.{◌≡◌, ◌≤◌, IfSome};
+ghost use Rattle.std.specs.Option.{option_map};
+ghost use Rattle.script_lang.specs.Words.{number_of};
+ghost use Rattle.debug_options.specs.Limits.{IsBounded, IsUpTo};
+ghost use Rattle.debug_options.specs.Reads.{begin_named, drawn_by, number_up_to, order_named, ordered_by, seed_of, without_order};
+
+use crate::given::{Begin, Drawn, Preempted};
+use crate::help::{MOST_NUMBER, MOST_PREEMPTIONS};
+use script_lang::number;
+
+/// A number that a word spells, from 1 to `most`.
+fn number_up_to(most: u64, word: &str) -> Option<u64>
+    ensures value { result ≡ number_up_to most (number_of word.now) }
+    ensures range { IfSome result (IsUpTo most) }
+{
+    let number = number(word.as_bytes())?;
+    if number < 1 || most < number {
+        return None;
+    }
+    Some(number)
+}
+
+/// The seed that a word spells; 1 without a word.
+fn seed_of(word: Option<&str>) -> Option<u64>
+    ensures { result ≡ seed_of (option_map (λ s. s.now) word.entry) }
+{
+    match word {
+        None => Some(1),
+        Some(word) => number(word.as_bytes()),
+    }
+}
+
+/// Where a schedule parts, by its number and what it is drawn from.
+fn drawn(number: &str, seed: Option<&str>) -> Option<Begin>
+    ensures value { result ≡ drawn_by (number_up_to 1000000 (number_of number.now)) (seed_of (option_map (λ s. s.now) seed.entry)) }
+    ensures bounded { IfSome result IsBounded }
+{
+    let number = number_up_to(MOST_NUMBER, number)?;
+    let seed = seed_of(seed)?;
+    Some(Begin::Schedule(Drawn { seed, number }))
+}
+
+/// Where an order parts, by how many preemptions it has at most, and its number among those that differ.
+fn ordered(most: &str, number: &str) -> Option<Begin>
+    ensures value { result ≡ ordered_by (number_up_to 3 (number_of most.now)) (number_up_to 1000000 (number_of number.now)) }
+    ensures bounded { IfSome result IsBounded }
+{
+    let most = number_up_to(MOST_PREEMPTIONS, most)?;
+    let number = number_up_to(MOST_NUMBER, number)?;
+    Some(Begin::Order(Preempted { most, number }))
+}
+
+/// Where the session begins without `--schedule`. None where a word is out of its range, or one of the two is missing.
+fn order_named(most: Option<&str>, order: Option<&str>) -> Option<Begin>
+    ensures value { result ≡ order_named (option_map (λ s. s.now) most.entry) (option_map (λ s. s.now) order.entry) }
+    ensures bounded { IfSome result IsBounded }
+{
+    match (most, order) {
+        (None, None) => Some(Begin::End),
+        (None, Some(_)) => None,
+        (Some(_), None) => None,
+        (Some(most), Some(order)) => ordered(most, order),
+    }
+}
+
+/// Where the session begins by `--schedule`. None where a word is out of its range, or an order is named too.
+fn schedule_named(
+    number: &str,
+    seed: Option<&str>,
+    most: Option<&str>,
+    order: Option<&str>,
+) -> Option<Begin>
+    ensures value { result ≡ without_order (option_map (λ s. s.now) most.entry) (option_map (λ s. s.now) order.entry)
+        (drawn_by (number_up_to 1000000 (number_of number.now)) (seed_of (option_map (λ s. s.now) seed.entry))) }
+    ensures bounded { IfSome result IsBounded }
+{
+    if most.is_some() || order.is_some() {
+        return None;
+    }
+    drawn(number, seed)
+}
+
+/// Where the session begins, by the words of its options. None where a word is out of its range, or where they do not go
+/// together.
+pub(crate) fn begin_named(
+    schedule: Option<&str>,
+    seed: Option<&str>,
+    most: Option<&str>,
+    order: Option<&str>,
+) -> Option<Begin>
+    ensures value { result ≡ begin_named (option_map (λ s. s.now) schedule.entry) (option_map (λ s. s.now) seed.entry)
+        (option_map (λ s. s.now) most.entry) (option_map (λ s. s.now) order.entry) }
+    ensures bounded { IfSome result IsBounded }
+{
+    match schedule {
+        Some(number) => schedule_named(number, seed, most, order),
+        None => {
+            if seed.is_some() {
+                return None;
+            }
+            order_named(most, order)
+        }
+    }
+}

@@ -1,0 +1,19 @@
+//! Payloads in their packets.
+
+ghost use Rattle.std.specs.Prelude.{◌≡◌, map, IfOk};
+ghost use Rattle.gdb_protocol.specs.Replies.{packets_of};
+
+use crate::frames::framed;
+use std::alloc::{AllocError, Global};
+
+/// Payloads one after another, each in its packet.
+pub fn packets(alloc: Global, payloads: &[Vec<u8>]) -> Result<Vec<u8>, AllocError>
+    ensures { IfOk result (λ v. v.items ≡ packets_of (map (λ p. p.items) payloads.now)) }
+{
+    let mut out = Vec::new(alloc);
+    for payload in payloads {
+        let packet = framed(alloc, payload)?;
+        out.extend_from_slice(&packet)?;
+    }
+    Ok(out)
+}
