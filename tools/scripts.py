@@ -1,5 +1,8 @@
 """What the tools here take of scripts and of their reports (docs/SCRIPT.md)."""
+import re
 from itertools import zip_longest
+
+EXTENSIONS = {"base": 0x10, "hsm": 0x48534D, "ipi": 0x735049, "srst": 0x53525354, "susp": 0x53555350}
 
 
 def numbered(script):
@@ -25,3 +28,21 @@ def first_difference(own_run, other_run):
         if own != other:
             return (number, *next(pair for pair in zip_longest(own, other, fillvalue="") if pair[0] != pair[1]))
     return None
+
+
+def word(text):
+    """A number in decimal, and any other word as it is."""
+    if re.fullmatch(r"0x[0-9a-fA-F]{1,16}", text):
+        return str(int(text, 16))
+    return str(int(text)) if re.fullmatch(r"[0-9]{1,20}", text) else text
+
+
+def plain(line):
+    """A line in one spelling: what stands for the same line is the same."""
+    words = line.split(" ")
+    if words[0] == "call":
+        words[2] = str(EXTENSIONS.get(words[2], words[2]))
+        words += ["0"] * (7 - len(words))
+    if words[0] in ("payload", "poke", "cut", "cutat", "cutlane"):
+        return " ".join([*map(word, words[:-1]), words[-1].lower()])
+    return " ".join(map(word, words))
