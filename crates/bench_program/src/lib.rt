@@ -237,7 +237,7 @@ pub fn write_schedules<R: Threads + Sync, W: Write + Drop>(
         count: drawn.number,
         part: None,
     };
-    let count = schedules::<R, BufWriter<W>>(jobs, alloc, script, payloads, plan, out)?;
+    let count = schedules::<R, (), BufWriter<W>>(jobs, alloc, script, payloads, plan, out)?;
     match out.flush() {
         Ok(()) => Ok(count),
         Err(_) => Err(Refusal::Output),
