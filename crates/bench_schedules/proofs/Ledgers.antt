@@ -36,8 +36,8 @@ differing_more [] run = omega arith
 differing_more (None ∷ runs) run = differing_more runs run
 differing_more (Some d ∷ runs) run = omega (arith, differing_more runs run)
 
-pub wrote_none : (said : Script) (start : List (List ℕ)) (number : ℕ → ℕ) (own : List Answer) (now : Option (List ℕ)) → Wrote said start number own 1 0 now now 0
-wrote_none said start number own now = record {
+pub wrote_none : (said : Script) (start : List (List ℕ)) (number : ℕ → ℕ) (own : List Answer) (k : ℕ) (now : Option (List ℕ)) → Wrote said start number own k 0 now now 0
+wrote_none said start number own k now = record {
   runs = [];
   all = refl;
   each = All-nil (Ran said start own);
@@ -47,24 +47,21 @@ wrote_none said start number own now = record {
   written = unwritten now;
 }
 
-pub wrote_more : (said : Script) (start : List (List ℕ)) (number : ℕ → ℕ) (own : List Answer) (n differ m : ℕ) (old mid new : Option (List ℕ)) (run : Option Difference)
-    → Wrote said start number own 1 n old mid differ → Ran said start own run
-    → ((text : List ℕ) × RunText number (n + 1) run text × Appends mid new text × (m ≡ differing (run ∷ [])))
-    → Wrote said start number own 1 (n + 1) old new (differ + m)
-wrote_more said start number own n differ m old mid new run so_far ran told =
-    let P : ℕ → Type 0 = λ k. RunText number k run told.0 in
+pub wrote_more : (said : Script) (start : List (List ℕ)) (number : ℕ → ℕ) (own : List Answer) (k n differ m : ℕ) (old mid new : Option (List ℕ)) (run : Option Difference)
+    → Wrote said start number own k n old mid differ → Ran said start own run
+    → ((text : List ℕ) × RunText number (k + n) run text × Appends mid new text × (m ≡ differing (run ∷ [])))
+    → Wrote said start number own k (n + 1) old new (differ + m)
+wrote_more said start number own k n differ m old mid new run so_far ran told =
+    let P : ℕ → Type 0 = λ i. RunText number (k + i) run told.0 in
     record {
       runs = so_far.runs ++ run ∷ [];
       all = length-append so_far.runs (run ∷ []) ∙ ap (λ k. k + 1) so_far.all;
       each = All-append (Ran said start own) so_far.runs (run ∷ []) so_far.each (All-cons (Ran said start own) run [] ran (All-nil (Ran said start own)));
       count = (let more = differing_more so_far.runs run in omega (arith, more, so_far.count, told.3));
       text = so_far.text ++ told.0;
-      tells = texts_more number 1 so_far.runs so_far.text run told.0 so_far.tells (subst P (next n (length so_far.runs) so_far.all) told.1);
+      tells = texts_more number k so_far.runs so_far.text run told.0 so_far.tells (subst P (sym so_far.all) told.1);
       written = appended old mid new so_far.text told.0 so_far.written told.2;
     }
-  where
-    next : (n k : ℕ) → k ≡ n → n + 1 ≡ 1 + k
-    next n k e = omega (arith, e)
 
 pub tight_more : (a b c : Option (List ℕ)) (x y : List ℕ) → Appends a b (tight_text x) → Appends b c (tight_text y) → Appends a c (tight_text (x ++ y))
 tight_more a b c x y h g =

@@ -216,13 +216,14 @@ fn run_schedules<R: Threads + Sync, P: Progress, C: Crew + Sync, W: Write>(
         differ: 0,
     };
     let Window { from, to } = within;
-    jobs.begin(to - from);
+    let count = to - from;
+    jobs.begin(count);
     hand_on_all(
         jobs,
         runner.setting.alloc,
         &runs,
         1 + from,
-        to - from,
+        count,
         &mut report,
     )?;
     Ok(report.differ)
@@ -317,8 +318,7 @@ fn compare_all<R: Threads + Sync, P: Progress, C: Crew + Sync, W: Write>(
     requires ranges { All (IsLineInRange runner.now.setting.shape.now) runner.now.lines.now }
     requires fits { All FitsLine runner.now.lines.now }
     requires most { plan.count ≤ 1000000 }
-    ensures runs { IfOk result (λ count. count.runs ≡ own_count plan.part plan.count) }
-    ensures wrote { IfOk result (λ count. WroteSchedules (record { size = runner.now.setting.shape.now; lines = runner.now.lines.now })
+    ensures wrote { IfOk result (λ count. (count.runs ≡ own_count plan.part plan.count) × WroteSchedules (record { size = runner.now.setting.shape.now; lines = runner.now.lines.now })
         runner.now.payloads.now (λ place. slice_index_or runner.now.numbers.now (1 + place_of_other place runner.now.lines.now) 0)
         plan.part plan.count (W.contents out.old) (W.contents out.new) count.differ) }
     ensures err { IfErr result (λ e. (e ≡ Memory) ⊎ (e ≡ Output)) }
@@ -346,8 +346,7 @@ fn compare_script<'a, R: Threads + Sync, P: Progress, W: Write>(
     requires few { length script.now.lines.items ≤ 65535 }
     requires ranges { All (IsLineInRange script.now.shape) script.now.lines.items }
     requires most { plan.count ≤ 1000000 }
-    ensures runs { IfOk result (λ count. count.runs ≡ own_count plan.part plan.count) }
-    ensures wrote { IfOk result (λ count. WroteSchedules (view script.now) payloads.now
+    ensures wrote { IfOk result (λ count. (count.runs ≡ own_count plan.part plan.count) × WroteSchedules (view script.now) payloads.now
         (λ place. slice_index_or numbers.now (1 + place_of_other place script.now.lines.items) 0)
         plan.part plan.count (W.contents out.old) (W.contents out.new) count.differ) }
     ensures err { IfErr result (λ e. (e ≡ Memory) ⊎ (e ≡ Output)) }
