@@ -18,7 +18,7 @@ use crate::written::write_order;
 use bench_schedules::{Difference, number_of_other};
 use board_model::Refusal;
 use crew::Crew;
-use jobs::{Jobs, Sink, Task, hand_on_all};
+use jobs::{Jobs, Progress, Sink, Task, hand_on_all};
 use std::alloc::Global;
 use std::io::Write;
 use std::thread::Threads;
@@ -168,7 +168,8 @@ impl<'a, 'b, C, W: Write> Sink<NextRun> for Report<'a, 'b, C, W> {
     ghost takes = { λ old run new. TellsNext W.contents old run new };
 
     /// Writes the line of an order where it differs, and counts it; or leaves it out, where enough orders differ.
-    fn take(&mut self, run: NextRun) -> Result<(), Refusal> {
+    fn take<P: Progress>(&mut self, run: NextRun, progress: &P) -> Result<(), Refusal> {
+        progress.pause();
         if is_enough(self.runner, &self.search) {
             return Ok(());
         }

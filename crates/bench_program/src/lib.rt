@@ -247,7 +247,7 @@ pub fn write_schedules<R: Threads + Sync, W: Write + Drop>(
         → (writer_contents W.contents out.new ≡ writer_contents W.contents out.old)
         × ((result ≡ Err e) ⊎ (result ≡ Err Refusal.Memory)) }
 {
-    let count = schedules::<R, BufWriter<W>>(jobs, alloc, script, payloads, plan, out)?;
+    let count = schedules::<R, (), BufWriter<W>>(jobs, alloc, script, payloads, plan, out)?;
     match out.flush() {
         Ok(()) => Ok(count),
         Err(_) => Err(Refusal::Output),

@@ -41,8 +41,8 @@ rows_more : {Row : Type 0} (is : ℕ → Row → Type 0) (first : ℕ) (rows : L
 rows_more is first [] row each more = (subst (λ (k : ℕ). is k row) (let e : first + 0 ≡ first = omega arith in e) more, tt)
 rows_more is first (x ∷ rows) row each more = (each.0, rows_more is (first + 1) rows row each.1 (subst (λ (k : ℕ). is k row) (let e : first + suc (length rows) ≡ first + 1 + length rows = omega arith in e) more))
 
-pub wrote_none : (said : Script) (start : List (List ℕ)) (from : Source) (number : ℕ → ℕ) (own : List Answer) (now : Option (List ℕ)) → Wrote said start from number own 1 0 now now 0
-wrote_none said start from number own now = record {
+pub wrote_none : (said : Script) (start : List (List ℕ)) (source : Source) (number : ℕ → ℕ) (own : List Answer) (k : ℕ) (now : Option (List ℕ)) → Wrote said start source number own k 0 now now 0
+wrote_none said start source number own k now = record {
   runs = [];
   all = refl;
   each = tt;
@@ -52,24 +52,21 @@ wrote_none said start from number own now = record {
   written = unwritten now;
 }
 
-pub wrote_more : (said : Script) (start : List (List ℕ)) (from : Source) (number : ℕ → ℕ) (own : List Answer) (n differ m : ℕ) (old mid new : Option (List ℕ)) (run : Option Difference)
-    → Wrote said start from number own 1 n old mid differ → Ran said start from own (n + 1) run
-    → ((text : List ℕ) × RunText number (n + 1) run text × Appends mid new text × (m ≡ differing (run ∷ [])))
-    → Wrote said start from number own 1 (n + 1) old new (differ + m)
-wrote_more said start from number own n differ m old mid new run so_far ran told =
-    let P : ℕ → Type 0 = λ k. RunText number k run told.0 in
+pub wrote_more : (said : Script) (start : List (List ℕ)) (source : Source) (number : ℕ → ℕ) (own : List Answer) (k n differ m : ℕ) (old mid new : Option (List ℕ)) (run : Option Difference)
+    → Wrote said start source number own k n old mid differ → Ran said start source own (k + n) run
+    → ((text : List ℕ) × RunText number (k + n) run text × Appends mid new text × (m ≡ differing (run ∷ [])))
+    → Wrote said start source number own k (n + 1) old new (differ + m)
+wrote_more said start source number own k n differ m old mid new run so_far ran told =
+    let P : ℕ → Type 0 = λ i. RunText number (k + i) run told.0 in
     record {
       runs = so_far.runs ++ run ∷ [];
       all = length-append so_far.runs (run ∷ []) ∙ ap (λ k. k + 1) so_far.all;
-      each = rows_more (Ran said start from own) 1 so_far.runs run so_far.each (subst (λ (k : ℕ). Ran said start from own k run) (next n (length so_far.runs) so_far.all) ran);
+      each = rows_more (Ran said start source own) k so_far.runs run so_far.each (subst (λ (i : ℕ). Ran said start source own (k + i) run) (sym so_far.all) ran);
       count = (let more = differing_more so_far.runs run in omega (arith, more, so_far.count, told.3));
       text = so_far.text ++ told.0;
-      tells = texts_more number 1 so_far.runs so_far.text run told.0 so_far.tells (subst P (next n (length so_far.runs) so_far.all) told.1);
+      tells = texts_more number k so_far.runs so_far.text run told.0 so_far.tells (subst P (sym so_far.all) told.1);
       written = appended old mid new so_far.text told.0 so_far.written told.2;
     }
-  where
-    next : (n k : ℕ) → k ≡ n → n + 1 ≡ 1 + k
-    next n k e = omega (arith, e)
 
 pub tight_more : (a b c : Option (List ℕ)) (x y : List ℕ) → Appends a b (tight_text x) → Appends b c (tight_text y) → Appends a c (tight_text (x ++ y))
 tight_more a b c x y h g =

@@ -24,7 +24,7 @@ use bench_report::{Answer, Setting};
 use board::Payloads;
 use board_model::Refusal;
 use crew::{Crew, Sequential};
-use jobs::{Jobs, Part, Sink, Task, Window, hand_on_all};
+use jobs::{Jobs, Part, Progress, Sink, Task, Window, hand_on_all};
 use script_lang::{Line, Script, parse_script, scripts_read_as_written};
 use std::alloc::Global;
 use std::io::Write;
@@ -162,7 +162,10 @@ impl<'a, 'b, 'c, C, W: Write> Sink<DrawnRun> for Report<'a, 'b, 'c, C, W> {
     ghost takes = { λ old drawn new. TellsDrawn W.contents old drawn new };
 
     /// Writes the line of a schedule where it differs, and counts it.
-    fn take(&mut self, drawn: DrawnRun) -> Result<(), Refusal> {
+    fn take<P: Progress>(&mut self, drawn: DrawnRun, progress: &P) -> Result<(), Refusal> {
+        if drawn.differs.is_some() {
+            progress.pause();
+        }
         let differ = write_run(self.runner, drawn.number, drawn.differs, self.out)?;
         self.differ = self.differ.saturating_add(differ);
         Ok(())
@@ -171,8 +174,8 @@ impl<'a, 'b, 'c, C, W: Write> Sink<DrawnRun> for Report<'a, 'b, 'c, C, W> {
 
 /// Runs schedules of that window of their numbers, which begin with 1, by the threads of these jobs, and writes a line for each
 /// that differs. Answers how many do.
-fn run_schedules<R: Threads + Sync, C: Crew + Sync, W: Write>(
-    jobs: &Jobs<'_, R>,
+fn run_schedules<R: Threads + Sync, P: Progress, C: Crew + Sync, W: Write>(
+    jobs: &Jobs<'_, R, P>,
     runner: &Runner<'_, C>,
     own: &OwnRun,
     within: Window,
@@ -197,12 +200,14 @@ fn run_schedules<R: Threads + Sync, C: Crew + Sync, W: Write>(
         differ: 0,
     };
     let Window { from, to } = within;
+    let count = to - from;
+    jobs.begin(count);
     hand_on_all(
         jobs,
         runner.setting.alloc,
         &runs,
         1 + from,
-        to - from,
+        count,
         &mut report,
     )?;
     Ok(report.differ)
@@ -277,8 +282,8 @@ pub fn confirmed_own_run<C: Crew>(
 
 /// Runs the script as it stands, and then schedules of it, by that plan. Writes which of its stretches name few turns, which
 /// schedules differ, and how many. Answers how many were run, and how many differ.
-fn compare_all<R: Threads + Sync, C: Crew + Sync, W: Write>(
-    jobs: &Jobs<'_, R>,
+fn compare_all<R: Threads + Sync, P: Progress, C: Crew + Sync, W: Write>(
+    jobs: &Jobs<'_, R, P>,
     runner: &Runner<'_, C>,
     plan: Plan,
     out: &mut W,
@@ -288,8 +293,7 @@ fn compare_all<R: Threads + Sync, C: Crew + Sync, W: Write>(
     requires ranges { All (IsLineInRange runner.now.setting.shape.now) runner.now.lines.now }
     requires fits { All FitsLine runner.now.lines.now }
     requires most { plan.count ≤ 1000000 }
-    ensures runs { IfOk result (λ count. count.runs ≡ own_count plan.part plan.count) }
-    ensures wrote { IfOk result (λ count. WroteSchedules (record { size = runner.now.setting.shape.now; lines = runner.now.lines.now })
+    ensures wrote { IfOk result (λ count. (count.runs ≡ own_count plan.part plan.count) × WroteSchedules (record { size = runner.now.setting.shape.now; lines = runner.now.lines.now })
         runner.now.payloads.now runner.now.seed
         (λ place. slice_index_or runner.now.numbers.now (1 + place_of_other place runner.now.lines.now) 0)
         plan.part plan.count (W.contents out.old) (W.contents out.new) count.differ) }
@@ -306,8 +310,8 @@ fn compare_all<R: Threads + Sync, C: Crew + Sync, W: Write>(
 }
 
 /// Compares schedules of a script that was read with its own run.
-fn compare_script<'a, R: Threads + Sync, W: Write>(
-    jobs: &Jobs<'_, R>,
+fn compare_script<'a, R: Threads + Sync, P: Progress, W: Write>(
+    jobs: &Jobs<'_, R, P>,
     alloc: Global,
     script: &'a Script,
     payloads: &'a Payloads,
@@ -318,8 +322,7 @@ fn compare_script<'a, R: Threads + Sync, W: Write>(
     requires few { length script.now.lines.items ≤ 65535 }
     requires ranges { All (IsLineInRange script.now.shape) script.now.lines.items }
     requires most { plan.count ≤ 1000000 }
-    ensures runs { IfOk result (λ count. count.runs ≡ own_count plan.part plan.count) }
-    ensures wrote { IfOk result (λ count. WroteSchedules (view script.now) payloads.now plan.seed
+    ensures wrote { IfOk result (λ count. (count.runs ≡ own_count plan.part plan.count) × WroteSchedules (view script.now) payloads.now plan.seed
         (λ place. slice_index_or numbers.now (1 + place_of_other place script.now.lines.items) 0)
         plan.part plan.count (W.contents out.old) (W.contents out.new) count.differ) }
     ensures err { IfErr result (λ e. (e ≡ Memory) ⊎ (e ≡ Output)) }
@@ -385,8 +388,8 @@ fn show_script<R: Threads + Sync, W: Write>(
 /// refused in any run, to a power-on, to an examination of the disk or to the disk's record, which is never a difference,
 /// or where a difference was not found again; `Output` where the writer failed. After the last two any part may stand in
 /// the writer.
-pub fn schedules<R: Threads + Sync, W: Write>(
-    jobs: &Jobs<'_, R>,
+pub fn schedules<R: Threads + Sync, P: Progress, W: Write>(
+    jobs: &Jobs<'_, R, P>,
     alloc: Global,
     script: &[u8],
     payloads: &Payloads,
@@ -407,7 +410,7 @@ pub fn schedules<R: Threads + Sync, W: Write>(
 {
     let read = parse_script(alloc, script)?;
     let numbers = line_numbers(alloc, script)?;
-    compare_script::<R, W>(jobs, alloc, &read, payloads, &numbers, plan, out)
+    compare_script::<R, P, W>(jobs, alloc, &read, payloads, &numbers, plan, out)
 }
 
 /// Writes schedule k of a script as a script: the one that [`schedules`] runs by that number, with the same seed and the same

@@ -23,7 +23,8 @@ use Rattle.bench_sweep.specs.declared.site.Site.{Site}
 use Rattle.bench_sweep.specs.Made.{LooksAt, Lives, ComesTo, IsPlainRun, Recovers, IsUncut, IsToldOf, EndsAs, RunsWith}
 use Rattle.bench_sweep.specs.Recovers.{Compared}
 use Rattle.report_lines.specs.declared.printed.Printed.{Printed}
-use Rattle.bench_sweep.specs.Points.{fault_at}
+use Rattle.bench_sweep.specs.Points.{fault_at, MadeCalls}
+use Rattle.simdisk.specs.declared.SimDisk.{SimDisk}
 use Rattle.bench_sweep.specs.Reports.{IsLeft, RunsRow, IsRow}
 use Rattle.bench_sweep.specs.Runs.{RunsAt, RanTo, IsEnd, IsLife}
 
@@ -218,3 +219,14 @@ zip_more R [] [] x y z r = (r, tt)
 zip_more R [] (b ∷ ys) x y z r = absurd z
 zip_more R (a ∷ xs) [] x y z r = absurd z
 zip_more R (a ∷ xs) (b ∷ ys) x y z r = (z.0, zip_more R xs ys x y z.1 r)
+
+-- they are the same however they were counted
+pub zip_same : (from to : SimDisk) (cs : List Caller) (ms ns : List ℕ) → AllZip (MadeCalls from to) cs ms → AllZip (MadeCalls from to) cs ns → ms ≡ ns
+zip_same from to [] [] [] a b = refl
+zip_same from to [] [] (n ∷ ns) a b = absurd b
+zip_same from to [] (m ∷ ms) ns a b = absurd a
+zip_same from to (c ∷ cs) [] ns a b = absurd a
+zip_same from to (c ∷ cs) (m ∷ ms) [] a b = absurd b
+zip_same from to (c ∷ cs) (m ∷ ms) (n ∷ ns) a b =
+    let first : m ≡ n = omega (arith, a.0, b.0) in
+    ap (λ (k : ℕ). k ∷ ms) first ∙ ap (λ (ks : List ℕ). n ∷ ks) (zip_same from to cs ms ns a.1 b.1)

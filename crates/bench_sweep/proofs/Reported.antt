@@ -1,5 +1,5 @@
 -- Reports that go on one after another, and the lines that they are of.
-use Rattle.std.proofs.Common.{◌≡◌, ◌≤◌, ◌+◌, ℕ, List, [], ◌∷◌, ◌++◌, take, drop, length, Option, Result, Ok, Err, OnOk, refl, sym, ◌∙◌, ap, subst, arith}
+use Rattle.std.proofs.Common.{◌≡◌, ◌≤◌, ◌+◌, ℕ, Bool, List, [], ◌∷◌, ◌++◌, take, drop, length, Option, Result, Ok, Err, OnOk, refl, sym, ◌∙◌, ap, subst, arith, length-append}
 use Rattle.std.proofs.lemmas.List.{length-drop, length-take}
 use Rattle.std.proofs.lemmas.List.Elements.{All-take, All-drop}
 use Rattle.std.specs.Io.KnownBytes.{Appends}
@@ -12,35 +12,30 @@ use Rattle.bench_sweep.specs.declared.points.Caller.{Caller}
 use Rattle.bench_sweep.specs.declared.rows.Row.{Row}
 use Rattle.bench_sweep.specs.declared.sweeps.Report.{Report}
 use Rattle.bench_sweep.specs.Reports.{Reports}
-use Rattle.bench_sweep.specs.Swept.{Cell, cell_of, runs_of, IsPlainLine, AreSwept, Writes}
+use Rattle.bench_sweep.specs.Swept.{Spot, runs_at, IsPlainLine, AreSwept, Writes}
 use Rattle.bench_report.specs.Bench.{Bench as ModelBench}
-use Rattle.bench_sweep.proofs.Written.{writes_none, writes_more, writes_as, writes_weaker, with_points}
+use Rattle.bench_sweep.proofs.Written.{runs_more, writes_none, writes_more, writes_as, writes_weaker}
 
 -- no row
-pub reports_none : {W : Type 0} (contents : W → Option (List ℕ)) (Is : Row → Type 0) (now : Report W) → Reports contents Is now now [] 0
-reports_none contents Is now = record { same = refl; wrote = writes_none Is _ _ }
+pub reports_none : {W : Type 0} (contents : W → Option (List ℕ)) (kind : Kind) (Is : Row → Type 0) (now : Report W) → Reports contents kind Is now now []
+reports_none contents kind Is now = record { same = refl; quiet = refl; wrote = writes_none _ Is _ _ }
 
 -- and then more of them
-pub reports_more : {W : Type 0} (contents : W → Option (List ℕ)) (Is : Row → Type 0) (a b c : Report W) (xs ys : List Cell) (m n : ℕ) → Reports contents Is a b xs m → Reports contents Is b c ys n → Reports contents Is a c (xs ++ ys) (m + n)
-reports_more contents Is a b c xs ys m n first second = record {
-  same = second.same ∙ first.same;
-  wrote = writes_more Is _ _ _ _ _ _ _ _ _ _ first.wrote second.wrote;
-}
+pub reports_more : {W : Type 0} (contents : W → Option (List ℕ)) (kind : Kind) (Is : Row → Type 0) (a b c : Report W) (xs ys : List Spot) → Reports contents kind Is a b xs → Reports contents kind Is b c ys → Reports contents kind Is a c (xs ++ ys)
+reports_more contents kind Is a b c xs ys first second =
+    let P : Bool → Type 0 = λ quiet. Writes quiet Is (contents b.out.now) (contents c.out.now) b.done c.done (runs_at kind ys) (length ys) in record {
+      same = second.same ∙ first.same;
+      quiet = second.quiet ∙ first.quiet;
+      wrote = writes_as a.quiet Is _ _ _ _ _ _ _ _ (sym (runs_more kind xs ys)) (sym (length-append xs ys)) (writes_more a.quiet Is _ _ _ _ _ _ _ _ _ _ first.wrote (subst P first.quiet second.wrote));
+    }
 
--- the same runs
-pub reports_as : {W : Type 0} (contents : W → Option (List ℕ)) (Is : Row → Type 0) (a b : Report W) (xs ys : List Cell) (m n : ℕ) → xs ≡ ys → m ≡ n → Reports contents Is a b xs m → Reports contents Is a b ys n
-reports_as contents Is a b xs ys m n e f r = record { same = r.same; wrote = writes_as Is _ _ _ _ _ _ _ _ e f r.wrote }
+-- the same points
+pub reports_as : {W : Type 0} (contents : W → Option (List ℕ)) (kind : Kind) (Is : Row → Type 0) (a b : Report W) (xs ys : List Spot) → xs ≡ ys → Reports contents kind Is a b xs → Reports contents kind Is a b ys
+reports_as contents kind Is a b xs ys e r = subst (λ (zs : List Spot). Reports contents kind Is a b zs) e r
 
 -- rows of which another thing holds too
-pub reports_weaker : {W : Type 0} (contents : W → Option (List ℕ)) (Is So : Row → Type 0) (a b : Report W) (xs : List Cell) (n : ℕ) → ((row : Row) → Is row → So row) → Reports contents Is a b xs n → Reports contents So a b xs n
-reports_weaker contents Is So a b xs n then r = record { same = r.same; wrote = writes_weaker Is So _ _ _ _ _ _ then r.wrote }
-
--- points that are counted at the end
-pub reports_points : {W : Type 0} (contents : W → Option (List ℕ)) (Is : Row → Type 0) (a b c : Report W) (xs : List Cell) (n : ℕ) → Reports contents Is a b xs 0 → c.out.ghost_name ≡ b.out.ghost_name → contents c.out.now ≡ contents b.out.now
-    → c.done.sweep.points ≡ counted b.done.sweep.points (counted 0 n) → c.done.sweep.runs ≡ b.done.sweep.runs → c.done.sweep.wrong ≡ b.done.sweep.wrong → c.done.differ ≡ b.done.differ → Reports contents Is a c xs n
-reports_points contents Is a b c xs n r same text points runs wrong differ =
-    let P : Option (List ℕ) → Type 0 = λ now. Writes Is (contents a.out.now) now a.done c.done xs n in
-    record { same = same ∙ r.same; wrote = subst P (sym text) (with_points Is _ _ a.done b.done c.done xs n r.wrote points runs wrong differ) }
+pub reports_weaker : {W : Type 0} (contents : W → Option (List ℕ)) (kind : Kind) (Is So : Row → Type 0) (a b : Report W) (xs : List Spot) → ((row : Row) → Is row → So row) → Reports contents kind Is a b xs → Reports contents kind So a b xs
+reports_weaker contents kind Is So a b xs then r = record { same = r.same; quiet = r.quiet; wrote = writes_weaker _ Is So _ _ _ _ _ _ then r.wrote }
 
 -- ---- some of the lines
 pub swept_take : (size : Size) (n : ℕ) (lines : List Line) → AreSwept size lines → AreSwept size (take n lines)

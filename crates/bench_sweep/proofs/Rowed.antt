@@ -19,8 +19,9 @@ use Rattle.bench_sweep.specs.Reports.{Keeps, Judged, IsOfCall, TakesPoint, Repor
 use Rattle.bench_sweep.specs.Recovers.{Compared}
 use Rattle.bench_sweep.specs.Rows.{differing_rows}
 use Rattle.bench_sweep.specs.Runs.{RunsAt}
-use Rattle.bench_sweep.specs.Swept.{Cell, cell_of, runs_of, runs_from, rows_text, GoesOn}
-use Rattle.bench_sweep.proofs.Written.{cells_more, each_at, next_call}
+use Rattle.bench_sweep.specs.Swept.{Cell, spot, cell_of, runs_of, points_from, rows_text, GoesOn}
+use Rattle.std.proofs.lemmas.List.{append-nil}
+use Rattle.bench_sweep.proofs.Written.{cells_more, each_at, next_point, one_more}
 use Rattle.bench_sweep.proofs.Reported.{reports_none, reports_more, reports_as}
 
 -- ---- rows of a point
@@ -56,9 +57,6 @@ pub judged_at : (kind : Kind) (caller : Caller) (number : ℕ) (Is So : Row → 
 judged_at kind caller number Is So rows then j = record { each = each_at kind caller number Is So rows.rows.items then j.cells j.each; cells = j.cells; runs = j.runs; right = j.right }
 
 -- ---- points that are written
-none_more : (m n : ℕ) → n ≡ m → GoesOn m n 0
-none_more m n same k e = omega (arith, same, e)
-
 some_more : (m n some long : ℕ) → n ≡ counted m some → some ≡ counted 0 long → GoesOn m n long
 some_more m n some long is few k e = omega (arith, is, few, e)
 
@@ -66,35 +64,38 @@ differ_more : (m n k : ℕ) → n ≡ counted m k → GoesOn m n k
 differ_more m n k same i e = omega (arith, same, e)
 
 -- the rows of one point
-pub reports_point : {W : Type 0} (contents : W → Option (List ℕ)) (Is : Row → Type 0) (old new : Report W) (rows : PointRows) (cells : List Cell) → Judged Is rows cells → TakesPoint contents old rows new → Reports contents Is old new cells 0
-reports_point contents Is old new rows cells j t = record {
+pub reports_point : {W : Type 0} (contents : W → Option (List ℕ)) (kind : Kind) (Is : Row → Type 0) (old new : Report W) (rows : PointRows) (caller : Caller) (number : ℕ)
+    → Judged Is rows (runs_of kind caller number) → TakesPoint contents old rows new → Reports contents kind Is old new (spot caller number ∷ [])
+reports_point contents kind Is old new rows caller number j t = record {
   same = t.same;
+  quiet = t.quiet;
   wrote = record {
     rows = rows.rows.items;
     each = j.each;
-    text = t.text;
-    cells = j.cells;
-    points = none_more old.done.sweep.points new.done.sweep.points t.points;
+    text = t.text j.right;
+    cells = j.cells ∙ sym (append-nil (runs_of kind caller number));
+    points = one_more old.done.sweep.points new.done.sweep.points t.points;
     runs = some_more old.done.sweep.runs new.done.sweep.runs rows.sweep.runs (length rows.rows.items) t.runs j.runs;
     right = t.right j.right;
     differ = differ_more old.done.differ new.done.differ (differing_rows rows.rows.items) t.differ;
   };
 }
 
--- the points of calls in a row
-module _ {W : Type 0} (contents : W → Option (List ℕ)) (size : Size) (kind : Kind) (caller : Caller) (before : ℕ) (lines : List Line) (rest : Compared) (site : Site) (b : Bench) (r : RunsAt size b site) (first : Report W) where
+-- the points of calls in a row, of which so many are passed over
+module _ {W : Type 0} (contents : W → Option (List ℕ)) (size : Size) (kind : Kind) (caller : Caller) (before from : ℕ) (lines : List Line) (rest : Compared) (site : Site) (b : Bench) (r : RunsAt size b site) (first : Report W) where
   abbrev Is : Row → Type 0
   Is = RunsRow size kind before (unpowered b) lines rest
 
   abbrev Wrote : Report W → ℕ → Type 0
-  Wrote now done = Reports contents Is first now (runs_from kind caller (before + 1) done) 0
+  Wrote now done = Reports contents kind Is first now (points_from caller (before + from + 1) done)
 
-  one_point : (done : ℕ) (rows : PointRows) (old new : Report W) → before + done + 1 < 2 ^ 64 → IsOfCall size kind caller before lines rest site done rows → TakesPoint contents old rows new → Wrote old done → Wrote new (done + 1)
+  one_point : (done : ℕ) (rows : PointRows) (old new : Report W) → before + from + done + 1 < 2 ^ 64 → IsOfCall size kind caller before lines rest site (from + done) rows → TakesPoint contents old rows new → Wrote old done → Wrote new (done + 1)
   one_point done rows old new room is took so_far =
-      reports_as contents Is first new _ _ 0 0 (next_call kind caller (before + 1) done (before + done + 1) (omega (arith, room))) refl
-      (reports_more contents Is first old new _ _ 0 0 so_far (reports_point contents Is old new rows (runs_of kind caller (before + done + 1)) (is b r) took))
+      let number = before + (from + done) + 1 in
+      reports_as contents kind Is first new _ _ (next_point caller (before + from + 1) done number (omega (arith, room)))
+      (reports_more contents kind Is first old new _ _ so_far (reports_point contents kind Is old new rows caller number (is b r) took))
 
-  go : (done : ℕ) (points : List PointRows) (old new : Report W) → before + (done + length points) < 2 ^ 64 → AreRows (IsOfCall size kind caller before lines rest site) done points → TakesAll (TakesPoint contents) old points new → Wrote old done
+  go : (done : ℕ) (points : List PointRows) (old new : Report W) → before + from + (done + length points) < 2 ^ 64 → AreRows (IsOfCall size kind caller before lines rest site) (from + done) points → TakesAll (TakesPoint contents) old points new → Wrote old done
       → Wrote new (done + length points)
   go done [] old new room each taken so_far =
       let same : done ≡ done + 0 = omega arith in
@@ -102,9 +103,13 @@ module _ {W : Type 0} (contents : W → Option (List ℕ)) (size : Size) (kind :
   go done (point ∷ points) old new room each taken so_far =
       let long : length (point ∷ points) ≡ length points + 1 = omega arith in
       let same : done + 1 + length points ≡ done + length (point ∷ points) = omega (arith, long) in
-      subst (λ (n : ℕ). Wrote new n) same (go (done + 1) points taken.0 new (omega (arith, room, long)) each.1 taken.2 (one_point done point old taken.0 (omega (arith, room, long)) each.0 taken.1 so_far))
+      let next : from + done + 1 ≡ from + (done + 1) = omega arith in
+      let later = subst (λ (k : ℕ). AreRows (IsOfCall size kind caller before lines rest site) k points) next each.1 in
+      subst (λ (n : ℕ). Wrote new n) same (go (done + 1) points taken.0 new (omega (arith, room, long)) later taken.2 (one_point done point old taken.0 (omega (arith, room, long)) each.0 taken.1 so_far))
 
-  pub all_points : (count : ℕ) (last : Report W) → before + count < 2 ^ 64 → Handed (IsOfCall size kind caller before lines rest site) (TakesPoint contents) 0 count first last → Wrote last count
+  pub all_points : (count : ℕ) (last : Report W) → before + from + count < 2 ^ 64 → Handed (IsOfCall size kind caller before lines rest site) (TakesPoint contents) from count first last → Wrote last count
   all_points count last room handed =
       let many : 0 + length handed.rows ≡ count = omega (arith, handed.many) in
-      subst (λ (n : ℕ). Wrote last n) many (go 0 handed.rows first last (omega (arith, room, handed.many)) handed.each handed.taken (reports_none contents Is first))
+      let none : from ≡ from + 0 = omega arith in
+      let each = subst (λ (k : ℕ). AreRows (IsOfCall size kind caller before lines rest site) k handed.rows) none handed.each in
+      subst (λ (n : ℕ). Wrote last n) many (go 0 handed.rows first last (omega (arith, room, handed.many)) each handed.taken (reports_none contents kind Is first))

@@ -31,7 +31,7 @@ use bench_report::Setting;
 use board::Payloads;
 use board_model::Refusal;
 use crew::{Crew, Sequential};
-use jobs::{Jobs, Part, Sink, Window, hand_on_all};
+use jobs::{Jobs, Part, Progress, Sink, Window, hand_on_all};
 use script_lang::{Line, Script, parse_script};
 use std::alloc::Global;
 use std::io::Write;
@@ -52,12 +52,16 @@ impl<'a, W: Write> Sink<PointRows> for Report<'a, W> {
     ghost takes = { λ old made new. TakesPoint W.contents old made new };
 
     /// Writes the lines of a point, and counts it and its runs. Where one is wrong, all are written.
-    fn take(&mut self, made: PointRows) -> Result<(), Refusal> {
+    fn take<P: Progress>(&mut self, made: PointRows, progress: &P) -> Result<(), Refusal> {
         let PointRows { rows, sweep } = made;
         let quiet = self.quiet && sweep.wrong == 0;
+        let differ = differing(rows.as_slice());
+        if !quiet || differ != 0 {
+            progress.pause();
+        }
         write_rows(self.out, quiet, rows.as_slice())?;
         self.done.sweep.points = self.done.sweep.points.saturating_add(1);
-        self.done.differ = self.done.differ.saturating_add(differing(rows.as_slice()));
+        self.done.differ = self.done.differ.saturating_add(differ);
         self.done.sweep.runs = self.done.sweep.runs.saturating_add(sweep.runs);
         self.done.sweep.wrong = self.done.sweep.wrong.saturating_add(sweep.wrong);
         Ok(())
@@ -76,8 +80,8 @@ struct Calls {
 
 /// Makes the runs at those calls, which the lines make from the site on: at those within a window of them. So many lines stand
 /// up to the next site.
-fn run_at_calls<R: Threads + Sync, C: Crew + Sync, W: Write>(
-    jobs: &Jobs<'_, R>,
+fn run_at_calls<R: Threads + Sync, P: Progress, C: Crew + Sync, W: Write>(
+    jobs: &Jobs<'_, R, P>,
     runner: &Runner<'_, C>,
     count: usize,
     site: &Site,
@@ -153,8 +157,8 @@ pub fn calls_between(caller: Caller, from: &Site, to: &Site) -> Result<u64, Refu
 /// Goes over the points of that caller in the lines up to the next moment at which the board is off, as far as they lie within
 /// the window, and puts the board of that moment in the place of this one. So many calls were before them. Answers how many
 /// lines they are, and how many calls they made.
-fn sweep_stretch<R: Threads + Sync, C: Crew + Sync, W: Write>(
-    jobs: &Jobs<'_, R>,
+fn sweep_stretch<R: Threads + Sync, P: Progress, C: Crew + Sync, W: Write>(
+    jobs: &Jobs<'_, R, P>,
     runner: &Runner<'_, C>,
     site: &mut Site,
     caller: Caller,
@@ -194,8 +198,8 @@ fn sweep_stretch<R: Threads + Sync, C: Crew + Sync, W: Write>(
 
 /// Goes over the points of that caller that lie within the window, and answers how many calls it made. Each run begins at the
 /// last moment before its call at which the board was off.
-fn sweep_caller<R: Threads + Sync, C: Crew + Sync, W: Write>(
-    jobs: &Jobs<'_, R>,
+fn sweep_caller<R: Threads + Sync, P: Progress, C: Crew + Sync, W: Write>(
+    jobs: &Jobs<'_, R, P>,
     runner: &Runner<'_, C>,
     begin: &Site,
     caller: Caller,
@@ -279,8 +283,8 @@ fn calls_of_all(from: &Site, to: &Site) -> Result<u64, Refusal>
 /// Goes over the points of each caller in turn, over the lines from that site on, as far as they are of the part. Of each caller
 /// there are as many as it made calls up to that end of the plain run. Refused `Memory` where another run of the lines made
 /// others: then the one or the other was refused some.
-fn sweep_all_callers<R: Threads + Sync, C: Crew + Sync, W: Write>(
-    jobs: &Jobs<'_, R>,
+fn sweep_all_callers<R: Threads + Sync, P: Progress, C: Crew + Sync, W: Write>(
+    jobs: &Jobs<'_, R, P>,
     runner: &Runner<'_, C>,
     site: &Site,
     end: &Site,
@@ -299,6 +303,7 @@ fn sweep_all_callers<R: Threads + Sync, C: Crew + Sync, W: Write>(
 {
     let all = calls_of_all(site, end)?;
     let mut within = Window::of_part(part, all);
+    jobs.begin(within.to - within.from);
     for caller in CALLERS {
         let calls = calls_between(caller, site, end)?;
         let made = sweep_caller(jobs, runner, site, caller, within, report)?;
@@ -311,8 +316,8 @@ fn sweep_all_callers<R: Threads + Sync, C: Crew + Sync, W: Write>(
 }
 
 /// Runs the lines from that site on as they are, and then goes over the points of each caller, as far as they are of the part.
-fn sweep_site<R: Threads + Sync, C: Crew + Sync, W: Write>(
-    jobs: &Jobs<'_, R>,
+fn sweep_site<R: Threads + Sync, P: Progress, C: Crew + Sync, W: Write>(
+    jobs: &Jobs<'_, R, P>,
     runner: &Runner<'_, C>,
     site: &Site,
     part: Option<Part>,
@@ -413,8 +418,8 @@ pub struct Recovered {
 }
 
 /// Goes over the points of those lines, which stand in a script that begins with these payloads.
-fn sweep_lines<'a, R: Threads + Sync, C: Crew + Sync, W: Write>(
-    jobs: &Jobs<'_, R>,
+fn sweep_lines<'a, R: Threads + Sync, P: Progress, C: Crew + Sync, W: Write>(
+    jobs: &Jobs<'_, R, P>,
     setting: &Setting<'a, C>,
     plan: Plan,
     lines: &'a [Line],
@@ -439,8 +444,8 @@ fn sweep_lines<'a, R: Threads + Sync, C: Crew + Sync, W: Write>(
 }
 
 /// Writes the rows that the bench makes of those lines, and answers their counts.
-fn write_swept<'a, R: Threads + Sync, C: Crew + Sync, W: Write>(
-    jobs: &Jobs<'_, R>,
+fn write_swept<'a, R: Threads + Sync, P: Progress, C: Crew + Sync, W: Write>(
+    jobs: &Jobs<'_, R, P>,
     setting: &Setting<'a, C>,
     plan: Plan,
     lines: &'a [Line],
@@ -470,8 +475,8 @@ fn write_swept<'a, R: Threads + Sync, C: Crew + Sync, W: Write>(
 }
 
 /// Runs a bench by that plan over a script whose lines are all plain, with a recovery of which they are too.
-fn sweep_plain_script<R: Threads + Sync, W: Write>(
-    jobs: &Jobs<'_, R>,
+fn sweep_plain_script<R: Threads + Sync, P: Progress, W: Write>(
+    jobs: &Jobs<'_, R, P>,
     alloc: Global,
     plan: Plan,
     script: &Script,
@@ -496,6 +501,7 @@ fn sweep_plain_script<R: Threads + Sync, W: Write>(
 }
 
 /// The parts of a bench make the whole: their rows, one part behind another, are those of the bench without parts.
+#[tactic(auto, using(crate::proofs::Written::parts_join))]
 pub fn parts_make_a_bench()
     ensures { (bench : Kind) (of : ℕ) (counts : List ℕ) → 0 < of → joined_runs bench of of counts ≡ all_runs bench callers counts }
 {}
@@ -513,8 +519,8 @@ pub fn parts_make_a_bench()
 /// Refused `BadShape` or `BadScript` where the script has a fault, and `NotPlain` where a line of it arms a cut or a
 /// failure, cuts power or pokes, or none is `format`: then nothing is written. Refused `Memory` where memory was, and
 /// `Output` where the writer failed: then any first lines may stand in it.
-pub fn run_bench<R: Threads + Sync, W: Write>(
-    jobs: &Jobs<'_, R>,
+pub fn run_bench<R: Threads + Sync, P: Progress, W: Write>(
+    jobs: &Jobs<'_, R, P>,
     alloc: Global,
     plan: Plan,
     script: &[u8],
@@ -541,7 +547,7 @@ pub fn run_bench<R: Threads + Sync, W: Write>(
         numbers: &[],
         own: &[],
     };
-    let done = sweep_plain_script::<R, W>(jobs, alloc, plan, &script, nothing, &payloads, out)?;
+    let done = sweep_plain_script::<R, P, W>(jobs, alloc, plan, &script, nothing, &payloads, out)?;
     write_sweep(out, plan.part, done.sweep)?;
     Ok(done.sweep)
 }
@@ -554,8 +560,8 @@ pub fn run_bench<R: Threads + Sync, W: Write>(
 ///
 /// Refused as `run_bench` is, and `BadScript` or `NotPlain` also for a line of the recovery that is none, or that formats,
 /// arms, cuts power or pokes; `NotPlain` also where none of them looks.
-pub fn run_bench_recovered<R: Threads + Sync, W: Write>(
-    jobs: &Jobs<'_, R>,
+pub fn run_bench_recovered<R: Threads + Sync, P: Progress, W: Write>(
+    jobs: &Jobs<'_, R, P>,
     alloc: Global,
     plan: Plan,
     script: &[u8],
@@ -583,7 +589,7 @@ pub fn run_bench_recovered<R: Threads + Sync, W: Write>(
         numbers: &numbers,
         own: &[],
     };
-    let done = sweep_plain_script::<R, W>(jobs, alloc, plan, &script, behind, &payloads, out)?;
+    let done = sweep_plain_script::<R, P, W>(jobs, alloc, plan, &script, behind, &payloads, out)?;
     write_recovered(out, plan.part, done)?;
     Ok(done)
 }

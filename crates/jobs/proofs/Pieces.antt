@@ -1,8 +1,9 @@
 -- Parts of a list, and a window over two lists that stand behind one another.
-use Rattle.std.proofs.Common.{◌≡◌, ◌+◌, ◌-◌, ◌*◌, ◌/◌, ◌%◌, ◌≤◌, ◌<◌, ◌^◌, ℕ, zero, suc, List, [], ◌∷◌, ◌++◌, Option, None, Some, take, drop, length, refl, sym, ◌∙◌, ap, arith}
+use Rattle.std.proofs.Common.{◌≡◌, ◌⊎◌, inl, inr, ◌+◌, ◌-◌, min, ◌*◌, ◌/◌, ◌%◌, ◌≤◌, ◌<◌, ◌^◌, ℕ, zero, suc, List, [], ◌∷◌, ◌++◌, Option, None, Some, take, drop, length, refl, sym, ◌∙◌, ap, arith}
 use Rattle.std.proofs.Math.Nat.{mul-div-le, mul-add-div, mul-div_cancel_left, div-le_of_le-mul, div-le_self, div-mul-le_self}
 use Rattle.std.proofs.lemmas.Nat.{mul-le, le-div, div-add-mod', mod_below}
-use Rattle.std.proofs.lemmas.List.{take-append-drop, take-take, take_all, drop-take, length-drop, length-take-le}
+use Rattle.std.proofs.lemmas.Bool.{cases_lt}
+use Rattle.std.proofs.lemmas.List.{take-append-drop, take-take, take_all, drop_all, drop-take, length-drop}
 use Rattle.jobs.specs.Parts.{window, piece, own_of, begin_of, end_of, joined}
 use Rattle.jobs.specs.declared.part.Part.{Part}
 
@@ -64,6 +65,20 @@ window_more {X} (suc from) (suc to) (x ∷ xs) ys order =
   where
     behind : (zs : List X) → window (suc from) (suc to) (x ∷ zs) ≡ window from to zs
     behind zs = ap (λ (n : ℕ). take n (drop from zs)) (let a : suc to - suc from ≡ to - from = omega arith in a)
+
+-- a window that goes beyond the list
+pub window_cut : {X : Type 0} (from to : ℕ) (xs : List X) → from ≤ to → window from to xs ≡ window (min from (length xs)) (min to (length xs)) xs
+window_cut from to xs order = by (cases_lt from (length xs)) (cases_lt to (length xs))
+  where
+    by : (from < length xs) ⊎ (length xs ≤ from) → (to < length xs) ⊎ (length xs ≤ to) → window from to xs ≡ window (min from (length xs)) (min to (length xs)) xs
+    by (inl a) (inl b) = window_at from to (min from (length xs)) (min to (length xs)) xs (omega (arith, a)) (omega (arith, b))
+    by (inl a) (inr b) =
+        let long = length-drop from xs in
+        take_all (to - from) (drop from xs) (omega (arith, long, b)) ∙ sym (take_all (length xs - from) (drop from xs) (omega (arith, long)))
+        ∙ window_at from (length xs) (min from (length xs)) (min to (length xs)) xs (omega (arith, a)) (omega (arith, b))
+    by (inr a) b =
+        ap (take (to - from)) (drop_all from xs a) ∙ take_none (to - from)
+        ∙ ap (λ n. take n (drop (min from (length xs)) xs)) (let none : 0 ≡ min to (length xs) - min from (length xs) = omega (arith, a, order) in none)
 
 -- ---- parts
 take_plus : {X : Type 0} (n m : ℕ) (xs : List X) → take n xs ++ take m (drop n xs) ≡ take (n + m) xs

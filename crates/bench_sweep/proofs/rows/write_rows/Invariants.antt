@@ -5,4 +5,4 @@ use Rattle.bench_sweep.proofs.rows.write_rows.Given as goal
 
 -- the rows so far are written
 abbrev pub invariant-loop-row : goal.invariant-loop-row
-invariant-loop-row g l = Appends (g.W.Write.contents l.fn.out) (g.W.Write.contents l.out) (rows_text (take l.row-index l.rows))
+invariant-loop-row g l = Appends (g.W.Write.contents l.fn.out) (g.W.Write.contents l.out) (rows_text l.quiet (take l.row-index l.rows))

@@ -1,7 +1,11 @@
-use Rattle.std.proofs.Common.{arith}
+use Rattle.std.proofs.Common.{◌≡◌, ◌<◌, ◌+◌, ◌-◌, ◌^◌, ℕ, arith}
 use Rattle.std.proofs.lemmas.Result.{on_ok_weaker}
 use Rattle.bench_sweep.specs.Recovers.{compared}
+use Rattle.bench_sweep.specs.Swept.{Spot, points_from}
+use Rattle.jobs.specs.Parts.{window}
+use Rattle.bench_sweep.proofs.Reported.{reports_as}
 use Rattle.bench_sweep.proofs.Rowed.{all_points}
+use Rattle.bench_sweep.proofs.Written.{window_of_calls}
 use Rattle.bench_sweep.proofs.sweeps.run_at_calls.Goals as goal
 
 pub hand_on_all-requires-clause-has : goal.hand_on_all-requires-clause-has
@@ -11,7 +15,7 @@ hand_on_all-requires-clause-has g c κs within = λ i less. (
     swept = c.requires.lines;
     recovery = c.requires.recovery;
     sits = c.requires.sits;
-    room = omega (arith, c.requires.numbers, less);
+    room = omega (arith, c.requires.numbers, c.min-from.ensures, c.min-to.ensures, less);
   },
   record { shared = c.type_bounds.sync-C-Handle.shared },
 )
@@ -20,5 +24,7 @@ pub returns-clause-wrote : goal.returns-clause-wrote
 returns-clause-wrote g c = on_ok_weaker c.hand_on_all.result (λ handed b r.
     (let runner = c.args.runner.now in
     let calls = c.args.calls in
-    all_points g.W.Write.contents runner.setting.shape.now runner.bench calls.caller calls.made runner.lines.now (compared runner.recovery) c.args.site.now b r _ calls.count _ c.requires.numbers handed))
+    let within = c.args.within in
+    reports_as _ _ _ _ _ _ _ ?
+    (all_points g.W.Write.contents runner.setting.shape.now runner.bench calls.caller calls.made _ runner.lines.now (compared runner.recovery) c.args.site.now b r _ _ _ (omega (arith, c.requires.numbers, c.min-from.ensures, c.min-to.ensures, within.order)) handed)))
     c.hand_on_all.ensures.handed

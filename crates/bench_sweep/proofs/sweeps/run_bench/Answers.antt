@@ -23,4 +23,4 @@ returns-in_err-write_sweep-clause-plain g c = λ said is none. swept c.args.scri
 pub returns-clause-wrote : goal.returns-clause-wrote
 returns-clause-wrote g c =
     let script = c.in_ok-script.script in
-    (view script, c.in_ok-script.ensures.value, wrote_all c.args.bench script.shape c.args.payloads script.lines.items _ _ _ c.in_ok-done.done c.in_ok-done.ensures.wrote c.in_ok-write_sweep.ensures.ok)
+    (view script, c.in_ok-script.ensures.value, wrote_all c.args.plan script.shape c.args.payloads script.lines.items _ _ _ c.in_ok-done.done c.in_ok-done.ensures.wrote c.in_ok-write_sweep.ensures.ok)

@@ -1,17 +1,19 @@
-use Rattle.std.proofs.Common.{◌≡◌, ◌∙◌, ◌+◌, ℕ, List, [], ◌∷◌, ◌++◌, take, length, refl, sym, ap, subst, arith}
+use Rattle.std.proofs.Common.{◌≡◌, ◌∙◌, ◌+◌, ◌-◌, ℕ, List, [], ◌∷◌, ◌++◌, take, length, refl, sym, ap, subst, arith}
 use Rattle.std.proofs.lemmas.List.{take_more, length-take-le}
 use Rattle.std.specs.List.{AllZip}
 use Rattle.bench_sweep.specs.Points.{MadeCalls}
 use Rattle.bench_sweep.specs.declared.points.Caller.{Caller}
 use Rattle.bench_sweep.specs.declared.points.Caller.TheVariants.{Disk}
-use Rattle.bench_sweep.specs.Swept.{callers, all_runs}
-use Rattle.bench_sweep.proofs.Made.{zip_long, zip_more}
+use Rattle.bench_sweep.specs.Swept.{Spot, callers, all_points, total}
+use Rattle.jobs.specs.Parts.{window, own_of, begin_of, end_of}
+use Rattle.jobs.proofs.Pieces.{window_none, window_at, own_is}
+use Rattle.bench_sweep.proofs.Made.{zip_long, zip_more, zip_same}
 use Rattle.bench_sweep.proofs.Reported.{reports_none, reports_more, reports_as}
-use Rattle.bench_sweep.proofs.Written.{next_caller, total_more}
+use Rattle.bench_sweep.proofs.Written.{next_caller, total_more, all_long}
 use Rattle.bench_sweep.proofs.sweeps.sweep_all_callers.Goals as goal
 
 pub loop-caller-init : goal.loop-caller-init
-loop-caller-init g c = λ b r. ([], tt, reports_none _ _ _)
+loop-caller-init g c = λ b r. ([], tt, omega arith, omega arith, reports_as _ _ _ _ _ _ _ (sym (window_none c.of_part-within.result.from c.of_part-within.result.to)) (reports_none _ _ _ _))
 
 pub loop-caller-preserved : goal.loop-caller-preserved
 loop-caller-preserved g c = λ b r.
@@ -22,10 +24,13 @@ loop-caller-preserved g c = λ b r.
     let n = c.in_ok-made.made in
     let did = c.in_ok-made.ensures.wrote b r in
     let long : length w.0 ≡ i = zip_long _ (take i callers) w.0 w.1 ∙ length-take-le i callers (omega (arith, less)) in
+    let more = total_more w.0 n in
     let Z : List Caller → Type 0 = λ cs. AllZip (MadeCalls c.args.site.now.off.disk c.args.end.now.off.disk) cs (w.0 ++ n ∷ []) in (
       w.0 ++ n ∷ [],
       subst Z (sym (take_more callers i Disk less)) (zip_more _ (take i callers) w.0 _ n w.1 (omega (arith, c.in_ok-calls.ensures.calls, c.if-made-calls.false))),
-      reports_as _ _ _ _ _ _ _ _ (next_caller kind callers i _ Disk w.0 n less refl long) (sym (total_more w.0 n)) (reports_more _ _ _ _ _ _ _ _ _ w.2 did),
+      omega (arith, w.2, more, c.behind-within.ensures.from),
+      omega (arith, w.3, more, c.behind-within.ensures.to),
+      reports_as _ _ _ _ _ _ _ (next_caller callers i _ Disk w.0 n _ _ _ _ less refl long c.of_part-within.result.order w.2 w.3) (reports_more _ _ _ _ _ _ _ _ w.4 did),
     )
 
 pub returns-clause-wrote : goal.returns-clause-wrote
@@ -33,4 +38,18 @@ returns-clause-wrote g c = λ b r.
     let w = c.loop-caller.invariant b r in
     let all : c.loop-caller.caller-index ≡ 5 = omega arith in
     let Z : ℕ → Type 0 = λ k. AllZip (MadeCalls c.args.site.now.off.disk c.args.end.now.off.disk) (take k callers) w.0 in
-    (w.0, subst Z all w.1, reports_as _ _ _ _ _ _ _ _ (ap (λ (k : ℕ). all_runs c.args.runner.now.bench (take k callers) w.0) all) refl w.2)
+    let zip = subst Z all w.1 in
+    let made = c.in_ok-all.ensures.calls in
+    let counts : w.0 ≡ made.0 = zip_same c.args.site.now.off.disk c.args.end.now.off.disk callers w.0 made.0 zip made.1 in
+    let long : length callers ≡ length w.0 = sym (zip_long _ callers w.0 zip) in
+    let many : c.in_ok-all.all ≡ length (all_points callers w.0) = made.2 ∙ ap total (sym counts) ∙ sym (all_long callers w.0 long) in
+    let part = c.args.part in
+    let from : c.of_part-within.result.from ≡ begin_of part (length (all_points callers w.0)) = c.of_part-within.ensures.from ∙ ap (begin_of part) many in
+    let to : c.of_part-within.result.to ≡ end_of part (length (all_points callers w.0)) = c.of_part-within.ensures.to ∙ ap (end_of part) many in (
+      w.0,
+      zip,
+      reports_as _ _ _ _ _ _ _
+          (ap (λ (k : ℕ). window c.of_part-within.result.from c.of_part-within.result.to (all_points (take k callers) w.0)) all
+          ∙ window_at _ _ _ _ (all_points callers w.0) from to ∙ sym (own_is part (all_points callers w.0)))
+          w.4,
+    )

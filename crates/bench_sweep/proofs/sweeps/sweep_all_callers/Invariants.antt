@@ -1,4 +1,4 @@
-use Rattle.std.proofs.Common.{ℕ, List, take}
+use Rattle.std.proofs.Common.{◌≡◌, ◌-◌, ℕ, List, take}
 use Rattle.std.specs.List.{AllZip}
 use Rattle.bench_report.specs.Bench.{Bench}
 use Rattle.bench_report.specs.Happens.{unpowered}
@@ -6,7 +6,8 @@ use Rattle.bench_sweep.specs.Points.{MadeCalls}
 use Rattle.bench_sweep.specs.Reports.{Reports, IsRow}
 use Rattle.bench_sweep.specs.Recovers.{compared}
 use Rattle.bench_sweep.specs.Runs.{RunsAt}
-use Rattle.bench_sweep.specs.Swept.{all_runs, total}
+use Rattle.bench_sweep.specs.Swept.{all_points, total}
+use Rattle.jobs.specs.Parts.{window}
 use Rattle.bench_sweep.proofs.sweeps.sweep_all_callers.Given as goal
 
 -- the runs of the callers so far are written
@@ -14,4 +15,6 @@ abbrev pub invariant-loop-caller : goal.invariant-loop-caller
 invariant-loop-caller g l =
     (b : Bench) → RunsAt l.runner.setting.shape.now b l.site
     → (counts : List ℕ) × AllZip (MadeCalls l.site.off.disk l.end.off.disk) (take l.caller-index l.caller-items) counts
-    × Reports g.W.Write.contents (IsRow l.runner.setting.shape.now l.runner.bench (unpowered b) l.runner.lines.now (compared l.runner.recovery)) l.fn.report l.report (all_runs l.runner.bench (take l.caller-index l.caller-items) counts) (total counts)
+    × (l.within.from ≡ l.initial.within.from - total counts) × (l.within.to ≡ l.initial.within.to - total counts)
+    × Reports g.W.Write.contents l.runner.bench (IsRow l.runner.setting.shape.now l.runner.bench (unpowered b) l.runner.lines.now (compared l.runner.recovery)) l.fn.report l.report
+    (window l.initial.within.from l.initial.within.to (all_points (take l.caller-index l.caller-items) counts))

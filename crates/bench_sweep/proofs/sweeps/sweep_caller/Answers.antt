@@ -1,10 +1,11 @@
-use Rattle.std.proofs.Common.{◌≡◌, ◌+◌, arith, refl}
+use Rattle.std.proofs.Common.{◌≡◌, ◌+◌, ◌-◌, arith, refl, sym}
 use Rattle.bench_report.specs.Happens.{unpowered}
 use Rattle.bench_sweep.specs.Recovers.{compared}
 use Rattle.bench_sweep.proofs.Left.{off_sits}
 use Rattle.bench_sweep.proofs.Made.{none_yet, sits_at, went_more, rest_is, row_of}
-use Rattle.bench_sweep.proofs.Reported.{reports_none, reports_more, reports_as, reports_points, reports_weaker, swept_take, swept_drop, stays_within}
-use Rattle.bench_sweep.proofs.Written.{next_exact}
+use Rattle.bench_sweep.proofs.Reported.{reports_none, reports_more, reports_as, reports_weaker, swept_take, swept_drop, stays_within}
+use Rattle.jobs.proofs.Pieces.{window_none}
+use Rattle.bench_sweep.proofs.Written.{next_window}
 use Rattle.bench_sweep.proofs.sweeps.sweep_caller.Goals as goal
 
 pub loop-from-init : goal.loop-from-init
@@ -16,7 +17,9 @@ loop-from-init g c =
       sits = (unpowered sits.0, off_sits size (unpowered sits.0) _ _ _ (copy.runs size sits.0 sits.1));
       counts = omega (arith, copy.calls c.args.caller);
       lives = λ b r. none_yet _ (unpowered b) _ _ (off_sits size (unpowered b) _ _ _ (copy.runs size b r));
-      wrote = λ b r. reports_none _ _ _;
+      wrote = λ b r. reports_as _ _ _ _ _ _ _ (sym (window_none c.args.within.from c.args.within.to)) (reports_none _ _ _ _);
+      from = omega arith;
+      to = omega arith;
     }
 
 pub sweep_stretch-requires-clause-lines : goal.sweep_stretch-requires-clause-lines
@@ -47,11 +50,8 @@ loop-from-preserved g c =
           went_more size (unpowered b) lines _ from count c.loop-from.site c.sweep_stretch.new.site rest i.within f (did.ensures.lives f.bench f.site));
       wrote = λ b r.
           (let f = sits_at size (unpowered b) lines from _ c.loop-from-test.true (i.lives b r) in
-          reports_as _ _ _ _ _ _ _ _ (next_exact kind c.args.caller made calls (omega (arith, i.counts, did.ensures.calls, did.ensures.below))) refl
-          (reports_more _ _ _ _ _ _ _ _ _ (i.wrote b r) (reports_weaker _ _ _ _ _ _ _ (row_of size kind made (unpowered b) lines _ from c.loop-from.site rest f (compared c.args.runner.now.recovery)) (did.ensures.wrote f.bench f.site))));
+          reports_as _ _ _ _ _ _ _ (next_window c.args.caller c.args.within.from c.args.within.to made calls _ _ c.args.within.order i.from i.to (omega (arith, i.counts, did.ensures.calls, did.ensures.below)))
+          (reports_more _ _ _ _ _ _ _ _ (i.wrote b r) (reports_weaker _ _ _ _ _ _ _ (row_of size kind made (unpowered b) lines _ from c.loop-from.site rest f (compared c.args.runner.now.recovery)) (did.ensures.wrote f.bench f.site))));
+      from = omega (arith, i.from, c.behind-left.ensures.from);
+      to = omega (arith, i.to, c.behind-left.ensures.to);
     }
-
-pub returns-clause-wrote : goal.returns-clause-wrote
-returns-clause-wrote g c = λ b r.
-    let i = c.loop-from.invariant in
-    reports_points _ _ _ c.loop-from.report _ _ c.loop-from.made (i.wrote b r) refl refl (omega (arith, c.saturating_add-report.ensures)) refl refl refl

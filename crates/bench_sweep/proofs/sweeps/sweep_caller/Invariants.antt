@@ -5,7 +5,8 @@ use Rattle.bench_sweep.specs.Points.{calls_of}
 use Rattle.bench_sweep.specs.Reports.{Reports, IsRow}
 use Rattle.bench_sweep.specs.Recovers.{compared}
 use Rattle.bench_sweep.specs.Runs.{RunsAt, Sits}
-use Rattle.bench_sweep.specs.Swept.{runs_from}
+use Rattle.bench_sweep.specs.Swept.{points_from}
+use Rattle.jobs.specs.Parts.{window}
 use Rattle.bench_sweep.proofs.Made.{Went}
 use Rattle.bench_sweep.proofs.sweeps.sweep_caller.Given as goal
 
@@ -17,7 +18,9 @@ invariant-loop-from g l = record {
   counts : calls_of l.caller l.site.off.disk ≡ calls_of l.caller l.begin.off.disk + l.made;
   lives : (b : Bench) → RunsAt l.runner.setting.shape.now b l.begin → Went l.runner.setting.shape.now (unpowered b) l.runner.lines.now l.from l.site;
   wrote : (b : Bench) → RunsAt l.runner.setting.shape.now b l.begin
-      → Reports g.W.Write.contents (IsRow l.runner.setting.shape.now l.runner.bench (unpowered b) l.runner.lines.now (compared l.runner.recovery)) l.fn.report l.report (runs_from l.runner.bench l.caller 1 l.made) 0;
+      → Reports g.W.Write.contents l.runner.bench (IsRow l.runner.setting.shape.now l.runner.bench (unpowered b) l.runner.lines.now (compared l.runner.recovery)) l.fn.report l.report (window l.within.from l.within.to (points_from l.caller 1 l.made));
+  from : l.left.from ≡ l.within.from - l.made;
+  to : l.left.to ≡ l.within.to - l.made;
 }
 
 abbrev pub decreases-loop-from : goal.decreases-loop-from

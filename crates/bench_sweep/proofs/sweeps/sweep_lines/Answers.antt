@@ -20,6 +20,6 @@ returns-clause-wrote g c = on_ok_weaker c.sweep_site.result (λ did.
     (let begun = c.in_ok-count.ensures.runs in
     let count = c.in_ok-count.count in
     let lines = c.args.lines.now in
-    let All : List Line → Type 0 = λ ls. ReportsAll g.W.Write.contents c.args.setting.now.shape.now c.args.bench (unpowered begun.0) ls c.args.recovery.lines.now c.args.recovery.numbers.now c.args.report.now c.sweep_site.new.report in
+    let All : List Line → Type 0 = λ ls. ReportsAll g.W.Write.contents c.args.setting.now.shape.now c.args.plan.bench c.args.plan.part (unpowered begun.0) ls c.args.recovery.lines.now c.args.recovery.numbers.now c.args.report.now c.sweep_site.new.report in
     record { begin = count; first = begun.0; format = begun.1; all = subst All (rest_is count lines) (did (off begun.0) begun.2) }))
     c.sweep_site.ensures.wrote

@@ -1,0 +1,17 @@
+use Rattle.std.proofs.Common.{◌≡◌, ◌∙◌, Bool, true, false, List, ℕ, [], if◌then◌else◌, sym, subst}
+use Rattle.std.proofs.lemmas.Result.{on_ok_weaker}
+use Rattle.std.specs.Io.KnownBytes.{Appends}
+use Rattle.report_lines.proofs.Written.{unwritten}
+use Rattle.bench_schedules.specs.Schedules.{tight_text}
+use Rattle.bench_schedules.proofs.benches.write_own_tight.Goals as goal
+
+pub returns-then-writes_tight-clause-ok : goal.returns-then-writes_tight-clause-ok
+returns-then-writes_tight-clause-ok g c = on_ok_weaker c.write_all_tight.result
+    (λ did. (let P : Bool → Type 0 = λ (some : Bool). Appends (g.W.Write.contents c.args.out.now) (g.W.Write.contents c.write_all_tight.new.out) (tight_text (if some then did.0 else [])) in
+    (did.0, subst P (sym c.if-writes_tight.true ∙ c.writes_tight.ensures) did.1)))
+    c.write_all_tight.ensures.ok
+
+pub returns-clause-ok : goal.returns-clause-ok
+returns-clause-ok g c =
+    let P : Bool → Type 0 = λ (some : Bool). Appends (g.W.Write.contents c.args.out.now) (g.W.Write.contents c.args.out.now) (tight_text (if some then [] else [])) in
+    ([], subst P (sym c.if-writes_tight.false ∙ c.writes_tight.ensures) (unwritten _))

@@ -1,0 +1,29 @@
+use Rattle.std.proofs.Common.{◌≡◌, ◌∙◌, ◌+◌, ℕ, List, [], ◌∷◌, ◌++◌, take, refl, sym, subst, arith}
+use Rattle.std.proofs.lemmas.List.{take_more}
+use Rattle.std.specs.List.{AllZip}
+use Rattle.bench_sweep.specs.Points.{MadeCalls}
+use Rattle.bench_sweep.specs.declared.points.Caller.{Caller}
+use Rattle.bench_sweep.specs.declared.points.Caller.TheVariants.{Disk}
+use Rattle.bench_sweep.specs.Swept.{callers}
+use Rattle.bench_sweep.proofs.Made.{zip_more}
+use Rattle.bench_sweep.proofs.Written.{total_more}
+use Rattle.bench_sweep.proofs.sweeps.calls_of_all.Goals as goal
+
+pub loop-caller-init : goal.loop-caller-init
+loop-caller-init c = ([], tt, refl)
+
+pub loop-caller-preserved : goal.loop-caller-preserved
+loop-caller-preserved c =
+    let i = c.loop-caller.caller-index in
+    let w = c.loop-caller.invariant in
+    let n = c.in_ok-calls.calls in
+    let more = total_more w.0 n in
+    let Z : List Caller → Type 0 = λ cs. AllZip (MadeCalls c.args.from.now.off.disk c.args.to.now.off.disk) cs (w.0 ++ n ∷ []) in
+    (w.0 ++ n ∷ [], subst Z (sym (take_more callers i Disk c.loop-caller-test.true)) (zip_more _ (take i callers) w.0 _ n w.1 c.in_ok-calls.ensures.calls), ?)
+
+pub returns-clause-calls : goal.returns-clause-calls
+returns-clause-calls c =
+    let w = c.loop-caller.invariant in
+    let all : c.loop-caller.caller-index ≡ 5 = omega arith in
+    let Z : ℕ → Type 0 = λ k. AllZip (MadeCalls c.args.from.now.off.disk c.args.to.now.off.disk) (take k callers) w.0 in
+    (w.0, subst Z all w.1, w.2)
