@@ -18,3 +18,4 @@ pub mod Rowed
 pub mod Looked
 pub mod Compared
 pub mod Nth
+pub mod Shown

@@ -1,0 +1,54 @@
+-- Rows that are written as scripts.
+use Rattle.std.proofs.Common.{◌≡◌, ◌≤◌, ◌⊎◌, ◌++◌, ◌∷◌, [], ℕ, List, Option, None, Some, All, inl, inr, length, take, drop, refl, sym, ◌∙◌, ap, subst}
+use Rattle.std.proofs.lemmas.List.Elements.{All-append, All-cons, All-nil, All-take, All-drop}
+use Rattle.board_model.specs.Shapes.{Size}
+use Rattle.script_lang.specs.Armings.{IsArmingInRange}
+use Rattle.script_lang.specs.Lines.{IsLineInRange}
+use Rattle.script_lang.specs.declared.armings.Arming.{Arming}
+use Rattle.script_lang.specs.declared.line.Line.{Line}
+use Rattle.script_lang.specs.declared.line.Line.TheVariants as lines
+use Rattle.bench_report.specs.Bench.{Bench}
+use Rattle.bench_report.specs.Happens.{armed_with, unpowered}
+use Rattle.bench_report.specs.declared.power.Power.{Power}
+use Rattle.bench_judge.specs.declared.ledgers.Ledger.{Ledger}
+use Rattle.bench_sweep.specs.declared.points.Bench.{Bench as Kind}
+use Rattle.bench_sweep.specs.declared.points.Bench.TheVariants.{Cuts, Fails}
+use Rattle.bench_sweep.specs.Points.{cut_fill, fault_at}
+use Rattle.bench_sweep.specs.Runs.{RanTo}
+use Rattle.bench_sweep.specs.Shown.{cut_part, row_lines, IsEnded, RunsArmed}
+use Rattle.bench_sweep.specs.Swept.{Cell}
+
+-- a run with that armed, by how it ended
+pub runs_armed : (size : Size) (kind : Kind) (run : Cell) (b : Bench) (those : List Line) (count : ℕ) (power : Power) (slots : List (List ℕ)) (ledger : Ledger) → count ≤ length those → (ran : RanTo size (armed_with (fault_at kind run.caller run.number) b) (take count those) power slots ledger)
+    → IsEnded kind count (length those) ran.bench → RunsArmed size kind run b those count
+runs_armed size Cuts run b those count power slots ledger few ran (hit, none) =
+    let s = ran.struck hit in record {
+      few = few;
+      answers = ran.answers;
+      end = ran.end;
+      ran = ran.run;
+      ends = s.1;
+      refused_none = (ap (λ (x : Bench). x.growths) (sym s.0) ∙ ran.runs.follows.enough, ap (λ (x : Bench). x.fault_state.own) (sym s.0) ∙ none);
+    }
+runs_armed size Fails run b those count power slots ledger few ran (all, calm, none) =
+    let same = ran.calm calm in record {
+      few = few;
+      answers = ran.answers;
+      end = ran.end;
+      ran = ran.run;
+      ends = all;
+      refused_none = (ap (λ (x : Bench). x.growths) (sym same) ∙ ran.runs.follows.enough, ap (λ (x : Bench). x.fault_state.own) (sym same) ∙ none);
+    }
+
+-- ---- the lines of a row
+cut_in_range : (size : Size) (kind : Kind) → All (IsLineInRange size) (cut_part kind)
+cut_in_range size Cuts = All-nil (IsLineInRange size)
+cut_in_range size Fails = All-cons (IsLineInRange size) (lines.Cut (cut_fill None)) [] tt (All-nil (IsLineInRange size))
+
+pub row_in_range : (size : Size) (kind : Kind) (front back behind : List Line) (armed : Arming) → All (IsLineInRange size) front → IsArmingInRange size armed → All (IsLineInRange size) back → All (IsLineInRange size) behind
+    → All (IsLineInRange size) (row_lines kind front armed back behind)
+row_in_range size kind front back behind armed in_front arms in_back in_behind =
+    let In : Line → Type 0 = IsLineInRange size in
+    All-append In front (lines.Arm armed ∷ back ++ cut_part kind ++ behind) in_front
+    (All-cons In (lines.Arm armed) (back ++ cut_part kind ++ behind) arms
+    (All-append In back (cut_part kind ++ behind) in_back (All-append In (cut_part kind) behind (cut_in_range size kind) in_behind)))
