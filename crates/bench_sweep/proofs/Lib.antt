@@ -19,3 +19,4 @@ pub mod Looked
 pub mod Compared
 pub mod Nth
 pub mod Shown
+pub mod Crews

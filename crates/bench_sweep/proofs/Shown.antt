@@ -1,9 +1,14 @@
 -- Rows that are written as scripts.
-use Rattle.std.proofs.Common.{◌≡◌, ◌≤◌, ◌⊎◌, ◌++◌, ◌∷◌, [], ℕ, List, Option, None, Some, All, inl, inr, length, take, drop, refl, sym, ◌∙◌, ap, subst}
+use Rattle.std.proofs.Common.{◌≡◌, ◌≤◌, ◌⊎◌, ◌++◌, ◌∷◌, [], ℕ, List, Option, None, Some, Result, Ok, Err, IfErr, All, inl, inr, length, take, drop, refl, sym, ◌∙◌, ap, subst}
 use Rattle.std.proofs.lemmas.List.Elements.{All-append, All-cons, All-nil, All-take, All-drop}
-use Rattle.board_model.specs.Shapes.{Size}
+use Rattle.std.specs.Io.KnownBytes.{Appends}
+use Rattle.board_model.specs.Shapes.{Size, IsSize}
+use Rattle.board_model.specs.declared.refusal.Refusal.{Refusal}
+use Rattle.board_model.specs.declared.refusal.Refusal.TheVariants.{BadShape, Memory, Output}
 use Rattle.script_lang.specs.Armings.{IsArmingInRange}
-use Rattle.script_lang.specs.Lines.{IsLineInRange}
+use Rattle.script_lang.specs.Lines.{FitsLine, IsLineInRange}
+use Rattle.script_lang.specs.Scripts.{Script, script_of}
+use Rattle.script_lang.specs.Spellings.{script_text, IsWritable}
 use Rattle.script_lang.specs.declared.armings.Arming.{Arming}
 use Rattle.script_lang.specs.declared.line.Line.{Line}
 use Rattle.script_lang.specs.declared.line.Line.TheVariants as lines
@@ -15,7 +20,7 @@ use Rattle.bench_sweep.specs.declared.points.Bench.{Bench as Kind}
 use Rattle.bench_sweep.specs.declared.points.Bench.TheVariants.{Cuts, Fails}
 use Rattle.bench_sweep.specs.Points.{cut_fill, fault_at}
 use Rattle.bench_sweep.specs.Runs.{RanTo}
-use Rattle.bench_sweep.specs.Shown.{cut_part, row_lines, IsEnded, RunsArmed}
+use Rattle.bench_sweep.specs.Shown.{cut_part, row_lines, IsEnded, RunsArmed, WroteScript}
 use Rattle.bench_sweep.specs.Swept.{Cell}
 
 -- a run with that armed, by how it ended
@@ -52,3 +57,26 @@ row_in_range size kind front back behind armed in_front arms in_back in_behind =
     All-append In front (lines.Arm armed ∷ back ++ cut_part kind ++ behind) in_front
     (All-cons In (lines.Arm armed) (back ++ cut_part kind ++ behind) arms
     (All-append In back (cut_part kind ++ behind) in_back (All-append In (cut_part kind) behind (cut_in_range size kind) in_behind)))
+
+-- they were written
+pub wrote_script : (size : Size) (xs those : List Line) (old now : Option (List ℕ)) → IsSize size → xs ≡ those → length xs ≤ 65535 → All (IsLineInRange size) those → All FitsLine xs → ((s : Script) → IsWritable s → script_of (script_text s) ≡ Ok s)
+    → Appends old now (script_text (record { size = size; lines = xs }) ++ 10 ∷ []) → WroteScript (record { size = size; lines = those }) old now
+wrote_script size xs those old now sized is few ranges fits reads text =
+    let s : Script = record { size = size; lines = those } in
+    let L : List Line → Type 0 = λ ls. length ls ≤ 65535 in
+    let F : List Line → Type 0 = λ ls. All FitsLine ls in
+    let T : List Line → Type 0 = λ ls. Appends old now (script_text (record { size = size; lines = ls }) ++ 10 ∷ []) in
+    let w : IsWritable s = record { size = sized; few = subst L is few; ranges = ranges; fits = subst F is fits } in
+    record { writable = w; reads = reads s w; text = subst T is text }
+
+-- ---- what is refused
+pub refused_so : {P Q : Type 0} (result : Result (Unit {0}) Refusal) → (P → Q) → IfErr result (λ e. (e ≡ Memory) ⊎ (e ≡ Output) ⊎ ((e ≡ BadShape) × P)) → IfErr result (λ e. (e ≡ Memory) ⊎ (e ≡ Output) ⊎ ((e ≡ BadShape) × Q))
+refused_so (Ok u) then refused = tt
+refused_so (Err e) then (inl memory) = inl memory
+refused_so (Err e) then (inr (inl output)) = inr (inl output)
+refused_so (Err e) then (inr (inr none)) = inr (inr (none.0, then none.1))
+
+pub no_shape : (result : Result (Unit {0}) Refusal) → IfErr result (λ e. (e ≡ Memory) ⊎ (e ≡ Output)) → result ≡ Err BadShape → ⊥
+no_shape (Ok u) refused is = let never : ⊥ = cc is in never
+no_shape (Err e) (inl memory) is = let never : ⊥ = cc (is, memory) in never
+no_shape (Err e) (inr output) is = let never : ⊥ = cc (is, output) in never
