@@ -314,12 +314,12 @@ fn lines_behind(
 }
 
 /// Writes the row of that number of a bench over those lines, from a site on, with the lines in front of it and behind.
-fn show_from<C: Crew, W: Write>(
-    runner: &Runner<'_, C>,
+fn show_from<'a, C: Crew, W: Write>(
+    runner: &Runner<'a, C>,
     site: &Site,
     number: u64,
-    front: &[Line],
-    behind: &[Line],
+    front: &'a [Line],
+    behind: &'a [Line],
     out: &mut W,
 ) -> Result<(), Refusal>
     requires lines { AreSwept runner.now.setting.shape.now runner.now.lines.now }
@@ -349,11 +349,11 @@ fn show_from<C: Crew, W: Write>(
 }
 
 /// Writes the wanted row of a bench over lines of a script that begins with these payloads.
-fn show_lines<C: Crew, W: Write>(
-    setting: &Setting<'_, C>,
+fn show_lines<'a, C: Crew, W: Write>(
+    setting: &Setting<'a, C>,
     wanted: WantedRow,
-    lines: &[Line],
-    behind: &[Line],
+    lines: &'a [Line],
+    behind: &'a [Line],
     payloads: &Payloads,
     out: &mut W,
 ) -> Result<(), Refusal>

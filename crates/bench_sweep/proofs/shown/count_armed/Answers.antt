@@ -2,7 +2,7 @@ use Rattle.std.proofs.Common.{ℕ, subst}
 use Rattle.bench_report.specs.Happens.{armed_with, unpowered}
 use Rattle.bench_sweep.specs.Points.{fault_at}
 use Rattle.bench_sweep.specs.Shown.{run_cell, IsEnded}
-use Rattle.bench_sweep.proofs.Shown.{runs_armed}
+use Rattle.bench_sweep.proofs.ShownRows.{runs_armed}
 use Rattle.bench_sweep.proofs.shown.count_armed.Goals as goal
 
 pub returns-clause-armed : goal.returns-clause-armed

@@ -3,7 +3,7 @@ use Rattle.std.proofs.lemmas.List.Elements.{All-take}
 use Rattle.std.proofs.lemmas.Result.{on_ok_weaker}
 use Rattle.script_lang.specs.Lines.{IsLineInRange}
 use Rattle.bench_sweep.specs.Shown.{run_cell}
-use Rattle.bench_sweep.proofs.Shown.{refused_so}
+use Rattle.bench_sweep.proofs.ShownRows.{refused_so}
 use Rattle.bench_sweep.proofs.shown.show_from.Goals as goal
 
 pub write_shown-requires-clause-back : goal.write_shown-requires-clause-back

@@ -1,7 +1,7 @@
 use Rattle.std.proofs.Common.{◌≡◌, ◌∙◌, ◌≤◌, length, ap, arith}
 use Rattle.std.proofs.lemmas.Bool.Decides.{nat_tests}
 use Rattle.std.proofs.lemmas.Result.{on_ok_weaker}
-use Rattle.bench_sweep.proofs.Shown.{row_in_range, wrote_script}
+use Rattle.bench_sweep.proofs.ShownRows.{row_in_range, wrote_script}
 use Rattle.bench_sweep.proofs.shown.write_shown.Goals as goal
 
 pub returns-clause-wrote : goal.returns-clause-wrote
