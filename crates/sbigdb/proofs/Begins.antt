@@ -1,12 +1,18 @@
 -- Two scripts that differ in rows of turns alone: the line in which they part.
-use Rattle.std.proofs.Common.{◌≡◌, ◌∙◌, ◌==◌, ◌<◌, ◌≤◌, ◌+◌, ◌-◌, ℕ, suc, true, false, List, [], ◌∷◌, ◌++◌, None, Some, if◌then◌else◌, min, get_or, take, drop, length, refl, ap, sym, subst, arith, add-one, length-append}
-use Rattle.std.specs.Prelude.{All}
+use Rattle.std.proofs.Common.{◌≡◌, ◌∙◌, ◌==◌, ◌<◌, ◌≤◌, ◌+◌, ◌-◌, ℕ, suc, true, false, List, [], ◌∷◌, ◌++◌, None, Some, Ok, Err, Result, inl, inr, if◌then◌else◌, min, get_or, take, drop, length, refl, ap, sym, subst, arith, add-one, length-append}
+use Rattle.std.specs.Prelude.{All, IfErr, IfOk}
 use Rattle.std.specs.Option.{option_to_list}
 use Rattle.std.proofs.Math.Seq.{drop-cons, take-append_seam, take-suc}
 use Rattle.std.proofs.lemmas.List.{append-nil, length-drop, take-append-drop}
 use Rattle.std.proofs.lemmas.List.Elements.{All-append, All-drop, All-head, All-nil, All-push, All-take}
 use Rattle.board_model.specs.Shapes.{Size}
+use Rattle.board_model.specs.declared.refusal.Refusal.{Refusal}
+use Rattle.board_model.specs.declared.refusal.Refusal.TheVariants.{Memory}
 use Rattle.script_lang.specs.Lines.{IsLineInRange}
+use Rattle.script_lang.specs.Scripts.{Gives, Script, script_of}
+use Rattle.script_lang.specs.Spellings.{script_text}
+use Rattle.script_lang.specs.Views.{view}
+use Rattle.script_lang.specs.declared.scripts.Script as code
 use Rattle.script_lang.specs.declared.line.Line.{Line}
 use Rattle.script_lang.specs.declared.line.Line.TheVariants as lines
 use Rattle.bench_orders.specs.Orders.{AreOrderOf, is_other, more_turns, seen_by}
@@ -154,3 +160,15 @@ all_but_last text bytes is =
     let size : length text ≡ length bytes + 1 = ap length is ∙ length-append bytes (10 ∷ []) in
     let count : length text - 1 ≡ length bytes = omega arith in
     ap (λ (n : ℕ). take n text) count ∙ ap (take (length bytes)) is ∙ take-append_seam bytes (10 ∷ [])
+
+pub reads_back : (r : Result code.Script Refusal) (said : Script) (bytes : List ℕ) → Gives view r (script_of bytes) → bytes ≡ script_text said → script_of (script_text said) ≡ Ok said → IfOk r (λ script. view script ≡ said)
+reads_back (Ok script) said bytes gives is reads = let same : Ok {E = Refusal} (view script) ≡ Ok said = sym gives ∙ ap script_of is ∙ reads in cc
+reads_back (Err e) said bytes gives is reads = tt
+
+pub refused_back : (r : Result code.Script Refusal) (said : Script) (bytes : List ℕ) → Gives view r (script_of bytes) → bytes ≡ script_text said → script_of (script_text said) ≡ Ok said → IfErr r (λ e. e ≡ Memory)
+refused_back (Ok script) said bytes gives is reads = tt
+refused_back (Err e) said bytes (inl want) is reads = want
+refused_back (Err e) said bytes (inr fault) is reads = let same : Err {T = Script} e ≡ Ok said = sym fault ∙ ap script_of is ∙ reads in let never : ⊥ = cc in absurd never
+
+pub same_script : (read : Result Script Refusal) (a b : Script) → read ≡ Ok a → read ≡ Ok b → a ≡ b
+same_script read a b one other = let same : Ok {E = Refusal} a ≡ Ok b = sym one ∙ other in cc

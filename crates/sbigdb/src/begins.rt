@@ -91,6 +91,20 @@ fn parting(own: &[Line], other: &[Line]) -> usize
     both
 }
 
+/// Lines, and a row of turns behind them, where there is one.
+fn with_turns(lines: Vec<Line>, next: Option<Line>) -> Result<Vec<Line>, AllocError>
+    ensures { IfOk result (λ made. made.items ≡ lines.items ++ option_to_list next) }
+{
+    match next {
+        None => Ok(lines),
+        Some(row) => {
+            let mut lines = lines;
+            lines.push(row)?;
+            Ok(lines)
+        }
+    }
+}
+
 /// The lines up to where the other ones part from these.
 fn lines_to(own: &[Line], other: Vec<Line>) -> Result<Vec<Line>, AllocError>
     requires order { AreOrderOf own.now other.items }
@@ -102,10 +116,7 @@ fn lines_to(own: &[Line], other: Vec<Line>) -> Result<Vec<Line>, AllocError>
     let next = first_turns(&own[place..], &other[place..]);
     let mut lines = other;
     lines.truncate(place);
-    if let Some(row) = next {
-        lines.push(row)?;
-    }
-    Ok(lines)
+    with_turns(lines, next)
 }
 
 /// A script up to where a schedule of it parts from it.
