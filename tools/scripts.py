@@ -46,3 +46,11 @@ def plain(line):
     if words[0] in ("payload", "poke", "cut", "cutat", "cutlane"):
         return " ".join([*map(word, words[:-1]), words[-1].lower()])
     return " ".join(map(word, words))
+
+
+def resumed(report_of, script, hart):
+    """The image that a script leaves whose last line powers its board on, as its hart shows it where that line resumes it instead."""
+    lines = [line for _, line in numbered(script)]
+    looks = [*lines[:-1], "on resume", f"pc {hart}", f"reg {hart} 11"]
+    pc, opaque = (line.split(" ")[-1] for line in report_of("\n".join(looks) + "\n").splitlines()[-2:])
+    return f"image hart {hart} address {pc} opaque {opaque}"
