@@ -92,6 +92,17 @@ no_recovered_row row payloads script recovery e (inr (inr (inl x))) = inl (inr (
 no_recovered_row row payloads script recovery e (inr (inr (inr (inl x)))) = inl (inr (inr (inr x)))
 no_recovered_row row payloads script recovery e (inr (inr (inr (inr x)))) = inr x
 
+-- no file, and so none that is at fault
+pub none_without : (row : WantedRow) (payloads : List (List ℕ)) (script : List ℕ) (e : Refusal)
+    → (e ≡ Memory) ⊎ (e ≡ Output) ⊎ (script_of script ≡ Err e) ⊎ ((e ≡ NotPlain) × NoBenchRuns script) ⊎ NoneBehindOf script None e ⊎ ((e ≡ BadShape) × NoRowOf row.bench row.number payloads script None)
+    → (e ≡ Memory) ⊎ (e ≡ Output) ⊎ (script_of script ≡ Err e) ⊎ ((e ≡ NotPlain) × NoBenchRuns script) ⊎ ((e ≡ BadShape) × NoRowOf row.bench row.number payloads script None)
+none_without row payloads script e (inl x) = inl x
+none_without row payloads script e (inr (inl x)) = inr (inl x)
+none_without row payloads script e (inr (inr (inl x))) = inr (inr (inl x))
+none_without row payloads script e (inr (inr (inr (inl x)))) = inr (inr (inr (inl x)))
+none_without row payloads script e (inr (inr (inr (inr (inl x))))) = absurd x.2
+none_without row payloads script e (inr (inr (inr (inr (inr x))))) = inr (inr (inr (inr x)))
+
 -- of a file of those bytes
 pub none_of_file : (row : WantedRow) (payloads : List (List ℕ)) (script recovery : List ℕ) (file : RecoveryFile) (e : Refusal) → IsFileOf recovery file
     → (e ≡ Memory) ⊎ (e ≡ Output) ⊎ (script_of script ≡ Err e) ⊎ ((e ≡ NotPlain) × NoBenchRuns script) ⊎ NoneBehindOf script (Some file) e ⊎ ((e ≡ BadShape) × NoRowOf row.bench row.number payloads script (Some file))
