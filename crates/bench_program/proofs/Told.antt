@@ -3,7 +3,7 @@ use Rattle.std.proofs.Common.{◌≡◌, ◌∙◌, ◌⊎◌, inl, inr, ℕ, Bo
 use Rattle.board_model.specs.declared.refusal.Refusal.{Refusal}
 use Rattle.board_model.specs.declared.refusal.Refusal.TheVariants.{BadShape, Memory, NotPlain, Output}
 use Rattle.script_lang.specs.Scripts.{script_of}
-use Rattle.bench_program.specs.Written.{IsNotTaken, IsFaultIn, IsFaultOf, IsNoRow, IsRefusedWith, IsUnread, IsFault}
+use Rattle.bench_program.specs.Written.{IsNotTaken, IsFaultIn, IsFaultOf, IsFileOf, IsNoRow, IsRefusedWith, IsUnread, IsFault}
 use Rattle.command_line.specs.declared.NoWork.{NoWork}
 use Rattle.command_line.specs.declared.NoWork.TheVariants as whys
 use Rattle.payload_files.proofs.FaultKinds.{file_fault}
@@ -16,8 +16,9 @@ use Rattle.bench_program.specs.Usage.{IsNamedBy}
 use Rattle.bench_program.specs.declared.fault.BenchFault.{BenchFault}
 use Rattle.bench_program.specs.declared.fault.BenchFault.TheVariants.{Input, Refused}
 use Rattle.bench_program.specs.declared.usage.Options.{Options}
-use Rattle.bench_sweep.specs.Shown.{NoRowOf}
+use Rattle.bench_sweep.specs.Shown.{NoneBehindOf, NoRowOf}
 use Rattle.bench_sweep.specs.declared.plan.Plan.{Plan}
+use Rattle.bench_sweep.specs.declared.recovery.RecoveryFile.{RecoveryFile}
 use Rattle.bench_sweep.specs.declared.shown.WantedRow.{WantedRow}
 use Rattle.bench_program.specs.declared.usage.Work.{Work}
 use Rattle.bench_program.specs.declared.usage.Work.TheVariants.{Recover, ShowRecovered, ShowRow}
@@ -90,6 +91,28 @@ no_recovered_row row payloads script recovery e (inr (inl x)) = inl (inr (inl x)
 no_recovered_row row payloads script recovery e (inr (inr (inl x))) = inl (inr (inr (inl x)))
 no_recovered_row row payloads script recovery e (inr (inr (inr (inl x)))) = inl (inr (inr (inr x)))
 no_recovered_row row payloads script recovery e (inr (inr (inr (inr x)))) = inr x
+
+-- no file, and so none that is at fault
+pub none_without : (row : WantedRow) (payloads : List (List ℕ)) (script : List ℕ) (e : Refusal)
+    → (e ≡ Memory) ⊎ (e ≡ Output) ⊎ (script_of script ≡ Err e) ⊎ ((e ≡ NotPlain) × NoBenchRuns script) ⊎ NoneBehindOf script None e ⊎ ((e ≡ BadShape) × NoRowOf row.bench row.number payloads script None)
+    → (e ≡ Memory) ⊎ (e ≡ Output) ⊎ (script_of script ≡ Err e) ⊎ ((e ≡ NotPlain) × NoBenchRuns script) ⊎ ((e ≡ BadShape) × NoRowOf row.bench row.number payloads script None)
+none_without row payloads script e (inl x) = inl x
+none_without row payloads script e (inr (inl x)) = inr (inl x)
+none_without row payloads script e (inr (inr (inl x))) = inr (inr (inl x))
+none_without row payloads script e (inr (inr (inr (inl x)))) = inr (inr (inr (inl x)))
+none_without row payloads script e (inr (inr (inr (inr (inl x))))) = absurd x.2
+none_without row payloads script e (inr (inr (inr (inr (inr x))))) = inr (inr (inr (inr x)))
+
+-- of a file of those bytes
+pub none_of_file : (row : WantedRow) (payloads : List (List ℕ)) (script recovery : List ℕ) (file : RecoveryFile) (e : Refusal) → IsFileOf recovery file
+    → (e ≡ Memory) ⊎ (e ≡ Output) ⊎ (script_of script ≡ Err e) ⊎ ((e ≡ NotPlain) × NoBenchRuns script) ⊎ NoneBehindOf script (Some file) e ⊎ ((e ≡ BadShape) × NoRowOf row.bench row.number payloads script (Some file))
+    → (e ≡ Memory) ⊎ (e ≡ Output) ⊎ (script_of script ≡ Err e) ⊎ ((e ≡ NotPlain) × NoBenchRuns script) ⊎ IsNoRow row payloads recovery script e
+none_of_file row payloads script recovery file e of (inl x) = inl x
+none_of_file row payloads script recovery file e of (inr (inl x)) = inr (inl x)
+none_of_file row payloads script recovery file e of (inr (inr (inl x))) = inr (inr (inl x))
+none_of_file row payloads script recovery file e of (inr (inr (inr (inl x)))) = inr (inr (inr (inl x)))
+none_of_file row payloads script recovery file e of (inr (inr (inr (inr (inl x))))) = inr (inr (inr (inr (file, of, inl x))))
+none_of_file row payloads script recovery file e of (inr (inr (inr (inr (inr x))))) = inr (inr (inr (inr (file, of, inr x))))
 
 -- any work may be refused memory, and fail at its output
 pub of_any : (work : Work) (payloads : List (List ℕ)) (recovery script : List ℕ) (e : Refusal) → (e ≡ Memory) ⊎ (e ≡ Output) → IsRefusedWith work payloads recovery script e

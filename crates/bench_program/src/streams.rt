@@ -1,13 +1,10 @@
 //! The program over any streams: it does what the command line asks for, from a reader to a writer.
 
 ghost use Rattle.std.specs.Prelude.{◌≡◌, ◌⊎◌, ◌≤◌, ◌<◌, [], map, Err, Result, OnOk, IfOk, IfErr, IfSome};
-ghost use Rattle.board_model.specs.declared.refusal.Refusal.{Refusal};
-ghost use Rattle.board_model.specs.declared.refusal.Refusal.TheVariants.{Memory, Output};
-ghost use Rattle.std.specs.Io.KnownBytes.{Appends};
-ghost use Rattle.bench_program.specs.Taps.{tap_text};
+ghost use Rattle.board_model.specs.declared.refusal.Refusal.TheVariants.{Memory};
 ghost use Rattle.std.specs.Io.Buffered.{writer_buffer, writer_contents, writer_inner};
 ghost use Rattle.bench_program.specs.Faults.{fault_by, status_after, unread_by, without_work};
-ghost use Rattle.command_line.specs.Pipes.{is_closed_pipe, pipe_contents, pipe_inner};
+ghost use Rattle.command_line.specs.Pipes.{is_closed_pipe, pipe_contents};
 ghost use Rattle.payload_files.specs.Named.{AreFilesOf};
 ghost use Rattle.bench_program.specs.Usage.{payload_files, recovery_file, IsBounded, NamesNoWork};
 ghost use Rattle.bench_program.specs.Written.{AreDone, AreWrong, IsDone, IsFault, IsFaultIn, IsFaultOf, IsMade, IsPut, IsReadOf, IsRecovered, IsRecoveryOf, IsReported, IsRowShown, IsUnread, IsWorked, IsWritten, IsWrong, IsWrongOver, TellsApart, TellsWrong, source_of};
@@ -18,7 +15,7 @@ ghost use Rattle.bench_program.specs.declared.usage.Work.TheVariants.{Compare, J
 ghost use Rattle.script_lang.specs.Scripts.{script_of};
 
 use crate::fault::{BenchFault, status_of};
-use crate::taps::write_tap;
+use crate::taps::put_tap;
 use crate::usage::{Drawn, MOST_JOBS, Options, Savers, Work, options_of};
 use crate::{
     READ_AT_MOST, read_script, write_bench, write_order, write_preemptions, write_recovered,
@@ -62,7 +59,8 @@ fn input_script<I: Read + Drop>(alloc: Global, input: I) -> Result<Vec<u8>, Benc
 
 /// The fault of a work that was refused. Where the reader of the output is gone, it is `Closed`, which is not told; else it is the refusal.
 fn fault_of<O: Write + Drop>(refusal: Refusal, out: &BufWriter<Pipe<O>>) -> BenchFault
-    ensures { result ≡ fault_by (is_closed_pipe (writer_inner out.now)) refusal }
+    ensures which { result ≡ fault_by (is_closed_pipe (writer_inner out.now)) refusal }
+    ensures either { (result ≡ Closed) ⊎ (result ≡ Refused refusal) }
 {
     if out.get_ref().is_closed() {
         BenchFault::Closed
@@ -485,28 +483,6 @@ fn run_work<R: Threads + Sync, O: Write + Drop>(
     }
 }
 
-/// Writes the tests of what a bench wrote, by whether all is well.
-fn show_tap<O: Write + Drop>(
-    alloc: Global,
-    text: &BufWriter<Pipe<Vec<u8>>>,
-    well: bool,
-    out: &mut BufWriter<Pipe<O>>,
-) -> Result<(), BenchFault>
-    ensures tests { OnOk result (Appends (writer_contents (pipe_contents O.contents) out.old) (writer_contents (pipe_contents O.contents) out.new)
-        (tap_text well (pipe_inner (writer_inner text.now)).items)) }
-    ensures flushed { OnOk result (writer_buffer out.new ≡ []) }
-    ensures faults { IfErr result (λ fault. (e : Refusal) × ((e ≡ Memory) ⊎ (e ≡ Output)) × (fault ≡ fault_by (is_closed_pipe (writer_inner out.new)) e)) }
-{
-    let text = text.get_ref().get_ref();
-    match write_tap::<BufWriter<Pipe<O>>>(alloc, text, well, out) {
-        Err(e) => Err(fault_of(e, out)),
-        Ok(()) => match out.flush() {
-            Ok(()) => Ok(()),
-            Err(_) => Err(fault_of(Refusal::Output, out)),
-        },
-    }
-}
-
 /// Does the work as `run_work` does, into memory, and then writes the tests of what it wrote.
 fn run_tested<R: Threads + Sync, O: Write + Drop>(
     alloc: Global,
@@ -530,10 +506,13 @@ fn run_tested<R: Threads + Sync, O: Write + Drop>(
         return Err(fault_of(Refusal::Memory, out));
     };
     match run_work::<R, Vec<u8>>(alloc, threads, options, given, script, &mut text) {
-        Ok(()) => show_tap(alloc, &text, true, out),
-        Err(BenchFault::Wrong) => match show_tap(alloc, &text, false, out) {
+        Ok(()) => match put_tap(alloc, text.get_ref().get_ref(), true, out) {
+            Ok(()) => Ok(()),
+            Err(e) => Err(fault_of(e, out)),
+        },
+        Err(BenchFault::Wrong) => match put_tap(alloc, text.get_ref().get_ref(), false, out) {
             Ok(()) => Err(BenchFault::Wrong),
-            Err(fault) => Err(fault),
+            Err(e) => Err(fault_of(e, out)),
         },
         Err(BenchFault::Refused(refusal)) => Err(fault_of(refusal, out)),
         Err(_) => Err(fault_of(Refusal::Output, out)),

@@ -8,7 +8,7 @@ ghost use Rattle.clap.specs.declared.builder.value_parser.ValueParser.{ValuePars
 ghost use Rattle.command_line.specs.Kinds.{no_work};
 ghost use Rattle.command_line.specs.Parses.{AreParsed};
 ghost use Rattle.bench_sweep.specs.Swept.{whole};
-ghost use Rattle.bench_program.specs.Usage.{bench_or_row, number_up_to, count_rule, crew_rule, jobs_rule, part_between, part_named, parted, work_of_flags, schedules_named, preempt_or_show, preemptions_named, without_options, savers_of, sbibench, script_rule, seed_of, Flags, IsBounded, compare_or_show, without_benches, with_manners, with_part, with_preemptions, with_quiet, with_schedules, with_recovery, with_tap, work_asked, work_by, work_without, IsFlag, IsNamedBy, NamesConflict, NamesNoWork};
+ghost use Rattle.bench_program.specs.Usage.{bench_or_row, number_up_to, count_rule, crew_rule, jobs_rule, part_between, part_named, parted, work_of_flags, schedules_named, preempt_or_show, preemptions_named, without_options, savers_of, sbibench, script_rule, seed_of, Flags, IsBounded, compare_or_show, quietly, tested, without_benches, with_manners, with_part, with_preemptions, with_quiet, with_schedules, with_recovery, with_tap, work_asked, work_by, work_without, IsFlag, IsNamedBy, NamesConflict, NamesNoWork};
 
 use bench_preemptions::{Wanted, Within};
 use bench_schedules::Plan as Schedules;
@@ -598,6 +598,7 @@ fn part_between(number: Option<u64>, of: Option<u64>) -> Option<Part>
 }
 
 /// The part that a word names: both numbers, with a `/` between them. None where it names none.
+#[tactic(auto, using(crate::proofs::Tested::all_from))]
 fn part_named(word: &str) -> Option<Part>
     ensures { result ≡ part_named word.now }
 {
@@ -637,34 +638,55 @@ fn with_part(word: Option<&str>, work: Option<Work>) -> Option<Work>
 }
 
 /// That work, of which only the runs that differ are written. None where it is no bench.
+fn quietly(work: Option<Work>) -> Option<Work>
+    requires most { IfSome work (λ w. IsBounded w) }
+    ensures value { result ≡ quietly work }
+    ensures most { IfSome result (λ w. IsBounded w) }
+{
+    match work {
+        Some(Work::Judge(plan)) => Some(Work::Judge(Plan {
+            quiet: true,
+            ..plan
+        })),
+        Some(Work::Recover(plan)) => Some(Work::Recover(Plan {
+            quiet: true,
+            ..plan
+        })),
+        _ => None,
+    }
+}
+
+/// That work, or with `--quiet` that of which only the runs that differ are written.
 fn with_quiet(quiet: bool, work: Option<Work>) -> Option<Work>
     requires most { IfSome work (λ w. IsBounded w) }
     ensures value { result ≡ with_quiet quiet work }
     ensures most { IfSome result (λ w. IsBounded w) }
 {
-    if !quiet {
-        return work;
-    }
+    if quiet { quietly(work) } else { work }
+}
+
+/// That work, where it counts what is wrong or differs. None where it does not.
+fn tested(work: Option<Work>) -> Option<Work>
+    requires most { IfSome work (λ w. IsBounded w) }
+    ensures value { result ≡ tested work }
+    ensures most { IfSome result (λ w. IsBounded w) }
+{
     match work {
-        Some(Work::Judge(plan)) => Some(Work::Judge(Plan { quiet, ..plan })),
-        Some(Work::Recover(plan)) => Some(Work::Recover(Plan { quiet, ..plan })),
+        Some(Work::Judge(plan)) => Some(Work::Judge(plan)),
+        Some(Work::Recover(plan)) => Some(Work::Recover(plan)),
+        Some(Work::Compare(plan)) => Some(Work::Compare(plan)),
+        Some(Work::Preempt(within)) => Some(Work::Preempt(within)),
         _ => None,
     }
 }
 
-/// That work, of which tests are written. None where it counts nothing.
+/// That work, of which with `--tap` tests are written.
 fn with_tap(tap: bool, work: Option<Work>) -> Option<Work>
     requires most { IfSome work (λ w. IsBounded w) }
     ensures value { result ≡ with_tap tap work }
     ensures most { IfSome result (λ w. IsBounded w) }
 {
-    if !tap {
-        return work;
-    }
-    match work {
-        Some(Work::Judge(_) | Work::Recover(_) | Work::Compare(_) | Work::Preempt(_)) => work,
-        _ => None,
-    }
+    if tap { tested(work) } else { work }
 }
 
 /// The one work that is asked for, where this says whether tests are. None where there are two, or where an option stands without the one that

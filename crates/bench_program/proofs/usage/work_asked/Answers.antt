@@ -24,10 +24,10 @@ returns-clause-value c =
       is_tap = c.requires;
     } in
     let one = c.with_recovery-work.ensures.value
-        ∙ ap (λ (path : Option (List ℕ)). with_recovery path c.work_unrecovered-work.result) c.get_str.ensures
-        ∙ ap (with_recovery (first_value f (codes "recover"))) c.work_unrecovered-work.ensures.value in
+    ∙ ap (λ (path : Option (List ℕ)). with_recovery path c.work_unrecovered-work.result) c.get_str.ensures
+    ∙ ap (with_recovery (first_value f (codes "recover"))) c.work_unrecovered-work.ensures.value in
     let two = c.with_part-work.ensures.value
-        ∙ ap (λ (word : Option (List ℕ)). with_part word c.with_recovery-work.result) c.get_str-2.ensures
-        ∙ ap (with_part (first_value f (codes "part"))) one in
+    ∙ ap (λ (word : Option (List ℕ)). with_part word c.with_recovery-work.result) c.get_str-2.ensures
+    ∙ ap (with_part (first_value f (codes "part"))) one in
     let three = c.with_quiet.ensures.value ∙ ap (with_quiet quiet.result) two in
     (flags, refl, c.with_tap.ensures.value ∙ ap (with_tap c.args.tap) three)
