@@ -2,6 +2,7 @@
 use Rattle.std.proofs.Common.{◌≡◌, ◌⊎◌, inl, inr, ◌^◌, Bool, true, false, ◌<◌, ◌≤◌, ℕ, zero, suc, ◌+◌, ◌-◌, min, List, [], ◌∷◌, ◌++◌, Option, None, Some, length, map, take, drop, get_or, refl, sym, ◌∙◌, ap, subst, append_assoc, add_assoc, length-append, zero-add, add-one, arith, cond}
 use Rattle.std.proofs.lemmas.List.{append-nil, take_more, take_all, length-take-le}
 use Rattle.std.proofs.lemmas.Grind.{flat_map-append}
+use Rattle.std.proofs.lemmas.Bool.{cases_lt}
 use Rattle.std.proofs.lemmas.List.Sums.{sum_by-append, count_by_more_yes, count_by_more_no}
 use Rattle.std.proofs.lemmas.List.Elements.{All-nil, All-cons, All-head, All-tail, All-append, All-weaker}
 use Rattle.std.specs.List.{flat_map, All}
@@ -208,12 +209,20 @@ points_within caller first from to n order few =
 pub window_of_calls : (caller : Caller) (made count from to : ℕ) → from ≤ to → made + count < 2 ^ 64
     → points_from caller (made + min from count + 1) (min to count - min from count) ≡ window from to (points_from caller (made + 1) count)
 window_of_calls caller made count from to order room =
-    let long = points_long caller (made + 1) count in
-    let first : made + min from count + 1 ≡ counted (made + 1) (min from count) = omega (arith, room) in
-    ap (λ (k : ℕ). points_from caller k (min to count - min from count)) first
-    ∙ sym (points_within caller (made + 1) (min from count) (min to count) count (omega (arith, order)) (omega arith))
-    ∙ ap (λ (k : ℕ). window (min from k) (min to k) (points_from caller (made + 1) count)) (sym long)
-    ∙ sym (window_cut from to (points_from caller (made + 1) count) order)
+    by (cases_lt (min from count) (min to count)) ∙ ap (λ (k : ℕ). window (min from k) (min to k) points) (sym (points_long caller (made + 1) count)) ∙ sym (window_cut from to points order)
+  where
+    points : List Spot
+    points = points_from caller (made + 1) count
+
+    by : (min from count < min to count) ⊎ (min to count ≤ min from count) → points_from caller (made + min from count + 1) (min to count - min from count) ≡ window (min from count) (min to count) points
+    by (inl less) =
+        let few : min to count ≤ count = omega arith in
+        let first : made + min from count + 1 ≡ counted (made + 1) (min from count) = omega (arith, room, less, few) in
+        let in_order : min from count ≤ min to count = omega (arith, less) in
+        ap (λ (k : ℕ). points_from caller k (min to count - min from count)) first ∙ sym (points_within caller (made + 1) (min from count) (min to count) count in_order few)
+    by (inr none) =
+        let no_more : min to count - min from count ≡ 0 = omega (arith, none) in
+        ap (λ (n : ℕ). points_from caller (made + min from count + 1) n) no_more ∙ ap (λ (n : ℕ). take n (drop (min from count) points)) (sym no_more)
 
 -- the calls up to the next site
 next_points : (caller : Caller) (made calls : ℕ) → made + calls < 2 ^ 64 → points_from caller 1 made ++ points_from caller (made + 1) calls ≡ points_from caller 1 (made + calls)

@@ -69,11 +69,14 @@ shown_lines true r = differing_lines r r.recovered
 abbrev pub differing_rows : List Row → ℕ
 differing_rows rows = count_by (λ (r : Row). is_some r.recovered) rows
 
+-- how many points and runs there were, and how many of these were wrong
+abbrev pub counts_text : Sweep → List ℕ
+counts_text s = codes "points " ++ decimal s.points ++ codes " runs " ++ decimal s.runs ++ codes " wrong " ++ decimal s.wrong
+
 -- the last line, of a part or of the whole
 abbrev pub sweep_text : Option Part → Sweep → List ℕ
-sweep_text part s =
-    part_text part ++ codes "points " ++ decimal s.points ++ codes " runs " ++ decimal s.runs ++ codes " wrong " ++ decimal s.wrong
+sweep_text part s = part_text part ++ counts_text s
 
 -- the last line of a bench with a recovery
 abbrev pub recovered_text : Option Part → Sweep → ℕ → List ℕ
-recovered_text part s differ = sweep_text part s ++ codes " differ " ++ decimal differ
+recovered_text part s differ = part_text part ++ counts_text s ++ codes " differ " ++ decimal differ

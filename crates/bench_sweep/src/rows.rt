@@ -3,7 +3,7 @@
 ghost use Rattle.std.specs.Prelude.{◌≡◌, ◌⊎◌, ◌++◌, ◌∷◌, [], Some, OnOk, IfErr};
 ghost use Rattle.std.specs.Io.KnownBytes.{Appends};
 ghost use Rattle.board_model.specs.declared.refusal.Refusal.TheVariants.{Memory, Output};
-ghost use Rattle.bench_sweep.specs.Rows.{call_text, caller_text, differing_rows, differs_text, fill_part, left_text, recovered_text, row_lines, row_text, shown_lines, sweep_text, told_part};
+ghost use Rattle.bench_sweep.specs.Rows.{call_text, caller_text, counts_text, differing_rows, differs_text, fill_part, left_text, recovered_text, row_lines, row_text, shown_lines, sweep_text, told_part};
 ghost use Rattle.bench_sweep.specs.Swept.{rows_text};
 
 use crate::points::Caller;
@@ -208,7 +208,24 @@ pub fn differing(rows: &[Row]) -> u64
     count
 }
 
-/// Writes the last line of a bench with a recovery.
+/// The counts of a bench.
+#[derive(Drop)]
+struct CountsText(Sweep);
+
+impl fmt::Display for CountsText {
+    ghost output = { λ text. Some (counts_text text.0) };
+
+    fn fmt<W: fmt::Write>(&self, f: &mut fmt::Formatter<W>) -> fmt::Result {
+        let Sweep {
+            points,
+            runs,
+            wrong,
+        } = self.0;
+        write!(f, "points {points} runs {runs} wrong {wrong}")
+    }
+}
+
+/// Writes the last line of a bench with a recovery, or of a part of it.
 #[tactic(auto, using(crate::proofs::Written::handed_on))]
 pub fn write_recovered<W: Write>(
     out: &mut W,
@@ -219,34 +236,20 @@ pub fn write_recovered<W: Write>(
     ensures err { IfErr result (λ e. (e ≡ Memory) ⊎ (e ≡ Output)) }
 {
     let Recovered { sweep, differ } = done;
-    let Sweep {
-        points,
-        runs,
-        wrong,
-    } = sweep;
     let begin = PartText(part);
-    writeln!(
-        out,
-        "{begin}points {points} runs {runs} wrong {wrong} differ {differ}",
-    )
-    .map_err(|error| unwritten(error))?;
+    let counts = CountsText(sweep);
+    writeln!(out, "{begin}{counts} differ {differ}").map_err(|error| unwritten(error))?;
     out.flush().map_err(|error| unwritten(error))
 }
 
-/// Writes the last line of a bench.
+/// Writes the last line of a bench, or of a part of it.
 #[tactic(auto, using(crate::proofs::Written::handed_on))]
 pub fn write_sweep<W: Write>(out: &mut W, part: Option<Part>, sweep: Sweep) -> Result<(), Refusal>
     ensures ok { OnOk result (Appends (W.contents out.old) (W.contents out.new) (sweep_text part sweep ++ 10 ∷ [])) }
     ensures err { IfErr result (λ e. (e ≡ Memory) ⊎ (e ≡ Output)) }
 {
-    let Sweep {
-        points,
-        runs,
-        wrong,
-    } = sweep;
     let begin = PartText(part);
-    writeln!(out, "{begin}points {points} runs {runs} wrong {wrong}").map_err(|error| unwritten(
-        error,
-    ))?;
+    let counts = CountsText(sweep);
+    writeln!(out, "{begin}{counts}").map_err(|error| unwritten(error))?;
     out.flush().map_err(|error| unwritten(error))
 }

@@ -18,8 +18,9 @@ loop-caller-preserved c =
     let w = c.loop-caller.invariant in
     let n = c.in_ok-calls.calls in
     let more = total_more w.0 n in
+    let sum = c.in-Some.ensures in
     let Z : List Caller → Type 0 = λ cs. AllZip (MadeCalls c.args.from.now.off.disk c.args.to.now.off.disk) cs (w.0 ++ n ∷ []) in
-    (w.0 ++ n ∷ [], subst Z (sym (take_more callers i Disk c.loop-caller-test.true)) (zip_more _ (take i callers) w.0 _ n w.1 c.in_ok-calls.ensures.calls), ?)
+    (w.0 ++ n ∷ [], subst Z (sym (take_more callers i Disk c.loop-caller-test.true)) (zip_more _ (take i callers) w.0 _ n w.1 c.in_ok-calls.ensures.calls), omega (arith, sum.1, w.2, more))
 
 pub returns-clause-calls : goal.returns-clause-calls
 returns-clause-calls c =

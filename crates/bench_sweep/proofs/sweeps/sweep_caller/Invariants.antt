@@ -18,9 +18,9 @@ invariant-loop-from g l = record {
   counts : calls_of l.caller l.site.off.disk ≡ calls_of l.caller l.begin.off.disk + l.made;
   lives : (b : Bench) → RunsAt l.runner.setting.shape.now b l.begin → Went l.runner.setting.shape.now (unpowered b) l.runner.lines.now l.from l.site;
   wrote : (b : Bench) → RunsAt l.runner.setting.shape.now b l.begin
-      → Reports g.W.Write.contents l.runner.bench (IsRow l.runner.setting.shape.now l.runner.bench (unpowered b) l.runner.lines.now (compared l.runner.recovery)) l.fn.report l.report (window l.within.from l.within.to (points_from l.caller 1 l.made));
-  from : l.left.from ≡ l.within.from - l.made;
-  to : l.left.to ≡ l.within.to - l.made;
+      → Reports g.W.Write.contents l.runner.bench (IsRow l.runner.setting.shape.now l.runner.bench (unpowered b) l.runner.lines.now (compared l.runner.recovery)) l.fn.report l.report (window l.fn.within.from l.fn.within.to (points_from l.caller 1 l.made));
+  from : l.left.from ≡ l.fn.within.from - l.made;
+  to : l.left.to ≡ l.fn.within.to - l.made;
 }
 
 abbrev pub decreases-loop-from : goal.decreases-loop-from
