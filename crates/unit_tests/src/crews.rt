@@ -52,17 +52,9 @@ fn run_at_once<R: Abort + Clock + thread::Threads + Sync>(rt: &R, jobs: &mut [u8
 }
 
 #[test]
-fn threads_run_two_jobs_at_once(rt: HostRuntime) {
+fn threads_run_all_jobs_at_once(rt: HostRuntime) {
     run_at_once(&rt, &mut [0; 2], &[1, 2]);
-}
-
-#[test]
-fn threads_run_three_jobs_at_once(rt: HostRuntime) {
     run_at_once(&rt, &mut [0; 3], &[1, 2, 3]);
-}
-
-#[test]
-fn threads_run_four_jobs_at_once(rt: HostRuntime) {
     run_at_once(&rt, &mut [0; 4], &[1, 2, 3, 4]);
 }
 

@@ -15,13 +15,13 @@ const EIGHT: &[u64] = &[0, 1, 2, 3, 4, 5, 6, 7];
 /// The eight behind the first one.
 const NEXT: &[u64] = &[1, 2, 3, 4, 5, 6, 7, 8];
 
-/// A memory of ten pages.
-fn memory(rt: &impl Abort, alloc: Global) -> Ram {
-    let shape = Shape::new(1, 10, 1).expect(rt, "a shape");
+/// A memory of so many pages.
+fn memory(rt: &impl Abort, alloc: Global, pages: u64) -> Ram {
+    let shape = Shape::new(1, pages, 1).expect(rt, "a shape");
     Ram::new(alloc, shape).expect(rt, "memory")
 }
 
-/// Of these pages, and of no other of the ten, a word is kept decoded.
+/// Of these pages, and of no other of the first ten, a word is kept decoded.
 fn only_kept(rt: &impl Abort, ram: &Ram, pages: &[u64]) {
     for page in 0..10 {
         if let Some(number) = PageNo::new(page) {
@@ -63,7 +63,7 @@ fn cleared(ram: &mut Ram, page: u64) {
 /// then taken in goes after those that were there before it, wherever it stands.
 #[test]
 fn nine_pages_keep_eight(rt: HostRuntime) {
-    let mut ram = memory(&rt, rt.alloc());
+    let mut ram = memory(&rt, rt.alloc(), 10);
     let rows: [Row; 4] = [
         (&[], 0, &[]),
         (EIGHT, 0, EIGHT),
@@ -86,7 +86,7 @@ fn nine_pages_keep_eight(rt: HostRuntime) {
 /// filled, and a boot, drop what they write.
 #[test]
 fn what_is_written_is_dropped(rt: HostRuntime) {
-    let mut ram = memory(&rt, rt.alloc());
+    let mut ram = memory(&rt, rt.alloc(), 10);
     let between = ram.instr(BASE + 2);
     assert!(&rt; matches!(between, Err(Access::Misaligned)));
     let beyond = ram.instr(BASE + 10 * 4096);
@@ -102,23 +102,29 @@ fn what_is_written_is_dropped(rt: HostRuntime) {
     only_kept(&rt, &ram, &[]);
 }
 
-#[test]
-fn the_last_word_of_a_page_keeps_it(rt: HostRuntime) {
-    keeps(&rt, &mut memory(&rt, rt.alloc()), &[(&[3], 1023, &[3])]);
-}
+/// The pages of a memory, and what is asked of it. The last word of a page keeps it. A further word of a page that is kept leaves
+/// the page its place: it is still the one that was taken in first. Of a memory of fewer pages each is kept.
+static MEMORIES: [(u64, &[Row]); 3] = [
+    (10, &[(&[3], 1023, &[3])]),
+    (
+        10,
+        &[(EIGHT, 0, EIGHT), (&[0], 1023, EIGHT), (&[8], 0, NEXT)],
+    ),
+    (3, &[(&[2, 0, 1], 0, &[0, 1, 2]), (&[2], 1023, &[0, 1, 2])]),
+];
 
-/// A further word of a page that is kept leaves the page its place: it is still the one that was taken in first.
 #[test]
-fn a_further_word_leaves_the_place(rt: HostRuntime) {
-    let rows: [Row; 3] = [(EIGHT, 0, EIGHT), (&[0], 1023, EIGHT), (&[8], 0, NEXT)];
-    keeps(&rt, &mut memory(&rt, rt.alloc()), &rows);
+fn each_memory_keeps_its_pages(rt: HostRuntime) {
+    for &(pages, rows) in &MEMORIES {
+        keeps(&rt, &mut memory(&rt, rt.alloc(), pages), rows);
+    }
 }
 
 /// Behind a boot no page stands before another, and there is room for eight: a page that was kept before it, and is
 /// asked for first, is not the one that goes.
 #[test]
 fn a_boot_forgets_the_order(rt: HostRuntime) {
-    let mut ram = memory(&rt, rt.alloc());
+    let mut ram = memory(&rt, rt.alloc(), 10);
     keeps(&rt, &mut ram, &[(EIGHT, 0, EIGHT)]);
     ram.boot(&[]);
     keeps(&rt, &mut ram, &[(&[], 0, &[]), (&[0, 9], 0, &[0, 9])]);

@@ -97,17 +97,12 @@ fn leave<R: Abort + Threads + Sync>(
 }
 
 /// A board of five pages and four lanes: an area of 72 sectors, which one sync puts into the file; then the record and
-/// the gate, each with its sync. Up to the gate's write no image is found, and from then on the whole one.
+/// the gate, each with its sync. Up to the gate's write no image is found, and from then on the whole one. Of the largest
+/// board each of the 2,304 sectors that its image has comes into the file.
 #[test]
 fn a_killed_suspension_leaves_no_image_or_a_whole_one(rt: HostRuntime) -> Result<(), Fail> {
     leave(&rt, rt.alloc(), 5, 4, 0..76, Err(Refusal::NoImage))?;
     leave(&rt, rt.alloc(), 5, 4, 76..79, Ok(true))?;
-    Ok(())
-}
-
-/// Each of the 2,304 sectors that the image of 256 pages has comes into the file.
-#[test]
-fn the_image_of_the_largest_board_comes_into_the_file(rt: HostRuntime) -> Result<(), Fail> {
     leave(&rt, rt.alloc(), 256, 1, 10_000..10_001, Ok(true))?;
     Ok(())
 }
