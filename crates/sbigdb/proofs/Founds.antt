@@ -34,13 +34,13 @@ pub begins_schedule : (drawn : Drawn) (text : List ℕ) (payloads : List (List �
 begins_schedule drawn text payloads own found said r one other order board parts =
     let same = same_script _ _ _ one other in
     IfOk-weaker r _ _
-    (λ s (here, apart). record {
+    (λ s both. record {
       said = view own;
       read = other;
       found = view found;
       is = subst (λ (x : Script). IsScheduleOf x (view found)) same order;
-      board = here;
-      parts = apart;
+      board = both.0;
+      parts = both.1;
     })
     (both_parts r own found board parts)
 
@@ -49,12 +49,12 @@ pub begins_order : (order : Preempted) (text : List ℕ) (payloads : List (List 
 begins_order order text payloads own found said r one other is board parts =
     let same = same_script _ _ _ one other in
     IfOk-weaker r _ _
-    (λ s (here, apart). record {
+    (λ s both. record {
       said = view own;
       read = other;
       found = view found;
       is = subst (λ (x : Script). IsFound (Order order) x payloads (numbers_of text) (view found)) same is;
-      board = here;
-      parts = apart;
+      board = both.0;
+      parts = both.1;
     })
     (both_parts r own found board parts)
