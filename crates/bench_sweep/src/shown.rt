@@ -139,11 +139,13 @@ fn is_named(shape: &Shape, run: RunAt) -> bool
     }
 }
 
-/// What the line arms in that run.
-fn arming_at(bench: Bench, run: RunAt) -> Arming
-    requires { (size : Size) × IsSize size × IsNamed size run.caller run.call }
+/// What the line arms in that run, of a board of that shape.
+fn arming_at(shape: &Shape, bench: Bench, run: RunAt) -> Arming
+    requires size { IsSize shape.now }
+    requires named { IsNamed shape.now run.caller run.call }
     ensures { result ≡ arming bench (run_cell run) }
 {
+    let _shape = shape;
     let call = run.call as u32;
     let fill = cut_fill(run.fill);
     match bench {
@@ -167,7 +169,7 @@ fn arming_of(shape: &Shape, bench: Bench, run: RunAt) -> Result<Arming, Refusal>
     if !is_named(shape, run) {
         return Err(Refusal::BadShape);
     }
-    Ok(arming_at(bench, run))
+    Ok(arming_at(shape, bench, run))
 }
 
 /// Refused `Memory` where a run of all those lines did not end as one of that bench does: a cut struck, or all lines ran and the disk
