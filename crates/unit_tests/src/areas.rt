@@ -1,4 +1,5 @@
 //! Areas written (docs/IMAGE.md): through one to four lanes in turn, and a lane that fails.
+ghost use Rattle.std.specs.Prelude.{◌≤◌};
 
 use crate::fixtures::same;
 use crate::sites::{NEVER, saved};
@@ -80,9 +81,15 @@ fn places(counts: LaneCounts) -> u64 {
     places
 }
 
-/// No number of pages is refused memory that there is.
-fn are_written<R: Abort + thread::Threads + Sync>(rt: &R, alloc: Global) -> Result<(), Refusal> {
-    for pages in 1..257 {
+/// No number of pages from that one on, 64 in all, is refused memory that there is.
+fn are_written<R: Abort + thread::Threads + Sync>(
+    rt: &R,
+    alloc: Global,
+    first: u64,
+) -> Result<(), Refusal>
+    requires { first ≤ 256 }
+{
+    for pages in first..first + 64 {
         let counts = counts_by(rt, alloc, [1, 3, 0, 2], pages, pages % 4 + 1)?;
         same(rt, places(counts), pages);
     }
@@ -90,6 +97,21 @@ fn are_written<R: Abort + thread::Threads + Sync>(rt: &R, alloc: Global) -> Resu
 }
 
 #[test]
-fn each_number_of_pages_is_written(rt: HostRuntime) {
-    same(&rt, are_written(&rt, rt.alloc()), Ok(()));
+fn each_number_of_pages_to_64(rt: HostRuntime) {
+    same(&rt, are_written(&rt, rt.alloc(), 1), Ok(()));
+}
+
+#[test]
+fn each_number_of_pages_to_128(rt: HostRuntime) {
+    same(&rt, are_written(&rt, rt.alloc(), 65), Ok(()));
+}
+
+#[test]
+fn each_number_of_pages_to_192(rt: HostRuntime) {
+    same(&rt, are_written(&rt, rt.alloc(), 129), Ok(()));
+}
+
+#[test]
+fn each_number_of_pages_to_256(rt: HostRuntime) {
+    same(&rt, are_written(&rt, rt.alloc(), 193), Ok(()));
 }
