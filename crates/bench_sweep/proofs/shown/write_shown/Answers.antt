@@ -1,6 +1,7 @@
-use Rattle.std.proofs.Common.{◌≡◌, ◌∙◌, ◌≤◌, length, ap, arith}
+use Rattle.std.proofs.Common.{◌≡◌, ◌∙◌, ◌≤◌, All, length, ap, sym, subst, arith}
 use Rattle.std.proofs.lemmas.Bool.Decides.{nat_tests}
 use Rattle.std.proofs.lemmas.Result.{on_ok_weaker}
+use Rattle.script_lang.specs.Lines.{FitsLine}
 use Rattle.bench_sweep.proofs.ShownRows.{row_in_range, wrote_script}
 use Rattle.bench_sweep.proofs.shown.write_shown.Goals as goal
 
@@ -15,5 +16,5 @@ returns-clause-wrote g c =
     on_ok_weaker c.write_script.result
     (wrote_script size xs _ (g.W.Write.contents c.args.out.now) (g.W.Write.contents c.write_script.new.out) c.shape_in_range.ensures is few
     (row_in_range size row.bench row.front.now row.back.now row.behind.now row.arming c.requires.front c.requires.arming c.requires.back c.requires.behind)
-    c.fits.ensures c.scripts_read_as_written.ensures)
+    (subst (All FitsLine) (c.deref.ensures.value ∙ sym c.deref-2.ensures.value) c.fits.ensures) c.scripts_read_as_written.ensures)
     c.write_script.ensures.ok
