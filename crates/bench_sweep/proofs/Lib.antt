@@ -18,3 +18,5 @@ pub mod Rowed
 pub mod Looked
 pub mod Compared
 pub mod Nth
+pub mod ShownRows
+pub mod Crews

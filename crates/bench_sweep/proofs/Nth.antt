@@ -1,11 +1,12 @@
 -- The run of a number among all runs of a bench.
-use Rattle.std.proofs.Common.{◌≡◌, ◌≤◌, ◌<◌, ◌+◌, ◌*◌, ◌⊎◌, ◌^◌, ◌++◌, ◌∷◌, [], ℕ, zero, suc, List, inl, inr, length, take, get_or, refl, sym, ◌∙◌, ap, subst, append_assoc, length-append, arith}
+use Rattle.std.proofs.Common.{◌≡◌, ◌≤◌, ◌<◌, ◌+◌, ◌*◌, ◌⊎◌, ◌^◌, ◌++◌, ◌∷◌, [], ℕ, zero, suc, List, Option, inl, inr, length, take, get_or, refl, sym, ◌∙◌, ap, subst, append_assoc, length-append, arith}
 use Rattle.std.proofs.lemmas.Bool.{cases_lt}
 use Rattle.std.proofs.lemmas.List.{take_all, take_more}
 use Rattle.disk.specs.Facts.{counted}
 use Rattle.bench_sweep.specs.declared.points.Bench.{Bench}
 use Rattle.bench_sweep.specs.declared.points.Bench.TheVariants.{Cuts, Fails}
 use Rattle.bench_sweep.specs.declared.points.Caller.{Caller}
+use Rattle.simdisk.specs.declared.fill.Fill.{Fill}
 use Rattle.bench_sweep.specs.Shown.{fill_at, runs_each, HasFewer, IsNthRun}
 use Rattle.bench_sweep.specs.Swept.{Cell, all_runs, callers, cell, runs_from, runs_of, total}
 use Rattle.bench_sweep.proofs.Written.{total_more}
@@ -61,14 +62,15 @@ caller_long kind caller first (suc n) =
 
 of_caller : (kind : Bench) (caller : Caller) (first n q r : ℕ) → q < n → r < runs_each kind → At (runs_from kind caller first n) (q * runs_each kind + r) (cell caller (counted first q) (fill_at kind r))
 of_caller kind caller first zero q r less within = absurd (omega (arith, less))
-of_caller kind caller first (suc n) q r less within = by (cases_lt q n)
+of_caller kind caller first (suc n) q r less within = by (λ below. of_caller kind caller first n q r below within) (cases_lt q n)
   where
     here : At (runs_from kind caller first (suc n)) (n * runs_each kind + r) (cell caller (counted first n) (fill_at kind r))
     here = behind (runs_from kind caller first n) (runs_of kind caller (counted first n)) (n * runs_each kind) r _ (caller_long kind caller first n) (of_point kind caller (counted first n) r within)
 
-    by : (q < n) ⊎ (n ≤ q) → At (runs_from kind caller first (suc n)) (q * runs_each kind + r) (cell caller (counted first q) (fill_at kind r))
-    by (inl below) = in_front (runs_from kind caller first n) (runs_of kind caller (counted first n)) _ _ (of_caller kind caller first n q r below within)
-    by (inr last) =
+    by : (q < n → At (runs_from kind caller first n) (q * runs_each kind + r) (cell caller (counted first q) (fill_at kind r))) → (q < n) ⊎ (n ≤ q)
+        → At (runs_from kind caller first (suc n)) (q * runs_each kind + r) (cell caller (counted first q) (fill_at kind r))
+    by before (inl below) = in_front (runs_from kind caller first n) (runs_of kind caller (counted first n)) _ _ (before below)
+    by before (inr last) =
         let same : n ≡ q = omega (arith, less, last) in
         subst (λ k. At (runs_from kind caller first (suc n)) (k * runs_each kind + r) (cell caller (counted first k) (fill_at kind r))) same here
 
@@ -93,14 +95,15 @@ of_all kind (c ∷ cs) (n ∷ ns) (suc i) q r d same less below within =
 
 -- ---- by its number
 -- it is one of the caller of that place, and so many points stand before it
-pub nth_run : (kind : Bench) (counts : List ℕ) (number place i at : ℕ) (caller d : Caller) → length counts ≡ 5 → i < 5 → caller ≡ get_or callers i d → number ≡ (total (take i counts) + at) * runs_each kind + place + 1 → place < runs_each kind
-    → at < get_or counts i 0 → at + 1 < 2 ^ 64 → IsNthRun kind counts number (cell caller (at + 1) (fill_at kind place))
-nth_run kind counts number place i at caller d five less is nth within below small =
+pub nth_run : (kind : Bench) (counts : List ℕ) (number place i at : ℕ) (caller d : Caller) (fill : Option Fill) → length counts ≡ 5 → i < 5 → caller ≡ get_or callers i d → fill ≡ fill_at kind place → number ≡ (total (take i counts) + at) * runs_each kind + place + 1 → place < runs_each kind
+    → at < get_or counts i 0 → at + 1 < 2 ^ 64 → IsNthRun kind counts number (cell caller (at + 1) fill)
+nth_run kind counts number place i at caller d fill five less is is_fill nth within below small =
     let found = of_all kind callers counts i at place d five less below within in
     let call : counted 1 at ≡ at + 1 = omega (arith, small) in
     let C : Caller → Type 0 = λ c. At (all_runs kind callers counts) ((total (take i counts) + at) * runs_each kind + place) (cell c (at + 1) (fill_at kind place)) in
     let N : ℕ → Type 0 = λ n. At (all_runs kind callers counts) ((total (take i counts) + at) * runs_each kind + place) (cell (get_or callers i d) n (fill_at kind place)) in
-    let a = subst C (sym is) (subst N call found) in
+    let F : Option Fill → Type 0 = λ f. At (all_runs kind callers counts) ((total (take i counts) + at) * runs_each kind + place) (cell caller (at + 1) f) in
+    let a = subst F (sym is_fill) (subst C (sym is) (subst N call found)) in
     record { before = a.before; later = a.later; all = a.all; nth = nth ∙ ap (λ k. k + 1) (sym a.at) }
 
 -- so many points stand before one more caller

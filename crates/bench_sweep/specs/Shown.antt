@@ -1,5 +1,5 @@
 -- A row of a bench, written as a script. Source: docs/SCRIPT.md, "The benches".
-use Rattle.std.specs.Prelude.{◌≡◌, ◌≢◌, ◌⊎◌, ◌≤◌, ◌<◌, ◌+◌, ℕ, List, [], ◌∷◌, ◌++◌, ⊤, Option, None, Some, Ok, All, length, take, drop, get_or}
+use Rattle.std.specs.Prelude.{◌≡◌, ◌≢◌, ◌⊎◌, ◌≤◌, ◌<◌, ◌+◌, ℕ, List, [], ◌∷◌, ◌++◌, ⊤, true, false, Option, None, Some, Ok, All, length, take, drop, get_or}
 use Rattle.std.specs.Io.KnownBytes.{Appends}
 use Rattle.board_model.specs.Shapes.{Size}
 use Rattle.board_model.specs.declared.boot_mode.BootMode.TheVariants.{Keep}
@@ -23,7 +23,7 @@ use Rattle.bench_sweep.specs.declared.points.Bench.TheVariants.{Cuts, Fails}
 use Rattle.bench_sweep.specs.declared.points.Caller.{Caller}
 use Rattle.bench_sweep.specs.declared.points.Caller.TheVariants.{Disk, Lane}
 use Rattle.bench_sweep.specs.declared.recovery.RecoveryFile.{RecoveryFile}
-use Rattle.bench_sweep.specs.declared.shown.RunAt.{RunAt}
+use Rattle.bench_sweep.specs.declared.points.RunAt.{RunAt}
 use Rattle.bench_sweep.specs.Made.{IsFormatted, IsPlainRun, WasRefusedNoMemory, EndsAs}
 use Rattle.bench_sweep.specs.Points.{cut_fill, fault_at}
 use Rattle.bench_sweep.specs.Recovers.{look_numbers, IsFaulty, Says}
@@ -98,6 +98,11 @@ pub record RunsArmed (size : Size) (kind : Kind) (run : Cell) (b : Bench) (those
   pub ran : Run size (armed_with (fault_at kind run.caller run.number) b) (take count those) answers end
   pub ends : EndsAs kind those count answers
   pub refused_none : WasRefusedNoMemory end
+
+-- a run of so many lines, of all, ended at that bench, where power is still to be taken
+abbrev pub IsEnded : Kind → ℕ → ℕ → Bench → Type 0
+IsEnded Cuts count all b = (b.fault_state.struck ≡ true) × (b.fault_state.own ≡ 0)
+IsEnded Fails count all b = (count ≡ all) × (b.fault_state.struck ≡ false) × (b.fault_state.own ≡ 0)
 
 -- The script was written as a text that is read back as it. A line feed ends its last line too.
 pub record WroteScript (script : Script) (old new : Option (List ℕ)) : Type 0 where

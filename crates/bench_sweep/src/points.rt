@@ -1,6 +1,6 @@
 //! Places at which power is cut, or a call fails, and what the cuts leave.
 
-ghost use Rattle.std.specs.Prelude.{◌≡◌, ◌+◌};
+ghost use Rattle.std.specs.Prelude.{◌≡◌, ◌≤◌, ◌+◌};
 ghost use Rattle.bench_sweep.specs.Points.{calls_of, cut_fill, cut_of, failure_of, fault_at};
 
 use disk::ArmedFault;
@@ -77,6 +77,18 @@ pub struct Point {
     /// How many calls the caller made up to that site.
     pub before: u64,
     ghost counts: { number ≡ before + call },
+}
+
+/// Which run of a bench a row is.
+#[derive(Clone, Copy, Drop)]
+pub struct RunAt {
+    /// At whose call power is cut, or which call fails.
+    pub caller: Caller,
+    /// The number of the call from the first `format ok` on, from 1.
+    pub call: u64,
+    /// What the cut leaves of what was written since the last sync.
+    pub fill: Option<Fill>,
+    ghost some: { 1 ≤ call },
 }
 
 /// In the order of their points.

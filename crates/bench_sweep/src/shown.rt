@@ -11,17 +11,17 @@ ghost use Rattle.script_lang.specs.Scripts.{script_of, Script as Said};
 ghost use Rattle.bench_report.specs.Bench.{Bench as ModelBench};
 ghost use Rattle.bench_report.specs.Happens.{unpowered};
 ghost use Rattle.bench_sweep.specs.Points.{MadeCalls};
-ghost use Rattle.bench_sweep.specs.Runs.{RunsAt, Sits};
-ghost use Rattle.bench_sweep.specs.Shown.{arming, fill_at, row_lines, run_cell, runs_each, HasFewer, HasNoRun, HasRun, IsBehind, IsNamed, IsNthRun, IsRowOf, NoneBehind, NoneBehindOf, NoRow, NoRowOf, RunsArmed, ShowsFrom, ShowsNone, ShownRow, WroteScript};
+ghost use Rattle.bench_sweep.specs.Runs.{Runs, RunsAt, Sits};
+ghost use Rattle.bench_sweep.specs.Shown.{arming, fill_at, row_lines, run_cell, runs_each, HasFewer, HasNoRun, HasRun, IsBehind, IsEnded, IsNamed, IsNthRun, IsRowOf, NoneBehind, NoneBehindOf, NoRow, NoRowOf, RunsArmed, ShowsFrom, ShowsNone, ShownRow, WroteScript};
 ghost use Rattle.bench_sweep.specs.Swept.{callers, AreSwept, IsNotPlain, IsPlainLine, NoBenchRuns};
 
 use crate::begins::run_to_format;
 use crate::judging::{turn_off, turn_off_failed};
-use crate::points::{Bench, CALLERS, Caller, FILLS, Point, cut_fill};
+use crate::points::{Bench, CALLERS, Caller, FILLS, Point, RunAt, cut_fill};
 use crate::recovery::{Recovery, RecoveryFile, numbers_of_looks, recovery_lines};
 use crate::runner::Runner;
 use crate::site::Site;
-use crate::sites::run_lines;
+use crate::sites::{Went, run_lines};
 use crate::sweeps::{calls_between, check_plain, check_recovery, run_plain};
 use bench_orders::{copied, fits, shape_in_range, write_script};
 use bench_report::Setting;
@@ -47,18 +47,6 @@ pub struct WantedRow {
     pub bench: Bench,
     /// Its number among the runs of the report, from 1 on.
     pub number: u64,
-}
-
-/// Which run of a bench a row is.
-#[derive(Clone, Copy, Drop)]
-struct RunAt {
-    /// At whose call power is cut, or which call fails.
-    caller: Caller,
-    /// The number of the call from the first `format ok` on, from 1.
-    call: u64,
-    /// What the cut leaves of what was written since the last sync.
-    fill: Option<Fill>,
-    ghost some: { 1 ≤ call },
 }
 
 /// At which point of a bench the run of that place is, and which of the point's it is, both from 0 on.
@@ -182,6 +170,26 @@ fn arming_of(shape: &Shape, bench: Bench, run: RunAt) -> Result<Arming, Refusal>
     Ok(arming_at(bench, run))
 }
 
+/// Refused `Memory` where a run of all those lines did not end as one of that bench does: a cut struck, or all lines ran and the disk
+/// failed, which it had done so often before.
+fn check_ended(bench: Bench, went: Went, all: usize, failed: u64) -> Result<(), Refusal>
+    requires few { went.count ≤ all }
+    ensures ended { OnOk result ((size : Size) (b : ModelBench)
+        → Runs size b went.going.power went.going.payloads went.going.ledger → IsEnded bench went.count all b) }
+    ensures refused { IfErr result (λ e. e ≡ Memory) }
+{
+    match bench {
+        Bench::Cuts => {
+            turn_off(went.going, true)?;
+            Ok(())
+        }
+        Bench::Fails => {
+            turn_off_failed(went, all, failed)?;
+            Ok(())
+        }
+    }
+}
+
 /// Runs the lines with what the bench does in that run armed, and answers how many ran: with a cut up to the one within which it
 /// strikes, with a failure all. Refused `Memory` alone.
 fn count_armed<C: Crew>(runner: &Runner<'_, C>, site: &Site, run: RunAt) -> Result<usize, Refusal>
@@ -204,10 +212,7 @@ fn count_armed<C: Crew>(runner: &Runner<'_, C>, site: &Site, run: RunAt) -> Resu
     let armed = from.armed(runner.bench, point);
     let went = run_lines(&runner.setting, runner.lines, false, armed)?;
     let count = went.count;
-    match runner.bench {
-        Bench::Cuts => turn_off(went.going, true)?,
-        Bench::Fails => turn_off_failed(went, runner.lines.len(), failed)?,
-    };
+    check_ended(runner.bench, went, runner.lines.len(), failed)?;
     Ok(count)
 }
 
@@ -309,12 +314,12 @@ fn lines_behind(
 }
 
 /// Writes the row of that number of a bench over those lines, from a site on, with the lines in front of it and behind.
-fn show_from<C: Crew, W: Write>(
-    runner: &Runner<'_, C>,
+fn show_from<'a, C: Crew, W: Write>(
+    runner: &Runner<'a, C>,
     site: &Site,
     number: u64,
-    front: &[Line],
-    behind: &[Line],
+    front: &'a [Line],
+    behind: &'a [Line],
     out: &mut W,
 ) -> Result<(), Refusal>
     requires lines { AreSwept runner.now.setting.shape.now runner.now.lines.now }
@@ -344,11 +349,11 @@ fn show_from<C: Crew, W: Write>(
 }
 
 /// Writes the wanted row of a bench over lines of a script that begins with these payloads.
-fn show_lines<C: Crew, W: Write>(
-    setting: &Setting<'_, C>,
+fn show_lines<'a, C: Crew, W: Write>(
+    setting: &Setting<'a, C>,
     wanted: WantedRow,
-    lines: &[Line],
-    behind: &[Line],
+    lines: &'a [Line],
+    behind: &'a [Line],
     payloads: &Payloads,
     out: &mut W,
 ) -> Result<(), Refusal>

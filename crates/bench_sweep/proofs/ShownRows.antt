@@ -1,0 +1,101 @@
+-- Rows that are written as scripts.
+use Rattle.std.proofs.Common.{◌≡◌, ◌≤◌, ◌<◌, ◌⊎◌, ◌++◌, ◌∷◌, [], ℕ, List, Option, None, Some, Result, Ok, Err, IfErr, All, inl, inr, length, take, drop, refl, sym, ◌∙◌, ap, subst}
+use Rattle.std.proofs.lemmas.List.Elements.{All-append, All-cons, All-nil, All-take, All-drop}
+use Rattle.std.specs.Io.KnownBytes.{Appends}
+use Rattle.board_model.specs.Shapes.{Size, IsSize}
+use Rattle.board_model.specs.declared.refusal.Refusal.{Refusal}
+use Rattle.board_model.specs.declared.refusal.Refusal.TheVariants.{BadShape, Memory, Output}
+use Rattle.simdisk.specs.declared.fill.Fill.{Fill}
+use Rattle.script_lang.specs.Armings.{IsArmingInRange}
+use Rattle.script_lang.specs.Lines.{FitsLine, IsLineInRange}
+use Rattle.script_lang.specs.Scripts.{Script, script_of}
+use Rattle.script_lang.specs.Spellings.{script_text, IsWritable}
+use Rattle.script_lang.specs.declared.armings.Arming.{Arming}
+use Rattle.script_lang.specs.declared.line.Line.{Line}
+use Rattle.script_lang.specs.declared.line.Line.TheVariants as lines
+use Rattle.bench_report.specs.Bench.{Bench}
+use Rattle.bench_report.specs.Happens.{armed_with, unpowered}
+use Rattle.bench_report.specs.declared.power.Power.{Power}
+use Rattle.bench_judge.specs.declared.ledgers.Ledger.{Ledger}
+use Rattle.bench_sweep.specs.declared.points.Bench.{Bench as Kind}
+use Rattle.bench_sweep.specs.declared.points.Bench.TheVariants.{Cuts, Fails}
+use Rattle.bench_sweep.specs.declared.points.Caller.{Caller}
+use Rattle.bench_sweep.specs.declared.points.Caller.TheVariants.{Disk, Lane}
+use Rattle.bench_sweep.specs.Points.{cut_fill, fault_at}
+use Rattle.bench_sweep.specs.Runs.{RanTo}
+use Rattle.bench_sweep.specs.Shown.{arming_of, cut_part, row_lines, HasCaller, IsEnded, IsNamed, RunsArmed, WroteScript}
+use Rattle.bench_sweep.specs.Swept.{Cell}
+
+-- a run with that armed, by how it ended
+pub runs_armed : (size : Size) (kind : Kind) (run : Cell) (b : Bench) (those : List Line) (count : ℕ) (power : Power) (slots : List (List ℕ)) (ledger : Ledger) → count ≤ length those → (ran : RanTo size (armed_with (fault_at kind run.caller run.number) b) (take count those) power slots ledger)
+    → IsEnded kind count (length those) ran.bench → RunsArmed size kind run b those count
+runs_armed size Cuts run b those count power slots ledger few ran (hit, none) =
+    let s = ran.struck hit in record {
+      few = few;
+      answers = ran.answers;
+      end = ran.end;
+      ran = ran.run;
+      ends = s.1;
+      refused_none = (ap (λ (x : Bench). x.growths) (sym s.0) ∙ ran.runs.follows.enough, ap (λ (x : Bench). x.fault_state.own) (sym s.0) ∙ none);
+    }
+runs_armed size Fails run b those count power slots ledger few ran (all, calm, none) =
+    let same = ran.calm calm in record {
+      few = few;
+      answers = ran.answers;
+      end = ran.end;
+      ran = ran.run;
+      ends = all;
+      refused_none = (ap (λ (x : Bench). x.growths) (sym same) ∙ ran.runs.follows.enough, ap (λ (x : Bench). x.fault_state.own) (sym same) ∙ none);
+    }
+
+-- ---- the lines of a row
+cut_in_range : (size : Size) (kind : Kind) → All (IsLineInRange size) (cut_part kind)
+cut_in_range size Cuts = All-nil (IsLineInRange size)
+cut_in_range size Fails = All-cons (IsLineInRange size) (lines.Cut (cut_fill None)) [] tt (All-nil (IsLineInRange size))
+
+pub row_in_range : (size : Size) (kind : Kind) (front back behind : List Line) (armed : Arming) → All (IsLineInRange size) front → IsArmingInRange size armed → All (IsLineInRange size) back → All (IsLineInRange size) behind
+    → All (IsLineInRange size) (row_lines kind front armed back behind)
+row_in_range size kind front back behind armed in_front arms in_back in_behind =
+    let In : Line → Type 0 = IsLineInRange size in
+    All-append In front (lines.Arm armed ∷ back ++ cut_part kind ++ behind) in_front
+    (All-cons In (lines.Arm armed) (back ++ cut_part kind ++ behind) arms
+    (All-append In back (cut_part kind ++ behind) in_back (All-append In (cut_part kind) behind (cut_in_range size kind) in_behind)))
+
+-- they were written
+pub wrote_script : (size : Size) (xs those : List Line) (old now : Option (List ℕ)) → IsSize size → xs ≡ those → length xs ≤ 65535 → All (IsLineInRange size) those → All FitsLine xs → ((s : Script) → IsWritable s → script_of (script_text s) ≡ Ok s)
+    → Appends old now (script_text (record { size = size; lines = xs }) ++ 10 ∷ []) → WroteScript (record { size = size; lines = those }) old now
+wrote_script size xs those old now sized is few ranges fits reads text =
+    let s : Script = record { size = size; lines = those } in
+    let L : List Line → Type 0 = λ ls. length ls ≤ 65535 in
+    let F : List Line → Type 0 = λ ls. All FitsLine ls in
+    let T : List Line → Type 0 = λ ls. Appends old now (script_text (record { size = size; lines = ls }) ++ 10 ∷ []) in
+    let w : IsWritable s = record { size = sized; few = subst L is few; ranges = ranges; fits = subst F is fits } in
+    record { writable = w; reads = reads s w; text = subst T is text }
+
+-- ---- what is refused
+pub refused_so : {P Q : Type 0} (result : Result (Unit {0}) Refusal) → (P → Q) → IfErr result (λ e. (e ≡ Memory) ⊎ (e ≡ Output) ⊎ ((e ≡ BadShape) × P)) → IfErr result (λ e. (e ≡ Memory) ⊎ (e ≡ Output) ⊎ ((e ≡ BadShape) × Q))
+refused_so (Ok u) then refused = tt
+refused_so (Err e) then (inl memory) = inl memory
+refused_so (Err e) then (inr (inl output)) = inr (inl output)
+refused_so (Err e) then (inr (inr none)) = inr (inr (none.0, then none.1))
+
+pub no_shape : (result : Result (Unit {0}) Refusal) → IfErr result (λ e. (e ≡ Memory) ⊎ (e ≡ Output)) → result ≡ Err BadShape → ⊥
+no_shape (Ok u) refused is = let never : ⊥ = cc is in never
+no_shape (Err e) (inl memory) is = let never : ⊥ = cc (is, memory) in never
+no_shape (Err e) (inr output) is = let never : ⊥ = cc (is, output) in never
+
+-- ---- what a line arms
+pub named_arms : (size : Size) (kind : Kind) (caller : Caller) (call : ℕ) (fill : Option Fill) → 1 ≤ call → IsNamed size caller call → IsArmingInRange size (arming_of kind caller call fill)
+named_arms size Cuts Disk call fill some (has, few) = (some, few)
+named_arms size Cuts (Lane lane) call fill some (has, few) = (has, (some, few))
+named_arms size Fails Disk call fill some (has, few) = (some, few)
+named_arms size Fails (Lane lane) call fill some (has, few) = (has, (some, few))
+
+pub arms_named : (size : Size) (kind : Kind) (caller : Caller) (call : ℕ) (fill : Option Fill) → IsArmingInRange size (arming_of kind caller call fill) → IsNamed size caller call
+arms_named size Cuts Disk call fill arms = (tt, arms.1)
+arms_named size Cuts (Lane lane) call fill arms = (arms.0, arms.1.1)
+arms_named size Fails Disk call fill arms = (tt, arms.1)
+arms_named size Fails (Lane lane) call fill arms = (arms.0, arms.1.1)
+
+pub named_lane : (size : Size) (caller : Caller) (call lane : ℕ) → caller ≡ Lane lane → IsNamed size caller call → lane < size.lanes
+named_lane size caller call lane is named = let H : Caller → Type 0 = λ c. HasCaller size c in subst H is named.0

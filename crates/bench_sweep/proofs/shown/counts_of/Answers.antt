@@ -1,0 +1,26 @@
+use Rattle.std.proofs.Common.{◌≡◌, ℕ, List, ◌++◌, ◌∷◌, [], ◌+◌, take, sym, subst, arith}
+use Rattle.std.proofs.lemmas.List.{take_more}
+use Rattle.std.specs.List.{AllZip}
+use Rattle.bench_sweep.specs.Points.{MadeCalls}
+use Rattle.bench_sweep.specs.Swept.{callers}
+use Rattle.bench_sweep.specs.declared.points.Caller.{Caller}
+use Rattle.bench_sweep.specs.declared.points.Caller.TheVariants.{Disk}
+use Rattle.bench_sweep.proofs.Made.{zip_more}
+use Rattle.bench_sweep.proofs.shown.counts_of.Goals as goal
+
+pub loop-caller-preserved : goal.loop-caller-preserved
+loop-caller-preserved c =
+    let from = c.args.from.now.off.disk in
+    let to = c.args.to.now.off.disk in
+    let i = c.loop-caller.caller-index in
+    let n = c.in_ok-calls.calls in
+    let C : List Caller → Type 0 = λ cs. AllZip (MadeCalls from to) cs (c.loop-caller.counts.items ++ n ∷ []) in
+    let N : List ℕ → Type 0 = λ ns. AllZip (MadeCalls from to) (take (i + 1) callers) ns in
+    subst N (sym c.in_ok-push.ensures.items)
+    (subst C (sym (take_more callers i Disk c.loop-caller-test.true)) (zip_more _ (take i callers) c.loop-caller.counts.items _ n c.loop-caller.invariant c.in_ok-calls.ensures.calls))
+
+pub returns-clause-counts : goal.returns-clause-counts
+returns-clause-counts c =
+    let all : c.loop-caller.caller-index ≡ 5 = omega arith in
+    let Z : ℕ → Type 0 = λ k. AllZip (MadeCalls c.args.from.now.off.disk c.args.to.now.off.disk) (take k callers) c.loop-caller.counts.items in
+    subst Z all c.loop-caller.invariant
