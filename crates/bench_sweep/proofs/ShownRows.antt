@@ -38,13 +38,13 @@ runs_armed size Cuts run b those count power slots ledger few ran (hit, none) =
       ends = s.1;
       refused_none = (ap (λ (x : Bench). x.growths) (sym s.0) ∙ ran.runs.follows.enough, ap (λ (x : Bench). x.fault_state.own) (sym s.0) ∙ none);
     }
-runs_armed size Fails run b those count power slots ledger few ran (all, calm, none) =
+runs_armed size Fails run b those count power slots ledger few ran (all, calm, none, struck) =
     let same = ran.calm calm in record {
       few = few;
       answers = ran.answers;
       end = ran.end;
       ran = ran.run;
-      ends = all;
+      ends = (all, ap (λ (x : Bench). x.fault_state.armed) (sym same) ∙ struck);
       refused_none = (ap (λ (x : Bench). x.growths) (sym same) ∙ ran.runs.follows.enough, ap (λ (x : Bench). x.fault_state.own) (sym same) ∙ none);
     }
 

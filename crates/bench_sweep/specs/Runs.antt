@@ -87,7 +87,7 @@ pub record RanTo (size : Size) (b : Bench) (lines : List Line) (power : Power) (
   pub bench : Bench
   pub runs : Runs size bench power slots ledger
   pub calm : bench.fault_state.struck ≡ false → bench ≡ end
-  pub struck : bench.fault_state.struck ≡ true → (unpowered bench ≡ end) × EndsAs Cuts lines 0 answers
+  pub struck : bench.fault_state.struck ≡ true → (unpowered bench ≡ end) × EndsAs Cuts lines 0 answers end
 
 -- The first of some lines were run from that site on, with nothing armed, up to the first that left the board off, or to
 -- the last; and then the board was turned off.

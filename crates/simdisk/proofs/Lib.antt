@@ -7,3 +7,4 @@ pub mod PartedLaid
 pub mod Replaced
 pub mod Rows
 pub mod Walks
+pub mod Arms

@@ -1,8 +1,8 @@
 //! How a disk in memory is made, and what a crash leaves of it.
-ghost use Rattle.std.specs.Prelude.{◌≡◌, ◌≢◌, ◌⊎◌, ◌/◌, ◌%◌, ℕ, get_or, length, replicate, OnOk, IfOk, IfErr};
+ghost use Rattle.std.specs.Prelude.{◌≡◌, ◌≢◌, ◌⊎◌, ◌↔◌, ◌/◌, ◌%◌, ℕ, false, get_or, length, replicate, OnOk, IfOk, IfErr};
 ghost use Rattle.std.specs.Simd.{first_chunks};
 ghost use Rattle.disk.specs.Facts.{IsFresh, IsLeft, Unchanged};
-ghost use Rattle.disk.specs.FaultState.{no_fault, fault_state_armed, fault_state_left};
+ghost use Rattle.disk.specs.FaultState.{Unarmed, no_fault, fault_state_armed, fault_state_left};
 ghost use Rattle.write_log.specs.WriteLog.{synced, new_log};
 ghost use Rattle.simdisk.specs.Views.{left_by_fill};
 
@@ -202,5 +202,13 @@ impl SimDisk {
         ensures { result.now ≡ (⟦<SimDisk as Disk>⟧.facts self.now).content }
     {
         &self.content
+    }
+
+    /// Whether a cut or a failure is armed that has not struck yet.
+    #[tactic(auto, using(crate::proofs::Arms::none_armed))]
+    pub fn is_armed(&self) -> bool
+        ensures { (result ≡ false) ↔ ((⟦<SimDisk as Disk>⟧.fault_state self.now).armed ≡ Unarmed) }
+    {
+        self.faults.armed.is_some()
     }
 }

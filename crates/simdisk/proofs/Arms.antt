@@ -1,0 +1,15 @@
+-- What is armed.
+use Rattle.std.proofs.Common.{◌≡◌, ◌⊎◌, false, true, Bool, Option, None, Some, refl, sym, ◌∙◌, ap}
+use Rattle.std.specs.Prelude.{◌↔◌}
+use Rattle.std.specs.Option.{is_some}
+use Rattle.disk.specs.FaultState.{Armed, Unarmed, FaultArmed, CutArmed}
+use Rattle.disk.specs.declared.device.ArmedFault.{ArmedFault}
+use Rattle.disk.specs.declared.device.ArmedFault.TheVariants.{FailAt, CutAt, FailLane, CutLane}
+use Rattle.simdisk.specs.Armings.{arming}
+
+pub none_armed : (armed : Option ArmedFault) → (is_some armed ≡ false) ↔ (arming armed ≡ Unarmed)
+none_armed None = ((λ e. refl), (λ e. refl))
+none_armed (Some (FailAt n)) = ((λ e. absurd (let no : ⊥ = cc in no)), (λ e. absurd (let no : ⊥ = cc in no)))
+none_armed (Some (CutAt n)) = ((λ e. absurd (let no : ⊥ = cc in no)), (λ e. absurd (let no : ⊥ = cc in no)))
+none_armed (Some (FailLane lane n)) = ((λ e. absurd (let no : ⊥ = cc in no)), (λ e. absurd (let no : ⊥ = cc in no)))
+none_armed (Some (CutLane lane n)) = ((λ e. absurd (let no : ⊥ = cc in no)), (λ e. absurd (let no : ⊥ = cc in no)))
