@@ -27,9 +27,9 @@ use Rattle.bench_sweep.specs.Shown.{arming_of, cut_part, row_lines, HasCaller, I
 use Rattle.bench_sweep.specs.Swept.{Cell}
 
 -- a run with that armed, by how it ended
-pub runs_armed : (size : Size) (kind : Kind) (run : Cell) (b : Bench) (those : List Line) (count : ℕ) (power : Power) (slots : List (List ℕ)) (ledger : Ledger) → count ≤ length those → (ran : RanTo size (armed_with (fault_at kind run.caller run.number) b) (take count those) power slots ledger)
+pub runs_armed : (size : Size) (kind : Kind) (run : Cell) (b : Bench) (those : List Line) (count : ℕ) (power : Power) (slots : List (List ℕ)) (first ledger : Ledger) → count ≤ length those → (ran : RanTo size (armed_with (fault_at kind run.caller run.number) b) (take count those) power slots first ledger)
     → IsEnded kind count (length those) ran.bench → RunsArmed size kind run b those count
-runs_armed size Cuts run b those count power slots ledger few ran (hit, none) =
+runs_armed size Cuts run b those count power slots first ledger few ran (hit, none) =
     let s = ran.struck hit in record {
       few = few;
       answers = ran.answers;
@@ -38,7 +38,7 @@ runs_armed size Cuts run b those count power slots ledger few ran (hit, none) =
       ends = s.1;
       refused_none = (ap (λ (x : Bench). x.growths) (sym s.0) ∙ ran.runs.follows.enough, ap (λ (x : Bench). x.fault_state.own) (sym s.0) ∙ none);
     }
-runs_armed size Fails run b those count power slots ledger few ran (all, calm, none, struck) =
+runs_armed size Fails run b those count power slots first ledger few ran (all, calm, none, struck) =
     let same = ran.calm calm in record {
       few = few;
       answers = ran.answers;
