@@ -52,13 +52,14 @@ use Rattle.script_lang.specs.declared.line.Line.{Line}
 use Rattle.script_lang.specs.declared.line.Line.TheVariants as lines
 use Rattle.bench_judge.specs.declared.ledgers.Ledger.{Ledger}
 use Rattle.bench_judge.specs.Ledgers.{Tells}
-use Rattle.bench_sweep.specs.Lines.{LineMoves, PowerMoves, LineSays}
-use Rattle.bench_sweep.specs.Resumes.{power_resumes, Resumes}
+use Rattle.bench_report.specs.Prefix.{AskedLine, Boot, asked_by}
+use Rattle.bench_sweep.specs.Lines.{LineMoves, LineSays}
+use Rattle.bench_sweep.specs.Resumes.{asked_resumes, line_resumes, power_resumes, Resumes}
 use Rattle.bench_sweep.specs.Made.{shows}
 use Rattle.bench_sweep.specs.Runs.{TellsWhole, Runs, RunsCalm, LeftOff, LeftAt, SettlesAt, IsSpoilt, FindsState, Finds, PowerFinds}
 use Rattle.bench_sweep.specs.declared.site.Site.{Site}
 use Rattle.bench_sweep.specs.Swept.{IsPlainLine}
-use Rattle.bench_sweep.specs.Told.{ShowsEnoughMemory, moves_harts, powers_on, CommandTold, PowerTold, LineTold}
+use Rattle.bench_sweep.specs.Told.{ShowsEnoughMemory, is_boot, moves_harts, powers_on, CommandTold, PowerTold, LineTold}
 use Rattle.bench_sweep.proofs.Followed.{whole_found}
 use Rattle.bench_sweep.proofs.Fed.{power_grows, console_grows, line_grows}
 use Rattle.bench_sweep.proofs.Told.{console, powers as power_tells, line_tells}
@@ -210,14 +211,28 @@ answered_says size line b old new slots now answer a was ledger is plain none un
     let t : T (Ok a) = subst T is told in
     line_runs size line b old new slots now a was ledger plain none unasked r t.0 (subst M is did) t.1
 
-pub says_moves : (size : Size) (line : Line) (b : Bench) (said : Printed) (power : Power) (slots : List (List ℕ)) (ledger : Ledger) → LineSays size line b said power slots ledger → LineMoves size line b power slots ledger
-says_moves size line b said power slots ledger s = record { bench = s.bench; does = (s.answer, s.does); runs = s.runs }
+-- a line that powers no board on resumes nothing
+still_resumes : (asked : AskedLine) (a : Answer) → is_boot asked ≡ false → asked_resumes asked a ≡ []
+still_resumes (Boot mode) a unasked = absurd (let no : ⊥ = cc in no)
+still_resumes asked a unasked = refl
+
+pub same_serials : (was ledger : Ledger) → ledger.resumed ≡ was.resumed → Resumes was ledger []
+same_serials was ledger same = ap (λ (v : _). v.items) same ∙ sym (append-nil was.resumed.items)
+
+pub no_serials : (line : Line) (a : Answer) (was ledger : Ledger) → powers_on line ≡ false → ledger.resumed ≡ was.resumed → Resumes was ledger (line_resumes line a)
+no_serials line a was ledger unasked same =
+    let P : List ℕ → Type 0 = λ xs. Resumes was ledger xs in subst P (sym (still_resumes (asked_by line) a unasked)) (same_serials was ledger same)
+
+pub says_moves : (size : Size) (line : Line) (b : Bench) (said : Printed) (power : Power) (slots : List (List ℕ)) (was ledger : Ledger) → powers_on line ≡ false → ledger.resumed ≡ was.resumed → LineSays size line b said power slots ledger
+    → LineMoves size line b power slots was ledger
+says_moves size line b said power slots was ledger unasked same s = record { bench = s.bench; does = (s.answer, s.does); resumed = no_serials line s.answer was ledger unasked same; runs = s.runs }
 
 -- a line that powers a board on, which was off
 pub power_runs : (size : Size) (mode : BootMode) (b : Bench) (old new : Power) (disk : OffDisk) (slots : List (List ℕ)) (answer : Answer) (now : Option Durable) (was ledger : Ledger) → old ≡ Off disk → RunsCalm size b old slots was → ShowsEnoughMemory answer.line
     → (OffIs size b disk.disk → slots ≡ b.payloads → StepsTo size b new (λ x. PowersOn size mode b answer x × TellsNow answer.found now x))
-    → ((z : Size) (k n : Kept) → TellsWhole z was k → PowerTold mode answer.found answer.line now k n → TellsWhole z ledger n) → LineMoves size (lines.On mode) b new slots ledger
-power_runs size mode b old new disk slots answer now was ledger is r enough powers_it follows =
+    → ((z : Size) (k n : Kept) → TellsWhole z was k → PowerTold mode answer.found answer.line now k n → TellsWhole z ledger n)
+    → ((z : Size) (k n : Kept) → TellsWhole z was k → PowerTold mode answer.found answer.line now k n → Resumes was ledger (power_resumes mode answer.found answer.line)) → LineMoves size (lines.On mode) b new slots was ledger
+power_runs size mode b old new disk slots answer now was ledger is r enough powers_it follows serial =
     let A : Power → Type 0 = λ p. Agrees size b p in
     let off : OffIs size b disk.disk = subst A is r.agrees in
     let did = powers_it off r.same in
@@ -225,31 +240,21 @@ power_runs size mode b old new disk slots answer now was ledger is r enough powe
     let P : Option BenchLife → Type 0 = λ p. OnStep size p mode b answer did.0 in record {
       bench = did.0;
       does = (answer, subst P (sym off.0) did.1.0);
+      resumed = serial size b.kept did.0.kept r.follows.kept told.0;
       runs = record { agrees = did.2; same = r.same ∙ sym did.3; follows = record { formatted = told.1 ∙ r.follows.formatted; kept = follows size b.kept did.0.kept r.follows.kept told.0; enough = power_grows size mode b answer did.0 did.1.0 enough ∙ r.follows.enough } };
     }
-
--- and the ledger has the serial of the image that it resumed
-pub power_resumed : (size : Size) (mode : BootMode) (b : Bench) (old new : Power) (disk : OffDisk) (slots : List (List ℕ)) (answer : Answer) (now : Option Durable) (was ledger : Ledger) → old ≡ Off disk → RunsCalm size b old slots was
-    → (OffIs size b disk.disk → slots ≡ b.payloads → StepsTo size b new (λ x. PowersOn size mode b answer x × TellsNow answer.found now x))
-    → ((z : Size) (k n : Kept) → TellsWhole z was k → PowerTold mode answer.found answer.line now k n → Resumes was ledger (power_resumes mode answer.found answer.line)) → PowerMoves size mode b new was ledger
-power_resumed size mode b old new disk slots answer now was ledger is r powers_it serial =
-    let A : Power → Type 0 = λ p. Agrees size b p in
-    let off : OffIs size b disk.disk = subst A is r.agrees in
-    let did = powers_it off r.same in
-    let told = power_tells size mode b answer now did.0 r.follows.formatted did.1.0 did.1.1 in
-    let P : Option BenchLife → Type 0 = λ p. OnStep size p mode b answer did.0 in
-    record { bench = did.0; answer = answer; does = subst P (sym off.0) did.1.0; is = did.2; resumed = serial size b.kept did.0.kept r.follows.kept told.0 }
 
 -- a line of the console
 pub command_runs : {E : Type 0} (r : Result (Unit {0}) E) (c : ConsoleCommand) (old new : Power) (slots : List (List ℕ)) (answer : Answer) (was ledger : Ledger)
     → ((z : Size) (b : Bench) → Agrees z b old → StepsTo z b new (ConsoleStep c b.power b answer))
-    → OnOk r ((z : Size) (k n : Kept) → TellsWhole z was k → CommandTold answer.line (console_change c) k n → TellsWhole z ledger n) → OnOk r ((size : Size) (b : Bench) → RunsCalm size b old slots was → LineMoves size (lines.Command c) b new slots ledger)
-command_runs (Err e) c old new slots answer was ledger issues follows = tt
-command_runs (Ok u) c old new slots answer was ledger issues follows = λ size b r.
+    → OnOk r ((z : Size) (k n : Kept) → TellsWhole z was k → CommandTold answer.line (console_change c) k n → TellsWhole z ledger n) → ledger.resumed ≡ was.resumed → OnOk r ((size : Size) (b : Bench) → RunsCalm size b old slots was → LineMoves size (lines.Command c) b new slots was ledger)
+command_runs (Err e) c old new slots answer was ledger issues follows same = tt
+command_runs (Ok u) c old new slots answer was ledger issues follows same = λ size b r.
     (let did = issues size b r.agrees in
     let told = console c b.power b answer did.0 refl (sound_of size b old r.follows.formatted r.agrees).1 did.1 in record {
       bench = did.0;
       does = (answer, did.1);
+      resumed = same_serials was ledger same;
       runs = record { agrees = did.2; same = r.same ∙ sym did.3; follows = record { formatted = told.1 ∙ r.follows.formatted; kept = follows size b.kept did.0.kept r.follows.kept told.0; enough = console_grows c b.power b answer did.0 did.1 ∙ r.follows.enough } };
     })
 
@@ -258,17 +263,11 @@ busy : (size : Size) (mode : BootMode) (b : Bench) (p : Option BenchLife) (board
 busy size mode b None board at = absurd at
 busy size mode b (Some life) board at = (refl, refl)
 
-pub busy_runs : (size : Size) (mode : BootMode) (b : Bench) (old : Power) (board : SimBoard) (slots : List (List ℕ)) (ledger : Ledger) → old ≡ On board → RunsCalm size b old slots ledger → LineMoves size (lines.On mode) b (On board) slots ledger
+pub busy_runs : (size : Size) (mode : BootMode) (b : Bench) (old : Power) (board : SimBoard) (slots : List (List ℕ)) (ledger : Ledger) → old ≡ On board → RunsCalm size b old slots ledger → LineMoves size (lines.On mode) b (On board) slots ledger ledger
 busy_runs size mode b old board slots ledger is r =
     let A : Power → Type 0 = λ p. Agrees size b p in
     let on : OnIs size b board = subst A is r.agrees in
-    record { bench = b; does = (says printed.Busy, busy size mode b b.power board on.0); runs = record { agrees = on; same = r.same; follows = r.follows } }
-
-pub busy_resumed : (size : Size) (mode : BootMode) (b : Bench) (old : Power) (board : SimBoard) (slots : List (List ℕ)) (ledger : Ledger) → old ≡ On board → RunsCalm size b old slots ledger → PowerMoves size mode b (On board) ledger ledger
-busy_resumed size mode b old board slots ledger is r =
-    let A : Power → Type 0 = λ p. Agrees size b p in
-    let on : OnIs size b board = subst A is r.agrees in
-    record { bench = b; answer = says printed.Busy; does = busy size mode b b.power board on.0; is = on; resumed = sym (append-nil ledger.resumed.items) }
+    record { bench = b; does = (says printed.Busy, busy size mode b b.power board on.0); resumed = same_serials ledger ledger refl; runs = record { agrees = on; same = r.same; follows = r.follows } }
 
 -- ---- a disk with nothing armed fails by itself alone
 differ : {A : Type 0} (a b c : Armed) → a ≡ b → a ≡ c → (b ≡ c → ⊥) → A

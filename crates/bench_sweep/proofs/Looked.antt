@@ -46,8 +46,8 @@ look_adds size line b said old new power slots ledger look kept s =
     }
 
 -- and of another line nothing
-pub other_adds : (size : Size) (line : Line) (b : Bench) (said : List Printed) (power : Power) (slots : List (List ℕ)) (ledger : Ledger) → is_look line ≡ false → LineMoves size line b power slots ledger → LineAdds size line b said said power slots ledger
-other_adds size line b said power slots ledger other m =
+pub other_adds : (size : Size) (line : Line) (b : Bench) (said : List Printed) (power : Power) (slots : List (List ℕ)) (was ledger : Ledger) → is_look line ≡ false → LineMoves size line b power slots was ledger → LineAdds size line b said said power slots ledger
+other_adds size line b said power slots was ledger other m =
     let P : Bool → Type 0 = λ x. said ≡ said ++ (if x then (m.does.0.line ∷ []) else []) in record {
       bench = m.bench;
       answer = m.does.0;

@@ -5,7 +5,7 @@ use Rattle.std.proofs.lemmas.Bool.{cases_lt}
 use Rattle.std.proofs.lemmas.Grind.{flat_map-append}
 use Rattle.std.specs.List.{flat_map, AllZip}
 use Rattle.board_model.specs.Shapes.{Size}
-use Rattle.disk.specs.FaultState.{FaultState}
+use Rattle.disk.specs.FaultState.{FaultState, Unarmed}
 use Rattle.script_lang.specs.declared.line.Line.{Line}
 use Rattle.bench_report.specs.declared.power.Power.{Power}
 use Rattle.report_lines.specs.declared.printed.Answer.{Answer}
@@ -29,8 +29,8 @@ use Rattle.bench_sweep.specs.Reports.{IsLeft, RunsRow, IsRow}
 use Rattle.bench_sweep.specs.Runs.{RunsAt, RanTo, IsEnd, IsLife}
 
 -- ---- a run with a fault armed
-module _ (size : Size) (kind : Kind) (at : Point) (b : Bench) (lines : List Line) (count : ℕ) (power : Power) (slots : List (List ℕ)) (ledger : Ledger) (few : count ≤ length lines) (ran : RanTo size (armed_with (fault_at kind at.caller at.call) b) (take count lines) power slots ledger) where
-  made : (rest : Compared) (row : Row) → row.caller ≡ at.caller → row.number ≡ at.number → unpowered ran.bench ≡ unpowered ran.end → EndsAs kind lines count ran.answers → ran.bench.fault_state.own ≡ 0 → IsLeft size (off ran.bench) rest row → RunsRow size kind at.before b lines rest row
+module _ (size : Size) (kind : Kind) (at : Point) (b : Bench) (lines : List Line) (count : ℕ) (power : Power) (slots : List (List ℕ)) (first ledger : Ledger) (few : count ≤ length lines) (ran : RanTo size (armed_with (fault_at kind at.caller at.call) b) (take count lines) power slots first ledger) where
+  made : (rest : Compared) (row : Row) → row.caller ≡ at.caller → row.number ≡ at.number → unpowered ran.bench ≡ unpowered ran.end → EndsAs kind lines count ran.answers ran.end → ran.bench.fault_state.own ≡ 0 → IsLeft size (off ran.bench) rest row → RunsRow size kind at.before b lines rest row
   made rest row caller number same ends none ((after, said), finds, recovered) =
       let P : Bench → Type 0 = λ x. LooksAt size x row.left after in
       let T : Bench → Type 0 = λ x. IsToldOf rest.own size x rest.lines rest.numbers row.left row.recovered in
@@ -51,14 +51,18 @@ module _ (size : Size) (kind : Kind) (at : Point) (b : Bench) (lines : List Line
       }
 
 -- up to the line in which a cut struck
-pub to_cut : (size : Size) (at : Point) (b : Bench) (lines : List Line) (count : ℕ) (power : Power) (slots : List (List ℕ)) (ledger : Ledger) → count ≤ length lines → (ran : RanTo size (armed_with (fault_at Cuts at.caller at.call) b) (take count lines) power slots ledger)
+pub to_cut : (size : Size) (at : Point) (b : Bench) (lines : List Line) (count : ℕ) (power : Power) (slots : List (List ℕ)) (first ledger : Ledger) → count ≤ length lines → (ran : RanTo size (armed_with (fault_at Cuts at.caller at.call) b) (take count lines) power slots first ledger)
     → ran.bench.fault_state.struck ≡ true → ran.bench.fault_state.own ≡ 0 → (rest : Compared) (row : Row) → row.caller ≡ at.caller → row.number ≡ at.number → IsLeft size (off ran.bench) rest row → RunsRow size Cuts at.before b lines rest row
-to_cut size at b lines count power slots ledger few ran hit none rest row caller number left = let s = ran.struck hit in made size Cuts at b lines count power slots ledger few ran rest row caller number (ap (λ (x : Bench). unpowered x) s.0) s.1 none left
+to_cut size at b lines count power slots first ledger few ran hit none rest row caller number left = let s = ran.struck hit in made size Cuts at b lines count power slots first ledger few ran rest row caller number (ap (λ (x : Bench). unpowered x) s.0) s.1 none left
 
 -- or to the last of them
-pub past_failure : (size : Size) (at : Point) (b : Bench) (lines : List Line) (count : ℕ) (power : Power) (slots : List (List ℕ)) (ledger : Ledger) → count ≡ length lines → (ran : RanTo size (armed_with (fault_at Fails at.caller at.call) b) (take count lines) power slots ledger)
-    → ran.bench.fault_state.struck ≡ false → ran.bench.fault_state.own ≡ 0 → (rest : Compared) (row : Row) → row.caller ≡ at.caller → row.number ≡ at.number → IsLeft size (off ran.bench) rest row → RunsRow size Fails at.before b lines rest row
-past_failure size at b lines count power slots ledger all ran calm none rest row caller number left = made size Fails at b lines count power slots ledger (omega (arith, all)) ran rest row caller number (ap (λ (x : Bench). unpowered x) (ran.calm calm)) all none left
+pub past_failure : (size : Size) (at : Point) (b : Bench) (lines : List Line) (count : ℕ) (power : Power) (slots : List (List ℕ)) (first ledger : Ledger) → count ≡ length lines → (ran : RanTo size (armed_with (fault_at Fails at.caller at.call) b) (take count lines) power slots first ledger)
+    → ran.bench.fault_state.struck ≡ false → ran.bench.fault_state.own ≡ 0 → ran.bench.fault_state.armed ≡ Unarmed → (rest : Compared) (row : Row) → row.caller ≡ at.caller → row.number ≡ at.number → IsLeft size (off ran.bench) rest row
+    → RunsRow size Fails at.before b lines rest row
+past_failure size at b lines count power slots first ledger all ran calm none struck rest row caller number left =
+    let same = ran.calm calm in
+    made size Fails at b lines count power slots first ledger (omega (arith, all)) ran rest row caller number (ap (λ (x : Bench). unpowered x) same)
+    (all, ap (λ (x : Bench). x.fault_state.armed) (sym same) ∙ struck) none left
 
 -- over the first of some lines, of which a cut ended it
 pub over_all : (size : Size) (before : ℕ) (b : Bench) (lines : List Line) (n : ℕ) → n ≤ length lines → (rest : Compared) (row : Row) → RunsRow size Cuts before b (take n lines) rest row → RunsRow size Cuts before b lines rest row

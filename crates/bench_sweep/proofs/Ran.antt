@@ -1,5 +1,6 @@
 -- Lines that are run one after another, and the bench then.
-use Rattle.std.proofs.Common.{◌≡◌, ◌<◌, ◌+◌, ◌∷◌, ◌++◌, [], ℕ, true, false, Bool, List, inl, inr, length, take, drop, get_or, refl, sym, ◌∙◌, ap, subst}
+use Rattle.std.proofs.Common.{◌≡◌, ◌<◌, ◌+◌, ◌∷◌, ◌++◌, [], ℕ, true, false, Bool, List, inl, inr, length, take, drop, get_or, refl, sym, ◌∙◌, ap, subst, append_assoc, length-append, arith}
+use Rattle.std.proofs.lemmas.List.{append-nil, take_more}
 use Rattle.board_model.specs.Shapes.{Size}
 use Rattle.bench_report.proofs.RunLines.{run_more}
 use Rattle.bench_report.specs.Agree.{Agrees}
@@ -13,21 +14,32 @@ use Rattle.script_lang.specs.declared.line.Line.{Line}
 use Rattle.bench_judge.specs.declared.ledgers.Ledger.{Ledger}
 use Rattle.bench_sweep.specs.declared.site.Site.{Site}
 use Rattle.bench_sweep.specs.Lines.{LineMoves}
+use Rattle.bench_sweep.specs.Resumes.{line_resumes, lines_resume, Resumes}
 use Rattle.bench_sweep.specs.Runs.{RunsAt, RunsCalm, RanTo, IsLife, StopsOff}
 
+-- ---- serials of lines
+lines_more : (ls : List Line) (ys : List Answer) (l : Line) (a : Answer) → length ys ≡ length ls → lines_resume (ls ++ l ∷ []) (ys ++ a ∷ []) ≡ lines_resume ls ys ++ line_resumes l a
+lines_more [] [] l a e = append-nil (line_resumes l a)
+lines_more [] (x ∷ ys) l a e = cc
+lines_more (k ∷ ls) [] l a e = cc
+lines_more (k ∷ ls) (x ∷ ys) l a e =
+    ap (λ zs. line_resumes k x ++ zs) (lines_more ls ys l a (let f : length ys ≡ length ls = omega (arith, e) in f)) ∙ sym (append_assoc (line_resumes k x) (lines_resume ls ys) (line_resumes l a))
+
 -- the lines so far were run to their end, and no armed cut has struck
-pub record Runs_to (size : Size) (b : Bench) (lines : List Line) (power : Power) (slots : List (List ℕ)) (ledger : Ledger) : Type 0 where
+pub record Runs_to (size : Size) (b : Bench) (lines : List Line) (power : Power) (slots : List (List ℕ)) (first ledger : Ledger) : Type 0 where
   pub bench : Bench
   pub answers : List Answer
   pub run : Run size b lines answers bench
   pub runs : RunsCalm size bench power slots ledger
+  pub long : length answers ≡ length lines
+  pub resumed : Resumes first ledger (lines_resume lines answers)
 
-pub ran_none : (size : Size) (b : Bench) (power : Power) (slots : List (List ℕ)) (ledger : Ledger) → RunsCalm size b power slots ledger → Runs_to size b [] power slots ledger
-ran_none size b power slots ledger r = record { bench = b; answers = []; run = refl; runs = r }
+pub ran_none : (size : Size) (b : Bench) (power : Power) (slots : List (List ℕ)) (first ledger : Ledger) → ledger ≡ first → RunsCalm size b power slots ledger → Runs_to size b [] power slots first ledger
+ran_none size b power slots first ledger same r = record { bench = b; answers = []; run = refl; runs = r; long = refl; resumed = ap (λ (l : Ledger). l.resumed.items) same ∙ sym (append-nil first.resumed.items) }
 
 -- that is where they may end
-pub ran_calm : (size : Size) (b : Bench) (lines : List Line) (power : Power) (slots : List (List ℕ)) (ledger : Ledger) → Runs_to size b lines power slots ledger → RanTo size b lines power slots ledger
-ran_calm size b lines power slots ledger r = record {
+pub ran_calm : (size : Size) (b : Bench) (lines : List Line) (power : Power) (slots : List (List ℕ)) (first ledger : Ledger) → Runs_to size b lines power slots first ledger → RanTo size b lines power slots first ledger
+ran_calm size b lines power slots first ledger r = record {
   answers = r.answers;
   end = r.bench;
   run = r.run;
@@ -35,26 +47,42 @@ ran_calm size b lines power slots ledger r = record {
   runs = record { agrees = r.runs.agrees; same = r.runs.same; follows = r.runs.follows };
   calm = λ calm. refl;
   struck = λ hit. absurd (let no : true ≡ false = sym hit ∙ r.runs.calm in let never : ⊥ = cc in never);
+  would = r.answers;
+  told = λ calm. refl;
+  lost = λ hit. absurd (let no : true ≡ false = sym hit ∙ r.runs.calm in let never : ⊥ = cc in never);
+  resumed = r.resumed;
 }
 
-module _ (size : Size) (b : Bench) (lines : List Line) (i : ℕ) (line d : Line) (old power : Power) (before slots : List (List ℕ)) (was ledger : Ledger) (less : i < length lines) (is : line ≡ get_or lines i d) (so_far : Runs_to size b (take i lines) old before was)
-    (moves : LineMoves size line so_far.bench power slots ledger) where
+module _ (size : Size) (b : Bench) (lines : List Line) (i : ℕ) (line d : Line) (old power : Power) (before slots : List (List ℕ)) (first was ledger : Ledger) (less : i < length lines) (is : line ≡ get_or lines i d) (so_far : Runs_to size b (take i lines) old before first was)
+    (moves : LineMoves size line so_far.bench power slots was ledger) where
   abbrev mid : Bench
   mid = so_far.bench
 
   snoc : (a : Answer) (new : Bench) → Moves size line mid a new → Run size b (take (i + 1) lines) (so_far.answers ++ a ∷ []) new
   snoc a new moved = let M : Line → Type 0 = λ l. Moves size l mid a new in run_more size lines i d b so_far.answers mid a new less so_far.run (subst M is moved)
 
-  pub ran_more : moves.bench.fault_state.struck ≡ false → Runs_to size b (take (i + 1) lines) power slots ledger
+  -- the lines with this one
+  more : take i lines ++ line ∷ [] ≡ take (i + 1) lines
+  more = ap (λ (l : Line). take i lines ++ l ∷ []) is ∙ sym (take_more lines i d less)
+
+  resumed : Resumes first ledger (lines_resume (take (i + 1) lines) (so_far.answers ++ moves.does.0 ∷ []))
+  resumed =
+      moves.resumed ∙ ap (λ (xs : List ℕ). xs ++ line_resumes line moves.does.0) so_far.resumed
+      ∙ append_assoc first.resumed.items (lines_resume (take i lines) so_far.answers) (line_resumes line moves.does.0)
+      ∙ ap (λ (xs : List ℕ). first.resumed.items ++ xs) (sym (lines_more (take i lines) so_far.answers line moves.does.0 so_far.long) ∙ ap (λ (ls : List Line). lines_resume ls (so_far.answers ++ moves.does.0 ∷ [])) more)
+
+  pub ran_more : moves.bench.fault_state.struck ≡ false → Runs_to size b (take (i + 1) lines) power slots first ledger
   ran_more calm = record {
     bench = moves.bench;
     answers = so_far.answers ++ moves.does.0 ∷ [];
     run = snoc moves.does.0 moves.bench (inl (moves.does.1, calm));
     runs = record { agrees = moves.runs.agrees; same = moves.runs.same; follows = moves.runs.follows; calm = calm };
+    long = length-append so_far.answers (moves.does.0 ∷ []) ∙ ap (λ (n : ℕ). n + 1) so_far.long ∙ sym (length-append (take i lines) (line ∷ [])) ∙ ap (λ (ls : List Line). length ls) more;
+    resumed = resumed;
   }
 
   -- a cut struck in the last of them
-  ran_struck : moves.bench.fault_state.struck ≡ true → RanTo size b (take (i + 1) lines) power slots ledger
+  ran_struck : moves.bench.fault_state.struck ≡ true → RanTo size b (take (i + 1) lines) power slots first ledger
   ran_struck hit = record {
     answers = so_far.answers ++ says printed.PowerLost ∷ [];
     end = unpowered moves.bench;
@@ -63,20 +91,24 @@ module _ (size : Size) (b : Bench) (lines : List Line) (i : ℕ) (line d : Line)
     runs = moves.runs;
     calm = λ calm. absurd (let no : true ≡ false = sym hit ∙ calm in let never : ⊥ = cc in never);
     struck = λ again. (refl, (so_far.answers, refl));
+    would = so_far.answers ++ moves.does.0 ∷ [];
+    told = λ calm. absurd (let no : true ≡ false = sym hit ∙ calm in let never : ⊥ = cc in never);
+    lost = λ again. record { front = take i lines; line = line; is = sym more; before = so_far.answers; mid = mid; run = so_far.run; last = moves.does.0; step = moves.does.1; said = refl; so = refl };
+    resumed = resumed;
   }
 
   -- one or the other
-  pub ran_line : RanTo size b (take (i + 1) lines) power slots ledger
+  pub ran_line : RanTo size b (take (i + 1) lines) power slots first ledger
   ran_line = by moves.bench.fault_state.struck refl
     where
-      by : (struck : Bool) → moves.bench.fault_state.struck ≡ struck → RanTo size b (take (i + 1) lines) power slots ledger
+      by : (struck : Bool) → moves.bench.fault_state.struck ≡ struck → RanTo size b (take (i + 1) lines) power slots first ledger
       by true hit = ran_struck hit
-      by false calm = ran_calm size b (take (i + 1) lines) power slots ledger (ran_more calm)
+      by false calm = ran_calm size b (take (i + 1) lines) power slots first ledger (ran_more calm)
 
 -- the board was turned off behind lines in which nothing was armed
-pub life_of : (size : Size) (b : Bench) (lines : List Line) (count : ℕ) (power : Power) (slots : List (List ℕ)) (ledger : Ledger) (site : Site) → (r : RanTo size (unpowered b) (take count lines) power slots ledger)
+pub life_of : (size : Size) (b : Bench) (lines : List Line) (count : ℕ) (power : Power) (slots : List (List ℕ)) (first ledger : Ledger) (site : Site) → (r : RanTo size (unpowered b) (take count lines) power slots first ledger)
     → (r.bench.fault_state.struck ≡ false) × RunsAt size (off r.bench) site → (count < length lines → StopsOff power) → IsLife size b lines count site
-life_of size b lines count power slots ledger site r (calm, left) stops =
+life_of size b lines count power slots first ledger site r (calm, left) stops =
     let P : Bench → Type 0 = λ x. RunsAt size (off x) site in
     let same = r.calm calm in record {
       answers = r.answers;

@@ -23,13 +23,13 @@ use Rattle.bench_sweep.specs.declared.points.Caller.{Caller}
 use Rattle.bench_sweep.specs.declared.points.Caller.TheVariants.{Disk, Lane}
 use Rattle.bench_sweep.specs.Points.{cut_fill, fault_at}
 use Rattle.bench_sweep.specs.Runs.{RanTo}
-use Rattle.bench_sweep.specs.Shown.{arming_of, cut_part, row_lines, HasCaller, IsEnded, IsNamed, RunsArmed, WroteScript}
+use Rattle.bench_sweep.specs.Shown.{arming, arming_of, cut_part, row_lines, HasCaller, HasRun, IsEnded, IsNamed, RunsArmed, ShowsFrom, ShowsNone, WroteScript}
 use Rattle.bench_sweep.specs.Swept.{Cell}
 
 -- a run with that armed, by how it ended
-pub runs_armed : (size : Size) (kind : Kind) (run : Cell) (b : Bench) (those : List Line) (count : ℕ) (power : Power) (slots : List (List ℕ)) (ledger : Ledger) → count ≤ length those → (ran : RanTo size (armed_with (fault_at kind run.caller run.number) b) (take count those) power slots ledger)
+pub runs_armed : (size : Size) (kind : Kind) (run : Cell) (b : Bench) (those : List Line) (count : ℕ) (power : Power) (slots : List (List ℕ)) (first ledger : Ledger) → count ≤ length those → (ran : RanTo size (armed_with (fault_at kind run.caller run.number) b) (take count those) power slots first ledger)
     → IsEnded kind count (length those) ran.bench → RunsArmed size kind run b those count
-runs_armed size Cuts run b those count power slots ledger few ran (hit, none) =
+runs_armed size Cuts run b those count power slots first ledger few ran (hit, none) =
     let s = ran.struck hit in record {
       few = few;
       answers = ran.answers;
@@ -38,13 +38,13 @@ runs_armed size Cuts run b those count power slots ledger few ran (hit, none) =
       ends = s.1;
       refused_none = (ap (λ (x : Bench). x.growths) (sym s.0) ∙ ran.runs.follows.enough, ap (λ (x : Bench). x.fault_state.own) (sym s.0) ∙ none);
     }
-runs_armed size Fails run b those count power slots ledger few ran (all, calm, none) =
+runs_armed size Fails run b those count power slots first ledger few ran (all, calm, none, struck) =
     let same = ran.calm calm in record {
       few = few;
       answers = ran.answers;
       end = ran.end;
       ran = ran.run;
-      ends = all;
+      ends = (all, ap (λ (x : Bench). x.fault_state.armed) (sym same) ∙ struck);
       refused_none = (ap (λ (x : Bench). x.growths) (sym same) ∙ ran.runs.follows.enough, ap (λ (x : Bench). x.fault_state.own) (sym same) ∙ none);
     }
 
@@ -99,3 +99,25 @@ arms_named size Fails (Lane lane) call fill arms = (arms.0, arms.1.1)
 
 pub named_lane : (size : Size) (caller : Caller) (call lane : ℕ) → caller ≡ Lane lane → IsNamed size caller call → lane < size.lanes
 named_lane size caller call lane is named = let H : Caller → Type 0 = λ c. HasCaller size c in subst H is named.0
+
+-- of a script with no fault
+pub refused_row : {P Q : Type 0} (F G H : Refusal → Type 0) (result : Result (Unit {0}) Refusal) → (P → Q) → IfErr result (λ e. (e ≡ Memory) ⊎ (e ≡ Output) ⊎ ((e ≡ BadShape) × P))
+    → IfErr result (λ e. (e ≡ Memory) ⊎ (e ≡ Output) ⊎ F e ⊎ G e ⊎ H e ⊎ ((e ≡ BadShape) × Q))
+refused_row F G H (Ok u) then refused = tt
+refused_row F G H (Err e) then (inl memory) = inl memory
+refused_row F G H (Err e) then (inr (inl output)) = inr (inl output)
+refused_row F G H (Err e) then (inr (inr none)) = inr (inr (inr (inr (inr (none.0, then none.1)))))
+
+-- the row of a run that is found and written
+pub shows_from : {K : Kind} (size : Size) (b : Bench) (front those behind : List Line) (number count : ℕ) (run : Cell) (arms : Arming) (old now : Option (List ℕ)) → HasRun K size b those number run → RunsArmed size K run b those count → arms ≡ arming K run
+    → WroteScript (record { size = size; lines = row_lines K front arms (take count those) behind }) old now → ShowsFrom K size b front those behind number old now
+shows_from {K = K} size b front those behind number count run arms old now has armed is wrote =
+    let W : Arming → Type 0 = λ a. WroteScript (record { size = size; lines = row_lines K front a (take count those) behind }) old now in
+    record { run = run; has = has; count = count; armed = armed; written = subst W is wrote }
+
+-- or it is not
+pub shows_none : {K : Kind} (size : Size) (b : Bench) (front those behind : List Line) (number count : ℕ) (run : Cell) (arms : Arming) → HasRun K size b those number run → RunsArmed size K run b those count → arms ≡ arming K run
+    → 65535 < length (row_lines K front arms (take count those) behind) → ShowsNone K size b front those behind number
+shows_none {K = K} size b front those behind number count run arms has armed is long =
+    let L : Arming → Type 0 = λ a. 65535 < length (row_lines K front a (take count those) behind) in
+    inr (record { run = run; has = has; why = inr (record { count = count; armed = armed; long = subst L is long }) })

@@ -51,7 +51,9 @@ use Rattle.bench_report.specs.declared.power.Power.TheVariants.{Off, On}
 use Rattle.bench_judge.specs.declared.ledgers.Ledger.{Ledger}
 use Rattle.bench_sweep.specs.Runs.{Follows, Runs, HartMoves}
 use Rattle.bench_sweep.specs.Lines.{TurnsOnce, TurnsMany, DoesLine, HartGoes, LineGoes, LineMoves}
-use Rattle.bench_sweep.specs.Told.{moves_harts, IssuedTold, IsOfHart, HartTold}
+use Rattle.bench_report.specs.Prefix.{AskedLine, Boot, asked_by}
+use Rattle.bench_sweep.specs.Told.{is_boot, is_guest, moves_harts, powers_on, IssuedTold, IsOfHart, HartTold}
+use Rattle.bench_sweep.proofs.Left.{no_serials}
 use Rattle.bench_sweep.proofs.Followed.{follows_same}
 use Rattle.bench_sweep.proofs.Told.{number_in, Tells, issued_tells}
 
@@ -345,21 +347,30 @@ call_lacks size b line board h asked l is lacks was told = off_line size b line 
     (let P : Option BenchLife → Type 0 = λ p. CallStep p h asked b (shows shown.Off) b in (shows shown.Off, subst P (sym on) (inr (not, refl, refl)))))
 
 -- ---- the board after it
+-- a line of harts powers no board on
+no_boot : (line : Line) → moves_harts line ≡ true → powers_on line ≡ false
+no_boot line of_harts = by (asked_by line) of_harts
+  where
+    by : (asked : AskedLine) → is_guest asked ≡ true → is_boot asked ≡ false
+    by (Boot mode) is = absurd (let no : ⊥ = cc in no)
+    by asked is = refl
+
 abbrev pub LeavesBy : Size → Option Word → SimBoard → Power → Type 0
 LeavesBy size None board now = (n : Bench) → OnIs size n board → Agrees size n now
 LeavesBy size (Some word) board now = (n : Bench) → BoardAfter size word n board → Agrees size n now
 
-line_left : (size : Size) (line : Line) (b : Bench) (said : Option Word) (board : SimBoard) (now : Power) (slots : List (List ℕ)) (m : Ledger) → slots ≡ b.payloads → LeavesBy size said board now → LineGoes size b (DoesLine size line b) said board m → LineMoves size line b now slots m
-line_left size line b None board now slots m same leaves (n, does, kept, on, follows) = record { bench = n; does = does; runs = record { agrees = leaves n on; same = same ∙ sym kept; follows = follows } }
-line_left size line b (Some word) board now slots m same leaves r = record { bench = r.bench; does = r.does; runs = record { agrees = leaves r.bench r.after; same = same ∙ sym r.slots; follows = r.follows } }
+line_left : (size : Size) (line : Line) (b : Bench) (said : Option Word) (board : SimBoard) (now : Power) (slots : List (List ℕ)) (l m : Ledger) → moves_harts line ≡ true → m.resumed ≡ l.resumed → slots ≡ b.payloads → LeavesBy size said board now
+    → LineGoes size b (DoesLine size line b) said board m → LineMoves size line b now slots l m
+line_left size line b None board now slots l m of_harts serials same leaves (n, does, kept, on, follows) = record { bench = n; does = does; resumed = no_serials line does.0 l m (no_boot line of_harts) serials; runs = record { agrees = leaves n on; same = same ∙ sym kept; follows = follows } }
+line_left size line b (Some word) board now slots l m of_harts serials same leaves r = record { bench = r.bench; does = r.does; resumed = no_serials line r.does.0 l m (no_boot line of_harts) serials; runs = record { agrees = leaves r.bench r.after; same = same ∙ sym r.slots; follows = r.follows } }
 
 -- on a board that is on
-pub line_on : (size : Size) (line : Line) (b : Bench) (power now : Power) (old new : SimBoard) (said is_said : Option Word) (slots : List (List ℕ)) (l m : Ledger) → power ≡ On old → said ≡ is_said → LeavesBy size is_said new now
-    → ((c : Bench) → OnIs size c old → Follows size c l → LineGoes size c (DoesLine size line c) said new m) → Runs size b power slots l → LineMoves size line b now slots m
-line_on size line b power now old new said is_said slots l m is e leaves goes r =
+pub line_on : (size : Size) (line : Line) (b : Bench) (power now : Power) (old new : SimBoard) (said is_said : Option Word) (slots : List (List ℕ)) (l m : Ledger) → moves_harts line ≡ true → m.resumed ≡ l.resumed → power ≡ On old → said ≡ is_said → LeavesBy size is_said new now
+    → ((c : Bench) → OnIs size c old → Follows size c l → LineGoes size c (DoesLine size line c) said new m) → Runs size b power slots l → LineMoves size line b now slots l m
+line_on size line b power now old new said is_said slots l m of_harts serials is e leaves goes r =
     let P : Power → Type 0 = λ p. Agrees size b p in
     let L : Option Word → Type 0 = λ o. LeavesBy size o new now in
-    line_left size line b said new now slots m r.same (subst L (sym e) leaves) (goes b (subst P is r.agrees) r.follows)
+    line_left size line b said new now slots l m of_harts serials r.same (subst L (sym e) leaves) (goes b (subst P is r.agrees) r.follows)
 
 -- on one that is off nothing is done
 off_does : (size : Size) (line : Line) (b : Bench) → moves_harts line ≡ true → b.power ≡ None → DoesLine size line b b
@@ -367,8 +378,9 @@ off_does size (lines.Turn h n) b of_harts off = let P : Option BenchLife → Typ
 off_does size (lines.Call h asked) b of_harts off = let P : Option BenchLife → Type 0 = λ p. CallStep p h asked b (shows shown.Off) b in (shows shown.Off, subst P (sym off) (refl, refl))
 off_does size line b of_harts off = absurd (let no : ⊥ = cc in no)
 
-pub line_off : (size : Size) (line : Line) (b : Bench) (power : Power) (disk : OffDisk) (slots : List (List ℕ)) (l : Ledger) → moves_harts line ≡ true → power ≡ Off disk → Runs size b power slots l → LineMoves size line b (Off disk) slots l
+pub line_off : (size : Size) (line : Line) (b : Bench) (power : Power) (disk : OffDisk) (slots : List (List ℕ)) (l : Ledger) → moves_harts line ≡ true → power ≡ Off disk → Runs size b power slots l → LineMoves size line b (Off disk) slots l l
 line_off size line b power disk slots l of_harts is r =
     let P : Power → Type 0 = λ p. Agrees size b p in
     let off : OffIs size b disk.disk = subst P is r.agrees in
-    record { bench = b; does = off_does size line b of_harts off.0; runs = record { agrees = off; same = r.same; follows = r.follows } }
+    let does = off_does size line b of_harts off.0 in
+    record { bench = b; does = does; resumed = no_serials line does.0 l l (no_boot line of_harts) refl; runs = record { agrees = off; same = r.same; follows = r.follows } }

@@ -1,21 +1,19 @@
 -- What a line that moves harts does, by the steps of the model, and that the ledger follows it.
 use Rattle.std.specs.Prelude.{◌≡◌, ◌++◌, ℕ, List, Option, None, Some}
 use Rattle.board_model.specs.Shapes.{Size}
-use Rattle.board_model.specs.declared.boot_mode.BootMode.{BootMode}
 use Rattle.sbi.specs.declared.words.Word.{Word}
 use Rattle.script_lang.specs.declared.line.Line.{Line}
-use Rattle.script_lang.specs.declared.line.Line.TheVariants as lines
 use Rattle.report_lines.specs.declared.printed.Answer.{Answer}
 use Rattle.report_lines.specs.declared.printed.Printed.{Printed}
 use Rattle.bench_report.specs.declared.power.Power.{Power}
 use Rattle.bench_report.specs.Bench.{BenchLife, Bench}
 use Rattle.bench_report.specs.Steps.{Step}
 use Rattle.bench_report.specs.Turns.{GuestTurn, GuestTurns}
-use Rattle.bench_report.specs.Agree.{OnIs, BoardAfter, Agrees}
+use Rattle.bench_report.specs.Agree.{OnIs, BoardAfter}
 use Rattle.bench_report.specs.Views.{SimBoard}
 use Rattle.bench_judge.specs.declared.ledgers.Ledger.{Ledger}
 use Rattle.bench_sweep.specs.Recovers.{look_said}
-use Rattle.bench_sweep.specs.Resumes.{power_resumes, Resumes}
+use Rattle.bench_sweep.specs.Resumes.{line_resumes, Resumes}
 use Rattle.bench_sweep.specs.Runs.{Follows, Runs}
 
 -- one turn of hart h, and what was said of it
@@ -45,11 +43,12 @@ LineGoes size b Does None board ledger =
     (new : Bench) × Does new × (new.payloads ≡ b.payloads) × OnIs size new board × Follows size new ledger
 LineGoes size b Does (Some word) board ledger = HartGoes size b Does word board ledger
 
--- The line's step was made.
-pub record LineMoves (size : Size) (line : Line) (b : Bench) (power : Power) (slots : List (List ℕ)) (ledger : Ledger)
+-- The line's step was made, and the ledger has the serial of the image that it resumed besides those of the old one.
+pub record LineMoves (size : Size) (line : Line) (b : Bench) (power : Power) (slots : List (List ℕ)) (old ledger : Ledger)
     : Type 0 where
   pub bench : Bench
   pub does : DoesLine size line b bench
+  pub resumed : Resumes old ledger (line_resumes line does.0)
   pub runs : Runs size bench power slots ledger
 
 -- The same, and the line said that.
@@ -69,11 +68,3 @@ pub record LineAdds (size : Size) (line : Line) (b : Bench) (old new : List Prin
   pub does : Step size line b answer bench
   pub adds : new ≡ old ++ look_said line answer
   pub runs : Runs size bench power slots ledger
-
--- A line that powers a board on by that mode was run, and the ledger has the serial of the image that it resumed besides.
-pub record PowerMoves (size : Size) (mode : BootMode) (b : Bench) (power : Power) (old ledger : Ledger) : Type 0 where
-  pub bench : Bench
-  pub answer : Answer
-  pub does : Step size (lines.On mode) b answer bench
-  pub is : Agrees size bench power
-  pub resumed : Resumes old ledger (power_resumes mode answer.found answer.line)

@@ -7,6 +7,7 @@ use Rattle.board_model.specs.Shapes.{Size}
 use Rattle.board_model.specs.Views.{durable_of}
 use Rattle.board_model.specs.declared.boot_mode.BootMode.TheVariants as modes
 use Rattle.board_model.specs.declared.durable.Durable.{Durable}
+use Rattle.disk.specs.FaultState.{Unarmed}
 use Rattle.script_lang.specs.declared.line.Line.{Line}
 use Rattle.report_lines.specs.declared.printed.Answer.{Answer}
 use Rattle.report_lines.specs.declared.printed.Printed.{Printed}
@@ -108,10 +109,11 @@ IsToldOf (o ∷ own) size cut lines numbers left differs =
 abbrev pub IsRecovered : Size → Bench → Compared → Answer → Option Differs → Type 0
 IsRecovered size end rest left differs = IsToldOf rest.own size (unpowered end) rest.lines rest.numbers left differs
 
--- a run with a cut ends with the line within which it struck, and one with a failure with the script
-abbrev pub EndsAs : Kind → List Line → ℕ → List Answer → Type 0
-EndsAs Cuts lines count answers = (before : List Answer) × (answers ≡ before ++ says printed.PowerLost ∷ [])
-EndsAs Fails lines count answers = count ≡ length lines
+-- A run with a cut ends with the line within which it struck. One with a failure ends with the script, and nothing is armed any
+-- more: the call failed, since the disk never failed by itself.
+abbrev pub EndsAs : Kind → List Line → ℕ → List Answer → Bench → Type 0
+EndsAs Cuts lines count answers end = (before : List Answer) × (answers ≡ before ++ says printed.PowerLost ∷ [])
+EndsAs Fails lines count answers end = (count ≡ length lines) × (end.fault_state.armed ≡ Unarmed)
 
 -- Lines are run on a bench that is off, on whose disk that is armed: at the call of that caller that has that number,
 -- where so many were made before. No memory is refused. Then power is cut, and a power-on that keeps the image says that:
@@ -125,7 +127,7 @@ pub record RunsWith (size : Size) (kind : Kind) (caller : Caller) (made number :
   pub answers : List Answer
   pub end : Bench
   pub run : Run size (armed_with (fault_at kind caller call) b) (take count lines) answers end
-  pub ends : EndsAs kind lines count answers
+  pub ends : EndsAs kind lines count answers end
   pub refused_none : WasRefusedNoMemory end
   pub after : Bench
   pub says : LooksAt size (unpowered end) left after

@@ -6,8 +6,11 @@ use Rattle.board_model.specs.declared.boot_mode.BootMode.{BootMode}
 use Rattle.board_model.specs.declared.boot_mode.BootMode.TheVariants as modes
 use Rattle.board_model.specs.declared.durable.Durable.{Durable}
 use Rattle.board_model.specs.declared.durable.ImageHead.{ImageHead}
+use Rattle.report_lines.specs.declared.printed.Answer.{Answer}
 use Rattle.report_lines.specs.declared.printed.Printed.{Printed}
 use Rattle.report_lines.specs.declared.printed.Printed.TheVariants as printed
+use Rattle.script_lang.specs.declared.line.Line.{Line}
+use Rattle.bench_report.specs.Prefix.{AskedLine, Boot, asked_by}
 use Rattle.bench_judge.specs.declared.ledgers.Ledger.{Ledger}
 
 -- the image that stands after the commands that a ledger tells, without its memory
@@ -42,3 +45,17 @@ power_resumes mode (Some d) said = powered said mode d.image
 -- these were resumed more
 abbrev pub Resumes : Ledger → Ledger → List ℕ → Type 0
 Resumes old new serials = new.resumed.items ≡ old.resumed.items ++ serials
+
+-- a line, by what it asks and answers: only a power-on resumes
+abbrev pub asked_resumes : AskedLine → Answer → List ℕ
+asked_resumes (Boot mode) a = power_resumes mode a.found a.line
+asked_resumes asked a = []
+
+abbrev pub line_resumes : Line → Answer → List ℕ
+line_resumes line a = asked_resumes (asked_by line) a
+
+-- lines that answered so, one after another
+abbrev pub lines_resume : List Line → List Answer → List ℕ
+lines_resume [] answers = []
+lines_resume (line ∷ more) [] = []
+lines_resume (line ∷ more) (a ∷ answers) = line_resumes line a ++ lines_resume more answers

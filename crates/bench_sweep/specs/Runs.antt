@@ -18,8 +18,8 @@ use Rattle.bench_report.specs.declared.power.OffDisk.{OffDisk}
 use Rattle.bench_report.specs.declared.power.Power.{Power}
 use Rattle.bench_report.specs.declared.power.Power.TheVariants.{Off, On}
 use Rattle.bench_report.specs.Bench.{Formatted, Bench, bench_with}
-use Rattle.bench_report.specs.Happens.{off, unpowered, settled}
-use Rattle.bench_report.specs.Steps.{Run}
+use Rattle.bench_report.specs.Happens.{off, says, unpowered, settled}
+use Rattle.bench_report.specs.Steps.{Run, Step}
 use Rattle.bench_report.specs.Agree.{OffIs, BoardAfter, Agrees, IsBench}
 use Rattle.bench_report.specs.Views.{SimStore, SimBoard, machine_in, fault_state, store_in, store_size, store_now, store_fault_state}
 use Rattle.bench_judge.specs.Judged.{IsRight}
@@ -28,6 +28,7 @@ use Rattle.bench_judge.specs.declared.ledgers.Ledger.{Ledger}
 use Rattle.bench_sweep.specs.declared.points.Bench.TheVariants.{Cuts}
 use Rattle.bench_sweep.specs.declared.site.Site.{Site}
 use Rattle.bench_sweep.specs.Made.{IsFormatted, EndsAs, WasRefusedNoMemory, ComesTo, shows}
+use Rattle.bench_sweep.specs.Resumes.{lines_resume, Resumes}
 use Rattle.bench_sweep.specs.Told.{HartTold}
 
 -- The ledger tells the commands kept; an image that stands, or is in doubt, has the memory of a board of that size.
@@ -77,9 +78,23 @@ Sits size site = (b : Bench) × RunsAt size b site
 abbrev pub SitsLeft : Size → Site → Type 0
 SitsLeft size site = (b : Bench) × LeftAt size b site
 
+-- An armed cut struck in the last of these lines, whose step came to that bench: what they would have answered.
+pub record LostIn (size : Size) (b : Bench) (lines : List Line) (answers would : List Answer) (at : Bench) : Type 0 where
+  pub front : List Line
+  pub line : Line
+  pub is : lines ≡ front ++ line ∷ []
+  pub before : List Answer
+  pub mid : Bench
+  pub run : Run size b front before mid
+  pub last : Answer
+  pub step : Step size line mid last at
+  pub said : answers ≡ before ++ says printed.PowerLost ∷ []
+  pub so : would ≡ before ++ last ∷ []
+
 -- Lines were run from that bench: to their end, or an armed cut struck in the last of them, and power is still to be
--- taken.
-pub record RanTo (size : Size) (b : Bench) (lines : List Line) (power : Power) (slots : List (List ℕ)) (ledger : Ledger)
+-- taken. The ledger has the serials of the images that they resumed besides those of the old one, by what they answered, and the
+-- last of them by what it would have answered had no cut struck.
+pub record RanTo (size : Size) (b : Bench) (lines : List Line) (power : Power) (slots : List (List ℕ)) (old ledger : Ledger)
     : Type 0 where
   pub answers : List Answer
   pub end : Bench
@@ -87,7 +102,11 @@ pub record RanTo (size : Size) (b : Bench) (lines : List Line) (power : Power) (
   pub bench : Bench
   pub runs : Runs size bench power slots ledger
   pub calm : bench.fault_state.struck ≡ false → bench ≡ end
-  pub struck : bench.fault_state.struck ≡ true → (unpowered bench ≡ end) × EndsAs Cuts lines 0 answers
+  pub struck : bench.fault_state.struck ≡ true → (unpowered bench ≡ end) × EndsAs Cuts lines 0 answers end
+  pub would : List Answer
+  pub told : bench.fault_state.struck ≡ false → would ≡ answers
+  pub lost : bench.fault_state.struck ≡ true → LostIn size b lines answers would bench
+  pub resumed : Resumes old ledger (lines_resume lines would)
 
 -- The first of some lines were run from that site on, with nothing armed, up to the first that left the board off, or to
 -- the last; and then the board was turned off.

@@ -2,6 +2,7 @@
 use Rattle.std.specs.Prelude.{◌≡◌, ◌≢◌, ◌⊎◌, ◌≤◌, ◌<◌, ◌+◌, ℕ, List, [], ◌∷◌, ◌++◌, ⊤, true, false, Option, None, Some, Ok, All, length, take, drop, get_or}
 use Rattle.std.specs.Io.KnownBytes.{Appends}
 use Rattle.board_model.specs.Shapes.{Size}
+use Rattle.disk.specs.FaultState.{Unarmed}
 use Rattle.board_model.specs.declared.boot_mode.BootMode.TheVariants.{Keep}
 use Rattle.board_model.specs.declared.refusal.Refusal.{Refusal}
 use Rattle.board_model.specs.declared.refusal.Refusal.TheVariants.{NotPlain}
@@ -96,13 +97,13 @@ pub record RunsArmed (size : Size) (kind : Kind) (run : Cell) (b : Bench) (those
   pub answers : List Answer
   pub end : Bench
   pub ran : Run size (armed_with (fault_at kind run.caller run.number) b) (take count those) answers end
-  pub ends : EndsAs kind those count answers
+  pub ends : EndsAs kind those count answers end
   pub refused_none : WasRefusedNoMemory end
 
 -- a run of so many lines, of all, ended at that bench, where power is still to be taken
 abbrev pub IsEnded : Kind → ℕ → ℕ → Bench → Type 0
 IsEnded Cuts count all b = (b.fault_state.struck ≡ true) × (b.fault_state.own ≡ 0)
-IsEnded Fails count all b = (count ≡ all) × (b.fault_state.struck ≡ false) × (b.fault_state.own ≡ 0)
+IsEnded Fails count all b = (count ≡ all) × (b.fault_state.struck ≡ false) × (b.fault_state.own ≡ 0) × (b.fault_state.armed ≡ Unarmed)
 
 -- The script was written as a text that is read back as it. A line feed ends its last line too.
 pub record WroteScript (script : Script) (old new : Option (List ℕ)) : Type 0 where

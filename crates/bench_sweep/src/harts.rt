@@ -155,7 +155,7 @@ pub fn run_hart_line<C: Crew>(
     requires range { IsLineInRange shape.now line.now }
     requires of_harts { moves_harts line.now ≡ true }
     ensures goes { IfOk result (λ now. (size : Size) (b : Bench) (slots : List (List ℕ)) → Runs size b power slots ledger.old
-        → LineMoves size line.now b now slots ledger.new) }
+        → LineMoves size line.now b now slots ledger.old ledger.new) }
     ensures resumed { ledger.new.resumed ≡ ledger.old.resumed }
     ensures memory { IfErr result (λ e. e ≡ Memory) }
 {

@@ -24,7 +24,6 @@ use bench_judge::Sweep;
 use bench_report::Answer;
 use board_model::Refusal;
 use crew::Crew;
-use disk::Disk;
 use jobs::Task;
 use simdisk::Fill;
 use std::alloc::Global;
@@ -179,10 +178,9 @@ fn run_past_failure<C: Crew>(
         (runs_of Bench.Fails point.caller point.number)) }
     ensures refused { IfErr result (λ e. e ≡ Memory) }
 {
-    let failed = site.off.disk.failures();
     let armed = site.armed(Bench::Fails, point);
     let went = run_lines(&runner.setting, runner.lines, false, armed)?;
-    let left = turn_off_failed(went, runner.lines.len(), failed)?;
+    let left = turn_off_failed(went, runner.lines.len())?;
     let mut made = PointRows::none(runner.setting.alloc);
     judge_run(runner, &left, point, None, &mut made)?;
     Ok(made)
@@ -206,13 +204,13 @@ pub fn turn_off(going: Going, struck: bool) -> Result<Site, Refusal>
     Ok(site)
 }
 
-/// Turns the board off behind all of so many lines, in which its disk failed: before them it had so often. Refused
-/// `Memory` where it did not. As with a cut, only a run that was refused memory can have missed the call.
-pub fn turn_off_failed(went: Went, all: usize, failed: u64) -> Result<Site, Refusal>
+/// Turns the board off behind all of so many lines, with nothing armed any more: the call failed. Refused `Memory` where something
+/// is. As with a cut, only a run that was refused memory can have missed the call.
+pub fn turn_off_failed(went: Went, all: usize) -> Result<Site, Refusal>
     ensures whole { OnOk result (all ≤ went.count) }
     ensures runs { IfOk result (λ site. (size : Size) (b : ModelBench)
         → Runs size b went.going.power went.going.payloads went.going.ledger
-        → (b.fault_state.struck ≡ false) × (b.fault_state.own ≡ 0) × RunsAt size (off b) site) }
+        → (b.fault_state.struck ≡ false) × (b.fault_state.own ≡ 0) × (b.fault_state.armed ≡ Unarmed) × RunsAt size (off b) site) }
     ensures refused { IfErr result (λ e. e ≡ Memory) }
 {
     let Went { count, going } = went;
@@ -221,10 +219,11 @@ pub fn turn_off_failed(went: Went, all: usize, failed: u64) -> Result<Site, Refu
         return Err(Refusal::Memory);
     }
     let left = turn_off(going, false)?;
-    if left.off.disk.failures() == failed {
-        return Err(Refusal::Memory);
+    if left.off.disk.is_armed() {
+        Err(Refusal::Memory)
+    } else {
+        Ok(left)
     }
-    Ok(left)
 }
 
 /// Makes the one run of the bench at that point, or the five. So many lines stand up to the next site.

@@ -28,7 +28,6 @@ use bench_report::Setting;
 use board::Payloads;
 use board_model::{BootMode, Refusal, Shape};
 use crew::{Crew, Sequential};
-use disk::Disk;
 use script_lang::{Arming, Line, Script, parse_script, scripts_read_as_written};
 use simdisk::Fill;
 use std::alloc::{AllocError, Global};
@@ -172,9 +171,9 @@ fn arming_of(shape: &Shape, bench: Bench, run: RunAt) -> Result<Arming, Refusal>
     Ok(arming_at(shape, bench, run))
 }
 
-/// Refused `Memory` where a run of all those lines did not end as one of that bench does: a cut struck, or all lines ran and the disk
-/// failed, which it had done so often before.
-fn check_ended(bench: Bench, went: Went, all: usize, failed: u64) -> Result<(), Refusal>
+/// Refused `Memory` where a run of all those lines did not end as one of that bench does: a cut struck, or all lines ran and the call
+/// failed.
+fn check_ended(bench: Bench, went: Went, all: usize) -> Result<(), Refusal>
     requires few { went.count ≤ all }
     ensures ended { OnOk result ((size : Size) (b : ModelBench)
         → Runs size b went.going.power went.going.payloads went.going.ledger → IsEnded bench went.count all b) }
@@ -186,7 +185,7 @@ fn check_ended(bench: Bench, went: Went, all: usize, failed: u64) -> Result<(), 
             Ok(())
         }
         Bench::Fails => {
-            turn_off_failed(went, all, failed)?;
+            turn_off_failed(went, all)?;
             Ok(())
         }
     }
@@ -210,11 +209,10 @@ fn count_armed<C: Crew>(runner: &Runner<'_, C>, site: &Site, run: RunAt) -> Resu
         before: 0,
     };
     let from = site.copy(runner.setting.alloc)?;
-    let failed = from.off.disk.failures();
     let armed = from.armed(runner.bench, point);
     let went = run_lines(&runner.setting, runner.lines, false, armed)?;
     let count = went.count;
-    check_ended(runner.bench, went, runner.lines.len(), failed)?;
+    check_ended(runner.bench, went, runner.lines.len())?;
     Ok(count)
 }
 

@@ -16,7 +16,7 @@ ghost use Rattle.bench_report.specs.Agree.{Agrees, OffIs, IsUnstruck};
 ghost use Rattle.bench_report.specs.Bench.{Bench};
 ghost use Rattle.bench_report.specs.Happens.{armed_with, off, unpowered};
 ghost use Rattle.bench_report.specs.Views.{arms, facts, sim_log_of};
-ghost use Rattle.bench_sweep.specs.Lines.{LineMoves, LineSays, PowerMoves};
+ghost use Rattle.bench_sweep.specs.Lines.{LineMoves, LineSays};
 ghost use Rattle.bench_sweep.specs.Points.{calls_of, fault_at};
 ghost use Rattle.bench_sweep.specs.Reports.{cut_content};
 ghost use Rattle.bench_sweep.specs.Runs.{Runs, RunsAt, RunsCalm, LeftAt, RanTo, SettlesAt, StopsOff};
@@ -202,9 +202,7 @@ fn run_power_on(
     ledger: &mut Ledger,
 ) -> Result<Power, Refusal>
     ensures runs { IfOk result (λ now. (b : Bench) → RunsCalm shape.now b power payloads.now ledger.old
-        → LineMoves shape.now (lines.On mode) b now payloads.now ledger.new) }
-    ensures resumed { IfOk result (λ now. (b : Bench) → RunsCalm shape.now b power payloads.now ledger.old
-        → PowerMoves shape.now mode b now ledger.old ledger.new) }
+        → LineMoves shape.now (lines.On mode) b now payloads.now ledger.old ledger.new) }
     ensures refused { IfErr result (λ e. e ≡ Memory) }
 {
     match power {
@@ -257,7 +255,7 @@ fn run_still_line<C: Crew>(
     requires no_boot { powers_on line.now ≡ false }
     requires calm { IsUnstruck power }
     ensures runs { IfOk result (λ now. (b : Bench) → RunsCalm setting.now.shape.now b power payloads.old ledger.old
-        → LineMoves setting.now.shape.now line.now b now payloads.new ledger.new) }
+        → LineMoves setting.now.shape.now line.now b now payloads.new ledger.old ledger.new) }
     ensures resumed { ledger.new.resumed ≡ ledger.old.resumed }
     ensures refused { IfErr result (λ e. e ≡ Memory) }
 {
@@ -287,7 +285,7 @@ fn run_on_power<C: Crew>(
     requires plain { IsPlainLine line.now }
     requires calm { IsUnstruck power }
     ensures runs { IfOk result (λ now. (b : Bench) → RunsCalm setting.now.shape.now b power payloads.old ledger.old
-        → LineMoves setting.now.shape.now line.now b now payloads.new ledger.new) }
+        → LineMoves setting.now.shape.now line.now b now payloads.new ledger.old ledger.new) }
     ensures refused { IfErr result (λ e. e ≡ Memory) }
 {
     let Setting { alloc, crew, shape } = *setting;
@@ -316,7 +314,7 @@ pub fn run_line<C: Crew>(
     requires calm { IsUnstruck going.power }
     ensures runs { IfOk result (λ now. (b : Bench)
         → RunsCalm setting.now.shape.now b going.power going.payloads going.ledger
-        → LineMoves setting.now.shape.now line.now b now.power now.payloads now.ledger) }
+        → LineMoves setting.now.shape.now line.now b now.power now.payloads going.ledger now.ledger) }
     ensures refused { IfErr result (λ e. e ≡ Memory) }
 {
     let Going {
@@ -337,7 +335,7 @@ pub fn run_line<C: Crew>(
 fn run_command(alloc: Global, command: ConsoleCommand, going: &mut Going) -> Result<(), Refusal>
     ensures runs { OnOk result ((size : Size) (b : Bench)
         → RunsCalm size b going.old.power going.old.payloads going.old.ledger
-        → LineMoves size (lines.Command command) b going.new.power going.new.payloads going.new.ledger) }
+        → LineMoves size (lines.Command command) b going.new.power going.new.payloads going.old.ledger going.new.ledger) }
     ensures resumed { going.new.ledger.resumed ≡ going.old.ledger.resumed }
     ensures refused { IfErr result (λ e. e ≡ Memory) }
 {
@@ -365,7 +363,7 @@ pub fn run_lines<C: Crew>(
     requires plain { All IsPlainLine lines.now }
     ensures ran { IfOk result (λ went. (b : Bench)
         → RunsCalm setting.now.shape.now b (Off site.off) site.payloads site.ledger
-        → RanTo setting.now.shape.now b (take went.count lines.now) went.going.power went.going.payloads went.going.ledger) }
+        → RanTo setting.now.shape.now b (take went.count lines.now) went.going.power went.going.payloads site.ledger went.going.ledger) }
     ensures stops { IfOk result (λ went. until_off ≡ true → went.count < length lines.now → StopsOff went.going.power) }
     // Where it is not asked to end at a board that is off, only an armed cut that struck ends it early.
     ensures whole { IfOk result (λ went. until_off ≡ false → (size : Size) (b : Bench) → Agrees size b went.going.power

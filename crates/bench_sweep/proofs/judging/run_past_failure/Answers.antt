@@ -14,7 +14,7 @@ judge_run-requires-clause-sits g c κs within =
     let calm = c.armed-armed.ensures.runs size sits.0 sits.1 in
     let ran = c.in_ok-went.ensures.ran (armed_with (fault_at Fails c.args.point.caller c.args.point.call) sits.0) calm in
     let left = c.in_ok-left.ensures.runs size ran.bench ran.runs in
-    (off ran.bench, left.2)
+    (off ran.bench, left.3)
 
 pub returns-clause-judged : goal.returns-clause-judged
 returns-clause-judged g c = λ b l.
@@ -26,5 +26,5 @@ returns-clause-judged g c = λ b l.
     let all : c.in_ok-went.went.count ≡ length lines = omega (arith, c.in_ok-went.ensures.few, c.in_ok-left.ensures.whole) in
     let none = c.none-made.ensures in
     judged_at Fails c.args.point.caller c.args.point.number _ _ _
-    (λ row caller number is. past_failure size c.args.point b lines c.in_ok-went.went.count _ _ _ all ran left.0 left.1 (compared c.args.runner.now.recovery) row caller number is.is)
-    (judged_more _ _ _ [] _ (judged_none _ _ none.rows none.runs none.right) (c.in_ok-judge_run.ensures.kept (off ran.bench) left.2))
+    (λ row caller number is. past_failure size c.args.point b lines c.in_ok-went.went.count _ _ _ _ all ran left.0 left.1 left.2 (compared c.args.runner.now.recovery) row caller number is.is)
+    (judged_more _ _ _ [] _ (judged_none _ _ none.rows none.runs none.right) (c.in_ok-judge_run.ensures.kept (off ran.bench) left.3))

@@ -1,7 +1,8 @@
-use Rattle.std.proofs.Common.{◌≡◌, ◌∙◌, ◌≤◌, All, length, ap, sym, subst, arith}
+use Rattle.std.proofs.Common.{◌≡◌, ◌∙◌, ◌≤◌, List, All, length, ap, arith, subst, sym}
 use Rattle.std.proofs.lemmas.Bool.Decides.{nat_tests}
 use Rattle.std.proofs.lemmas.Result.{on_ok_weaker}
 use Rattle.script_lang.specs.Lines.{FitsLine}
+use Rattle.script_lang.specs.declared.line.Line.{Line}
 use Rattle.bench_sweep.proofs.ShownRows.{row_in_range, wrote_script}
 use Rattle.bench_sweep.proofs.shown.write_shown.Goals as goal
 
@@ -11,10 +12,11 @@ returns-clause-wrote g c =
     let row = c.args.row.now in
     let xs = c.deref-2.result.now in
     let is = c.deref-2.ensures.value ∙ c.in_ok-lines.ensures in
+    let F : List Line → Type 0 = λ ls. All FitsLine ls in
     let same : length xs ≡ length c.in_ok-lines.lines.items = ap length c.deref-2.ensures.value in
     let few : length xs ≤ 65535 = first_of (grind (arith, nat_tests, same, c.len.ensures, c.if-len-gt-MOST_LINES.false), omega (arith, same, c.len.ensures, c.if-len-gt-MOST_LINES.false)) in
     on_ok_weaker c.write_script.result
     (wrote_script size xs _ (g.W.Write.contents c.args.out.now) (g.W.Write.contents c.write_script.new.out) c.shape_in_range.ensures is few
     (row_in_range size row.bench row.front.now row.back.now row.behind.now row.arming c.requires.front c.requires.arming c.requires.back c.requires.behind)
-    (subst (All FitsLine) (c.deref.ensures.value ∙ sym c.deref-2.ensures.value) c.fits.ensures) c.scripts_read_as_written.ensures)
+    (subst F (c.deref.ensures.value ∙ sym c.deref-2.ensures.value) c.fits.ensures) c.scripts_read_as_written.ensures)
     c.write_script.ensures.ok

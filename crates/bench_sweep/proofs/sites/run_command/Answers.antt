@@ -3,4 +3,4 @@ use Rattle.bench_sweep.proofs.sites.run_command.Goals as goal
 
 pub returns-clause-runs : goal.returns-clause-runs
 returns-clause-runs c =
-    command_runs c.record_console.result c.args.command c.args.going.now.power c.console-answer.new.power c.args.going.now.payloads c.console-answer.result c.args.going.now.ledger c.record_console.new.ledger c.console-answer.ensures c.record_console.ensures.kept
+    command_runs c.record_console.result c.args.command c.args.going.now.power c.console-answer.new.power c.args.going.now.payloads c.console-answer.result c.args.going.now.ledger c.record_console.new.ledger c.console-answer.ensures c.record_console.ensures.kept c.record_console.ensures.resumed

@@ -12,20 +12,20 @@ use Rattle.bench_sweep.proofs.sites.run_lines.Goals as goal
 
 -- the line's step was made, whichever function ran it
 moved : (g : Over) (c : After-stops g) → (mid : Bench) → RunsCalm c.args.setting.now.shape.now mid c.loop-line.going.power c.loop-line.going.payloads c.loop-line.going.ledger
-    → LineMoves c.args.setting.now.shape.now c.line-item.result mid c.match-line.going.power c.match-line.going.payloads c.match-line.going.ledger
+    → LineMoves c.args.setting.now.shape.now c.line-item.result mid c.match-line.going.power c.match-line.going.payloads c.loop-line.going.ledger c.match-line.going.ledger
 moved g c mid r =
     let size = c.args.setting.now.shape.now in
-    let G : Going → Type 0 = λ now. LineMoves size c.line-item.result mid now.power now.payloads now.ledger in
+    let G : Going → Type 0 = λ now. LineMoves size c.line-item.result mid now.power now.payloads c.loop-line.going.ledger now.ledger in
     elim c.match-line.branch [
       | in-Command+in_ok-run_command-in-Command w ↦
           let did = w.in_ok-run_command-in-Command.ensures.runs size mid r in
-          let L : Line → Type 0 = λ l. LineMoves size l mid w.run_command.new.going.power w.run_command.new.going.payloads w.run_command.new.going.ledger in
+          let L : Line → Type 0 = λ l. LineMoves size l mid w.run_command.new.going.power w.run_command.new.going.payloads c.loop-line.going.ledger w.run_command.new.going.ledger in
           subst G (sym w.going-is) (subst L (sym w.in-Command.is) did)
       | in_default+in_ok-going-in_default w ↦ subst G (sym w.going-is) (w.in_ok-going-in_default.ensures.runs mid r)
     ]
 
 pub loop-line-init : goal.loop-line-init
-loop-line-init g c = record { calm = c.from-going.ensures.calm; ran = λ b r. ran_none _ b _ _ _ (c.from-going.ensures.runs _ b r); count = refl }
+loop-line-init g c = record { calm = c.from-going.ensures.calm; ran = λ b r. ran_none _ b _ _ _ _ c.from-going.ensures.ledger (c.from-going.ensures.runs _ b r); count = refl }
 
 pub loop-line-preserved : goal.loop-line-preserved
 loop-line-preserved g c =
@@ -35,7 +35,7 @@ loop-line-preserved g c =
       ran = λ b r.
           (let far = i.ran b r in
           let m = moved g at far.bench far.runs in
-          ran_more c.args.setting.now.shape.now b c.args.lines.now c.loop-line.line-index c.line-item.result c.line-item.result _ _ _ _ _ _ c.loop-line-test.true c.line-item.is far m (c.stops.ensures.exact c.if-stops.false c.args.setting.now.shape.now m.bench m.runs.agrees));
+          ran_more c.args.setting.now.shape.now b c.args.lines.now c.loop-line.line-index c.line-item.result c.line-item.result _ _ _ _ _ _ _ c.loop-line-test.true c.line-item.is far m (c.stops.ensures.exact c.if-stops.false c.args.setting.now.shape.now m.bench m.runs.agrees));
       count = search rules;
     }
 
@@ -46,8 +46,8 @@ returns-then-stops-clause-ran g c = λ b r.
     let far = i.ran b r in
     let m = moved g (goal.at.returns-then-stops-clause-ran g c).After-stops far.bench far.runs in
     let count : c.loop-line.line-index + 1 ≡ c.loop-line.count + 1 = omega (arith, i.count) in
-    let P : ℕ → Type 0 = λ n. RanTo size b (take n c.args.lines.now) c.match-line.going.power c.match-line.going.payloads c.match-line.going.ledger in
-    subst P count (ran_line size b c.args.lines.now c.loop-line.line-index c.line-item.result c.line-item.result _ _ _ _ _ _ c.loop-line-test.true c.line-item.is far m)
+    let P : ℕ → Type 0 = λ n. RanTo size b (take n c.args.lines.now) c.match-line.going.power c.match-line.going.payloads c.args.site.ledger c.match-line.going.ledger in
+    subst P count (ran_line size b c.args.lines.now c.loop-line.line-index c.line-item.result c.line-item.result _ _ _ _ _ _ _ c.loop-line-test.true c.line-item.is far m)
 
 pub returns-then-stops-clause-stops : goal.returns-then-stops-clause-stops
 returns-then-stops-clause-stops g c = λ until less. c.stops.ensures.off c.if-stops.true
@@ -59,8 +59,8 @@ pub returns-clause-ran : goal.returns-clause-ran
 returns-clause-ran g c = λ b r.
     let size = c.args.setting.now.shape.now in
     let i = c.loop-line.invariant in
-    let P : ℕ → Type 0 = λ n. RanTo size b (take n c.args.lines.now) c.loop-line.going.power c.loop-line.going.payloads c.loop-line.going.ledger in
-    subst P (sym i.count) (ran_calm size b _ _ _ _ (i.ran b r))
+    let P : ℕ → Type 0 = λ n. RanTo size b (take n c.args.lines.now) c.loop-line.going.power c.loop-line.going.payloads c.args.site.ledger c.loop-line.going.ledger in
+    subst P (sym i.count) (ran_calm size b _ _ _ _ _ (i.ran b r))
 
 pub returns-clause-stops : goal.returns-clause-stops
 returns-clause-stops g c = λ until less. let i = c.loop-line.invariant in absurd (omega (arith, i.count, less, c.loop-line-test.false))

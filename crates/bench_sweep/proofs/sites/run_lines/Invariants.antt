@@ -9,6 +9,6 @@ use Rattle.bench_sweep.proofs.sites.run_lines.Given as goal
 abbrev pub invariant-loop-line : goal.invariant-loop-line
 invariant-loop-line g l = record {
   calm : IsUnstruck l.going.power;
-  ran : (b : Bench) → RunsCalm l.setting.shape.now b (Off l.fn.site.off) l.fn.site.payloads l.fn.site.ledger → Runs_to l.setting.shape.now b (take l.line-index l.lines) l.going.power l.going.payloads l.going.ledger;
+  ran : (b : Bench) → RunsCalm l.setting.shape.now b (Off l.fn.site.off) l.fn.site.payloads l.fn.site.ledger → Runs_to l.setting.shape.now b (take l.line-index l.lines) l.going.power l.going.payloads l.fn.site.ledger l.going.ledger;
   count : l.count ≡ l.line-index;
 }

@@ -10,7 +10,7 @@ returns-clause-lives g c = λ b r.
     let calm = calm_off size (unpowered b) _ _ _ (c.in_ok-plain.ensures.runs size b r) in
     let ran = c.in_ok-went.ensures.ran (unpowered b) calm in
     let left = c.in_ok-next.ensures.runs size ran.bench ran.runs in
-    life_of size b c.args.runner.now.lines.now _ _ _ _ _ ran (left.0, left.2) (c.in_ok-went.ensures.stops refl)
+    life_of size b c.args.runner.now.lines.now _ _ _ _ _ _ ran (left.0, left.2) (c.in_ok-went.ensures.stops refl)
 
 pub returns-clause-sits : goal.returns-clause-sits
 returns-clause-sits g c =
