@@ -59,7 +59,7 @@ row_in_range size kind front back behind armed in_front arms in_back in_behind =
     let In : Line → Type 0 = IsLineInRange size in
     All-append In front (lines.Arm armed ∷ back ++ cut_part kind ++ behind) in_front
     (All-cons In (lines.Arm armed) (back ++ cut_part kind ++ behind) arms
-    (All-append In back (cut_part kind ++ behind) in_back (All-append In (cut_part kind) behind (cut_in_range size kind) in_behind)))
+    (All-append In (back ++ cut_part kind) behind (All-append In back (cut_part kind) in_back (cut_in_range size kind)) in_behind))
 
 -- they were written
 pub wrote_script : (size : Size) (xs those : List Line) (old now : Option (List ℕ)) → IsSize size → xs ≡ those → length xs ≤ 65535 → All (IsLineInRange size) those → All FitsLine xs → ((s : Script) → IsWritable s → script_of (script_text s) ≡ Ok s)

@@ -220,10 +220,9 @@ pub fn turn_off_failed(went: Went, all: usize) -> Result<Site, Refusal>
     }
     let left = turn_off(going, false)?;
     if left.off.disk.is_armed() {
-        Err(Refusal::Memory)
-    } else {
-        Ok(left)
+        return Err(Refusal::Memory);
     }
+    Ok(left)
 }
 
 /// Makes the one run of the bench at that point, or the five. So many lines stand up to the next site.

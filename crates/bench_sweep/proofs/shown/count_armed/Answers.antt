@@ -1,7 +1,6 @@
-use Rattle.std.proofs.Common.{ℕ, subst}
 use Rattle.bench_report.specs.Happens.{armed_with, unpowered}
 use Rattle.bench_sweep.specs.Points.{fault_at}
-use Rattle.bench_sweep.specs.Shown.{run_cell, IsEnded}
+use Rattle.bench_sweep.specs.Shown.{run_cell}
 use Rattle.bench_sweep.proofs.ShownRows.{runs_armed}
 use Rattle.bench_sweep.proofs.shown.count_armed.Goals as goal
 
@@ -12,6 +11,5 @@ returns-clause-armed g c = λ b r.
     let run = c.args.run in
     let calm = c.armed-armed.ensures.runs size (unpowered b) (c.in_ok-from.ensures.runs size b r) in
     let ran = c.in_ok-went.ensures.ran (armed_with (fault_at kind run.caller run.call) (unpowered b)) calm in
-    let E : ℕ → Type 0 = λ n. IsEnded kind c.in_ok-went.went.count n ran.bench in
     runs_armed size kind (run_cell run) (unpowered b) c.args.runner.now.lines.now c.in_ok-went.went.count _ _ _ _ c.in_ok-went.ensures.few ran
-    (subst E c.len.ensures (c.in_ok-check_ended.ensures.ended size ran.bench ran.runs))
+    (c.in_ok-check_ended.ensures.ended size ran.bench ran.runs)

@@ -1,4 +1,4 @@
-use Rattle.std.proofs.Common.{List, subst}
+use Rattle.std.proofs.Common.{List, subst, take}
 use Rattle.std.proofs.lemmas.List.Elements.{All-take}
 use Rattle.std.proofs.lemmas.Result.{on_ok_weaker}
 use Rattle.script_lang.specs.Lines.{IsLineInRange}
@@ -26,7 +26,7 @@ returns-clause-shown g c = on_ok_weaker c.show_from.result (λ did.
     (let begun = c.in_ok-begin.ensures.runs in
     let begin = c.in_ok-begin.begin in
     let lines = c.args.lines.now in
-    let S : List Line → Type 0 = λ ls. ShowsFrom c.args.wanted.bench c.args.setting.now.shape.now (unpowered begun.0) _ ls c.args.behind.now c.args.wanted.number (g.W.Write.contents c.args.out.now) (g.W.Write.contents c.show_from.new.out) in
+    let S : List Line → Type 0 = λ ls. ShowsFrom c.args.wanted.bench c.args.setting.now.shape.now (unpowered begun.0) (take begin lines) ls c.args.behind.now c.args.wanted.number (g.W.Write.contents c.args.out.now) (g.W.Write.contents c.show_from.new.out) in
     record { begin = begin; first = begun.0; format = begun.1; shows = subst S (rest_is begin lines) (did (off begun.0) begun.2) }))
     c.show_from.ensures.shown
 
@@ -35,6 +35,6 @@ returns-clause-refused g c = refused_so c.show_from.result (λ did.
     (let begun = c.in_ok-begin.ensures.runs in
     let begin = c.in_ok-begin.begin in
     let lines = c.args.lines.now in
-    let S : List Line → Type 0 = λ ls. ShowsNone c.args.wanted.bench c.args.setting.now.shape.now (unpowered begun.0) _ ls c.args.behind.now c.args.wanted.number in
+    let S : List Line → Type 0 = λ ls. ShowsNone c.args.wanted.bench c.args.setting.now.shape.now (unpowered begun.0) (take begin lines) ls c.args.behind.now c.args.wanted.number in
     record { begin = begin; first = begun.0; format = begun.1; none = subst S (rest_is begin lines) (did (off begun.0) begun.2) }))
     c.show_from.ensures.refused
