@@ -57,9 +57,10 @@ pub row_in_range : (size : Size) (kind : Kind) (front back behind : List Line) (
     → All (IsLineInRange size) (row_lines kind front armed back behind)
 row_in_range size kind front back behind armed in_front arms in_back in_behind =
     let In : Line → Type 0 = IsLineInRange size in
-    All-append In front (lines.Arm armed ∷ back ++ cut_part kind ++ behind) in_front
-    (All-cons In (lines.Arm armed) (back ++ cut_part kind ++ behind) arms
-    (All-append In (back ++ cut_part kind) behind (All-append In back (cut_part kind) in_back (cut_in_range size kind)) in_behind))
+    let run : List Line = front ++ (lines.Arm armed ∷ back) in
+    All-append In (run ++ cut_part kind) behind
+    (All-append In run (cut_part kind) (All-append In front (lines.Arm armed ∷ back) in_front (All-cons In (lines.Arm armed) back arms in_back)) (cut_in_range size kind))
+    in_behind
 
 -- they were written
 pub wrote_script : (size : Size) (xs those : List Line) (old now : Option (List ℕ)) → IsSize size → xs ≡ those → length xs ≤ 65535 → All (IsLineInRange size) those → All FitsLine xs → ((s : Script) → IsWritable s → script_of (script_text s) ≡ Ok s)
