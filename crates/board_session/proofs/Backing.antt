@@ -5,8 +5,8 @@ use Rattle.std.specs.Option.{option_to_list}
 use Rattle.board_model.specs.Durable.{Change}
 use Rattle.board_model.specs.Shapes.{Size}
 use Rattle.board_model.specs.declared.durable.Entry.{Entry}
-use Rattle.receipts.specs.Closed.{AreReceiptsOf, told_in}
-use Rattle.receipts.specs.declared.views.PartView.{PartView}
+use Rattle.tallies.specs.Closed.{AreReceiptsOf, told_in}
+use Rattle.tallies.specs.declared.book_views.PartView.{PartView}
 use Rattle.shared_store.specs.Noted.{boot_told, entries_in}
 use Rattle.hart_threads.specs.Threads.{ends_life}
 use Rattle.board_session.specs.Backs.{AreBack}

@@ -1,8 +1,8 @@
 -- The parts of a board's harts, back with the store. Source: docs/THREADS.md, "Receipts".
 use Rattle.std.specs.Prelude.{◌≡◌, ℕ, List, true, All, Option, length}
 use Rattle.board_model.specs.declared.durable.Entry.{Entry}
-use Rattle.receipts.specs.Closed.{told_in}
-use Rattle.receipts.specs.declared.views.PartView.{PartView}
+use Rattle.tallies.specs.Closed.{told_in}
+use Rattle.tallies.specs.declared.book_views.PartView.{PartView}
 use Rattle.hart_threads.specs.Threads.{ends_life}
 use Rattle.board_session.specs.Sessions.{hart_receipts}
 

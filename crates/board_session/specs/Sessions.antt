@@ -22,7 +22,7 @@ use Rattle.board.specs.Moments.{commands_by}
 use Rattle.board.specs.PowersOn.{IsUnpowered}
 use Rattle.board.specs.Unbooted.{LeavesLife}
 use Rattle.machine.specs.Machine.{Machine}
-use Rattle.receipts.specs.Closed.{AreReceiptsOf}
+use Rattle.tallies.specs.Closed.{AreReceiptsOf}
 use Rattle.shared_store.specs.Noted.{boot_told, entries_in}
 use Rattle.hart_threads.specs.Threads.{ends_life}
 use Rattle.hart_threads.specs.Ends.{Ending, AreNumberedFrom, IsEnding}

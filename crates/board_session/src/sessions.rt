@@ -6,7 +6,7 @@ ghost use Rattle.board_model.specs.Durable.{formatted};
 ghost use Rattle.board_model.specs.Shapes.{Size};
 ghost use Rattle.board_model.specs.declared.durable.Entry.{Entry};
 ghost use Rattle.board_model.specs.declared.refusal.Refusal.TheVariants.{Memory};
-ghost use Rattle.receipts.specs.Views.{id_of, parts_of};
+ghost use Rattle.tallies.specs.BookViews.{id_of, parts_of};
 ghost use Rattle.shared_store.specs.Heard.{heard_nothing};
 ghost use Rattle.shared_store.specs.Noted.{boot_told};
 ghost use Rattle.shared_store.specs.Runs.{IsCarried};
@@ -34,7 +34,6 @@ use board_console::{Left, console};
 use board_model::{Refusal, Shape};
 use board_options::Options;
 use disk::Disk;
-use halts::Halt;
 use hart_threads::{AfterConsole, Closing, HartEnd, Parted, Rested, SharedBoard, Threaded, drive};
 use shared_store::{Heard, Journal, Locks, NewBook, Part, SharedBus, SharedStore, Unshared};
 use std::alloc::{AllocError, Global};
@@ -43,6 +42,7 @@ use std::marker::Brand;
 use std::sync::{Mutex, OnceLock, Wait};
 use std::thread::Threads;
 use store::{Saving, format, kept_disks};
+use tallies::Halt;
 
 /// What a console reads its lines from, and what it writes its answers to.
 #[derive(Drop)]

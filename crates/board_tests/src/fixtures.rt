@@ -6,7 +6,7 @@ ghost use Rattle.store.specs.Leaves.{IsIdle, LeavesOnly};
 ghost use Rattle.store.specs.Views.{found_state, failures_at_open};
 ghost use Rattle.hart_threads.specs.Begun.{board_of};
 ghost use Rattle.machine.specs.Held.{IsHeld};
-ghost use Rattle.receipts.specs.Views.{id_of, parts_of};
+ghost use Rattle.tallies.specs.BookViews.{id_of, parts_of};
 ghost use Rattle.board_tests.specs.Begun.{IsBegun};
 
 use crate::dozing::UntilWoken;
@@ -14,7 +14,6 @@ use board::{Board, Parts, Payloads};
 use board_console::console;
 use board_model::{BootMode, Command, Refusal, Shape, Slot};
 use disk::{ArmedFault, Disk};
-use halts::Halt;
 use hart_threads::{AfterConsole, Closing, Gate, Rested, SharedBoard, Threaded, Why, drive};
 use rv_decode::Reg;
 use shared_store::{Heard, Journal, Locks, NewBook, Part, SharedBus, SharedStore, Unshared};
@@ -26,6 +25,7 @@ use std::sync::{Mutex, OnceLock, Wait};
 use std::thread::Threads;
 use std::time::Clock;
 use store::{Saving, format};
+use tallies::Halt;
 
 /// These two have to be equal.
 pub fn same<T: PartialEq + Drop>(rt: &impl Abort, found: T, wanted: T) {

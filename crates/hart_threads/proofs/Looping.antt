@@ -6,7 +6,7 @@ use Rattle.sbi_abi.specs.declared.call.Call.{Call}
 use Rattle.shared_store.specs.Called.{IsToldBy}
 use Rattle.shared_store.specs.Noted.{part_after}
 use Rattle.shared_store.specs.Runs.{StepsMake}
-use Rattle.receipts.specs.declared.views.PartView.{PartView}
+use Rattle.tallies.specs.declared.book_views.PartView.{PartView}
 use Rattle.sbi_abi.specs.Calls.{call_of}
 use Rattle.sbi.specs.Words.{stage_told, word_of_sleep}
 use Rattle.sbi.specs.declared.words.LifeEnd.TheVariants as ends
@@ -17,7 +17,7 @@ use Rattle.sbi_calls.specs.declared.tables.Tables.{Tables}
 use Rattle.hsm.specs.Calls.{Sits}
 use Rattle.hsm_steps.specs.States.{IsBetweenCalls}
 use Rattle.hsm_steps.specs.declared.view.Stage.TheVariants.{Out, Running, Suspended, Quiet}
-use Rattle.sbi_calls.specs.Both.{GivesBack, Acts, AreSeatsOfBoth, views}
+use Rattle.sbi_calls.specs.Both.{GivesBack, Acts, AreSeatsOfBoth, views, Known}
 use Rattle.susp.specs.declared.buses.Doze.{Doze}
 use Rattle.susp.specs.declared.sleeps.Sleep.{Sleep}
 use Rattle.susp.specs.declared.sleeps.Sleep.TheVariants.{ToRam, ToDisk}
@@ -27,7 +27,6 @@ use Rattle.sbi_calls.specs.declared.words.Turned.{Turned}
 use Rattle.sbi_calls.specs.declared.words.Turned.TheVariants.{Made, Durable}
 use Rattle.machine.specs.Held.{RestsBy}
 use Rattle.hart.specs.State.{ArchState}
-use Rattle.sbi_calls.specs.Both.{Known}
 use Rattle.machine.specs.Machine.{Machine}
 use Rattle.hart_threads.specs.Begun.{BeginsAs}
 use Rattle.hart_threads.specs.Ends.{AnyAnswer, AnyWord, HasGone}

@@ -11,10 +11,10 @@ use crate::loops::Why;
 use crate::threaded::Threaded;
 use board_model::Entry;
 use disk::Disk;
-use halts::{Halt, Watch};
 use shared_store::{Journal, Locks, Told};
 use std::marker::{Model, PhantomData};
 use std::sync::{OnceLock, OnceToken, Wait};
+use tallies::{Halt, Watch};
 
 /// What the harts do once the console has left.
 #[derive(Clone, Copy, PartialEq, Eq, Drop)]

@@ -3,7 +3,7 @@
 ghost use Rattle.std.specs.Prelude.{ℕ, Bool, false};
 ghost use Rattle.atomic_table.specs.Seated.{TableId};
 ghost use Rattle.machine.specs.Machine.{Machine, resting};
-ghost use Rattle.receipts.specs.Books.{no_book, one_page};
+ghost use Rattle.tallies.specs.Books.{no_book, one_page};
 
 use shared_store::Journal;
 use std::marker::Brand;

@@ -5,7 +5,7 @@ use Rattle.board_model.specs.Durable.{Change}
 use Rattle.board_model.specs.Views.{change_in, entry_of}
 use Rattle.board_model.specs.declared.durable.Entry.{Entry}
 use Rattle.tallies.specs.Logs.{Log}
-use Rattle.receipts.specs.Books.{entries_of}
+use Rattle.tallies.specs.Books.{entries_of}
 use Rattle.shared_store.specs.Noted.{boot_told, entries_in, told_on}
 use Rattle.board_model.proofs.Steps.{entry_of_change}
 

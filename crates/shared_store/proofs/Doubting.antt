@@ -36,7 +36,7 @@ use Rattle.sbi.specs.declared.words.LifeEnd.TheVariants as ends
 use Rattle.sbi.specs.declared.resets.ResetType.{ResetType}
 use Rattle.sbi.specs.Resets.{reset_of}
 use Rattle.sbi.specs.Helds.{MakesReset, MakesSleep, MakesHeld}
-use Rattle.receipts.specs.Closed.{AreStanding, AreReceiptsOf}
+use Rattle.tallies.specs.Closed.{AreStanding, AreReceiptsOf}
 use Rattle.shared_store.specs.Doubts.{HartAsksFor, IsDoubtOf, AreAskedByHarts, doubt_told, newly_down, noted_by, noted_if}
 use Rattle.shared_store.specs.Noted.{entries_in}
 

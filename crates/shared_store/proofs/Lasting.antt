@@ -14,7 +14,7 @@ use Rattle.store.specs.Taken.{are_taken}
 use Rattle.shared_store.specs.Legal.{BeginsWith, IsToldOf}
 use Rattle.shared_store.proofs.Naming.{begins_on}
 use Rattle.tallies.specs.Logs.{Log}
-use Rattle.receipts.specs.Books.{entries_of}
+use Rattle.tallies.specs.Books.{entries_of}
 use Rattle.shared_store.specs.Noted.{entries_in}
 use Rattle.shared_store.proofs.Noting.{number, tied_on}
 use Rattle.shared_store.specs.Called.{AsksFor, AddsBy, IsLastOf, IsToldBy}

@@ -5,8 +5,8 @@ use Rattle.board_model.specs.Durable.{Change}
 use Rattle.board_model.specs.Views.{entry_of}
 use Rattle.board_model.specs.declared.durable.Entry.{Entry}
 use Rattle.tallies.specs.Logs.{Log}
-use Rattle.receipts.specs.Books.{entries_of}
-use Rattle.receipts.proofs.Closing.{length_journal}
+use Rattle.tallies.specs.Books.{entries_of}
+use Rattle.tallies.proofs.Closing.{length_journal}
 use Rattle.shared_store.specs.Noted.{entries_in}
 
 -- the log is as long as the journal, so the next place is the next receipt

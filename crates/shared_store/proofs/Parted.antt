@@ -1,7 +1,7 @@
 -- Parts that were told nothing, and go off one after another.
 use Rattle.std.proofs.Common.{◌≡◌, ℕ, zero, suc, ◌+◌, ◌<◌, List, [], ◌∷◌, All, length, drop, refl, arith}
-use Rattle.receipts.specs.Books.{first_of, fresh_from, part_view}
-use Rattle.receipts.specs.declared.views.PartView.{PartView}
+use Rattle.tallies.specs.Books.{first_of, fresh_from, part_view}
+use Rattle.tallies.specs.declared.book_views.PartView.{PartView}
 
 pub all_rest : (ds : List PartView) → All (λ d. d.told ≡ []) ds → All (λ d. d.told ≡ []) (drop 1 ds)
 all_rest [] all = all

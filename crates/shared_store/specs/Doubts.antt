@@ -6,7 +6,7 @@ use Rattle.board_model.specs.Views.{change_of, entry_of}
 use Rattle.board_model.specs.declared.durable.Command.{Command}
 use Rattle.board_model.specs.declared.durable.Entry.{Entry}
 use Rattle.board_model.specs.declared.durable.Entry.TheVariants as entries
-use Rattle.receipts.specs.declared.views.PartView.{PartView}
+use Rattle.tallies.specs.declared.book_views.PartView.{PartView}
 use Rattle.sbi_abi.specs.declared.call.Call.{Call}
 use Rattle.sbi.specs.declared.words.LifeEnd.{LifeEnd}
 use Rattle.shared_store.specs.Called.{AsksFor}

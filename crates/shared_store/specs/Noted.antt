@@ -4,8 +4,8 @@ use Rattle.board_model.specs.Durable.{Change}
 use Rattle.board_model.specs.Views.{entry_of}
 use Rattle.board_model.specs.declared.durable.Entry.{Entry}
 use Rattle.board_model.specs.declared.refusal.Refusal.{Refusal}
-use Rattle.receipts.specs.Books.{told_after}
-use Rattle.receipts.specs.declared.views.PartView.{PartView}
+use Rattle.tallies.specs.Books.{told_after}
+use Rattle.tallies.specs.declared.book_views.PartView.{PartView}
 
 -- the commands of a journal, without the memory of a suspension
 abbrev pub entries_in : List Change → List Entry

@@ -2,9 +2,9 @@
 use Rattle.disk.specs.declared.device.Disk.{Ghosts}
 use Rattle.disk.specs.declared.device.Lane.{Ghosts as Lanes}
 use Rattle.store.specs.declared.stores.Store.{Store}
-use Rattle.receipts.specs.declared.journal.Journal.{Ghosts as Named}
+use Rattle.tallies.specs.declared.journal.Journal.{Ghosts as Named}
 use Rattle.std.specs.Prelude.{List}
-use Rattle.receipts.specs.declared.views.PartView.{PartView}
+use Rattle.tallies.specs.declared.book_views.PartView.{PartView}
 use Rattle.susp.specs.declared.buses.Bus.{Bus}
 use Rattle.shared_store.specs.declared.buses.SharedBus.{SharedBus}
 use Rattle.shared_store.specs.declared.shared.SharedStore.{SharedStore}

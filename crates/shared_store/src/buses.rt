@@ -19,12 +19,12 @@ use board_model::{HartId, Refusal};
 use crew::Crew;
 use disk::Disk;
 use hart::{Hart, Outcome};
-use receipts::Journal;
 use sbi::{Word, dispatch_held};
 use sbi_calls::{Seats, Tables};
 use std::marker::PhantomData;
 use store::{Saving, Store};
 use susp::{Bus, Doze, doze_of, wake};
+use tallies::Journal;
 
 /// The memory of a board on threads, and its doze where it sleeps to RAM, of the life J: its memory is what steps of harts
 /// made of the one that J's boot left.

@@ -5,9 +5,9 @@ ghost use Rattle.std.specs.Option.{option_to_list};
 ghost use Rattle.board_model.specs.Durable.{Change};
 ghost use Rattle.board_model.specs.declared.durable.Entry.{Entry};
 ghost use Rattle.board_model.specs.declared.refusal.Refusal.TheVariants.{Down};
-ghost use Rattle.receipts.specs.Books.{entries_of, no_book};
-ghost use Rattle.receipts.specs.Closed.{told_in};
-ghost use Rattle.receipts.specs.Views.{id_of, parts_of};
+ghost use Rattle.tallies.specs.Books.{entries_of, no_book};
+ghost use Rattle.tallies.specs.Closed.{told_in};
+ghost use Rattle.tallies.specs.BookViews.{id_of, parts_of};
 ghost use Rattle.store.specs.Views.{doubt_of};
 ghost use Rattle.shared_store.specs.Doubts.{HartAsksFor, IsDoubtOf, noted_if, noted_by, AreAskedByHarts};
 ghost use Rattle.shared_store.specs.Heard.{after_refusal, heard_nothing};
@@ -16,9 +16,9 @@ ghost use Rattle.shared_store.specs.Noted.{entries_in};
 use crate::heard::Heard;
 use board_model::{Command, Entry, Refusal};
 use disk::Disk;
-use receipts::{Book, Journal, Keeper, NewBook};
 use std::marker::{Model, PhantomData};
 use store::Store;
+use tallies::{Book, Journal, Keeper, NewBook};
 
 /// The name of the book of what is in doubt in the life J. It has two parts: the console's, and one for all harts.
 pub struct OfDoubts<J: Journal> {

@@ -6,8 +6,8 @@ ghost use Rattle.shared_store.specs.Heard.{Hearing, after_look, after_refusal, a
 
 use crate::doubts::OfDoubts;
 use board_model::{Command, Durable, Refusal};
-use receipts::{Journal, Part};
 use std::marker::Model;
+use tallies::{Journal, Part};
 
 /// How many commands of the console were refused, the last of these with its refusal, and the one of them that is in doubt;
 /// how often the console was shown the state, and which it was last; and how often it woke the board. Only a shared store and a

@@ -16,7 +16,7 @@ pub use buses::SharedBus;
 pub use doubts::OfDoubts;
 pub use heard::Heard;
 pub use locks::{Apart, BusLock, Locks};
-pub use receipts::{Journal, NewBook, Part};
 pub use shared::SharedStore;
+pub use tallies::{Journal, NewBook, Part};
 pub use told::Told;
 pub use unshared::Unshared;

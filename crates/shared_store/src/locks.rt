@@ -9,9 +9,9 @@ use crate::buses::SharedBus;
 use crate::shared::SharedStore;
 use disk::Disk;
 use hart::{Hart, Outcome};
-use receipts::Journal;
 use std::marker::Model;
 use std::sync::{Mutex, MutexGuard, Wait};
+use tallies::Journal;
 
 /// A bus and a store, each behind its lock, and which of the two locks their holder has. Each thread has one of these, made
 /// where its work begins, and reaches neither lock otherwise. The bus is taken only by a holder of none, and the store at

@@ -13,7 +13,7 @@ ghost use Rattle.sbi_abi.specs.Calls.{call_of};
 ghost use Rattle.sbi_calls.specs.Both.{AreSeatsOfBoth, GivesBack, Acts, harts_of_both, known};
 ghost use Rattle.sbi.specs.Helds.{MakesHeld};
 ghost use Rattle.sbi.specs.Words.{stage_told};
-ghost use Rattle.receipts.specs.Books.{entries_of};
+ghost use Rattle.tallies.specs.Books.{entries_of};
 ghost use Rattle.shared_store.specs.Doubts.{newly_down};
 ghost use Rattle.shared_store.specs.Noted.{entries_in, part_after, part_by};
 ghost use Rattle.shared_store.specs.Heard.{after_look, heard_by};
@@ -30,10 +30,10 @@ use board_model::{Command, Durable, Entry, Refusal, Shape};
 use crew::Crew;
 use disk::Disk;
 use hart::Hart;
-use receipts::{Book, Journal, Keeper, Part};
 use sbi::Word;
 use sbi_calls::{Seats, Tables};
 use store::{Saving, Store};
+use tallies::{Book, Journal, Keeper, Part};
 
 /// A store whose journal is J's: its open found what J says, its board has that size, its journal begins with
 /// what the boot issued, and its state now is what the journal makes of what was found. The table of commands

@@ -5,8 +5,8 @@ ghost use Rattle.board_model.specs.declared.durable.Entry.{Entry};
 ghost use Rattle.shared_store.specs.Legal.{IsToldOf};
 
 use board_model::Entry;
-use receipts::Journal;
 use std::marker::{Model, PhantomData};
+use tallies::Journal;
 
 /// The receipt of a command that a store of the life J acknowledged: its place, and the command. Only a store
 /// of that life makes one.

@@ -3,9 +3,9 @@
 ghost use Rattle.std.specs.Prelude.{◌≡◌, ◌≤◌, ◌<◌, ◌+◌, [], ◌∷◌, true, None, length, All, IfOk, IfErr, IfSome, vec_len};
 ghost use Rattle.std.specs.Option.{option_to_list};
 ghost use Rattle.store.specs.Views.{size_of_store, found_state, journal_of, life_of, receipts, doubt_of, failures_at_open};
-ghost use Rattle.receipts.specs.Books.{entries_of};
-ghost use Rattle.receipts.specs.Closed.{AreStanding, AreReceiptsOf, told_in};
-ghost use Rattle.receipts.specs.Views.{id_of, parts_of};
+ghost use Rattle.tallies.specs.Books.{entries_of};
+ghost use Rattle.tallies.specs.Closed.{AreStanding, AreReceiptsOf, told_in};
+ghost use Rattle.tallies.specs.BookViews.{id_of, parts_of};
 ghost use Rattle.store.specs.Taken.{are_taken};
 ghost use Rattle.shared_store.specs.Called.{IsLastOf};
 ghost use Rattle.shared_store.specs.Doubts.{IsDoubtOf};
@@ -19,9 +19,9 @@ use crate::heard::Heard;
 use crate::shared::{SharedStore, last_entry};
 use board_model::Entry;
 use disk::Disk;
-use receipts::{Book, Journal, Keeper, NewBook, Part};
 use std::alloc::{AllocError, Global};
 use store::Store;
+use tallies::{Book, Journal, Keeper, NewBook, Part};
 
 /// A store of the life J with the book of its receipts, which one holder has: it hands out the book's parts
 /// before it is shared, and takes them back when the life has ended.

@@ -3,8 +3,8 @@ use Rattle.board_model.specs.Durable.{DurableState, fold, refusal_of}
 use Rattle.board_model.specs.Shapes.{Size}
 use Rattle.board.specs.Unbooted.{LeavesLife}
 use Rattle.disk.specs.Facts.{Failed}
-use Rattle.receipts.specs.Closed.{AreReceiptsOf, told_in}
-use Rattle.receipts.specs.declared.views.PartView.{PartView}
+use Rattle.tallies.specs.Closed.{AreReceiptsOf, told_in}
+use Rattle.tallies.specs.declared.book_views.PartView.{PartView}
 use Rattle.shared_store.specs.Noted.{entries_in}
 use Rattle.shared_store.specs.Views.{parts_with}
 use Rattle.store.specs.Views.{size_of_store, now_state, journal_of, doubt_of}

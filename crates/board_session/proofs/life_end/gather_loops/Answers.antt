@@ -1,5 +1,5 @@
 use Rattle.std.proofs.Common.{◌∙◌, List, length, sym, ap, subst, arith}
-use Rattle.receipts.specs.declared.views.PartView.{PartView}
+use Rattle.tallies.specs.declared.book_views.PartView.{PartView}
 use Rattle.shared_store.specs.Views.{parts_with}
 use Rattle.board_session.specs.Backs.{AreBack}
 use Rattle.board_session.proofs.Backing.{one_back}

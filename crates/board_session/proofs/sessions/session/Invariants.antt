@@ -1,6 +1,6 @@
 use Rattle.std.proofs.Common.{false}
 use Rattle.store.specs.Views.{failures_at_open, found_state, journal_of, size_of_store}
-use Rattle.receipts.specs.Views.{id_of, parts_of}
+use Rattle.tallies.specs.BookViews.{id_of, parts_of}
 use Rattle.hart_threads.specs.Begun.{board_of}
 use Rattle.board_session.proofs.sessions.session.Given as goal
 

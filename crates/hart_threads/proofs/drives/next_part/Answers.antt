@@ -1,6 +1,6 @@
 use Rattle.std.proofs.Common.{◌≡◌, [], Some}
 use Rattle.std.proofs.lemmas.List.Elements.{All-pop}
-use Rattle.receipts.specs.declared.views.PartView.{PartView}
+use Rattle.tallies.specs.declared.book_views.PartView.{PartView}
 use Rattle.hart_threads.proofs.drives.next_part.Goals as goal
 
 pub returns-clause-told : goal.returns-clause-told

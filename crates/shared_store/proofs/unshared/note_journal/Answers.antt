@@ -2,8 +2,8 @@ use Rattle.std.proofs.Common.{◌≡◌, ◌∙◌, ◌+◌, ◌-◌, ◌≤◌,
 use Rattle.board_model.specs.Views.{change_in}
 use Rattle.board_model.specs.declared.durable.Entry.{Entry}
 use Rattle.tallies.specs.Logs.{Log}
-use Rattle.receipts.specs.declared.views.BookView.{BookView}
-use Rattle.receipts.specs.declared.views.PartView.{PartView}
+use Rattle.tallies.specs.declared.book_views.BookView.{BookView}
+use Rattle.tallies.specs.declared.book_views.PartView.{PartView}
 use Rattle.store.specs.Views.{journal_of, receipts}
 use Rattle.shared_store.proofs.Booted.{AreNoted, none_left, one_noted}
 use Rattle.shared_store.proofs.unshared.note_journal.Goals as goal

@@ -2,10 +2,10 @@ use Rattle.std.proofs.Common.{◌≡◌, ◌∙◌, ◌++◌, ℕ, List, ◌∷�
 use Rattle.std.specs.Option.{option_to_list}
 use Rattle.board_model.specs.declared.durable.Command.{Command}
 use Rattle.board_model.specs.declared.durable.Entry.{Entry}
-use Rattle.receipts.specs.Books.{entries_of}
-use Rattle.receipts.specs.Closed.{AreReceiptsOf, told_in}
-use Rattle.receipts.specs.declared.views.BookView.{BookView}
-use Rattle.receipts.specs.declared.views.PartView.{PartView}
+use Rattle.tallies.specs.Books.{entries_of}
+use Rattle.tallies.specs.Closed.{AreReceiptsOf, told_in}
+use Rattle.tallies.specs.declared.book_views.BookView.{BookView}
+use Rattle.tallies.specs.declared.book_views.PartView.{PartView}
 use Rattle.shared_store.specs.Doubts.{HoldsDoubt, doubt_told}
 use Rattle.shared_store.specs.Heard.{Hearing}
 use Rattle.shared_store.specs.Noted.{entries_in}

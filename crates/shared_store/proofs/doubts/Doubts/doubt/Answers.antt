@@ -1,11 +1,11 @@
 use Rattle.std.proofs.Common.{◌≡◌, ◌∙◌, ℕ, suc, List, [], ◌∷◌, length, sym, ap, subst}
 use Rattle.board_model.specs.declared.durable.Entry.{Entry}
 use Rattle.board_model.specs.declared.durable.Entry.TheVariants as entries
-use Rattle.receipts.specs.Books.{entries_of}
-use Rattle.receipts.specs.Closed.{AreStanding}
-use Rattle.receipts.specs.declared.views.BookView.{BookView}
-use Rattle.receipts.specs.declared.views.PartView.{PartView}
-use Rattle.receipts.proofs.Closing.{length_journal}
+use Rattle.tallies.specs.Books.{entries_of}
+use Rattle.tallies.specs.Closed.{AreStanding}
+use Rattle.tallies.specs.declared.book_views.BookView.{BookView}
+use Rattle.tallies.specs.declared.book_views.PartView.{PartView}
+use Rattle.tallies.proofs.Closing.{length_journal}
 use Rattle.shared_store.proofs.Doubting.{none_told}
 use Rattle.shared_store.proofs.doubts.Doubts.doubt.Goals as goal
 

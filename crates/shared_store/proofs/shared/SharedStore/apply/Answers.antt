@@ -10,8 +10,8 @@ use Rattle.shared_store.proofs.Doubting.{asked_turns, ok_stays, still_noted, tol
 use Rattle.shared_store.proofs.Naming.{asked_named, asked_may, begins_on, begins_still}
 use Rattle.board_model.specs.declared.durable.Entry.{Entry}
 use Rattle.board_model.specs.declared.durable.Entry.TheVariants as entries
-use Rattle.receipts.specs.Books.{entries_of, told_after}
-use Rattle.receipts.specs.declared.views.BookView.{BookView}
+use Rattle.tallies.specs.Books.{entries_of, told_after}
+use Rattle.tallies.specs.declared.book_views.BookView.{BookView}
 use Rattle.shared_store.specs.Noted.{entries_in}
 use Rattle.board_model.proofs.Steps.{entry_of_command}
 use Rattle.shared_store.proofs.Noting.{number, tied_on}

@@ -1,8 +1,8 @@
 use Rattle.std.proofs.Common.{◌≡◌, ◌∙◌, ◌+◌, ℕ, Bool, List, ◌∷◌, length, sym, ap, arith}
 use Rattle.board_model.specs.Durable.{Change}
 use Rattle.board_model.specs.declared.durable.Entry.{Entry}
-use Rattle.receipts.specs.Books.{entries_of, told_after}
-use Rattle.receipts.specs.declared.views.BookView.{BookView}
+use Rattle.tallies.specs.Books.{entries_of, told_after}
+use Rattle.tallies.specs.declared.book_views.BookView.{BookView}
 use Rattle.shared_store.specs.Noted.{entries_in}
 use Rattle.sbi_abi.specs.Calls.{call_of}
 use Rattle.sbi_calls.specs.Both.{harts_of_both, known}

@@ -1,6 +1,6 @@
 use Rattle.std.proofs.Common.{List, rules, sym, subst}
 use Rattle.board_model.specs.declared.durable.Entry.{Entry}
-use Rattle.receipts.specs.Closed.{AreStanding}
+use Rattle.tallies.specs.Closed.{AreStanding}
 use Rattle.store.specs.Views.{journal_of, now_state}
 use Rattle.shared_store.proofs.Naming.{shown_as}
 use Rattle.shared_store.proofs.shared.SharedStore.now.Goals as goal

@@ -1,5 +1,5 @@
 use Rattle.std.proofs.Common.{◌≡◌, ◌∙◌, ◌+◌, [], All, length, sym, ap, subst}
-use Rattle.receipts.specs.declared.views.BookView.{BookView}
+use Rattle.tallies.specs.declared.book_views.BookView.{BookView}
 use Rattle.shared_store.proofs.Parted.{all_rest, first_told, one_off}
 use Rattle.shared_store.proofs.unshared.Unshared.hand_out.Goals as goal
 

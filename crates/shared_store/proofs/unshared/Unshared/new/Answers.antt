@@ -1,7 +1,7 @@
 use Rattle.std.proofs.Common.{◌≡◌, ◌∙◌, ◌+◌, ◌<◌, ℕ, List, [], All, length, drop, sym, ap, subst}
-use Rattle.receipts.specs.Books.{first_of, fresh_from}
-use Rattle.receipts.specs.declared.views.BookView.{BookView}
-use Rattle.receipts.specs.declared.views.PartView.{PartView}
+use Rattle.tallies.specs.Books.{first_of, fresh_from}
+use Rattle.tallies.specs.declared.book_views.BookView.{BookView}
+use Rattle.tallies.specs.declared.book_views.PartView.{PartView}
 use Rattle.shared_store.proofs.Parted.{all_rest, first_told, fresh_many, fresh_told, one_off}
 use Rattle.shared_store.proofs.unshared.Unshared.new.Goals as goal
 

@@ -1,5 +1,0 @@
-use Rattle.halts.proofs.Keeps.{opens}
-use Rattle.halts.proofs.halt.Halt.new.Goals as goal
-
-pub of_words-requires : goal.of_words-requires
-of_words-requires c = opens

@@ -1,3 +1,0 @@
-pub mod Books
-pub mod Closed
-pub mod Views

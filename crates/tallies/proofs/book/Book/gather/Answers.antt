@@ -1,0 +1,18 @@
+use Rattle.std.proofs.Common.{sym, ap, ◌∙◌, subst}
+use Rattle.atomic_table.specs.Table.{Me, Joins}
+use Rattle.tallies.specs.declared.book_views.BookView.{BookView}
+use Rattle.tallies.specs.Books.{first_of, with_part, nobody, IsKept}
+use Rattle.tallies.proofs.BookKeeps.{takes_in}
+use Rattle.tallies.proofs.book.Book.gather.Goals as goal
+
+pub join_seat-requires : goal.join_seat-requires
+join_seat-requires g c =
+    let t = c.self in
+    let k = c.keeper.inside.seat in
+    let p = c.part.inside.seat in (
+      c.keeper.invariant.0 ∙ sym t.invariant.1,
+      c.part.invariant.0 ∙ sym t.invariant.1,
+      ap (λ (m : Me (Unit {0}) BookView). m.1) c.part.invariant.1,
+      t.invariant.0,
+      subst (λ (w : BookView). Joins IsKept k.id k.me.0 p.id w (with_part k.me.0 w) nobody) (sym (ap (λ (m : Me (Unit {0}) BookView). m.0) c.part.invariant.1)) (takes_in k.id p.id k.me.0 (first_of p.me.0.parts)),
+    )

@@ -1,0 +1,10 @@
+-- A new book: which it is, and how many parts it has.
+use Rattle.std.specs.Prelude.{ℕ}
+use Rattle.atomic_table.specs.Seated.{TableId}
+use Rattle.tallies.specs.declared.book.NewBook.{NewBook}
+
+abbrev pub id_of : NewBook → TableId
+id_of book = book.table.shared.table_id
+
+abbrev pub parts_of : NewBook → ℕ
+parts_of book = book.table.shared.key
