@@ -10,7 +10,7 @@ use Rattle.disk.specs.declared.device.ArmedFault.{ArmedFault}
 use Rattle.simdisk.specs.declared.SimDisk.{SimDisk}
 use Rattle.simdisk.specs.declared.fill.Fill.{Fill}
 use Rattle.simdisk.specs.Views.{left_by_fill}
-use Rattle.write_log.specs.WriteLog.{synced}
+use Rattle.disk.specs.WriteLog.{synced}
 use Rattle.simdisk.specs.Pokes.{PokeFits, StandsSo, poked}
 use Rattle.script_lang.specs.declared.line.Line.{Line}
 use Rattle.script_lang.specs.declared.line.Line.TheVariants as lines

@@ -10,7 +10,7 @@ use Rattle.simdisk.specs.declared.SimLane.{SimLane}
 use Rattle.simdisk.specs.contracts.device.SimDiskDisk.TheImpl as sim_disk
 use Rattle.simdisk.specs.contracts.lane.SimLaneLane.TheImpl as sim_lane
 use Rattle.simdisk.specs.contracts.logged.SimDiskLogged.TheImpl as sim_logged
-use Rattle.write_log.specs.WriteLog.{WriteLog}
+use Rattle.disk.specs.WriteLog.{WriteLog}
 use Rattle.board.specs.Views as words
 use Rattle.board.specs.declared.Board as boards
 use Rattle.machine.specs.Machine.{Machine}

@@ -5,7 +5,7 @@ use Rattle.disk.specs.Facts.{Content, counted}
 use Rattle.simdisk.specs.Views.{left_by_fill}
 use Rattle.simdisk.specs.declared.SimDisk.{SimDisk}
 use Rattle.simdisk.specs.declared.fill.Fill.{Fill}
-use Rattle.write_log.specs.WriteLog.{synced}
+use Rattle.disk.specs.WriteLog.{synced}
 use Rattle.board_model.specs.Shapes.{Size}
 use Rattle.script_lang.specs.declared.line.Line.{Line}
 use Rattle.bench_report.specs.Bench.{Bench}

@@ -10,7 +10,7 @@ ghost use Rattle.script_lang.specs.declared.line.Line.TheVariants as lines;
 ghost use Rattle.disk.specs.Facts.{Only};
 ghost use Rattle.simdisk.specs.Views.{left_by_fill};
 ghost use Rattle.store.specs.Standing.{StandsFor};
-ghost use Rattle.write_log.specs.WriteLog.{synced};
+ghost use Rattle.disk.specs.WriteLog.{synced};
 ghost use Rattle.bench_report.specs.declared.power.Power.TheVariants.{Off};
 ghost use Rattle.bench_report.specs.Agree.{Agrees, OffIs, IsUnstruck};
 ghost use Rattle.bench_report.specs.Bench.{Bench};

@@ -7,8 +7,8 @@ use Rattle.disk.specs.FaultState.{FaultState, Cause}
 use Rattle.disk.specs.Calls.{MakesCalls}
 use Rattle.disk.specs.Moments.{passes_then}
 use Rattle.disk.specs.Facts.{Content, Facts, Lent, Passes, Torn, Written, AreSectorsAt, sector}
-use Rattle.write_log.specs.WriteLog.{Piece, WriteLog, AreWithin, Untouched, laid_over, more_written, ranges, replay}
-use Rattle.write_log.proofs.Pieces.{put_low, put_mid, put_high, replay_push, length_replay, replay_outside_same, fits_push, fits_here, fits_rest}
+use Rattle.disk.specs.WriteLog.{Piece, WriteLog, AreWithin, Untouched, laid_over, more_written, ranges, replay}
+use Rattle.disk.proofs.Pieces.{put_low, put_mid, put_high, replay_push, length_replay, replay_outside_same, fits_push, fits_here, fits_rest}
 use Rattle.logged_disk.specs.Kept.{IsKept}
 use Rattle.logged_disk.proofs.Kept.{agrees_none, agrees_then, kept_on, kept_more, untouched_more, written_laid}
 use Rattle.cached_disk.specs.declared.waiting.Waiting.{Waiting}

@@ -3,7 +3,7 @@ use Rattle.std.proofs.Common.{◌≡◌, ◌∙◌, refl, sym, ap, subst, ℕ, �
 use Rattle.disk.specs.FaultState.{FaultState, Caused}
 use Rattle.disk.specs.Calls.{MakesCalls}
 use Rattle.disk.specs.Facts.{Content, Facts, LaneFacts, Lent, Counts, IsFresh, Joined, Only, Passes, Stays, Torn, Written, counted, nothing, lent_sectors}
-use Rattle.write_log.specs.WriteLog.{Piece, WriteLog, AgreesOutside, AreWithin, laid_over, lent_piece, more_written, more_synced, new_log, ranges, synced}
+use Rattle.disk.specs.WriteLog.{Piece, WriteLog, AgreesOutside, AreWithin, laid_over, lent_piece, more_written, more_synced, new_log, ranges, synced}
 use Rattle.logged_disk.proofs.Kept.{agrees_none, counts_one, fresh_over, kept_on, laid_written, stays_over, sync_durable, sync_kept, sync_passes, tears_over, torn_more, torn_same}
 use Rattle.logged_disk.proofs.Lanes.{join_kept, none_back, split_kept, split_passes}
 use Rattle.cached_disk.specs.declared.waiting.Waiting.{Waiting}

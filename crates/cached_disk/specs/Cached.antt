@@ -2,7 +2,7 @@
 use Rattle.std.specs.Prelude.{◌≡◌, ◌⊎◌, ℕ, List, [], ◌∷◌, length, map, take, Result, OnOk}
 use Rattle.disk.specs.Facts.{Content, Facts, Counts, Passes}
 use Rattle.disk.specs.FaultState.{FaultState, Caused}
-use Rattle.write_log.specs.WriteLog.{Piece, WriteLog, AgreesOutside, AreWithin, Untouched, ranges, replay}
+use Rattle.disk.specs.WriteLog.{Piece, WriteLog, AgreesOutside, AreWithin, Untouched, ranges, replay}
 use Rattle.logged_disk.specs.Kept.{IsKept, facts_over}
 use Rattle.cached_disk.specs.declared.waiting.Waiting.{Waiting}
 

@@ -2,8 +2,8 @@
 use Rattle.std.proofs.Common.{◌≡◌, inl, inr, ℕ, ◌+◌, List, [], ◌∷◌, length, arith}
 use Rattle.std.proofs.lemmas.Bool.{cases_lt}
 use Rattle.disk.specs.Facts.{Facts}
-use Rattle.write_log.specs.WriteLog.{WriteLog, AgreesOutside, Untouched, ranges, synced}
-use Rattle.write_log.proofs.Pieces.{length_replay, replay_outside}
+use Rattle.disk.specs.WriteLog.{WriteLog, AgreesOutside, Untouched, ranges, synced}
+use Rattle.disk.proofs.Pieces.{length_replay, replay_outside}
 use Rattle.logged_disk.proofs.Kept.{agrees_then}
 use Rattle.cached_disk.specs.declared.waiting.Waiting.{Waiting}
 use Rattle.cached_disk.specs.Cached.{pieces_of, shown, Waits, IsCached}

@@ -4,9 +4,8 @@ ghost use Rattle.disk.specs.Facts.{Content, IsFresh};
 ghost use Rattle.cached_disk.specs.Cached.{IsCached};
 
 use crate::waiting::{HandOn, Queue, Waiting, lay_over};
-use disk::{ArmedFault, Disk, Fault, Sector};
+use disk::{ArmedFault, Disk, Fault, Log, Sector};
 use std::alloc::{AllocError, Global};
-use write_log::Log;
 
 /// How many sectors may wait for the device.
 const MOST: usize = 8;
@@ -67,8 +66,8 @@ impl<D: Disk + Drop> Disk for CachedDisk<D> {
     ghost use Rattle.std.specs.Prelude.{◌≡◌, length, map, take};
     ghost use Rattle.disk.specs.Facts.{Stays, Passes, InRow, Joined, counted, nothing, lane_failures};
     ghost use Rattle.disk.specs.FaultState.{CausedInLanes};
-    ghost use Rattle.write_log.specs.WriteLog.{AgreesOutside, ranges, synced, synced_after};
-    ghost use Rattle.write_log.specs.Laws.{only_the_last, below_most};
+    ghost use Rattle.disk.specs.WriteLog.{AgreesOutside, ranges, synced, synced_after};
+    ghost use Rattle.disk.specs.Laws.{only_the_last, below_most};
     ghost use Rattle.cached_disk.specs.Cached.{facts_of};
     ghost use Rattle.cached_disk.specs.Laws.{keeps};
     ghost use mathlib.Core.Logic.{inl};

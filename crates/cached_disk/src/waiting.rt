@@ -2,7 +2,7 @@
 ghost use Rattle.std.specs.Prelude.{◌≡◌, ◌≤◌, ◌<◌, ◌+◌, [], List, length, vec_capacity, OnOk, OnErr};
 ghost use Rattle.disk.specs.Facts.{Content, Facts, AreSectorsAt};
 ghost use Rattle.disk.specs.FaultState.{FaultState};
-ghost use Rattle.write_log.specs.WriteLog.{ranges, AreWithin};
+ghost use Rattle.disk.specs.WriteLog.{ranges, AreWithin};
 ghost use Rattle.cached_disk.specs.Cached.{HandsOn, pieces_of, shown};
 
 use disk::{Disk, Fault, Sector};

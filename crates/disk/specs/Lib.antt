@@ -1,3 +1,5 @@
+pub mod Laws
+pub mod WriteLog
 pub mod Calls
 pub mod Facts
 pub mod FaultState

@@ -5,7 +5,7 @@ use Rattle.std.proofs.lemmas.Bool.{false≢true, false_from_ne_true}
 use Rattle.std.proofs.Math.Logic.{∥∥₁_map}
 use Rattle.std.specs.Prelude.{OnOk}
 use Rattle.disk.specs.Facts.{Content, Facts, Only, Torn, Passes, Lent, lent_sectors, nothing, sector}
-use Rattle.write_log.specs.WriteLog.{WriteLog, Piece, Untouched, AgreesOutside, NotedOrRefused, more_written, ranges, range}
+use Rattle.disk.specs.WriteLog.{WriteLog, Piece, Untouched, AgreesOutside, NotedOrRefused, more_written, ranges, range}
 use Rattle.file_disk.specs.Files.{FileFacts, FileKnown, Unknown, Known, IfKnown, Goes, IsDurable, IsMarked, AgreesOff, LeavesOff, LeavesNoMore, EverAllowed, IsKeptIn, AreMarks, Marks, Pushes, PushesSome}
 
 -- ---- the ranges

@@ -3,7 +3,7 @@
 use Rattle.std.specs.Prelude.{◌≡◌, ◌⊎◌, ℕ, ◌<◌, ◌≤◌, ◌+◌, Bool, true, false, List, [], ◌∷◌, length, get_or, Result, OnOk, ⊤}
 use Rattle.std.specs.Coded.{Unit-prop}
 use Rattle.disk.specs.Facts.{Content, Facts, Only, Torn, Written, lent_sectors, sector}
-use Rattle.write_log.specs.WriteLog.{Untouched}
+use Rattle.disk.specs.WriteLog.{Untouched}
 
 -- the facts of a file, in the manner of those of a disk
 pub record FileFacts : Type 1 where

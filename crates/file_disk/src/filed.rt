@@ -3,7 +3,7 @@ ghost use Rattle.std.specs.Prelude.{◌≡◌, ◌<◌, ◌^◌, IfOk, OnOk, map
 ghost use Rattle.disk.specs.Facts.{Content, Unchanged, InRow, Joined, Only, Passes, Stays, Torn, counted, nothing, lane_failures, lent_sectors};
 ghost use Rattle.disk.specs.Calls.{MakesCalls};
 ghost use Rattle.disk.specs.FaultState.{CausedInLanes};
-ghost use Rattle.write_log.specs.WriteLog.{ranges};
+ghost use Rattle.disk.specs.WriteLog.{ranges};
 ghost use Rattle.file_disk.specs.Beside.{faults_beside};
 ghost use Rattle.file_disk.specs.Files.{AreMarks, EverAllowed, IfKnown, IfKnown-prop, IsDurable, IsKeptIn, LeavesNoMore};
 ghost use Rattle.std.proofs.Props.{props};

@@ -1,8 +1,7 @@
 //! Contents of a file that only contracts remember. They take no memory, and nothing is done for them at run time.
 ghost use Rattle.std.specs.Prelude.{◌≡◌, [], ◌∷◌};
 
-use disk::Sector;
-use write_log::Log;
+use disk::{Log, Sector};
 
 /// What a crash might have left of a file at earlier moments, for those who know what their file does
 /// ([`SectorFile`](crate::SectorFile)).

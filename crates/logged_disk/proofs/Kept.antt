@@ -6,10 +6,10 @@ use Rattle.std.proofs.lemmas.Bool.{cases_lt}
 use Rattle.disk.specs.FaultState.{FaultState}
 use Rattle.disk.specs.Calls.{CountsCalls, MakesCalls}
 use Rattle.disk.specs.Facts.{Content, Facts, Lent, IsFresh, LeavesAfter, Only, Passes, Stays, Torn, Written, counted, sector, lent_sectors}
-use Rattle.write_log.specs.WriteLog.{Piece, WriteLog, AgreesOutside, AreWithin, Untouched, laid_over, lent_piece, more_written, more_synced, new_log, piece_in, range, ranges, sim_facts, synced}
-use Rattle.write_log.proofs.Pieces.{length-put, put_low, put_mid, put_high, synced_push, replay_copied, fits_push}
-use Rattle.write_log.proofs.Ranges.{agrees_all, agrees_push, durable, untouched_push}
-use Rattle.write_log.proofs.Stretches.{passes_range, passes_sync}
+use Rattle.disk.specs.WriteLog.{Piece, WriteLog, AgreesOutside, AreWithin, Untouched, laid_over, lent_piece, more_written, more_synced, new_log, piece_in, range, ranges, sim_facts, synced}
+use Rattle.disk.proofs.Pieces.{length-put, put_low, put_mid, put_high, synced_push, replay_copied, fits_push}
+use Rattle.disk.proofs.Ranges.{agrees_all, agrees_push, durable, untouched_push}
+use Rattle.disk.proofs.Stretches.{passes_range, passes_sync}
 use Rattle.logged_disk.specs.Kept.{IsKept, facts_over}
 
 -- ---- contents

@@ -4,7 +4,7 @@ use Rattle.std.proofs.Math.Nat.{zero-mul}
 use Rattle.std.proofs.lemmas.List.{ext_get_or}
 use Rattle.std.proofs.lemmas.Bool.{cases_lt}
 use Rattle.disk.specs.Facts.{Content, Facts, LaneFacts, Lent, Joined, Passes, Stays, Torn, nothing, sector, lent_sectors}
-use Rattle.write_log.specs.WriteLog.{WriteLog, AgreesOutside, AreWithin, Untouched, lent_piece, more_written, ranges, synced}
+use Rattle.disk.specs.WriteLog.{WriteLog, AgreesOutside, AreWithin, Untouched, lent_piece, more_written, ranges, synced}
 use Rattle.logged_disk.specs.Kept.{IsKept, facts_over}
 use Rattle.logged_disk.proofs.Kept.{kept_more, untouched_more, range_lent, tears_over}
 

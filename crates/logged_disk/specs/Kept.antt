@@ -1,7 +1,7 @@
 -- What a disk keeps of its device and of its log. Source: docs/PORTING.md.
 use Rattle.std.specs.Prelude.{ℕ, ◌+◌, ◌<◌, ◌≤◌, length}
 use Rattle.disk.specs.Facts.{Content, Facts, lent_sectors}
-use Rattle.write_log.specs.WriteLog.{WriteLog, AgreesOutside, AreWithin, Untouched, ranges, sim_facts, synced}
+use Rattle.disk.specs.WriteLog.{WriteLog, AgreesOutside, AreWithin, Untouched, ranges, sim_facts, synced}
 
 -- the facts of a disk over that device: what a read of the disk gives, and of a crash what its log says
 abbrev pub facts_over : Content → WriteLog → ℕ → Facts → Facts

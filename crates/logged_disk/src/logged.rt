@@ -3,9 +3,8 @@ ghost use Rattle.std.specs.Prelude.{◌≡◌};
 ghost use Rattle.disk.specs.Facts.{Content, IsFresh};
 ghost use Rattle.logged_disk.specs.Kept.{IsKept};
 
-use disk::{ArmedFault, Disk, Fault, Sector};
+use disk::{ArmedFault, Disk, Fault, Log, Sector};
 use std::alloc::AllocError;
-use write_log::Log;
 
 /// A disk that hands each call on to its device at once, and notes in its log what the device was asked to do.
 ///
@@ -42,8 +41,8 @@ impl<D: Disk + Drop> Disk for LoggedDisk<D> {
     ghost use Rattle.std.specs.Prelude.{◌≡◌, length, map, take};
     ghost use Rattle.disk.specs.Facts.{Stays, Passes, InRow, Joined, counted, nothing, lane_failures};
     ghost use Rattle.disk.specs.FaultState.{CausedInLanes};
-    ghost use Rattle.write_log.specs.WriteLog.{AgreesOutside, ranges, synced, synced_after};
-    ghost use Rattle.write_log.specs.Laws.{only_the_last};
+    ghost use Rattle.disk.specs.WriteLog.{AgreesOutside, ranges, synced, synced_after};
+    ghost use Rattle.disk.specs.Laws.{only_the_last};
     ghost use Rattle.logged_disk.specs.Kept.{facts_over};
     ghost use mathlib.Core.Logic.{inl};
 

@@ -7,9 +7,9 @@ use Rattle.disk.specs.Facts.{Content, sector}
 use Rattle.simdisk.specs.declared.fill.Fill.{Fill}
 use Rattle.simdisk.specs.declared.fill.Fill.TheVariants.{Byte, Alternating, Old, New}
 use Rattle.simdisk.specs.Views.{alternating, left_by_fill}
-use Rattle.write_log.specs.WriteLog.{Piece, WriteLog, laid_over, replay, synced, filled, ranges, Untouched, AgreesOutside, AreWithin}
+use Rattle.disk.specs.WriteLog.{Piece, WriteLog, laid_over, replay, synced, filled, ranges, Untouched, AgreesOutside, AreWithin}
 use Rattle.simdisk.specs.Pokes.{part_before, part_behind, parted, poked_log}
-use Rattle.write_log.proofs.Pieces.{ranges_filled}
+use Rattle.disk.proofs.Pieces.{ranges_filled}
 use Rattle.simdisk.proofs.Parted.{Outside, parted_out, parted_in, parted_by, long_before, untouched_by, parts_untouched, own_untouched}
 use Rattle.simdisk.proofs.PartedLaid.{long_poked, at_own, at_other, replay_parted}
 

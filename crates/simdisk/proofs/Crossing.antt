@@ -2,7 +2,7 @@
 use denote.Param.Send.{IsSend, recorded_send, sendable, struct_send}
 use denote.Struct.Declared.{shape}
 use Rattle.std.proofs.Crossing.{crosses}
-use Rattle.write_log.specs.contracts.log.Log as Log
+use Rattle.disk.specs.contracts.log.Log as Log
 use Rattle.simdisk.specs.contracts.remembered.Remembered as Remembered
 use Rattle.simdisk.specs.contracts.history.History as History
 use Rattle.simdisk.specs.contracts.patch.Patch as Patch

@@ -4,9 +4,9 @@ use Rattle.disk.specs.Facts.{Content}
 use Rattle.simdisk.specs.declared.history.History.{History}
 use Rattle.simdisk.specs.declared.patch.Patch.{Patch}
 use Rattle.simdisk.specs.History.{log_of}
-use Rattle.write_log.specs.WriteLog.{synced, newest, ranges, replay, AreWithin}
+use Rattle.disk.specs.WriteLog.{synced, newest, ranges, replay, AreWithin}
 use Rattle.simdisk.specs.Views.{pieces}
-use Rattle.write_log.proofs.Pieces.{length_replay}
+use Rattle.disk.proofs.Pieces.{length_replay}
 
 -- it fits what stood then
 pub fits_synced : (h : History) → AreWithin (length (synced (log_of h))) (ranges (pieces h.written.items))

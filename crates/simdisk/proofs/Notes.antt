@@ -6,12 +6,12 @@ use Rattle.std.proofs.lemmas.List.{map-append, map-set, set-get_or, get_or_appen
 use Rattle.std.proofs.lemmas.Bool.{cases_lt}
 use Rattle.disk.specs.Facts.{Content, Lent, Torn, Apart, IsFresh, nothing, sector}
 use Rattle.simdisk.specs.declared.patch.Patch.{Patch}
-use Rattle.write_log.specs.WriteLog.{Piece, WriteLog, laid_over, newest, synced, range, ranges, more_written, more_synced, lent_piece, new_log, replay, filled, sim_facts, Untouched, AgreesOutside, AreWithin}
+use Rattle.disk.specs.WriteLog.{Piece, WriteLog, laid_over, newest, synced, range, ranges, more_written, more_synced, lent_piece, new_log, replay, filled, sim_facts, Untouched, AgreesOutside, AreWithin}
 use Rattle.simdisk.specs.Views.{piece, pieces, alternating, left_by_fill, Noted, IsLatest}
 use Rattle.simdisk.specs.declared.fill.Fill.{Fill}
 use Rattle.simdisk.specs.declared.fill.Fill.TheVariants.{Byte, Alternating, Old, New}
-use Rattle.write_log.proofs.Pieces.{agrees_replay, ranges_filled, replay_push, put_same}
-use Rattle.write_log.proofs.Ranges.{durable, agrees_all, untouched_at, agrees_torn}
+use Rattle.disk.proofs.Pieces.{agrees_replay, ranges_filled, replay_push, put_same}
+use Rattle.disk.proofs.Ranges.{durable, agrees_all, untouched_at, agrees_torn}
 use Rattle.simdisk.proofs.Walks.{read_piece}
 
 pub ranges_written : (r r' : WriteLog) (p : Piece) → r' ≡ more_written p r → ranges r'.written ≡ ranges r.written ++ range p ∷ []

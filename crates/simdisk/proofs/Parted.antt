@@ -7,9 +7,9 @@ use Rattle.std.specs.List.{flat_map}
 use Rattle.disk.specs.Facts.{sector}
 use Rattle.simdisk.specs.declared.patch.Patch.{Patch}
 use Rattle.simdisk.specs.Views.{piece, pieces}
-use Rattle.write_log.specs.WriteLog.{Piece, ranges, Untouched, AreWithin}
+use Rattle.disk.specs.WriteLog.{Piece, ranges, Untouched, AreWithin}
 use Rattle.simdisk.specs.Pokes.{misses, part_before, part_behind, parted}
-use Rattle.write_log.proofs.Pieces.{fits_here, fits_rest}
+use Rattle.disk.proofs.Pieces.{fits_here, fits_rest}
 use Rattle.simdisk.proofs.Walks.{read_piece}
 
 -- the sector is not in the piece

@@ -4,7 +4,7 @@ use Rattle.std.proofs.Math.ListN.{get_or-map}
 use Rattle.std.proofs.lemmas.List.{drop_more, length-map}
 use Rattle.disk.specs.Facts.{Content}
 use Rattle.simdisk.specs.declared.patch.Patch.{Patch}
-use Rattle.write_log.specs.WriteLog.{Piece, laid_over, replay, range, ranges, range_at, AreWithin}
+use Rattle.disk.specs.WriteLog.{Piece, laid_over, replay, range, ranges, range_at, AreWithin}
 use Rattle.simdisk.specs.Views.{piece, pieces}
 
 -- what was read at that place, as a piece

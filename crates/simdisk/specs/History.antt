@@ -1,6 +1,6 @@
 -- What a history is to a contract: apart from Views.antt, which the invariant of its type cites.
 use Rattle.simdisk.specs.declared.history.History.{History}
-use Rattle.write_log.specs.WriteLog.{WriteLog}
+use Rattle.disk.specs.WriteLog.{WriteLog}
 use Rattle.simdisk.specs.Views.{pieces}
 
 abbrev pub log_of : History → WriteLog

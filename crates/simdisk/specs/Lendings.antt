@@ -5,7 +5,7 @@ use Rattle.disk.specs.declared.device.ArmedFault.{ArmedFault}
 use Rattle.disk.specs.Facts.{Lent, counted}
 use Rattle.disk.specs.FaultState.{FaultState}
 use Rattle.simdisk.specs.LaneStates.{LaneState, AreLent, WrittenBack, CameBack}
-use Rattle.write_log.specs.WriteLog.{WriteLog, more_written, lent_piece, newest, SameRanges}
+use Rattle.disk.specs.WriteLog.{WriteLog, more_written, lent_piece, newest, SameRanges}
 
 -- A split. With Ok what is lent counts as written, with what was written last in it, and so have it the
 -- lanes, each with its own faults; with an error the log stays. What is armed stays.

@@ -4,7 +4,7 @@ use Rattle.std.specs.List.{flat_map}
 use Rattle.disk.specs.Facts.{Content, Facts, sector}
 use Rattle.simdisk.specs.declared.fill.Fill.{Fill}
 use Rattle.simdisk.specs.Views.{left_by_fill}
-use Rattle.write_log.specs.WriteLog.{Piece, WriteLog, laid_over, synced}
+use Rattle.disk.specs.WriteLog.{Piece, WriteLog, laid_over, synced}
 
 -- the bytes of a sector with these in it, from that one on
 abbrev pub bytes_put : ℕ → List ℕ → List ℕ → List ℕ

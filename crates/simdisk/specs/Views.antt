@@ -3,7 +3,7 @@ use Rattle.std.specs.Prelude.{List, [], ◌∷◌, map, replicate, ℕ, ◌≤�
 use Rattle.std.specs.List.{flat_map}
 use Rattle.disk.specs.Facts.{Content, Lent}
 use Rattle.simdisk.specs.declared.patch.Patch.{Patch}
-use Rattle.write_log.specs.WriteLog.{Piece, filled, replay, range_at}
+use Rattle.disk.specs.WriteLog.{Piece, filled, replay, range_at}
 use Rattle.simdisk.specs.declared.lane.Last.{Last}
 use Rattle.simdisk.specs.declared.lane.Last.TheVariants as last
 use Rattle.simdisk.specs.declared.fill.Fill.{Fill}

@@ -6,7 +6,7 @@ ghost use Rattle.disk.specs.Calls.{MakesCalls, NoCall};
 ghost use Rattle.simdisk.specs.Armings.{FailsNext, one_call_on};
 ghost use Rattle.simdisk.specs.LaneStates.{CountsLanes};
 ghost use Rattle.simdisk.specs.Lendings.{Lends, TakesBack};
-ghost use Rattle.write_log.specs.WriteLog.{more_written, more_synced, lent_piece, NotedOrRefused};
+ghost use Rattle.disk.specs.WriteLog.{more_written, more_synced, lent_piece, NotedOrRefused};
 
 use crate::laid::overwrite;
 use crate::lane::{Bytes, SimLane};
@@ -19,11 +19,11 @@ use disk::{ArmedFault, Disk, Fault, Lane, Sector};
 use std::alloc::AllocError;
 
 impl Disk for SimDisk {
-    ghost use Rattle.write_log.specs.WriteLog.{sim_facts, ranges, synced, AgreesOutside, synced_after};
+    ghost use Rattle.disk.specs.WriteLog.{sim_facts, ranges, synced, AgreesOutside, synced_after};
     ghost use Rattle.simdisk.specs.History.{log_of};
     ghost use Rattle.simdisk.specs.Views.{lent_of, pieces};
     ghost use Rattle.simdisk.specs.Armings.{fault_state_by};
-    ghost use Rattle.write_log.specs.Laws.{only_the_last, below_most};
+    ghost use Rattle.disk.specs.Laws.{only_the_last, below_most};
     ghost use Rattle.std.specs.Prelude.{◌≡◌, ◌⊎◌, length, take, Some};
     ghost use mathlib.Core.Logic.{inl};
 

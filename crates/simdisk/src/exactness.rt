@@ -1,7 +1,7 @@
 //! What a crash may leave, to the letter.
 ghost use Rattle.std.specs.Prelude.{◌≡◌, ◌⊎◌, ◌≤◌, ◌<◌, ◌+◌, ◌*◌, ◌↔◌, ℕ, length, take, drop};
 ghost use Rattle.disk.specs.Facts.{Content, lent_sectors};
-ghost use Rattle.write_log.specs.WriteLog.{synced, synced_after, ranges, AgreesOutside, Untouched, Had};
+ghost use Rattle.disk.specs.WriteLog.{synced, synced_after, ranges, AgreesOutside, Untouched, Had};
 
 use crate::logged::Logged;
 use crate::sim::SimDisk;

@@ -1,6 +1,6 @@
 //! What a disk in memory keeps of its write log.
 ghost use Rattle.std.specs.Prelude.{◌≡◌, length};
-ghost use Rattle.write_log.specs.WriteLog.{ranges, synced_after, AreWithin};
+ghost use Rattle.disk.specs.WriteLog.{ranges, synced_after, AreWithin};
 ghost use Rattle.simdisk.specs.Views.{pieces};
 
 use crate::patch::Patch;

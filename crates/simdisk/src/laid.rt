@@ -1,7 +1,7 @@
 //! Patches laid over a content.
 ghost use Rattle.std.specs.Prelude.{◌≡◌, ◌≤◌, ◌<◌, ◌+◌, length, map, replicate};
 ghost use Rattle.disk.specs.Facts.{Written};
-ghost use Rattle.write_log.specs.WriteLog.{laid_over, replay, piece_in, filled, ranges, AreWithin};
+ghost use Rattle.disk.specs.WriteLog.{laid_over, replay, piece_in, filled, ranges, AreWithin};
 ghost use Rattle.simdisk.specs.Views.{alternating, pieces};
 
 use crate::patch::Patch;
@@ -17,7 +17,7 @@ pub(crate) fn overwrite(content: &mut Vec<Sector>, first: usize, sectors: &[Sect
 }
 
 /// Takes over from the content what stands in the sectors of these patches.
-#[tactic(auto, using(write_log::proofs::Pieces::length_replay))]
+#[tactic(auto, using(disk::proofs::Pieces::length_replay))]
 pub(crate) fn copy_patches(stood: &mut Vec<Sector>, patches: &[Patch], content: &[Sector])
     requires as_long { length content.now ≡ length stood.old.items }
     requires fits { AreWithin (length stood.old.items) (ranges (pieces patches.now)) }
@@ -29,7 +29,7 @@ pub(crate) fn copy_patches(stood: &mut Vec<Sector>, patches: &[Patch], content: 
 }
 
 /// Fills the sectors of these patches each with those bytes.
-#[tactic(auto, using(write_log::proofs::Pieces::length_replay))]
+#[tactic(auto, using(disk::proofs::Pieces::length_replay))]
 pub(crate) fn fill_patches(content: &mut Vec<Sector>, patches: &[Patch], bytes: &Sector)
     requires { AreWithin (length content.old.items) (ranges (pieces patches.now)) }
     ensures content { content.new.items ≡ replay (map (filled bytes.now) (pieces patches.now)) content.old.items }

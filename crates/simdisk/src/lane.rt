@@ -2,7 +2,7 @@
 ghost use Rattle.std.specs.Prelude.{◌≡◌, ◌≤◌, ◌+◌, ◌++◌, ◌∷◌, [], length, None, false, is_ok, OnOk, OnErr};
 ghost use Rattle.disk.specs.Facts.{Torn, Written, AreSectorsAt, Counts};
 ghost use Rattle.simdisk.specs.LaneStates.{LaneCalled};
-ghost use Rattle.write_log.specs.WriteLog.{laid_over};
+ghost use Rattle.disk.specs.WriteLog.{laid_over};
 ghost use Rattle.simdisk.specs.Views.{last_of, IsAsRead};
 
 use crate::faults::Faults;

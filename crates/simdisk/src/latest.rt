@@ -2,7 +2,7 @@
 ghost use Rattle.std.specs.Prelude.{◌≡◌, ◌≤◌, ◌<◌, ◌+◌, ◌*◌, ℕ, length, map, true, false, IfOk};
 ghost use Rattle.disk.specs.Facts.{Content, Joined, lane_at};
 ghost use Rattle.simdisk.specs.Lanes.{lane_view, newest_view};
-ghost use Rattle.write_log.specs.WriteLog.{laid_over};
+ghost use Rattle.disk.specs.WriteLog.{laid_over};
 
 use crate::laid::overwrite;
 use crate::lane::{Bytes, SimLane};

@@ -1,5 +1,5 @@
 //! A disk in memory, which meets the whole contract of [`disk::Disk`] with nothing assumed. It
-//! keeps a log of all its writes and syncs (`write_log`), from which what a crash may leave is
+//! keeps a log of all its writes and syncs (`disk`), from which what a crash may leave is
 //! read to the letter, and it can be cut, with a fill that says what the crash leaves. docs/DISK.md has the model.
 #![tactic(auto)]
 

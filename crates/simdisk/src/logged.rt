@@ -1,7 +1,7 @@
 //! The write log of a disk in memory and the state of its lanes, for contracts.
 ghost use Rattle.std.specs.Prelude.{ℕ, List, Option};
 ghost use Rattle.disk.specs.declared.device.ArmedFault.{ArmedFault};
-ghost use Rattle.write_log.specs.WriteLog.{WriteLog};
+ghost use Rattle.disk.specs.WriteLog.{WriteLog};
 ghost use Rattle.simdisk.specs.LaneStates.{LaneState};
 
 use crate::lane::SimLane;

@@ -3,7 +3,7 @@ ghost use Rattle.std.specs.Prelude.{◌≡◌, ◌≢◌, ◌⊎◌, ◌↔◌, 
 ghost use Rattle.std.specs.Simd.{first_chunks};
 ghost use Rattle.disk.specs.Facts.{IsFresh, IsLeft, Unchanged};
 ghost use Rattle.disk.specs.FaultState.{Unarmed, no_fault, fault_state_armed, fault_state_left};
-ghost use Rattle.write_log.specs.WriteLog.{synced, new_log};
+ghost use Rattle.disk.specs.WriteLog.{synced, new_log};
 ghost use Rattle.simdisk.specs.Views.{left_by_fill};
 
 use crate::faults::Faults;

@@ -2,7 +2,7 @@
 ghost use Rattle.std.specs.Prelude.{◌≡◌, ◌≤◌, ◌<◌, ◌+◌, ◌*◌, ℕ, [], ◌∷◌, length, map, true, OnOk, OnErr, IfOk};
 ghost use Rattle.disk.specs.Facts.{Handed, Torn};
 ghost use Rattle.simdisk.specs.Views.{IsLatest, left_by_fill, pieces};
-ghost use Rattle.write_log.specs.WriteLog.{new_log, more_written, more_synced, lent_piece, newest, replay, synced, ranges, AgreesOutside, AreWithin};
+ghost use Rattle.disk.specs.WriteLog.{new_log, more_written, more_synced, lent_piece, newest, replay, synced, ranges, AgreesOutside, AreWithin};
 
 use crate::faults::Faults;
 use crate::fill::Fill;

@@ -18,7 +18,7 @@ pub(crate) struct Patch {
 
 impl Patch {
     ghost use Rattle.std.specs.Prelude.{◌≡◌, ◌≤◌, ◌<◌, ◌+◌, ◌^◌, length, take, drop};
-    ghost use Rattle.write_log.specs.WriteLog.{laid_over, piece_in, filled};
+    ghost use Rattle.disk.specs.WriteLog.{laid_over, piece_in, filled};
     ghost use Rattle.simdisk.specs.Views.{piece};
 
     /// These sectors, from that one on.

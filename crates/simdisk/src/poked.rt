@@ -4,7 +4,7 @@ ghost use Rattle.std.specs.List.{flat_map};
 ghost use Rattle.disk.specs.Calls.{NoCall};
 ghost use Rattle.disk.specs.Facts.{Unchanged};
 ghost use Rattle.simdisk.specs.Pokes.{bytes_put, poked, parted, poked_log, PokeFits, StandsSo, StandsByEach};
-ghost use Rattle.write_log.specs.WriteLog.{synced};
+ghost use Rattle.disk.specs.WriteLog.{synced};
 ghost use Rattle.simdisk.specs.Views.{piece, pieces};
 
 use crate::history::History;

@@ -1,11 +1,10 @@
 //! Sectors, calls and faults that only contracts remember. They take no memory, and nothing is done for them
 //! at run time.
 ghost use Rattle.std.specs.Prelude.{◌≡◌, [], ◌∷◌, ◌++◌, map, take, drop};
-ghost use Rattle.write_log.specs.WriteLog.{piece_in};
+ghost use Rattle.disk.specs.WriteLog.{piece_in};
 
 use crate::patch::Patch;
-use disk::{ArmedFault, LaneCall, Sector};
-use write_log::Log;
+use disk::{ArmedFault, LaneCall, Log, Sector};
 
 /// Sectors as they stood once and what each sync since then made durable; or the calls of a lane; or all faults
 /// that were armed, the newest first.

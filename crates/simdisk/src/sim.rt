@@ -1,6 +1,6 @@
 //! The disk in memory.
 ghost use Rattle.std.specs.Prelude.{◌≡◌, ◌≤◌, ◌<◌, ◌+◌, ◌*◌, ◌^◌, length};
-ghost use Rattle.write_log.specs.WriteLog.{ranges, synced, newest, AgreesOutside};
+ghost use Rattle.disk.specs.WriteLog.{ranges, synced, newest, AgreesOutside};
 ghost use Rattle.simdisk.specs.History.{log_of};
 ghost use Rattle.simdisk.specs.Latest.{latest_of, HasPlace};
 ghost use Rattle.simdisk.specs.Views.{pieces, IsLatest};

@@ -1,6 +1,6 @@
 use Rattle.std.proofs.Common.{◌≤◌, ◌+◌, length, take}
 use Rattle.disk.specs.Facts.{Content, AreSectorsAt}
-use Rattle.write_log.specs.WriteLog.{ranges, AreWithin}
+use Rattle.disk.specs.WriteLog.{ranges, AreWithin}
 use Rattle.cached_disk.specs.Cached.{pieces_of, shown}
 use Rattle.cached_disk.proofs.waiting.lay_over.Given as goal
 

@@ -1,5 +1,5 @@
 use Rattle.std.proofs.Common.{◌∙◌, length, sym}
-use Rattle.write_log.specs.WriteLog.{piece_in}
+use Rattle.disk.specs.WriteLog.{piece_in}
 use Rattle.simdisk.proofs.Walks.{laid_more, fits_read}
 use Rattle.simdisk.proofs.laid.copy_patches.Goals as goal
 

@@ -1,5 +1,5 @@
 use Rattle.std.proofs.Common.{◌≡◌, drop, length, map}
-use Rattle.write_log.specs.WriteLog.{replay, piece_in}
+use Rattle.disk.specs.WriteLog.{replay, piece_in}
 use Rattle.simdisk.specs.Views.{pieces}
 use Rattle.simdisk.proofs.laid.copy_patches.Given as goal
 

@@ -1,5 +1,5 @@
 use Rattle.std.proofs.Common.{◌∙◌, length}
-use Rattle.write_log.specs.WriteLog.{filled}
+use Rattle.disk.specs.WriteLog.{filled}
 use Rattle.simdisk.proofs.Walks.{laid_more, fits_read}
 use Rattle.simdisk.proofs.laid.fill_patches.Goals as goal
 

@@ -1,4 +1,4 @@
-use Rattle.write_log.specs.WriteLog.{new_log}
+use Rattle.disk.specs.WriteLog.{new_log}
 use Rattle.cached_disk.proofs.cached.CachedDisk.new.Given as goal
 
 abbrev pub ghost-picked : goal.ghost-picked

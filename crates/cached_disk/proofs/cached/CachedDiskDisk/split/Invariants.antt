@@ -1,4 +1,4 @@
-use Rattle.write_log.specs.WriteLog.{more_written, lent_piece}
+use Rattle.disk.specs.WriteLog.{more_written, lent_piece}
 use Rattle.cached_disk.proofs.cached.CachedDiskDisk.split.Given as goal
 
 abbrev pub ghost-picked : goal.ghost-picked

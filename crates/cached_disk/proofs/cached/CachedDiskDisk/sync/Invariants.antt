@@ -1,5 +1,5 @@
 use Rattle.std.proofs.Common.{◌∷◌, []}
-use Rattle.write_log.specs.WriteLog.{more_synced, lent_piece}
+use Rattle.disk.specs.WriteLog.{more_synced, lent_piece}
 use Rattle.cached_disk.proofs.cached.CachedDiskDisk.sync.Given as goal
 
 abbrev pub ghost-picked : goal.ghost-picked

@@ -1,6 +1,6 @@
 use Rattle.std.proofs.Common.{ap, length, subst}
 use Rattle.disk.specs.Facts.{Stays}
-use Rattle.write_log.specs.WriteLog.{WriteLog, Untouched, ranges}
+use Rattle.disk.specs.WriteLog.{WriteLog, Untouched, ranges}
 use Rattle.simdisk.specs.contracts.device.SimDiskDisk.TheImpl as sim_disk
 use Rattle.file_disk.proofs.Kept.{marks_stay, kept_on, spares_all}
 use Rattle.file_disk.proofs.filed.FileDiskDisk.read.Goals as goal

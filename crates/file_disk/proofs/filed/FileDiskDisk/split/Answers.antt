@@ -1,6 +1,6 @@
 use Rattle.std.proofs.Common.{ap, length, subst}
 use Rattle.disk.specs.Facts.{Stays}
-use Rattle.write_log.specs.WriteLog.{WriteLog, Untouched, ranges}
+use Rattle.disk.specs.WriteLog.{WriteLog, Untouched, ranges}
 use Rattle.simdisk.specs.contracts.device.SimDiskDisk.TheImpl as sim_disk
 use Rattle.file_disk.proofs.Kept.{marks_stay, marks_lent, kept_on, spares_all, more_free}
 use Rattle.file_disk.proofs.filed.FileDiskDisk.split.Goals as goal

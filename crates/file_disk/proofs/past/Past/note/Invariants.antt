@@ -1,5 +1,5 @@
 use Rattle.std.proofs.Common.{[], ◌∷◌}
-use Rattle.write_log.specs.WriteLog.{new_log}
+use Rattle.disk.specs.WriteLog.{new_log}
 use Rattle.file_disk.proofs.past.Past.note.Given as goal
 
 abbrev pub ghost-with_parts : goal.ghost-with_parts

@@ -6,10 +6,10 @@ use Rattle.simdisk.specs.declared.lane.SimLane.{SimLane}
 use Rattle.simdisk.specs.History.{log_of}
 use Rattle.simdisk.specs.Latest.{latest_of}
 use Rattle.simdisk.specs.Views.{lent_of, pieces}
-use Rattle.write_log.specs.WriteLog.{newest, ranges, synced}
+use Rattle.disk.specs.WriteLog.{newest, ranges, synced}
 use Rattle.simdisk.proofs.Notes.{agrees_join}
 use Rattle.simdisk.proofs.Rows.{newest_long, written_back}
-use Rattle.write_log.proofs.Stretches.{passes_ranges}
+use Rattle.disk.proofs.Stretches.{passes_ranges}
 use Rattle.simdisk.proofs.device.SimDiskDisk.join.Goals as goal
 
 pub join-requires-clause-each : goal.join-requires-clause-each

@@ -2,14 +2,14 @@ use Rattle.std.proofs.Common.{◌≡◌, ◌∙◌, ◌++◌, ◌∷◌, [], ℕ
 use Rattle.std.proofs.lemmas.List.{length-map}
 use Rattle.disk.specs.Facts.{Content, Lent, Torn, Passes}
 use Rattle.simdisk.specs.Latest.{latest_of}
-use Rattle.write_log.specs.WriteLog.{laid_over, more_written, range, ranges, synced, newest, lent_piece, sim_facts}
+use Rattle.disk.specs.WriteLog.{laid_over, more_written, range, ranges, synced, newest, lent_piece, sim_facts}
 use Rattle.simdisk.specs.Views.{piece, pieces}
 use Rattle.simdisk.specs.History.{log_of}
-use Rattle.write_log.proofs.Ranges.{agrees_push}
+use Rattle.disk.proofs.Ranges.{agrees_push}
 use Rattle.simdisk.proofs.Epochs.{length_newest}
 use Rattle.simdisk.proofs.Notes.{newest_more, ranges_written, last_last, range_lent}
-use Rattle.write_log.proofs.Pieces.{put_same}
-use Rattle.write_log.proofs.Stretches.{passes_range}
+use Rattle.disk.proofs.Pieces.{put_same}
+use Rattle.disk.proofs.Stretches.{passes_range}
 use Rattle.simdisk.proofs.device.SimDiskDisk.split.Goals as goal
 
 pub invariant_of-self-2 : goal.invariant_of-self-2

@@ -1,9 +1,9 @@
 use Rattle.std.proofs.Common.{◌∷◌, [], refl, rules}
-use Rattle.write_log.specs.WriteLog.{lent_piece, synced}
+use Rattle.disk.specs.WriteLog.{lent_piece, synced}
 use Rattle.simdisk.specs.History.{log_of}
 use Rattle.simdisk.specs.Views.{lent_of}
 use Rattle.simdisk.proofs.Epochs.{fits_synced}
-use Rattle.write_log.proofs.Stretches.{passes_sync}
+use Rattle.disk.proofs.Stretches.{passes_sync}
 use Rattle.simdisk.proofs.Notes.{newest_synced, durable_then, lent_fewer}
 use Rattle.simdisk.proofs.device.SimDiskDisk.sync.Goals as goal
 

@@ -1,12 +1,12 @@
 use Rattle.std.proofs.Common.{◌≡◌, ◌∙◌, ◌++◌, ◌∷◌, [], ℕ, ◌*◌, ◌<◌, length, ap, sym, rules}
 use Rattle.disk.specs.Facts.{Content, Lent, Passes, Torn}
-use Rattle.write_log.specs.WriteLog.{laid_over, newest, ranges, sim_facts, synced}
+use Rattle.disk.specs.WriteLog.{laid_over, newest, ranges, sim_facts, synced}
 use Rattle.simdisk.specs.Views.{pieces, lent_of, IsLatest}
 use Rattle.simdisk.specs.History.{log_of}
 use Rattle.simdisk.specs.Latest.{latest_of}
-use Rattle.write_log.proofs.Ranges.{agrees_write, agrees_push}
+use Rattle.disk.proofs.Ranges.{agrees_write, agrees_push}
 use Rattle.simdisk.proofs.Notes.{newest_more, ranges_written, last_push, apart_lent}
-use Rattle.write_log.proofs.Stretches.{passes_range}
+use Rattle.disk.proofs.Stretches.{passes_range}
 use Rattle.simdisk.proofs.device.SimDiskDisk.write.Goals.{In-Ok}
 use Rattle.simdisk.proofs.device.SimDiskDisk.write.Goals as goal
 

@@ -2,7 +2,7 @@ use Rattle.std.proofs.Common.{◌≡◌, ◌++◌, ◌∷◌, [], length, ap, ar
 use Rattle.std.proofs.lemmas.List.{map-append}
 use Rattle.disk.specs.Facts.{Content}
 use Rattle.simdisk.specs.Views.{pieces}
-use Rattle.write_log.proofs.Pieces.{fits_push}
+use Rattle.disk.proofs.Pieces.{fits_push}
 use Rattle.simdisk.proofs.history.History.note.Goals as goal
 
 pub invariant_of-self-2 : goal.invariant_of-self-2

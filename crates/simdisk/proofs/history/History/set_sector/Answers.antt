@@ -1,7 +1,7 @@
 use Rattle.std.proofs.Common.{◌≡◌, ◌∙◌, List, length, ap}
 use Rattle.std.specs.List.{flat_map}
 use Rattle.simdisk.specs.Pokes.{parted}
-use Rattle.write_log.specs.WriteLog.{Piece, synced_after}
+use Rattle.disk.specs.WriteLog.{Piece, synced_after}
 use Rattle.simdisk.specs.Views.{pieces}
 use Rattle.simdisk.proofs.Parted.{fits_parted}
 use Rattle.simdisk.proofs.history.History.set_sector.Goals as goal

@@ -1,10 +1,10 @@
 use Rattle.std.proofs.Common.{◌≡◌, ◌∙◌, ◌++◌, ◌∷◌, [], List, length, map, refl, sym, ap}
 use Rattle.disk.specs.Facts.{Content}
 use Rattle.simdisk.specs.History.{log_of}
-use Rattle.write_log.specs.WriteLog.{Piece, piece_in, replay, synced, synced_after}
+use Rattle.disk.specs.WriteLog.{Piece, piece_in, replay, synced, synced_after}
 use Rattle.simdisk.specs.Views.{pieces}
 use Rattle.simdisk.proofs.Epochs.{fits_synced}
-use Rattle.write_log.proofs.Pieces.{synced_push, replay_copied}
+use Rattle.disk.proofs.Pieces.{synced_push, replay_copied}
 use Rattle.simdisk.proofs.history.History.sync.Goals as goal
 
 -- what stands after an epoch more

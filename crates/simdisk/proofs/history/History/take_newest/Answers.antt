@@ -2,7 +2,7 @@ use Rattle.std.proofs.Common.{◌≡◌, ◌∙◌, ◌*◌, ◌<◌, ◌≤◌,
 use Rattle.std.proofs.Math.Nat.{zero-mul}
 use Rattle.std.proofs.lemmas.List.{length-map}
 use Rattle.simdisk.specs.History.{log_of}
-use Rattle.write_log.specs.WriteLog.{range, ranges, synced, newest}
+use Rattle.disk.specs.WriteLog.{range, ranges, synced, newest}
 use Rattle.simdisk.specs.Views.{piece, pieces}
 use Rattle.simdisk.proofs.Epochs.{fits_synced, length_newest}
 use Rattle.simdisk.proofs.Notes.{ranges_set}

@@ -1,5 +1,5 @@
 use Rattle.std.proofs.Common.{[], ◌∷◌, map}
-use Rattle.write_log.specs.WriteLog.{piece_in, new_log}
+use Rattle.disk.specs.WriteLog.{piece_in, new_log}
 use Rattle.simdisk.specs.Views.{pieces}
 use Rattle.simdisk.proofs.remembered.Remembered.epoch.Given as goal
 

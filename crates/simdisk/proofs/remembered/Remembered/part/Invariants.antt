@@ -1,5 +1,5 @@
 use Rattle.std.proofs.Common.{take, drop}
-use Rattle.write_log.specs.WriteLog.{new_log}
+use Rattle.disk.specs.WriteLog.{new_log}
 use Rattle.simdisk.proofs.remembered.Remembered.part.Given as goal
 
 abbrev pub ghost-picked : goal.ghost-picked

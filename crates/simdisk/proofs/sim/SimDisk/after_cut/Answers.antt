@@ -1,7 +1,7 @@
 use Rattle.std.proofs.Common.{◌≡◌, ◌∙◌, refl, sym, ap}
 use Rattle.simdisk.specs.Views.{left_by_fill, pieces}
 use Rattle.simdisk.specs.History.{log_of}
-use Rattle.write_log.specs.WriteLog.{new_log, synced}
+use Rattle.disk.specs.WriteLog.{new_log, synced}
 use Rattle.simdisk.proofs.Epochs.{fits_synced}
 use Rattle.simdisk.proofs.Notes.{fresh_of, left_agrees}
 use Rattle.simdisk.proofs.sim.SimDisk.after_cut.Goals as goal

@@ -1,6 +1,6 @@
 use Rattle.std.proofs.Common.{◌≡◌, ap}
 use Rattle.simdisk.specs.History.{log_of}
-use Rattle.write_log.specs.WriteLog.{new_log, synced}
+use Rattle.disk.specs.WriteLog.{new_log, synced}
 use Rattle.simdisk.proofs.Notes.{fresh_of}
 use Rattle.simdisk.proofs.sim.SimDisk.holding.Goals as goal
 

@@ -1,7 +1,7 @@
 use Rattle.std.proofs.Common.{refl}
 use Rattle.simdisk.specs.Views.{pieces}
 use Rattle.simdisk.specs.History.{log_of}
-use Rattle.write_log.specs.WriteLog.{synced}
+use Rattle.disk.specs.WriteLog.{synced}
 use Rattle.simdisk.proofs.Epochs.{fits_synced}
 use Rattle.simdisk.proofs.Notes.{left_agrees}
 use Rattle.simdisk.proofs.sim.SimDisk.left.Goals as goal

@@ -5,7 +5,7 @@ use Rattle.simdisk.specs.declared.fill.Fill.TheVariants.{New}
 use Rattle.simdisk.specs.History.{log_of}
 use Rattle.simdisk.specs.Latest.{latest_of}
 use Rattle.simdisk.specs.Pokes.{bytes_put, poked, poked_log}
-use Rattle.write_log.specs.WriteLog.{laid_over, synced}
+use Rattle.disk.specs.WriteLog.{laid_over, synced}
 use Rattle.simdisk.proofs.Epochs.{fits_synced}
 use Rattle.simdisk.proofs.AfterPoke.{fills_poked, agrees_poked, crash_poked}
 use Rattle.simdisk.proofs.sim.SimDisk.poke.Goals as goal

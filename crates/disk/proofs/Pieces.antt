@@ -4,7 +4,7 @@ use Rattle.std.proofs.Math.ListN.{get_or-map}
 use Rattle.std.proofs.lemmas.List.{places, get_or_append_left, get_or_push, ext_get_or, length-map, length-replicate, length-take-le}
 use Rattle.std.proofs.lemmas.Bool.{cases_lt}
 use Rattle.disk.specs.Facts.{Content, sector}
-use Rattle.write_log.specs.WriteLog.{Piece, laid_over, replay, synced_after, range, ranges, Untouched, AgreesOutside, AreWithin, piece_in, filled}
+use Rattle.disk.specs.WriteLog.{Piece, laid_over, replay, synced_after, range, ranges, Untouched, AgreesOutside, AreWithin, piece_in, filled}
 
 module _ (first : ℕ) (s c : Content) (within : first + length s ≤ length c) where
   pub length-put : length (laid_over (first, s) c) ≡ length c

@@ -1,6 +1,6 @@
 -- What contracts alone remember is no data, so it may go to any thread.
 use denote.Param.Send.{IsSend}
-use Rattle.write_log.specs.contracts.log.Log.{the_row}
+use Rattle.disk.specs.contracts.log.Log.{the_row}
 
 pub send : IsSend the_row
 send = record { owned = λ d vs. ((λ vss. (tt, ((λ uss. (tt, tt)), tt))), tt); leaving = λ k f vs. tt }

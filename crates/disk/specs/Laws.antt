@@ -3,7 +3,7 @@ use Rattle.std.specs.Prelude.{◌⊎◌, ℕ, ◌<◌, ◌≤◌, ◌^◌, List,
 use Rattle.std.proofs.Common.{arith}
 use mathlib.Core.Logic.{inl, inr}
 use Rattle.disk.specs.Facts.{Content, most}
-use Rattle.write_log.specs.WriteLog.{Piece, Had}
+use Rattle.disk.specs.WriteLog.{Piece, Had}
 
 none_left : (stood : Content) (past : List (List Piece)) (c : Content) → Had stood (drop (length past) past) c → ⊥
 none_left stood [] c had = had

@@ -1,5 +1,5 @@
-use Rattle.write_log.specs.WriteLog.{more_written}
-use Rattle.write_log.proofs.log.Log.note.Given as goal
+use Rattle.disk.specs.WriteLog.{more_written}
+use Rattle.disk.proofs.log.Log.note.Given as goal
 
 abbrev pub ghost-picked : goal.ghost-picked
 ghost-picked a = let passed = a._values.now in more_written (passed.1, passed.2.now) passed.0.now.log

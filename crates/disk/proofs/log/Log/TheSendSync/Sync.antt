@@ -1,7 +1,7 @@
 -- What contracts alone remember is no data, so any threads may share it.
 use denote.Memory.{part_of, raw_all}
 use denote.Param.Send.{IsSync, cell_keyless}
-use Rattle.write_log.specs.contracts.log.Log.{the_row}
+use Rattle.disk.specs.contracts.log.Log.{the_row}
 
 pub sync : IsSync the_row
 unfolding part_of

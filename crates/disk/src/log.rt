@@ -4,9 +4,9 @@ ghost use Rattle.std.specs.Borrow.{ftrue};
 ghost use Rattle.disk.specs.Facts.{Content};
 ghost use Rattle.disk.specs.declared.device.ArmedFault.{ArmedFault};
 ghost use Rattle.disk.specs.declared.device.LaneCall.{LaneCall};
-ghost use Rattle.write_log.specs.WriteLog.{WriteLog, more_written};
+ghost use Rattle.disk.specs.WriteLog.{WriteLog, more_written};
 
-use disk::Sector;
+use crate::device::Sector;
 use std::marker::{Model, PhantomData};
 
 /// The log of a disk's writes and syncs, for its contracts. A disk may besides have it remember the calls of a lane, the faults
