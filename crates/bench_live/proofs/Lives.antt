@@ -3,7 +3,7 @@ use Rattle.std.proofs.Common.{◌≡◌, ◌∙◌, List, ℕ, Option, Some, Res
 use Rattle.board_model.specs.Shapes.{Size}
 use Rattle.board_model.specs.declared.refusal.Refusal.{Refusal}
 use Rattle.board_model.specs.declared.refusal.Refusal.TheVariants.{Memory}
-use Rattle.machine_lines.specs.declared.line.MachineLine.TheVariants as shown
+use Rattle.machine.specs.declared.line.MachineLine.TheVariants as shown
 use Rattle.script_lang.specs.declared.line.Line.{Line}
 use Rattle.script_lang.specs.declared.line.Line.TheVariants as lines
 use Rattle.simdisk.specs.declared.fill.Fill.{Fill}

@@ -1,8 +1,8 @@
 -- A line of turns, taken apart and put together.
 use Rattle.std.proofs.Common.{◌≡◌, ◌≤◌, ◌+◌, inl, inr, ℕ, zero, suc, true, false, Option, Some, None, refl, sym, ap, ◌∙◌, subst, arith}
 use Rattle.board_model.specs.Shapes.{Size}
-use Rattle.machine_lines.specs.Shows.{HasHart}
-use Rattle.machine_lines.specs.declared.line.MachineLine.TheVariants as shown
+use Rattle.machine.specs.Shows.{HasHart}
+use Rattle.machine.specs.declared.line.MachineLine.TheVariants as shown
 use Rattle.sbi.specs.Words.{ends}
 use Rattle.sbi.specs.declared.words.Word.{Word}
 use Rattle.script_lang.specs.declared.line.Line.TheVariants as lines

@@ -13,7 +13,7 @@ use Rattle.script_lang.specs.declared.line.Line.{Line}
 use Rattle.simdisk.specs.declared.SimDisk.{SimDisk}
 use Rattle.simdisk.specs.declared.fill.Fill.{Fill}
 use Rattle.bench_report.specs.Turns.{GuestTurns}
-use Rattle.machine_lines.specs.Shows.{HasHart}
+use Rattle.machine.specs.Shows.{HasHart}
 use Rattle.bench_live.specs.declared.live.LiveBench.{LiveBench}
 
 -- a power that is there stands for the bench

@@ -8,8 +8,8 @@ ghost use Rattle.bench_report.specs.Happens.{shows};
 ghost use Rattle.bench_report.specs.Steps.{TurnStep};
 ghost use Rattle.bench_report.specs.Views.{machine_in, store_in, store_fault_state};
 ghost use Rattle.bench_live.specs.Lives.{IsOn, stays_on, WentInPlace};
-ghost use Rattle.machine_lines.specs.Shows.{HasHart};
-ghost use Rattle.machine_lines.specs.declared.line.MachineLine.TheVariants as shown;
+ghost use Rattle.machine.specs.Shows.{HasHart};
+ghost use Rattle.machine.specs.declared.line.MachineLine.TheVariants as shown;
 
 use crate::laws::idle_turns_change_nothing;
 use crate::rows::is_idle;

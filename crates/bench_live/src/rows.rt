@@ -5,8 +5,7 @@ ghost use Rattle.bench_live.specs.Rows.{goes_on, is_idle, is_idle_row, is_off, l
 
 use bench_report::{Answer, Printed};
 use board_model::HartId;
-use machine::{Did, Word};
-use machine_lines::MachineLine;
+use machine::{Did, MachineLine, Word};
 
 /// What a row of turns of a hart did.
 #[derive(Clone, Copy, PartialEq, Eq, Drop)]

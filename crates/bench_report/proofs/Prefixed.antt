@@ -16,15 +16,15 @@ use Rattle.board.specs.Moments.{commands_by}
 use Rattle.script_lang.specs.Scripts.{Script}
 use Rattle.script_lang.specs.declared.line.Line.{Line}
 use Rattle.machine.specs.Machine.{Machine, hart_at}
-use Rattle.machine_lines.specs.Shows.{own_line, own_line_by}
+use Rattle.machine.specs.Shows.{own_line, own_line_by}
 use Rattle.sbi_calls.specs.Words.{is_answered}
 use Rattle.sbi_calls.specs.declared.words.Did.{Did}
 use Rattle.hart.specs.State.{ArchState, reg}
 use Rattle.sbi_calls.specs.declared.words.Turned.{Turned}
 use Rattle.sbi.specs.declared.words.Word.{Word}
 use Rattle.sbi.specs.declared.words.Word.TheVariants as words
-use Rattle.machine_lines.specs.declared.line.MachineLine.{MachineLine}
-use Rattle.machine_lines.specs.declared.line.MachineLine.TheVariants as shown_lines
+use Rattle.machine.specs.declared.line.MachineLine.{MachineLine}
+use Rattle.machine.specs.declared.line.MachineLine.TheVariants as shown_lines
 use Rattle.board_model.specs.declared.console_command.ConsoleCommand.{ConsoleCommand}
 use Rattle.board_model.specs.ConsoleCommands.{console_change}
 use Rattle.report_lines.specs.declared.printed.Printed.{Printed}

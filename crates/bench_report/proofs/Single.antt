@@ -4,10 +4,9 @@ use Rattle.std.proofs.Common.{◌≡◌, ◌⊎◌, ℕ, inl, inr, List, [], ◌
 use Rattle.board_model.specs.Shapes.{Size}
 use Rattle.board_model.specs.declared.boot_mode.BootMode.{BootMode}
 use Rattle.machine.specs.Machine.{Machine, hart_at}
-use Rattle.machine_lines.specs.Shows.{own_line}
-use Rattle.machine_lines.specs.declared.line.MachineLine.{MachineLine}
-use Rattle.machine_lines.specs.declared.line.MachineLine.TheVariants as shown_lines
-use Rattle.machine_lines.specs.Shows.{CsrLine}
+use Rattle.machine.specs.Shows.{own_line, CsrLine}
+use Rattle.machine.specs.declared.line.MachineLine.{MachineLine}
+use Rattle.machine.specs.declared.line.MachineLine.TheVariants as shown_lines
 use Rattle.machine.specs.Turns.{MakesOneCall}
 use Rattle.sbi.specs.declared.words.Word.{Word}
 use Rattle.sbi.specs.declared.words.Word.TheVariants as words

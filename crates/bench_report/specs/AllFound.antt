@@ -6,8 +6,8 @@ use Rattle.board_model.specs.Durable.{DurableState, Change, formatted}
 use Rattle.board.specs.Boots.{boot_refusal}
 use Rattle.sbi.specs.declared.words.Word.{Word}
 use Rattle.sbi.specs.declared.words.Word.TheVariants as words
-use Rattle.machine_lines.specs.declared.line.MachineLine.{MachineLine}
-use Rattle.machine_lines.specs.declared.line.MachineLine.TheVariants as shown
+use Rattle.machine.specs.declared.line.MachineLine.{MachineLine}
+use Rattle.machine.specs.declared.line.MachineLine.TheVariants as shown
 use Rattle.script_lang.specs.declared.line.Line.{Line}
 use Rattle.report_lines.specs.declared.printed.Answer.{Answer}
 use Rattle.report_lines.specs.declared.printed.Printed.{Printed}

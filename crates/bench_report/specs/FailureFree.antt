@@ -2,8 +2,8 @@
 use Rattle.std.specs.Prelude.{◌≡◌, ◌≢◌, List, [], ◌∷◌, ⊤}
 use Rattle.sbi.specs.declared.words.Word.TheVariants as words
 use Rattle.sbi_calls.specs.declared.words.Did.TheVariants.{Next}
-use Rattle.machine_lines.specs.declared.line.MachineLine.{MachineLine}
-use Rattle.machine_lines.specs.declared.line.MachineLine.TheVariants as shown
+use Rattle.machine.specs.declared.line.MachineLine.{MachineLine}
+use Rattle.machine.specs.declared.line.MachineLine.TheVariants as shown
 use Rattle.report_lines.specs.declared.printed.Answer.{Answer}
 use Rattle.report_lines.specs.declared.printed.Printed.{Printed}
 use Rattle.report_lines.specs.declared.printed.Printed.TheVariants as printed

@@ -6,7 +6,7 @@ use Rattle.disk.specs.Facts.{counted}
 use Rattle.disk.specs.FaultState.{FaultState, Cause, fault_state_armed, fault_state_left}
 use Rattle.disk.specs.declared.device.ArmedFault.{ArmedFault}
 use Rattle.machine.specs.Machine.{Machine}
-use Rattle.machine_lines.specs.declared.line.MachineLine.{MachineLine}
+use Rattle.machine.specs.declared.line.MachineLine.{MachineLine}
 use Rattle.report_lines.specs.declared.printed.Printed.{Printed}
 use Rattle.report_lines.specs.declared.printed.Printed.TheVariants as printed
 use Rattle.report_lines.specs.declared.printed.Answer.{Answer}

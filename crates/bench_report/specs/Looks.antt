@@ -1,8 +1,8 @@
 -- What a line shows of the memory and the harts of a board that is on.
 use Rattle.std.specs.Prelude.{◌≡◌}
 use Rattle.machine.specs.Machine.{Machine}
-use Rattle.machine_lines.specs.Shows.{reg_line, pc_line, CsrLine, pending_line, mem_line}
-use Rattle.machine_lines.specs.declared.line.MachineLine.{MachineLine}
+use Rattle.machine.specs.Shows.{reg_line, pc_line, CsrLine, pending_line, mem_line}
+use Rattle.machine.specs.declared.line.MachineLine.{MachineLine}
 use Rattle.script_lang.specs.declared.looks.Look.{Look}
 use Rattle.script_lang.specs.declared.looks.Look.TheVariants.{Reg, Pc, Csr, Pending, Mem}
 

@@ -21,8 +21,8 @@ use Rattle.sbi_calls.specs.Words.{is_answered}
 use Rattle.sbi_calls.specs.declared.words.Did.{Did}
 use Rattle.sbi.specs.declared.words.LifeEnd.{LifeEnd}
 use Rattle.sbi.specs.declared.words.LifeEnd.TheVariants as life_ends
-use Rattle.machine_lines.specs.declared.line.MachineLine.{MachineLine}
-use Rattle.machine_lines.specs.declared.line.MachineLine.TheVariants as shown
+use Rattle.machine.specs.declared.line.MachineLine.{MachineLine}
+use Rattle.machine.specs.declared.line.MachineLine.TheVariants as shown
 use Rattle.script_lang.specs.declared.line.Line.{Line}
 use Rattle.script_lang.specs.declared.line.Line.TheVariants as lines
 use Rattle.bench_report.specs.Deeds as deeds

@@ -5,13 +5,13 @@ use Rattle.disk.specs.declared.device.ArmedFault.{ArmedFault}
 use Rattle.board_model.specs.declared.boot_mode.BootMode.{BootMode}
 use Rattle.machine.specs.Machine.{Machine, hart_at}
 use Rattle.script_lang.specs.declared.line.Line.{Line}
-use Rattle.machine_lines.specs.Shows.{HasHart, own_line}
+use Rattle.machine.specs.Shows.{HasHart, own_line}
 use Rattle.machine.specs.Turns.{MakesOneCall}
 use Rattle.sbi.specs.declared.words.Word.{Word}
 use Rattle.sbi.specs.declared.words.Word.TheVariants as words
 use Rattle.sbi_calls.specs.declared.words.Turned.{Turned}
-use Rattle.machine_lines.specs.declared.line.MachineLine.{MachineLine}
-use Rattle.machine_lines.specs.declared.line.MachineLine.TheVariants as shown
+use Rattle.machine.specs.declared.line.MachineLine.{MachineLine}
+use Rattle.machine.specs.declared.line.MachineLine.TheVariants as shown
 use Rattle.board_model.specs.declared.console_command.ConsoleCommand.{ConsoleCommand}
 use Rattle.board_model.specs.declared.call_words.CallWords.{CallWords}
 use Rattle.board_model.specs.ConsoleCommands.{console_change}

@@ -35,7 +35,7 @@ pub fn one_report()
         → IsReportWith payloads script answers end → ShowNoFailure answers → IsFailureFree end }
 {
     machine::one_turn();
-    machine_lines::one_line();
+    machine::one_line();
     store::one_standing();
     store::one_inspection();
     store::formats_in_order();

@@ -2,7 +2,7 @@
 
 ghost use Rattle.std.specs.Prelude.{◌≡◌, ◌<◌, ◌≤◌, ◌+◌, ◌*◌, ◌^◌, if◌then◌else◌};
 ghost use Rattle.board_model.specs.Shapes.{Size};
-ghost use Rattle.machine_lines.specs.Shows.{waits, CsrLine, pending_line};
+ghost use Rattle.machine.specs.Shows.{waits, CsrLine, pending_line};
 ghost use Rattle.bench_report.specs.Agree.{Agrees, StepsTo};
 ghost use Rattle.bench_report.specs.Bench.{Bench};
 ghost use Rattle.bench_report.specs.Happens.{shows};
@@ -13,7 +13,7 @@ ghost use Rattle.bench_report.specs.Views.{store_in, machine_in};
 use crate::power::Power;
 use board::Board;
 use board_model::HartId;
-use machine_lines::MachineLine;
+use machine::MachineLine;
 use script_lang::Look;
 use simdisk::SimDisk;
 
@@ -33,7 +33,7 @@ fn csr(board: &mut Board<SimDisk>, hart: HartId, number: u32) -> MachineLine
     ensures store { store_in board.new ≡ store_in board.old }
 {
     let pending = waits(board, hart);
-    machine_lines::csr_of(board.machine(), hart, number, pending)
+    machine::csr_of(board.machine(), hart, number, pending)
 }
 
 /// The bit of each hart in a set of harts.
@@ -75,11 +75,11 @@ fn shown(board: &mut Board<SimDisk>, look: Look) -> MachineLine
     ensures store { store_in board.new ≡ store_in board.old }
 {
     match look {
-        Look::Reg(hart, register) => machine_lines::reg(board.machine(), hart, register),
-        Look::Pc(hart) => machine_lines::pc(board.machine(), hart),
+        Look::Reg(hart, register) => machine::reg(board.machine(), hart, register),
+        Look::Pc(hart) => machine::pc(board.machine(), hart),
         Look::Csr(hart, number) => csr(board, hart, number),
         Look::Pending => pending(board),
-        Look::Mem(address, count) => machine_lines::mem(board.machine(), address, count),
+        Look::Mem(address, count) => machine::mem(board.machine(), address, count),
     }
 }
 

@@ -25,8 +25,7 @@ use board::{Board, Payloads};
 use board_model::{BootMode, Bytes, CallWords, ConsoleCommand, Durable, HartId, Refusal, Shape};
 use crew::Crew;
 use disk::{ArmedFault, Disk};
-use machine::Word;
-use machine_lines::MachineLine;
+use machine::{MachineLine, Word};
 use report_lines::{Answer, Printed};
 use script_lang::Line;
 use simdisk::{Fill, SimDisk};
@@ -376,7 +375,7 @@ fn call<C: Crew>(
         return (Power::On(board), MachineLine::Off);
     }
     let said = board.call(alloc, crew, hart, words);
-    let line = machine_lines::called(board.machine(), hart, said);
+    let line = machine::called(board.machine(), hart, said);
     match said {
         None => (Power::On(board), line),
         Some(word) => (after(board, word), line),

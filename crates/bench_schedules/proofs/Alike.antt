@@ -8,9 +8,9 @@ use Rattle.board_model.specs.contracts.durable.DurablePartialEq.TheImpl as durab
 use Rattle.sbi.specs.declared.words.Word.{Word}
 use Rattle.sbi.specs.declared.words.Word.TheVariants as words
 use Rattle.sbi.specs.contracts.words.WordPartialEq.TheImpl as word
-use Rattle.machine_lines.specs.declared.line.MachineLine.{MachineLine}
-use Rattle.machine_lines.specs.declared.line.MachineLine.TheVariants as lines
-use Rattle.machine_lines.specs.contracts.line.MachineLinePartialEq.TheImpl as machine_line
+use Rattle.machine.specs.declared.line.MachineLine.{MachineLine}
+use Rattle.machine.specs.declared.line.MachineLine.TheVariants as lines
+use Rattle.machine.specs.contracts.line.MachineLinePartialEq.TheImpl as machine_line
 use Rattle.report_lines.specs.declared.printed.Answer.{Answer}
 use Rattle.report_lines.specs.declared.printed.Printed.{Printed}
 use Rattle.report_lines.specs.declared.printed.Printed.TheVariants as printed

@@ -3,7 +3,7 @@ use Rattle.std.proofs.Common.{◌≡◌, ◌≢◌, ◌∙◌, ℕ, List, [], �
 use Rattle.board_console.specs.Texts.{state_text}
 use Rattle.board_model.specs.declared.console_command.ConsoleCommand.TheVariants as commands
 use Rattle.board_model.specs.declared.durable.Durable.{Durable}
-use Rattle.machine_lines.specs.declared.line.MachineLine.TheVariants as lines
+use Rattle.machine.specs.declared.line.MachineLine.TheVariants as lines
 use Rattle.report_lines.specs.Texts.{line_text}
 use Rattle.report_lines.specs.declared.printed.Answer.{Answer}
 use Rattle.report_lines.specs.declared.printed.Printed.{Printed}

@@ -17,9 +17,7 @@ use crate::numbers::{line_numbers, number_at, number_of_other};
 use crate::own_runs::{OwnRun, run_own};
 use crate::runs::{Difference, run_confirmed, run_until};
 use crate::written::{write_count, write_difference, write_tight};
-use bench_orders::{
-    fits, generator, orders_keep_lines, schedule, shape_in_range, write_script,
-};
+use bench_orders::{fits, generator, orders_keep_lines, schedule, shape_in_range, write_script};
 use bench_report::{Answer, Setting};
 use board::Payloads;
 use board_model::Refusal;

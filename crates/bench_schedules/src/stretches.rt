@@ -3,8 +3,7 @@
 
 use bench_orders::{Front, harts, total};
 use bench_report::{Answer, Printed};
-use machine::{Did, Word};
-use machine_lines::MachineLine;
+use machine::{Did, MachineLine, Word};
 use script_lang::Line;
 use std::alloc::{AllocError, Global};
 

@@ -6,7 +6,7 @@ ghost use Rattle.bench_schedules.specs.declared.told.ToldLine.TheVariants as tol
 
 use board_console::StateText;
 use board_model::{Durable, ImageHead};
-use machine_lines::Value;
+use machine::Value;
 use report_lines::{Answer, Printed};
 use std::alloc::{AllocError, Global};
 use std::fmt;

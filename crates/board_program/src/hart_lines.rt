@@ -5,7 +5,7 @@ ghost use Rattle.board_program.specs.HartTexts.{doze_text, line_text, lines_text
 
 use hart_threads::{HartEnd, ShutBy, Why};
 use hsm::State;
-use machine_lines::Value;
+use machine::Value;
 use std::fmt;
 
 /// The name of a state.

@@ -5,9 +5,9 @@ use Rattle.std.proofs.lemmas.Bool.Decides.{nat_tests}
 use Rattle.board_model.specs.Shapes.{Size}
 use Rattle.board_model.specs.Kept.{Kept}
 use Rattle.machine.specs.Machine.{Machine, hart_at}
-use Rattle.machine_lines.specs.Shows.{HasHart}
+use Rattle.machine.specs.Shows.{HasHart}
 use Rattle.script_lang.specs.declared.line.Line.TheVariants as lines
-use Rattle.machine_lines.specs.declared.line.MachineLine.TheVariants as shown
+use Rattle.machine.specs.declared.line.MachineLine.TheVariants as shown
 use Rattle.report_lines.specs.declared.printed.Printed.TheVariants as printed
 use Rattle.report_lines.specs.declared.printed.Answer.{Answer}
 use Rattle.bench_report.specs.Steps.{Moves, TurnStep}

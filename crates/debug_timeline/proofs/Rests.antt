@@ -1,7 +1,7 @@
 -- One turn more of a row.
 use Rattle.std.proofs.Common.{◌≡◌, ◌⊎◌, inl, inr, ℕ, Bool, true, false, not, List, Option, None, refl, subst, arith}
 use Rattle.board_model.specs.Shapes.{Size}
-use Rattle.machine_lines.specs.declared.line.MachineLine.TheVariants as shown
+use Rattle.machine.specs.declared.line.MachineLine.TheVariants as shown
 use Rattle.script_lang.specs.declared.line.Line.TheVariants as lines
 use Rattle.machine.specs.Machine.{Machine}
 use Rattle.bench_report.specs.Bench.{Bench}

@@ -8,7 +8,7 @@ use Rattle.hart.specs.declared.csr.Csr.{Csr}
 use Rattle.hart.specs.declared.csr.Csr.TheVariants as csrs
 use Rattle.hsm.specs.declared.state.State.{State}
 use Rattle.machine.specs.Machine.{Machine, hart_at, status_at}
-use Rattle.machine_lines.specs.declared.line.MachineLine.TheVariants as shown
+use Rattle.machine.specs.declared.line.MachineLine.TheVariants as shown
 use Rattle.sbi.specs.declared.words.Word.{Word}
 use Rattle.script_lang.specs.declared.line.Line.TheVariants as lines
 use Rattle.turns.specs.Turns.{has_pending}

@@ -9,8 +9,7 @@ use crate::debugged::DebuggedBench;
 use bench_report::Power;
 use board::Board;
 use board_model::{HartId, RAM_BASE};
-use machine::State;
-use machine_lines::{MachineLine, csr_of};
+use machine::{MachineLine, State, csr_of};
 use rv_decode::Reg;
 use simdisk::SimDisk;
 

@@ -4,7 +4,7 @@ use Rattle.std.specs.Fmt.{decimal}
 use Rattle.board_console.specs.Texts.{state_text}
 use Rattle.board_model.specs.declared.durable.ImageHead.{ImageHead}
 use Rattle.examined.specs.Texts.{inspection_text}
-use Rattle.machine_lines.specs.Texts.{hex_text}
+use Rattle.machine.specs.Texts.{hex_text}
 use Rattle.examined.specs.declared.sees.Found.{Found}
 use Rattle.examined.specs.declared.sees.Seen.{Seen}
 use lib.Chars.{codes}

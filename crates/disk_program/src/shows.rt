@@ -9,7 +9,7 @@ use board_console::StateText;
 use board_model::{ImageHead, Refusal};
 use command_line::write_to_end;
 use examined::{Found, InspectionText, Seen};
-use machine_lines::Value;
+use machine::Value;
 use std::fmt;
 use std::io::{BufWriter, Write};
 

@@ -1,3 +1,5 @@
+pub mod Texts
+pub mod Shows
 pub mod Machine
 pub mod Turns
 pub mod Held

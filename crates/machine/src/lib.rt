@@ -1,17 +1,25 @@
 //! A board's memory, harts and tables on one thread: what a boot leaves, what a turn or a call of a hart
 //! does, and how a call that comes to a durable command is made with a store. docs/BOARD.md has it in plain
 //! words.
+//!
+//! The report lines of a script that show a board's memory and harts, or say what a hart did (docs/SCRIPT.md).
 #![tactic(auto)]
 
 mod calls;
 mod holds;
 mod laws;
+mod line;
+mod line_laws;
 mod machine;
 mod parts;
+mod shows;
 mod states;
 
 pub use hsm::State;
 pub use laws::{a_doze_stands, one_turn};
+pub use line::{MachineLine, MemBytes, Value};
+pub use line_laws::one_line;
 pub use machine::Machine;
 pub use parts::Parts;
 pub use sbi::{Did, LifeEnd, ResetType, Turned, Word};
+pub use shows::{called, csr_of, mem, pc, reg};

@@ -6,7 +6,7 @@ use Rattle.board_model.specs.declared.durable.Durable.{Durable}
 use Rattle.board_model.specs.ConsoleCommands.{word_of}
 use Rattle.board_console.specs.Texts.{state_text}
 use Rattle.script_lang.specs.Lines.{mode_text}
-use Rattle.machine_lines.specs.Texts.{machine_line_text}
+use Rattle.machine.specs.Texts.{machine_line_text}
 use Rattle.examined.specs.Texts.{inspection_text}
 use Rattle.report_lines.specs.declared.printed.Printed.{Printed}
 use Rattle.report_lines.specs.declared.printed.Printed.TheVariants as printed

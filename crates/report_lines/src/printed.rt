@@ -6,7 +6,7 @@ ghost use Rattle.report_lines.specs.Texts.{line_text};
 
 use board_model::{BootMode, ConsoleCommand, Durable};
 use examined::InspectionText;
-use machine_lines::MachineLine;
+use machine::MachineLine;
 use std::fmt;
 use store::Inspection;
 

@@ -1,5 +1,5 @@
 use Rattle.std.proofs.Common.{◌≡◌, ◌*◌, ◌≤◌}
-use Rattle.machine_lines.specs.Shows.{pending_set}
+use Rattle.machine.specs.Shows.{pending_set}
 use Rattle.bench_report.specs.Views.{store_in, machine_in}
 use Rattle.bench_report.proofs.looks.pending.Given as goal
 

@@ -3,7 +3,7 @@ use Rattle.machine.specs.Machine.{Machine, hart_at}
 use Rattle.sbi.specs.declared.words.Word.{Word}
 use Rattle.bench_report.specs.declared.power.Power.TheVariants.{On}
 use Rattle.bench_report.specs.Views.{machine_in}
-use Rattle.machine_lines.specs.Shows.{HasHart, called_line}
+use Rattle.machine.specs.Shows.{HasHart, called_line}
 use Rattle.bench_report.proofs.Lines.{on_calls, Follows}
 use Rattle.bench_report.proofs.steps.call.Goals as goal
 

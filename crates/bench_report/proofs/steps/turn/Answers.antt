@@ -1,7 +1,7 @@
 use Rattle.std.proofs.Common.{refl, subst}
 use Rattle.machine.specs.Machine.{Machine}
 use Rattle.bench_report.specs.Views.{machine_in}
-use Rattle.machine_lines.specs.Shows.{HasHart}
+use Rattle.machine.specs.Shows.{HasHart}
 use Rattle.bench_report.proofs.Lines.{on_turns}
 use Rattle.bench_report.proofs.steps.turn.Goals as goal
 

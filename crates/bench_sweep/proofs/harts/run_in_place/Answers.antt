@@ -1,7 +1,7 @@
 use Rattle.std.proofs.Common.{◌≡◌, true, false, refl, sym, subst}
 use Rattle.script_lang.specs.declared.line.Line.TheVariants as lines
 use Rattle.machine.specs.Machine.{Machine}
-use Rattle.machine_lines.specs.Shows.{HasHart}
+use Rattle.machine.specs.Shows.{HasHart}
 use Rattle.bench_report.specs.Views.{machine_in}
 use Rattle.bench_sweep.specs.Lines.{TurnsMany}
 use Rattle.bench_sweep.proofs.Turned.{hart_line, turn_line, turn_lacks, call_lacks}

@@ -1,2 +1,0 @@
-mod Padded
-mod Determined
