@@ -6,7 +6,7 @@ use Rattle.script_lang.specs.Scripts.{script_of}
 use Rattle.bench_program.specs.Written.{IsNotTaken, IsFaultIn, IsFaultOf, IsFileOf, IsNoRow, IsRefusedWith, IsUnread, IsFault}
 use Rattle.command_line.specs.declared.NoWork.{NoWork}
 use Rattle.command_line.specs.declared.NoWork.TheVariants as whys
-use Rattle.payload_files.proofs.FaultKinds.{file_fault}
+use Rattle.board_files.proofs.PayloadFaults.{file_fault}
 use Rattle.std.specs.declared.io.ErrorKind.{ErrorKind}
 use Rattle.command_line.specs.Faults.{fault_of_kind}
 use Rattle.command_line.specs.declared.fault.ProgramFault.{ProgramFault}

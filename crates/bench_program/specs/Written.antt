@@ -25,7 +25,7 @@ use Rattle.bench_shrink.specs.Shrunk.{Shrunk}
 use Rattle.bench_judge.specs.declared.judges.Sweep.{Sweep as Counts}
 use Rattle.bench_program.specs.Taps.{tap_text}
 use Rattle.command_line.specs.declared.NoWork.TheVariants as whys
-use Rattle.payload_files.specs.Named.{AreFilesOf}
+use Rattle.board_files.specs.Named.{AreFilesOf}
 use Rattle.bench_program.specs.Usage.{payload_files, recovery_file, script_file, IsNamedBy, NamesNoWork, NamesConflict}
 use Rattle.bench_program.specs.declared.fault.BenchFault.{BenchFault}
 use Rattle.bench_program.specs.declared.fault.BenchFault.TheVariants.{Usage, Input, File, Refused, Closed, Wrong}

@@ -5,7 +5,7 @@ ghost use Rattle.board_model.specs.declared.refusal.Refusal.TheVariants.{Memory}
 ghost use Rattle.std.specs.Io.Buffered.{writer_buffer, writer_contents, writer_inner};
 ghost use Rattle.bench_program.specs.Faults.{fault_by, status_after, unread_by, without_work};
 ghost use Rattle.command_line.specs.Pipes.{is_closed_pipe, pipe_contents};
-ghost use Rattle.payload_files.specs.Named.{AreFilesOf};
+ghost use Rattle.board_files.specs.Named.{AreFilesOf};
 ghost use Rattle.bench_program.specs.Usage.{payload_files, recovery_file, IsBounded, NamesNoWork};
 ghost use Rattle.bench_program.specs.Written.{AreDone, AreWrong, IsDone, IsFault, IsFaultIn, IsFaultOf, IsMade, IsPut, IsReadOf, IsRecovered, IsRecoveryOf, IsReported, IsRowShown, IsUnread, IsWorked, IsWritten, IsWrong, IsWrongOver, TellsApart, TellsWrong, source_of};
 ghost use Rattle.bench_program.specs.declared.fault.BenchFault.{BenchFault};
@@ -25,13 +25,13 @@ use bench_preemptions::{Wanted, Within};
 use bench_schedules::Plan as Schedules;
 use bench_sweep::{Plan, WantedRow};
 use board::Payloads;
+use board_files::{PayloadFiles, read_payloads};
 use board_model::Refusal;
 use command_line::{
     FileFault, NoWork, Pipe, ProgramFault, explain_fault, read_at_most, show_on, tell_fault,
 };
 use crew::{Crew, Sequential};
 use jobs::Jobs;
-use payload_files::{PayloadFiles, read_payloads};
 use std::alloc::Global;
 use std::convert::AsStr;
 use std::io::{self, BufReader, BufWriter, IsTerminal, Read, Write};

@@ -1,3 +1,4 @@
+pub mod PayloadFaults
 pub mod FaultKinds
 pub mod FileSectors
 pub mod FileBytes

@@ -28,7 +28,7 @@ use Rattle.command_line.specs.declared.fault.ProgramFault.TheVariants.{Refused}
 use Rattle.file_disk.specs.Files.{FileKnown}
 use Rattle.disk.specs.Facts.{Facts, Unchanged}
 use Rattle.hart_threads.specs.Ends.{Ending}
-use Rattle.payload_files.specs.Named.{AreFilesOf}
+use Rattle.board_files.specs.Named.{AreFilesOf}
 use Rattle.shared_store.specs.Heard.{Hearing, heard_nothing}
 use Rattle.simdisk.specs.declared.sim.SimDisk.{SimDisk}
 

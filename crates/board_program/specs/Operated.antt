@@ -21,7 +21,7 @@ use Rattle.command_line.specs.declared.NoWork.TheVariants.{Memory, Usage}
 use Rattle.command_line.specs.declared.fault.ProgramFault.{ProgramFault}
 use Rattle.disk.specs.Facts.{Facts, IsFresh}
 use Rattle.file_disk.specs.Files.{FileKnown, IfKnown, LeavesNoMore}
-use Rattle.payload_files.specs.Named.{AreFilesOf}
+use Rattle.board_files.specs.Named.{AreFilesOf}
 use Rattle.simdisk.specs.declared.sim.SimDisk.{SimDisk}
 
 -- The disk that a session begins with, by whether it is a new one: a blank one of the shape; or the disk of the board that

@@ -3,13 +3,12 @@
 ghost use Rattle.std.specs.Prelude.{◌≡◌, None, Some, IfErr, IfOk};
 ghost use Rattle.board_files.specs.Faults.{IsFileFault};
 
-use board_files::{BoardFiles, DiskFile, DiskFiles, Failing, MemoryDisk, unreached};
+use board_files::{BoardFiles, DiskFile, DiskFiles, Failing, MemoryDisk, PayloadFiles, unreached};
 use board_model::Refusal;
 use board_program::Answers;
 use command_line::FileFault;
 use disk::Sector;
 use file_disk::{FileFate, MemoryFile};
-use payload_files::PayloadFiles;
 use std::alloc::{AllocError, Global};
 use std::io::{self, Cursor, ErrorKind, IsTerminal, Read, Write};
 

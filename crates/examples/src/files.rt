@@ -2,7 +2,7 @@
 
 ghost use Rattle.std.specs.Prelude.{None};
 
-use payload_files::PayloadFiles;
+use board_files::PayloadFiles;
 use std::fs::File;
 use std::io;
 use std::path::Path;

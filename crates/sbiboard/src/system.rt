@@ -4,13 +4,12 @@ ghost use Rattle.std.specs.Prelude.{None};
 
 use crate::held::{Held, hold};
 use crate::written::{kept_file, write_disk};
-use board_files::{BoardFiles, DiskFile, HeldFile, unreached};
+use board_files::{BoardFiles, DiskFile, HeldFile, PayloadFiles, unreached};
 use board_model::Refusal;
 use board_options::Hints;
 use board_program::Answers;
 use command_line::FileFault;
 use disk::Sector;
-use payload_files::PayloadFiles;
 use std::fs::File;
 use std::io::{self, BufWriter, Printer, Write};
 use std::os::unix::fs::FileExt;

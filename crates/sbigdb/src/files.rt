@@ -8,9 +8,9 @@ ghost use Rattle.sbigdb.specs.Begins.{BeginsAt};
 
 use crate::begins::begun;
 use crate::start::Start;
+use board_files::read_payloads;
 use command_line::{FileFault, read_file};
 use debug_options::Options;
-use payload_files::read_payloads;
 use script_lang::parse_script;
 use std::thread::Threads;
 

@@ -4,9 +4,9 @@ ghost use Rattle.std.specs.Prelude.{◌≡◌, ◌⊎◌, ◌<◌, ℕ, List, No
 ghost use Rattle.std.specs.Option.{option_map};
 ghost use Rattle.board_model.specs.declared.refusal.Refusal.TheVariants.{Memory};
 ghost use Rattle.command_line.specs.declared.fault.ProgramFault.TheVariants.{File, Refused};
-ghost use Rattle.payload_files.specs.Named.{AreFilesOf, IsFileOf};
+ghost use Rattle.board_files.specs.Named.{AreFilesOf, IsFileOf};
 
-use crate::files::PayloadFiles;
+use crate::payload_files::PayloadFiles;
 use board::Payloads;
 use board_model::Slot;
 use command_line::{FileFault, read_at_most};
@@ -32,7 +32,7 @@ fn read_named<F: PayloadFiles>(
 }
 
 /// Reads the payload of one slot into its place.
-#[tactic(auto, using(crate::proofs::FaultKinds::file_fault))]
+#[tactic(auto, using(crate::proofs::PayloadFaults::file_fault))]
 fn read_slot<F: PayloadFiles>(
     alloc: Global,
     files: &F,
