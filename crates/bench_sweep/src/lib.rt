@@ -17,7 +17,6 @@ mod site;
 mod sites;
 mod sweeps;
 
-pub use bench_judge::{Sweep, judge};
 pub use plan::Plan;
 pub use points::Bench;
 pub use recovery::RecoveryFile;
