@@ -21,8 +21,8 @@ use Rattle.bench_report.specs.PowerOns.{FormatsOn}
 use Rattle.bench_report.specs.Steps.{FormatStep, Step, Moves, Run}
 use Rattle.bench_report.proofs.RunLines.{run_more}
 use Rattle.bench_report.specs.Agree.{OffIs, Agrees, IsBench, EndsBy, Matches}
-use Rattle.bench_judge.specs.declared.ledgers.Ledger.{Ledger}
-use Rattle.bench_judge.specs.Ledgers.{Tells}
+use Rattle.bench_sweep.specs.declared.ledgers.Ledger.{Ledger}
+use Rattle.bench_sweep.specs.Ledgers.{Tells}
 use Rattle.bench_sweep.specs.Made.{IsFormatted}
 use Rattle.bench_sweep.specs.Runs.{TellsWhole, Runs, Begins, Begun, Formats}
 use Rattle.bench_sweep.specs.Told.{ShowsEnoughMemory}

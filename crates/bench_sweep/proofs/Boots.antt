@@ -11,9 +11,9 @@ use Rattle.board_model.specs.declared.durable.ImageHead.{ImageHead}
 use Rattle.board_model.specs.declared.durable.Trial.{Trial}
 use Rattle.board.specs.Moments.{attempts_of}
 use Rattle.report_lines.specs.declared.printed.Printed.{Printed}
-use Rattle.bench_judge.specs.declared.ledgers.Ledger.{Ledger}
-use Rattle.bench_judge.specs.Ledgers.{Tells, more_kept, settled}
-use Rattle.bench_judge.proofs.Known.{found_more}
+use Rattle.bench_sweep.specs.declared.ledgers.Ledger.{Ledger}
+use Rattle.bench_sweep.specs.Ledgers.{Tells, more_kept, settled}
+use Rattle.bench_sweep.proofs.KnownLedgers.{found_more}
 use Rattle.bench_sweep.specs.Runs.{TellsWhole}
 use Rattle.bench_sweep.specs.Told.{IssuedTold, AllTold, BootTold, BootSaid, SettledTold, NowTold, PowerTold, commands_told}
 use Rattle.bench_sweep.proofs.Followed.{IssuedKept, TakesKept, as_before, settles}

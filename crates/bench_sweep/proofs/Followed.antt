@@ -1,18 +1,16 @@
 -- Ledgers that follow what is told of the commands kept.
-use Rattle.std.proofs.Common.{◌≡◌, ◌≢◌, ◌⊎◌, ℕ, inl, inr, Bool, true, false, List, [], ◌∷◌, ◌++◌, Option, None, Some, Result, Ok, Err, OnOk, length, refl, sym, ◌∙◌, ap, subst, if◌then◌else◌, ◌==◌}
-use Rattle.std.proofs.Common.{is_some}
+use Rattle.std.proofs.Common.{◌≡◌, ◌≢◌, ◌⊎◌, ℕ, inl, inr, Bool, true, false, List, [], ◌∷◌, ◌++◌, Option, None, Some, Result, Ok, Err, OnOk, length, refl, sym, ◌∙◌, ap, subst, if◌then◌else◌, ◌==◌, is_some}
 use Rattle.std.proofs.lemmas.Bool.Decides.{Decides-eqb}
 use Rattle.board_model.specs.Durable.{DurableState, Change, Slot, Reset, Suspend, Consume, Discard, Tries, Good, Attempt, refusal_of, after, IsWhole, CarriesWhole}
 use Rattle.board_model.specs.Kept.{Kept, MayKeep, TakesIn, found_of}
 use Rattle.board_model.specs.Shapes.{Size}
 use Rattle.board_model.specs.Plains.{image_in, state_in}
-use Rattle.board_model.specs.Views.{change_in, durable_of}
+use Rattle.board_model.specs.Views.{change_in, durable_of, number_of_refusal}
 use Rattle.board_model.specs.declared.durable.Entry.{Entry}
 use Rattle.board_model.specs.declared.durable.Entry.TheVariants as entries
 use Rattle.board_model.specs.declared.durable.ImageHead.{ImageHead}
 use Rattle.board_model.specs.declared.durable.Reason.{Reason}
 use Rattle.board_model.specs.declared.plain.Plain.{Plain}
-use Rattle.board_model.specs.Views.{number_of_refusal}
 use Rattle.board_model.specs.declared.durable.Durable.{Durable}
 use Rattle.board_model.specs.declared.refusal.Refusal.{Refusal}
 use Rattle.board_model.specs.declared.refusal.Refusal.TheVariants.{Memory, NoImage}
@@ -26,9 +24,9 @@ use Rattle.sbi.specs.declared.words.LifeEnd.TheVariants as life_ends
 use Rattle.bench_report.specs.Views.{SimStore, SimBoard, store_in, machine_in, store_now, store_doubt}
 use Rattle.bench_report.specs.Bench.{DiskState, Formatted, BenchLife, Bench}
 use Rattle.bench_report.specs.Agree.{BoardIs, OnIs, IsOver}
-use Rattle.bench_judge.specs.declared.ledgers.Ledger.{Ledger}
-use Rattle.bench_judge.specs.Ledgers.{Tells, more_kept, in_doubt, settled, doubted, kept_by}
-use Rattle.bench_judge.proofs.Known.{found_more}
+use Rattle.bench_sweep.specs.declared.ledgers.Ledger.{Ledger}
+use Rattle.bench_sweep.specs.Ledgers.{Tells, more_kept, in_doubt, settled, doubted, kept_by}
+use Rattle.bench_sweep.proofs.KnownLedgers.{found_more}
 use Rattle.bench_sweep.specs.Runs.{TellsWhole, Follows, HartMoves}
 use Rattle.bench_sweep.specs.Told.{IssuedTold, CommandTold, IsOfHart, HartTold}
 use Rattle.board_model.specs.declared.console_command.ConsoleCommand.{ConsoleCommand}

@@ -50,8 +50,8 @@ use Rattle.bench_report.proofs.Sides.{sides_stay}
 use Rattle.bench_report.proofs.Issues.{GoesOn, IsSound}
 use Rattle.script_lang.specs.declared.line.Line.{Line}
 use Rattle.script_lang.specs.declared.line.Line.TheVariants as lines
-use Rattle.bench_judge.specs.declared.ledgers.Ledger.{Ledger}
-use Rattle.bench_judge.specs.Ledgers.{Tells}
+use Rattle.bench_sweep.specs.declared.ledgers.Ledger.{Ledger}
+use Rattle.bench_sweep.specs.Ledgers.{Tells}
 use Rattle.bench_report.specs.Prefix.{AskedLine, Boot, asked_by}
 use Rattle.bench_sweep.specs.Lines.{LineMoves, LineSays}
 use Rattle.bench_sweep.specs.Resumes.{asked_resumes, line_resumes, power_resumes, Resumes}

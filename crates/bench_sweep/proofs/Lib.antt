@@ -1,3 +1,5 @@
+pub mod KnownLedgers
+pub mod AlikeLines
 pub mod Written
 pub mod Told
 pub mod Turned

@@ -10,7 +10,7 @@ use Rattle.report_lines.specs.declared.printed.Answer.{Answer}
 use Rattle.report_lines.specs.declared.printed.Printed.{Printed}
 use Rattle.script_lang.specs.declared.line.Line.{Line}
 use Rattle.script_lang.specs.declared.line.Line.TheVariants as lines
-use Rattle.bench_judge.specs.declared.ledgers.Ledger.{Ledger}
+use Rattle.bench_sweep.specs.declared.ledgers.Ledger.{Ledger}
 use Rattle.bench_sweep.specs.Lines.{LineAdds, LineMoves, LineSays}
 use Rattle.bench_sweep.specs.Made.{Recovers}
 use Rattle.bench_sweep.specs.Recovers.{is_look, look_said, looks_of}

@@ -11,7 +11,7 @@ use Rattle.bench_report.specs.declared.power.Power.{Power}
 use Rattle.report_lines.specs.declared.printed.Answer.{Answer}
 use Rattle.report_lines.specs.declared.printed.Printed.TheVariants as printed
 use Rattle.script_lang.specs.declared.line.Line.{Line}
-use Rattle.bench_judge.specs.declared.ledgers.Ledger.{Ledger}
+use Rattle.bench_sweep.specs.declared.ledgers.Ledger.{Ledger}
 use Rattle.bench_sweep.specs.declared.site.Site.{Site}
 use Rattle.bench_sweep.specs.Lines.{LineMoves}
 use Rattle.bench_sweep.specs.Resumes.{line_resumes, lines_resume, Resumes}

@@ -44,11 +44,11 @@ use Rattle.bench_report.proofs.Came.{has_other, comes}
 use Rattle.bench_report.proofs.Dozed.{turn_size, call_size}
 use Rattle.bench_report.proofs.Issues.{GoesOn}
 use Rattle.bench_report.proofs.Lines.{stands_by}
-use Rattle.bench_judge.specs.Ledgers.{in_doubt}
+use Rattle.bench_sweep.specs.Ledgers.{in_doubt}
 use Rattle.bench_report.specs.declared.power.Power.{Power}
 use Rattle.bench_report.specs.declared.power.OffDisk.{OffDisk}
 use Rattle.bench_report.specs.declared.power.Power.TheVariants.{Off, On}
-use Rattle.bench_judge.specs.declared.ledgers.Ledger.{Ledger}
+use Rattle.bench_sweep.specs.declared.ledgers.Ledger.{Ledger}
 use Rattle.bench_sweep.specs.Runs.{Follows, Runs, HartMoves}
 use Rattle.bench_sweep.specs.Lines.{TurnsOnce, TurnsMany, DoesLine, HartGoes, LineGoes, LineMoves}
 use Rattle.bench_report.specs.Prefix.{AskedLine, Boot, asked_by}

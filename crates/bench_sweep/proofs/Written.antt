@@ -14,7 +14,7 @@ use Rattle.jobs.proofs.Pieces.{window_at, window_cut, window_more, joined_all}
 use Rattle.bench_sweep.specs.declared.plan.Plan.{Plan}
 use Rattle.std.specs.Io.KnownBytes.{Appends, Keeps}
 use Rattle.disk.specs.Facts.{counted}
-use Rattle.bench_judge.specs.declared.judges.Sweep.{Sweep}
+use Rattle.bench_sweep.specs.declared.judges.Sweep.{Sweep}
 use Rattle.bench_sweep.specs.declared.points.Bench.{Bench}
 use Rattle.bench_sweep.specs.declared.points.Bench.TheVariants.{Cuts, Fails}
 use Rattle.bench_sweep.specs.declared.points.Caller.{Caller}

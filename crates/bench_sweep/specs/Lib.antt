@@ -1,3 +1,6 @@
+pub mod Judged
+pub mod Ledgers
+pub mod Apart
 pub mod Rows
 pub mod Points
 pub mod Made

@@ -11,7 +11,7 @@ use Rattle.bench_report.specs.Steps.{Step}
 use Rattle.bench_report.specs.Turns.{GuestTurn, GuestTurns}
 use Rattle.bench_report.specs.Agree.{OnIs, BoardAfter}
 use Rattle.bench_report.specs.Views.{SimBoard}
-use Rattle.bench_judge.specs.declared.ledgers.Ledger.{Ledger}
+use Rattle.bench_sweep.specs.declared.ledgers.Ledger.{Ledger}
 use Rattle.bench_sweep.specs.Recovers.{look_said}
 use Rattle.bench_sweep.specs.Resumes.{line_resumes, Resumes}
 use Rattle.bench_sweep.specs.Runs.{Follows, Runs}

@@ -11,7 +11,7 @@ use Rattle.report_lines.specs.declared.printed.Printed.{Printed}
 use Rattle.report_lines.specs.declared.printed.Printed.TheVariants as printed
 use Rattle.script_lang.specs.declared.line.Line.{Line}
 use Rattle.bench_report.specs.Prefix.{AskedLine, Boot, asked_by}
-use Rattle.bench_judge.specs.declared.ledgers.Ledger.{Ledger}
+use Rattle.bench_sweep.specs.declared.ledgers.Ledger.{Ledger}
 
 -- the image that stands after the commands that a ledger tells, without its memory
 abbrev pub image_told : Ledger → Option ImageHead

@@ -8,7 +8,7 @@ use Rattle.board_console.specs.Texts.{state_text}
 use Rattle.report_lines.specs.Texts.{line_text}
 use Rattle.report_lines.specs.declared.printed.Answer.{Answer}
 use Rattle.report_lines.specs.declared.printed.Printed.{Printed}
-use Rattle.bench_judge.specs.declared.judges.Sweep.{Sweep}
+use Rattle.bench_sweep.specs.declared.judges.Sweep.{Sweep}
 use Rattle.bench_sweep.specs.declared.points.Caller.{Caller}
 use Rattle.bench_sweep.specs.declared.points.Caller.TheVariants.{Disk, Lane}
 use Rattle.bench_sweep.specs.declared.rows.Row.{Row}

@@ -22,9 +22,9 @@ use Rattle.bench_report.specs.Happens.{off, says, unpowered, settled}
 use Rattle.bench_report.specs.Steps.{Run, Step}
 use Rattle.bench_report.specs.Agree.{OffIs, BoardAfter, Agrees, IsBench}
 use Rattle.bench_report.specs.Views.{SimStore, SimBoard, machine_in, fault_state, store_in, store_size, store_now, store_fault_state}
-use Rattle.bench_judge.specs.Judged.{IsRight}
-use Rattle.bench_judge.specs.Ledgers.{Tells}
-use Rattle.bench_judge.specs.declared.ledgers.Ledger.{Ledger}
+use Rattle.bench_sweep.specs.Judged.{IsRight}
+use Rattle.bench_sweep.specs.Ledgers.{Tells}
+use Rattle.bench_sweep.specs.declared.ledgers.Ledger.{Ledger}
 use Rattle.bench_sweep.specs.declared.points.Bench.TheVariants.{Cuts}
 use Rattle.bench_sweep.specs.declared.site.Site.{Site}
 use Rattle.bench_sweep.specs.Made.{IsFormatted, EndsAs, WasRefusedNoMemory, ComesTo, shows}

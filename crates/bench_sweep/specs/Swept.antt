@@ -16,7 +16,7 @@ use Rattle.script_lang.specs.declared.line.Line.{Line}
 use Rattle.bench_report.specs.Bench.{Bench as ModelBench}
 use Rattle.bench_report.specs.Happens.{unpowered}
 use Rattle.bench_report.specs.Deeds.{ArmFault, CutPower, WritePast, Deed, Format, Beside, deed_of}
-use Rattle.bench_judge.specs.declared.judges.Sweep.{Sweep}
+use Rattle.bench_sweep.specs.declared.judges.Sweep.{Sweep}
 use Rattle.bench_sweep.specs.declared.plan.Plan.{Plan}
 use Rattle.bench_sweep.specs.declared.points.Bench.{Bench}
 use Rattle.bench_sweep.specs.declared.points.Bench.TheVariants.{Cuts, Fails}

@@ -19,7 +19,7 @@ use Rattle.bench_report.specs.Prefix.{AskedLine, Boot, Command, Guest, asked_by}
 use Rattle.report_lines.specs.declared.printed.Printed.{Printed}
 use Rattle.report_lines.specs.declared.printed.Printed.TheVariants as printed
 use Rattle.report_lines.specs.declared.printed.Answer.{Answer}
-use Rattle.bench_judge.specs.Ledgers.{more_kept, in_doubt, settled}
+use Rattle.bench_sweep.specs.Ledgers.{more_kept, in_doubt, settled}
 
 -- By what a line says memory was refused neither to a power-on nor to an examination of the disk. Of a line that was
 -- lost with the power nothing is known.

@@ -11,9 +11,9 @@ ghost use Rattle.bench_sweep.specs.Told.{ShowsEnoughMemory};
 ghost use Rattle.bench_sweep.specs.Runs.{Begun, IsFormattedAt, Formats, StopsOff};
 
 use crate::follows::enough_memory;
+use crate::ledgers::Ledger;
 use crate::site::Site;
 use crate::sites::is_off;
-use bench_judge::Ledger;
 use bench_report::{
     Answer, BenchBoard, OffDisk, Power, Printed, Setting, disk_left, line_with_cuts,
 };

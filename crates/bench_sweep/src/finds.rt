@@ -21,7 +21,8 @@ ghost use Rattle.bench_sweep.specs.Made.{LooksAt};
 ghost use Rattle.bench_sweep.specs.Runs.{LeftOff, Finds, FindsState, IsJudged, IsSpoilt, PowerFinds};
 
 use crate::follows::enough_memory;
-use bench_judge::{Ledger, Sweep};
+use crate::judges::Sweep;
+use crate::ledgers::Ledger;
 use bench_report::{Answer, OffDisk, Power, Printed, power_on};
 use board::{Board, Parts, Payloads};
 use board_model::{BootMode, Durable, Plain, Refusal, Shape};

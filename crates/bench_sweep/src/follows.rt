@@ -18,7 +18,7 @@ ghost use Rattle.bench_sweep.specs.Runs.{TellsWhole, Follows, HartMoves};
 ghost use Rattle.bench_sweep.specs.Resumes.{image_told, serial_of, consumed, booted, powered, power_resumes, Resumes};
 ghost use Rattle.bench_sweep.specs.Told.{ShowsEnoughMemory, IssuedTold, CommandTold, BootTold, BootSaid, NowTold, PowerTold, LineTold, commands_told};
 
-use bench_judge::Ledger;
+use crate::ledgers::Ledger;
 use bench_report::{Answer, Printed};
 use board::Board;
 use board_model::{BootMode, Command, ConsoleCommand, Durable, Entry, Refusal, Trial};

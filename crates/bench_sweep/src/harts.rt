@@ -14,7 +14,7 @@ ghost use Rattle.bench_sweep.specs.Lines.{TurnsOnce, TurnsMany, DoesLine, HartGo
 ghost use Rattle.bench_sweep.specs.Told.{moves_harts};
 
 use crate::follows::record_hart;
-use bench_judge::Ledger;
+use crate::ledgers::Ledger;
 use bench_report::{Power, after};
 use board::Board;
 use board_model::{CallWords, HartId, Refusal, Shape};

@@ -14,13 +14,13 @@ ghost use Rattle.bench_sweep.specs.Made.{IsRecovered};
 ghost use Rattle.bench_report.specs.Examined.{OpensOf};
 
 use crate::finds::count_run;
+use crate::judges::Sweep;
 use crate::points::{Bench, Caller, FILLS, Point, cut_fill};
 use crate::recovery::Differs;
 use crate::rows::Row;
 use crate::runner::Runner;
 use crate::site::{Going, Site};
 use crate::sites::{Went, cut_by, run_lines};
-use bench_judge::Sweep;
 use bench_report::Answer;
 use board_model::Refusal;
 use crew::Crew;

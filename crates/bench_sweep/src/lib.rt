@@ -1,12 +1,19 @@
 //! The benches: each run of a script in which power fails at one call of the disk or of one of its lanes, and
 //! each in which one such call fails. docs/SCRIPT.md, "The benches", tells what they write.
+//!
+//! What the benches judge a run by: the commands that a run acknowledged and the one in doubt, whether the
+//! state that was found is one that may be found, how many runs there were and how many of them were wrong; and
+//! the first line in which what was written is not what was wanted. It knows nothing of a disk, a store or a board.
 #![tactic(auto)]
 
+mod apart;
 mod begins;
 mod finds;
 mod follows;
 mod harts;
+mod judges;
 mod judging;
+mod ledgers;
 mod plan;
 mod points;
 mod recovery;
@@ -17,6 +24,9 @@ mod site;
 mod sites;
 mod sweeps;
 
+pub use apart::line_apart;
+pub use judges::{Sweep, judge};
+pub use ledgers::Ledger;
 pub use plan::Plan;
 pub use points::Bench;
 pub use recovery::RecoveryFile;

@@ -6,10 +6,10 @@ ghost use Rattle.board_model.specs.declared.refusal.Refusal.TheVariants.{Memory,
 ghost use Rattle.bench_sweep.specs.Rows.{call_text, caller_text, counts_text, differing_rows, differs_text, fill_part, left_text, recovered_text, row_lines, row_text, shown_lines, sweep_text, told_part};
 ghost use Rattle.bench_sweep.specs.Swept.{rows_text};
 
+use crate::judges::Sweep;
 use crate::points::Caller;
 use crate::recovery::Differs;
 use crate::sweeps::Recovered;
-use bench_judge::Sweep;
 use board_console::StateText;
 use board_model::Refusal;
 use jobs::{Part, PartText};

@@ -1,6 +1,6 @@
 //! A bench between two lines of its script.
 
-use bench_judge::Ledger;
+use crate::ledgers::Ledger;
 use bench_report::{OffDisk, Power};
 use board::Payloads;
 

@@ -26,9 +26,9 @@ ghost use Rattle.bench_sweep.specs.declared.points.Caller.{Caller};
 
 use crate::follows::{record_answered, record_console, record_powered};
 use crate::harts::{is_of_harts, run_hart_line};
+use crate::ledgers::Ledger;
 use crate::points::{Bench as Kind, Point};
 use crate::site::{Going, Site};
-use bench_judge::Ledger;
 use bench_report::{
     OffDisk, Power, Printed, Setting, arm_disk, console, disk_left, line_alone, power_on, struck,
 };

@@ -18,6 +18,7 @@ ghost use Rattle.jobs.specs.Parts.{own_of, window};
 ghost use Rattle.bench_sweep.specs.Reports.{Reports, ReportsAll, ReportsScript, IsLeft, RunsRow, IsRow};
 
 use crate::begins::run_to_format;
+use crate::judges::Sweep;
 use crate::judging::{PointRows, RunsAtCalls, turn_off};
 use crate::plan::Plan;
 use crate::points::{CALLERS, Caller};
@@ -26,7 +27,6 @@ use crate::rows::{differing, write_recovered, write_rows, write_sweep};
 use crate::runner::Runner;
 use crate::site::Site;
 use crate::sites::run_lines;
-use bench_judge::Sweep;
 use bench_report::Setting;
 use board::Payloads;
 use board_model::Refusal;

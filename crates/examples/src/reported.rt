@@ -6,8 +6,8 @@ ghost use Rattle.report_lines.specs.Texts.{report_text};
 ghost use Rattle.bench_report.specs.Reports.{IsReport};
 ghost use Rattle.report_lines.specs.declared.printed.Answer.{Answer};
 
-use bench_judge::line_apart;
 use bench_report::run;
+use bench_sweep::line_apart;
 use board_model::Refusal;
 use crew::Crew;
 use std::alloc::Global;

@@ -2,8 +2,8 @@
 
 use crate::files::Folder;
 use crate::streams::{Input, Output, Room};
-use bench_judge::line_apart;
 use bench_program::{Pipe, run_on};
+use bench_sweep::line_apart;
 use std::alloc::Global;
 use std::fmt;
 use std::io::{self, BufWriter, ErrorKind};

@@ -1,5 +1,5 @@
 use Rattle.std.proofs.Common.{◌∙◌}
-use Rattle.bench_judge.proofs.Known.{right_found}
+use Rattle.bench_sweep.proofs.KnownLedgers.{right_found}
 use Rattle.bench_sweep.proofs.finds.count_run.Goals as goal
 
 pub returns-clause-judged : goal.returns-clause-judged

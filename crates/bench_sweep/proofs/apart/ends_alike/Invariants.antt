@@ -1,6 +1,6 @@
 use Rattle.std.proofs.Common.{◌≡◌, ◌≤◌, ◌+◌, drop}
-use Rattle.bench_judge.specs.Apart.{common, ends_of}
-use Rattle.bench_judge.proofs.apart.ends_alike.Given as goal
+use Rattle.bench_sweep.specs.Apart.{common, ends_of}
+use Rattle.bench_sweep.proofs.apart.ends_alike.Given as goal
 
 -- those so far, and those of what is left
 abbrev pub invariant-loop-i : goal.invariant-loop-i

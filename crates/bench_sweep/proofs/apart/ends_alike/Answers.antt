@@ -1,7 +1,7 @@
 use Rattle.std.proofs.Common.{arith}
-use Rattle.bench_judge.proofs.Alike.{goes_on_end, goes_on, parts, one_ends, other_ends}
-use Rattle.bench_judge.proofs.apart.ends_alike.Goals.{then-one-i-eq10, else-one-i-eq10}
-use Rattle.bench_judge.proofs.apart.ends_alike.Goals as goal
+use Rattle.bench_sweep.proofs.AlikeLines.{goes_on_end, goes_on, parts, one_ends, other_ends}
+use Rattle.bench_sweep.proofs.apart.ends_alike.Goals.{then-one-i-eq10, else-one-i-eq10}
+use Rattle.bench_sweep.proofs.apart.ends_alike.Goals as goal
 
 pub loop-i-init : goal.loop-i-init
 loop-i-init c = record { all = omega arith; few = omega arith }

@@ -5,7 +5,7 @@ use Rattle.std.proofs.lemmas.Bool.{eq-eqb}
 use Rattle.std.proofs.lemmas.Bool.Decides.{eqb_tells}
 use Rattle.std.proofs.lemmas.List.Sums.{sum_by-cons}
 use Rattle.std.proofs.lemmas.List.{drop_more, drop_all}
-use Rattle.bench_judge.specs.Apart.{common, ends_of}
+use Rattle.bench_sweep.specs.Apart.{common, ends_of}
 
 abbrev ends_in : List ℕ → List ℕ → ℕ
 ends_in xs ys = ends_of (common xs ys)

@@ -1,7 +1,7 @@
 //! Whether what was written is what was wanted.
 
 ghost use Rattle.std.specs.Prelude.{◌≡◌, ◌↔◌, ◌≤◌, length, None, IfSome};
-ghost use Rattle.bench_judge.specs.Apart.{common, ends_of, line_behind};
+ghost use Rattle.bench_sweep.specs.Apart.{common, ends_of, line_behind};
 
 /// How many lines end within the first bytes that both have.
 fn ends_alike(one: &[u8], other: &[u8]) -> usize
