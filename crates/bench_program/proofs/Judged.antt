@@ -12,7 +12,7 @@ use Rattle.bench_schedules.specs.Numbers.{numbers_of}
 use Rattle.bench_preemptions.specs.Preemptions.{WrotePreemptions}
 use Rattle.bench_preemptions.specs.declared.benches.Within.{Within}
 use Rattle.bench_preemptions.specs.Shown.{ShownOrder}
-use Rattle.bench_shrink.specs.Shrunk.{Shrunk}
+use Rattle.bench_schedules.specs.Shrunk.{Shrunk}
 use Rattle.bench_preemptions.specs.declared.shown.Wanted.{Wanted}
 use Rattle.bench_program.specs.declared.usage.Drawn.{Drawn}
 use Rattle.bench_program.specs.Written.{IsOrderShown, IsPreempted, IsShrunk}

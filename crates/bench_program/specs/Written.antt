@@ -21,7 +21,7 @@ use Rattle.bench_preemptions.specs.declared.benches.Within.{Within}
 use Rattle.bench_preemptions.specs.declared.shown.Wanted.{Wanted}
 use Rattle.bench_schedules.specs.Numbers.{number_of_other, numbers_of}
 use Rattle.bench_schedules.specs.Schedules.{Shown, WroteSchedules}
-use Rattle.bench_shrink.specs.Shrunk.{Shrunk}
+use Rattle.bench_schedules.specs.Shrunk.{Shrunk}
 use Rattle.bench_sweep.specs.declared.judges.Sweep.{Sweep as Counts}
 use Rattle.bench_program.specs.Taps.{tap_text}
 use Rattle.command_line.specs.declared.NoWork.TheVariants as whys

@@ -29,8 +29,7 @@ use crate::usage::USAGE;
 pub use crate::usage::{Drawn, Options, Savers, Work, options_of};
 use bench_preemptions::{Preempted, Wanted, Within, preemptions, show_order};
 use bench_report::run_with;
-use bench_schedules::{Compared, Plan as Schedules, line_numbers, schedules, show};
-use bench_shrink::shrink;
+use bench_schedules::{Compared, Plan as Schedules, line_numbers, schedules, show, shrink};
 use bench_sweep::{
     Plan, Recovered, RecoveryFile, Sweep, WantedRow, run_bench, run_bench_recovered, show_row,
 };
@@ -286,7 +285,7 @@ pub fn write_schedule<R: Threads + Sync, W: Write + Drop>(
 /// Writes a schedule of the script to the end, with fewer rows of turns than that of a number, that differs where that one does. All runs
 /// have these payloads in the slots.
 ///
-/// Refused as `bench_shrink::shrink` is, and `Output` also where what the writer held back could not be written.
+/// Refused as `bench_schedules::shrink` is, and `Output` also where what the writer held back could not be written.
 pub fn write_shrunk<R: Threads + Sync, W: Write + Drop>(
     alloc: Global,
     script: &[u8],

@@ -1,3 +1,4 @@
+pub mod Shortened
 pub mod Alike
 pub mod Aparts
 pub mod Ledgers

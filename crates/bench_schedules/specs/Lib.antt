@@ -1,3 +1,4 @@
+pub mod Shrunk
 pub mod Told
 pub mod Compared
 pub mod RunSoFar

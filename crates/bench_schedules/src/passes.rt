@@ -1,0 +1,201 @@
+//! The passes of a search, each of which keeps fewer turns.
+
+ghost use Rattle.std.specs.Prelude.{◌≡◌, IfErr, OnOk};
+ghost use Rattle.board_model.specs.declared.refusal.Refusal.TheVariants.{Memory};
+ghost use Rattle.bench_schedules.specs.Shrunk.{IsFound, IsSearchable};
+
+use crate::search::{Kept, MOST_RUNS, Search, try_slices};
+use crate::slices::{exchanged, lessened, turns_at, weight};
+use board_model::Refusal;
+use crew::Crew;
+
+/// How often a number of 64 bits can be halved.
+const HALVES: u64 = 64;
+
+/// Tries the schedule whose slices from one place up to another have at most so many turns. Answers whether it is kept.
+fn try_lessened<C: Crew>(
+    search: &Search<'_, C>,
+    kept: &mut Kept,
+    from: usize,
+    to: usize,
+    turns: u64,
+) -> Result<bool, Refusal>
+    requires searchable { IsSearchable search.now.setting.shape.now search.now.lines.now search.now.own.now }
+    requires found { IsFound search.now.setting.shape.now search.now.payloads.now search.now.lines.now search.now.own.now
+        search.now.place kept.old.lines.items }
+    ensures found { OnOk result (IsFound search.now.setting.shape.now search.now.payloads.now search.now.lines.now
+        search.now.own.now search.now.place kept.new.lines.items) }
+    ensures refused { IfErr result (λ e. e ≡ Memory) }
+{
+    let slices = lessened(search.setting.alloc, &kept.slices, from, to, turns)?;
+    try_slices(search, kept, slices)
+}
+
+/// Tries the schedule in which the slices at that place and behind it are exchanged, where those are fewer slices then: one
+/// that joins another of its hart. Answers whether it is kept.
+fn try_exchanged<C: Crew>(
+    search: &Search<'_, C>,
+    kept: &mut Kept,
+    place: usize,
+) -> Result<bool, Refusal>
+    requires searchable { IsSearchable search.now.setting.shape.now search.now.lines.now search.now.own.now }
+    requires found { IsFound search.now.setting.shape.now search.now.payloads.now search.now.lines.now search.now.own.now
+        search.now.place kept.old.lines.items }
+    ensures found { OnOk result (IsFound search.now.setting.shape.now search.now.payloads.now search.now.lines.now
+        search.now.own.now search.now.place kept.new.lines.items) }
+    ensures refused { IfErr result (λ e. e ≡ Memory) }
+{
+    let slices = exchanged(search.setting.alloc, &kept.slices, place)?;
+    if kept.slices.len() <= slices.len() {
+        return Ok(false);
+    }
+    try_slices(search, kept, slices)
+}
+
+/// Cuts slices off from behind, by bisection.
+fn cut<C: Crew>(search: &Search<'_, C>, kept: &mut Kept) -> Result<(), Refusal>
+    requires searchable { IsSearchable search.now.setting.shape.now search.now.lines.now search.now.own.now }
+    requires found { IsFound search.now.setting.shape.now search.now.payloads.now search.now.lines.now search.now.own.now
+        search.now.place kept.old.lines.items }
+    ensures found { OnOk result (IsFound search.now.setting.shape.now search.now.payloads.now search.now.lines.now
+        search.now.own.now search.now.place kept.new.lines.items) }
+    ensures refused { IfErr result (λ e. e ≡ Memory) }
+{
+    let mut low = 0;
+    'halves: for _ in 0..HALVES {
+        let high = kept.slices.len();
+        if high <= low {
+            return Ok(());
+        }
+        let middle = low + (high - low) / 2;
+        if !try_lessened(search, kept, middle, high, 0)? {
+            low = middle + 1;
+        }
+    }
+    Ok(())
+}
+
+/// Drops so many slices together, where that can be, from the first on.
+fn drop_by<C: Crew>(search: &Search<'_, C>, kept: &mut Kept, size: usize) -> Result<(), Refusal>
+    requires searchable { IsSearchable search.now.setting.shape.now search.now.lines.now search.now.own.now }
+    requires found { IsFound search.now.setting.shape.now search.now.payloads.now search.now.lines.now search.now.own.now
+        search.now.place kept.old.lines.items }
+    ensures found { OnOk result (IsFound search.now.setting.shape.now search.now.payloads.now search.now.lines.now
+        search.now.own.now search.now.place kept.new.lines.items) }
+    ensures refused { IfErr result (λ e. e ≡ Memory) }
+{
+    let mut place = 0usize;
+    'tries: for _ in 0..MOST_RUNS {
+        if kept.slices.len() <= place {
+            return Ok(());
+        }
+        let behind = place.saturating_add(size);
+        if !try_lessened(search, kept, place, behind, 0)? {
+            place = behind;
+        }
+    }
+    Ok(())
+}
+
+/// Drops slices by halves of all of them, then by fourths, and so on, to one at a time.
+fn drop_slices<C: Crew>(search: &Search<'_, C>, kept: &mut Kept) -> Result<(), Refusal>
+    requires searchable { IsSearchable search.now.setting.shape.now search.now.lines.now search.now.own.now }
+    requires found { IsFound search.now.setting.shape.now search.now.payloads.now search.now.lines.now search.now.own.now
+        search.now.place kept.old.lines.items }
+    ensures found { OnOk result (IsFound search.now.setting.shape.now search.now.payloads.now search.now.lines.now
+        search.now.own.now search.now.place kept.new.lines.items) }
+    ensures refused { IfErr result (λ e. e ≡ Memory) }
+{
+    let mut size = kept.slices.len() / 2;
+    'halves: for _ in 0..HALVES {
+        drop_by(search, kept, size.max(1))?;
+        if size <= 1 {
+            return Ok(());
+        }
+        size /= 2;
+    }
+    Ok(())
+}
+
+/// Joins slices of a hart by exchanging neighbours, where that can be, from the first on.
+fn join_slices<C: Crew>(search: &Search<'_, C>, kept: &mut Kept) -> Result<(), Refusal>
+    requires searchable { IsSearchable search.now.setting.shape.now search.now.lines.now search.now.own.now }
+    requires found { IsFound search.now.setting.shape.now search.now.payloads.now search.now.lines.now search.now.own.now
+        search.now.place kept.old.lines.items }
+    ensures found { OnOk result (IsFound search.now.setting.shape.now search.now.payloads.now search.now.lines.now
+        search.now.own.now search.now.place kept.new.lines.items) }
+    ensures refused { IfErr result (λ e. e ≡ Memory) }
+{
+    let mut place = 0usize;
+    'tries: for _ in 0..MOST_RUNS {
+        if kept.slices.len() <= place {
+            return Ok(());
+        }
+        if !try_exchanged(search, kept, place)? {
+            place = place.saturating_add(1);
+        }
+    }
+    Ok(())
+}
+
+/// Finds the fewest turns of the slice at that place, by bisection.
+fn lessen_at<C: Crew>(search: &Search<'_, C>, kept: &mut Kept, place: usize) -> Result<(), Refusal>
+    requires searchable { IsSearchable search.now.setting.shape.now search.now.lines.now search.now.own.now }
+    requires found { IsFound search.now.setting.shape.now search.now.payloads.now search.now.lines.now search.now.own.now
+        search.now.place kept.old.lines.items }
+    ensures found { OnOk result (IsFound search.now.setting.shape.now search.now.payloads.now search.now.lines.now
+        search.now.own.now search.now.place kept.new.lines.items) }
+    ensures refused { IfErr result (λ e. e ≡ Memory) }
+{
+    let mut low = 0;
+    'halves: for _ in 0..HALVES {
+        let high = turns_at(&kept.slices, place);
+        if high <= low {
+            return Ok(());
+        }
+        let middle = low + (high - low) / 2;
+        if !try_lessened(search, kept, place, place.saturating_add(1), middle)? {
+            low = middle + 1;
+        }
+    }
+    Ok(())
+}
+
+/// Finds the fewest turns of each slice, from the last on.
+fn lessen<C: Crew>(search: &Search<'_, C>, kept: &mut Kept) -> Result<(), Refusal>
+    requires searchable { IsSearchable search.now.setting.shape.now search.now.lines.now search.now.own.now }
+    requires found { IsFound search.now.setting.shape.now search.now.payloads.now search.now.lines.now search.now.own.now
+        search.now.place kept.old.lines.items }
+    ensures found { OnOk result (IsFound search.now.setting.shape.now search.now.payloads.now search.now.lines.now
+        search.now.own.now search.now.place kept.new.lines.items) }
+    ensures refused { IfErr result (λ e. e ≡ Memory) }
+{
+    let count = kept.slices.len();
+    for n in 0..count {
+        lessen_at(search, kept, count - 1 - n)?;
+    }
+    Ok(())
+}
+
+/// All passes, again until none helps.
+pub fn search_all<C: Crew>(search: &Search<'_, C>, kept: &mut Kept) -> Result<(), Refusal>
+    requires searchable { IsSearchable search.now.setting.shape.now search.now.lines.now search.now.own.now }
+    requires found { IsFound search.now.setting.shape.now search.now.payloads.now search.now.lines.now search.now.own.now
+        search.now.place kept.old.lines.items }
+    ensures found { OnOk result (IsFound search.now.setting.shape.now search.now.payloads.now search.now.lines.now
+        search.now.own.now search.now.place kept.new.lines.items) }
+    ensures refused { IfErr result (λ e. e ≡ Memory) }
+{
+    'rounds: for _ in 0..MOST_RUNS {
+        let before = weight(&kept.slices);
+        cut(search, kept)?;
+        drop_slices(search, kept)?;
+        lessen(search, kept)?;
+        join_slices(search, kept)?;
+        drop_slices(search, kept)?;
+        if before <= weight(&kept.slices) {
+            return Ok(());
+        }
+    }
+    Ok(())
+}

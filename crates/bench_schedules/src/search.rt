@@ -1,0 +1,112 @@
+//! The runs of a search: which candidates are kept.
+
+ghost use Rattle.std.specs.Prelude.{◌≡◌, ◌≤◌, length, true, All, IfErr, IfOk, OnOk};
+ghost use Rattle.board_model.specs.declared.refusal.Refusal.TheVariants.{Memory};
+ghost use Rattle.script_lang.specs.Lines.{IsLineInRange};
+ghost use Rattle.bench_orders.specs.Orders.{IsOrderFor, other_count};
+ghost use Rattle.bench_schedules.specs.Schedules.{RanLike};
+ghost use Rattle.bench_schedules.specs.Shrunk.{IsFound, IsSearchable};
+
+use crate::runs::{run_confirmed, run_until};
+use bench_orders::{Slice, led, orders_keep_lines};
+use bench_report::{Answer, Setting};
+use board::Payloads;
+use board_model::Refusal;
+use crew::Crew;
+use script_lang::Line;
+
+/// The lines of the longest script, without its board line.
+const MOST_LINES: usize = 65_535;
+
+/// How many runs a search makes at most, beside the first of the schedule and the last.
+pub const MOST_RUNS: u64 = 490;
+
+/// What is searched: a schedule of the script whose run first differs at that place.
+#[derive(Drop)]
+pub struct Search<'a, C> {
+    /// How its boards are made.
+    pub setting: Setting<'a, C>,
+    /// The lines of the script.
+    pub lines: &'a [Line],
+    /// What each slot boots before the first line.
+    pub payloads: &'a Payloads,
+    /// What the lines of the script answered that are no turns, in its own run.
+    pub own: &'a [Answer],
+    /// The place among those, from 0 on.
+    pub place: usize,
+}
+
+/// The schedule that was found last.
+#[derive(Drop)]
+pub struct Kept {
+    /// The slices that lead its stretches.
+    pub slices: Vec<Slice>,
+    /// Its lines.
+    pub lines: Vec<Line>,
+    /// How many runs were made.
+    pub runs: u64,
+}
+
+/// Whether the run of these lines first differs at the place that is searched. Refused `Memory` alone.
+#[tactic(auto, using(crate::proofs::Shortened::found_at))]
+fn differs_there<C: Crew>(search: &Search<'_, C>, lines: &[Line]) -> Result<bool, Refusal>
+    requires searchable { IsSearchable search.now.setting.shape.now search.now.lines.now search.now.own.now }
+    requires order { IsOrderFor search.now.lines.now lines.now }
+    ensures found { IfOk result (λ yes. yes ≡ true → IsFound search.now.setting.shape.now search.now.payloads.now
+        search.now.lines.now search.now.own.now search.now.place lines.now) }
+    ensures refused { IfErr result (λ e. e ≡ Memory) }
+{
+    orders_keep_lines();
+    if MOST_LINES < lines.len() {
+        return Ok(false);
+    }
+    match run_until(&search.setting, search.payloads, lines, search.own)? {
+        Some(difference) => Ok(difference.place == search.place),
+        None => Ok(false),
+    }
+}
+
+/// Tries the schedule that these slices lead, and keeps it where its run still first differs there. Answers whether it is
+/// kept. After the last run nothing more is tried. Refused `Memory` alone.
+pub fn try_slices<C: Crew>(
+    search: &Search<'_, C>,
+    kept: &mut Kept,
+    slices: Vec<Slice>,
+) -> Result<bool, Refusal>
+    requires searchable { IsSearchable search.now.setting.shape.now search.now.lines.now search.now.own.now }
+    requires found { IsFound search.now.setting.shape.now search.now.payloads.now search.now.lines.now search.now.own.now
+        search.now.place kept.old.lines.items }
+    ensures found { OnOk result (IsFound search.now.setting.shape.now search.now.payloads.now search.now.lines.now
+        search.now.own.now search.now.place kept.new.lines.items) }
+    ensures refused { IfErr result (λ e. e ≡ Memory) }
+{
+    if MOST_RUNS <= kept.runs {
+        return Ok(false);
+    }
+    let lines = led(search.setting.alloc, search.lines, &slices)?;
+    kept.runs = kept.runs.saturating_add(1);
+    if !differs_there(search, &lines)? {
+        return Ok(false);
+    }
+    kept.slices = slices;
+    kept.lines = lines;
+    Ok(true)
+}
+
+/// Runs what was found twice more. Where both runs do not first differ at the place that is searched, a guest's suspension was
+/// refused memory in one of the runs, and then this is refused `Memory`. No clause says it.
+#[tactic(auto, using(crate::proofs::Shortened::found_at))]
+pub fn confirmed<C: Crew>(search: &Search<'_, C>, kept: Kept) -> Result<Vec<Line>, Refusal>
+    requires searchable { IsSearchable search.now.setting.shape.now search.now.lines.now search.now.own.now }
+    requires found { IsFound search.now.setting.shape.now search.now.payloads.now search.now.lines.now search.now.own.now
+        search.now.place kept.lines.items }
+    ensures found { IfOk result (λ lines. IsFound search.now.setting.shape.now search.now.payloads.now search.now.lines.now
+        search.now.own.now search.now.place lines.items) }
+    ensures refused { IfErr result (λ e. e ≡ Memory) }
+{
+    orders_keep_lines();
+    match run_confirmed(&search.setting, search.payloads, &kept.lines, search.own)? {
+        Some(difference) if difference.place == search.place => Ok(kept.lines),
+        _ => Err(Refusal::Memory),
+    }
+}

@@ -1,0 +1,173 @@
+//! Schedules that are shrunk, whole.
+
+ghost use Rattle.std.specs.Prelude.{◌≡◌, ◌⊎◌, ◌≤◌, length, All, IfErr, IfOk, OnOk, Ok, Err};
+ghost use Rattle.board_model.specs.declared.refusal.Refusal.{Refusal as Refused};
+ghost use Rattle.board_model.specs.declared.refusal.Refusal.TheVariants.{Memory, Output};
+ghost use Rattle.script_lang.specs.Lines.{IsLineInRange};
+ghost use Rattle.script_lang.specs.Scripts.{script_of, Script as Said};
+ghost use Rattle.script_lang.specs.Views.{view};
+ghost use Rattle.bench_orders.specs.Orders.{IsOrderFor};
+ghost use Rattle.bench_schedules.specs.Schedules.{RanLike};
+ghost use Rattle.bench_schedules.specs.Shrunk.{IsFound, IsSearchable, IsShortened, Shrunk};
+
+use crate::benches::confirmed_own_run;
+use crate::passes::search_all;
+use crate::runs::{Difference, run_confirmed};
+use crate::search::{Kept, Search, confirmed};
+use crate::slices::slices_of;
+use bench_orders::{fits, generator, orders_keep_lines, schedule, shape_in_range, write_script};
+use bench_report::{Answer, Setting};
+use board::Payloads;
+use board_model::Refusal;
+use crew::{Crew, Sequential};
+use script_lang::{Line, Script, parse_script, scripts_read_as_written};
+use std::alloc::Global;
+use std::io::Write;
+use std::thread::Threads;
+
+/// A schedule with few turns of those that were drawn, whose run first differs where the run of the drawn one does. Refused
+/// `Memory` alone.
+fn searched<C: Crew>(search: &Search<'_, C>, drawn: Vec<Line>) -> Result<Vec<Line>, Refusal>
+    requires searchable { IsSearchable search.now.setting.shape.now search.now.lines.now search.now.own.now }
+    requires found { IsFound search.now.setting.shape.now search.now.payloads.now search.now.lines.now search.now.own.now
+        search.now.place drawn.items }
+    ensures found { IfOk result (λ lines. IsFound search.now.setting.shape.now search.now.payloads.now search.now.lines.now
+        search.now.own.now search.now.place lines.items) }
+    ensures refused { IfErr result (λ e. e ≡ Memory) }
+{
+    let slices = slices_of(search.setting.alloc, &drawn)?;
+    let mut kept = Kept {
+        slices,
+        lines: drawn,
+        runs: 0,
+    };
+    search_all(search, &mut kept)?;
+    confirmed(search, kept)
+}
+
+/// Runs a drawn schedule. Refused `Memory` alone.
+fn run_drawn<C: Crew>(
+    setting: &Setting<'_, C>,
+    payloads: &Payloads,
+    lines: &[Line],
+    own: &[Answer],
+    drawn: &[Line],
+) -> Result<Option<Difference>, Refusal>
+    requires searchable { IsSearchable setting.now.shape.now lines.now own.now }
+    requires order { IsOrderFor lines.now drawn.now }
+    ensures ran { IfOk result (λ differs. RanLike setting.now.shape.now payloads.now drawn.now own.now differs) }
+    ensures refused { IfErr result (λ e. e ≡ Memory) }
+{
+    orders_keep_lines();
+    let _lines = lines;
+    run_confirmed(setting, payloads, drawn, own)
+}
+
+/// A drawn schedule whose run differs there, shrunk; or as it is, where its run differs nowhere. Refused `Memory` alone.
+#[tactic(auto, using(crate::proofs::Shortened::found_by, crate::proofs::Shortened::stays, crate::proofs::Shortened::shortened_to))]
+fn shortened_from<'a, C: Crew>(
+    setting: Setting<'a, C>,
+    payloads: &'a Payloads,
+    lines: &'a [Line],
+    own: &'a [Answer],
+    drawn: Vec<Line>,
+    differs: Option<Difference>,
+) -> Result<Vec<Line>, Refusal>
+    requires searchable { IsSearchable setting.shape.now lines.now own.now }
+    requires order { IsOrderFor lines.now drawn.items }
+    requires few { length drawn.items ≤ 65535 }
+    requires ran { RanLike setting.shape.now payloads.now drawn.items own.now differs }
+    ensures shortened { IfOk result (λ new.
+        IsShortened setting.entry.shape.now payloads.now lines.now own.now drawn.items new.items) }
+    ensures refused { IfErr result (λ e. e ≡ Memory) }
+{
+    match differs {
+        None => Ok(drawn),
+        Some(difference) => {
+            let search = Search {
+                setting,
+                lines,
+                payloads,
+                own,
+                place: difference.place,
+            };
+            searched(&search, drawn)
+        }
+    }
+}
+
+/// A drawn schedule, shrunk; or as it is, where its run differs nowhere. Refused `Memory` alone.
+fn shortened<'a, C: Crew>(
+    setting: Setting<'a, C>,
+    payloads: &'a Payloads,
+    lines: &'a [Line],
+    own: &'a [Answer],
+    drawn: Vec<Line>,
+) -> Result<Vec<Line>, Refusal>
+    requires searchable { IsSearchable setting.shape.now lines.now own.now }
+    requires order { IsOrderFor lines.now drawn.items }
+    requires few { length drawn.items ≤ 65535 }
+    ensures shortened { IfOk result (λ new.
+        IsShortened setting.entry.shape.now payloads.now lines.now own.now drawn.items new.items) }
+    ensures refused { IfErr result (λ e. e ≡ Memory) }
+{
+    let differs = run_drawn(&setting, payloads, lines, own, &drawn)?;
+    shortened_from(setting, payloads, lines, own, drawn, differs)
+}
+
+/// Writes schedule k of a script that was read, shrunk.
+fn shrink_script<R: Threads + Sync, W: Write>(
+    alloc: Global,
+    script: &Script,
+    payloads: &Payloads,
+    seed: u64,
+    k: u64,
+    out: &mut W,
+) -> Result<(), Refusal>
+    requires few { length script.now.lines.items ≤ 65535 }
+    requires ranges { All (IsLineInRange script.now.shape) script.now.lines.items }
+    ensures shrunk { OnOk result (Shrunk (view script.now) payloads.now seed k (W.contents out.old) (W.contents out.new)) }
+    ensures err { IfErr result (λ e. (e ≡ Memory) ⊎ (e ≡ Output)) }
+{
+    scripts_read_as_written();
+    let lines = script.lines.as_slice();
+    shape_in_range(&script.shape);
+    fits(lines);
+    let crew = Sequential::<R>::new([0, 1, 2, 3])?;
+    let setting = Setting {
+        alloc,
+        crew: &crew,
+        shape: &script.shape,
+    };
+    let own = confirmed_own_run(&setting, payloads, lines)?;
+    let mut rng = generator(seed, k);
+    let drawn = schedule(alloc, &mut rng, lines, &own.stretches.fronts)?;
+    let new = shortened(setting, payloads, lines, &own.answers, drawn)?;
+    write_script(out, &script.shape, &new)
+}
+
+/// Writes schedule k of a script as a script, as [`crate::show`] does, but shrunk: with few of the turns that were
+/// drawn, such that its report still first differs from the script's own in the same line. Behind them stand the script's own
+/// `turn` lines of each stretch, less those turns. Where schedule k differs nowhere, it is written as it is.
+///
+/// It makes at most 500 runs. Refused as `crate::schedules` is.
+pub fn shrink<R: Threads + Sync, W: Write>(
+    alloc: Global,
+    script: &[u8],
+    payloads: &Payloads,
+    seed: u64,
+    k: u64,
+    out: &mut W,
+) -> Result<(), Refusal>
+    // What was written is a schedule of the script, is read back as it, and first differs where schedule k does.
+    ensures shrunk { OnOk result ((said : Said) × (script_of script.now ≡ Ok said)
+        × Shrunk said payloads.now seed k (W.contents out.old) (W.contents out.new)) }
+    // A refusal is the script's fault, or want of memory, or the writer's.
+    ensures refused { IfErr result (λ e. (e ≡ Memory) ⊎ (e ≡ Output) ⊎ (script_of script.now ≡ Err e)) }
+    // A script with a fault runs nothing.
+    ensures nothing { (e : Refused) → script_of script.now ≡ Err e
+        → (W.contents out.new ≡ W.contents out.old) × ((result ≡ Err e) ⊎ (result ≡ Err Memory)) }
+{
+    let read = parse_script(alloc, script)?;
+    shrink_script::<R, W>(alloc, &read, payloads, seed, k, out)
+}
