@@ -9,11 +9,11 @@ use Rattle.bench_sweep.specs.declared.sweeps.Recovered.{Recovered}
 use Rattle.bench_sweep.proofs.Written.{handed_on}
 use Rattle.script_lang.specs.Scripts.{script_of, Script as Said}
 use Rattle.bench_schedules.specs.Numbers.{numbers_of}
-use Rattle.bench_preemptions.specs.Preemptions.{WrotePreemptions}
-use Rattle.bench_preemptions.specs.declared.benches.Within.{Within}
-use Rattle.bench_preemptions.specs.Shown.{ShownOrder}
+use Rattle.bench_schedules.specs.Preemptions.{WrotePreemptions}
+use Rattle.bench_schedules.specs.declared.preempted_benches.Within.{Within}
+use Rattle.bench_schedules.specs.Shown.{ShownOrder}
 use Rattle.bench_schedules.specs.Shrunk.{Shrunk}
-use Rattle.bench_preemptions.specs.declared.shown.Wanted.{Wanted}
+use Rattle.bench_schedules.specs.declared.shown.Wanted.{Wanted}
 use Rattle.bench_program.specs.declared.usage.Drawn.{Drawn}
 use Rattle.bench_program.specs.Written.{IsOrderShown, IsPreempted, IsShrunk}
 

@@ -15,10 +15,10 @@ use Rattle.bench_sweep.specs.declared.plan.Plan.{Plan}
 use Rattle.bench_sweep.specs.declared.recovery.RecoveryFile.{RecoveryFile}
 use Rattle.bench_sweep.specs.declared.shown.WantedRow.{WantedRow}
 use Rattle.bench_sweep.specs.declared.sweeps.Recovered.{Recovered}
-use Rattle.bench_preemptions.specs.Preemptions.{WrotePreemptions}
-use Rattle.bench_preemptions.specs.Shown.{HasNoOrder, ShownOrder}
-use Rattle.bench_preemptions.specs.declared.benches.Within.{Within}
-use Rattle.bench_preemptions.specs.declared.shown.Wanted.{Wanted}
+use Rattle.bench_schedules.specs.Preemptions.{WrotePreemptions}
+use Rattle.bench_schedules.specs.Shown.{HasNoOrder, ShownOrder}
+use Rattle.bench_schedules.specs.declared.preempted_benches.Within.{Within}
+use Rattle.bench_schedules.specs.declared.shown.Wanted.{Wanted}
 use Rattle.bench_schedules.specs.Numbers.{number_of_other, numbers_of}
 use Rattle.bench_schedules.specs.Schedules.{Shown, WroteSchedules}
 use Rattle.bench_schedules.specs.Shrunk.{Shrunk}

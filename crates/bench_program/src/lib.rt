@@ -19,7 +19,7 @@ ghost use Rattle.script_lang.specs.Scripts.{script_of, Script as Said};
 ghost use Rattle.bench_sweep.specs.Swept.{IsBenchOf, IsRecoveredBenchOf, IsNotPlain, NoBenchRuns, NoRecoveryRuns};
 ghost use Rattle.bench_sweep.specs.Shown.{IsRowOf, NoRowOf};
 ghost use Rattle.bench_schedules.specs.Numbers.{numbers_of};
-ghost use Rattle.bench_preemptions.specs.Shown.{HasNoOrder};
+ghost use Rattle.bench_schedules.specs.Shown.{HasNoOrder};
 ghost use Rattle.bench_program.specs.Written.{IsCompared, IsNoRow, IsOrderShown, IsPreempted, IsReadOf, IsReported, IsRowShown, IsShown, IsShrunk};
 
 pub use crate::fault::BenchFault;
@@ -27,9 +27,11 @@ pub use crate::streams::run_on;
 use crate::streams::{end, without_work};
 use crate::usage::USAGE;
 pub use crate::usage::{Drawn, Options, Savers, Work, options_of};
-use bench_preemptions::{Preempted, Wanted, Within, preemptions, show_order};
 use bench_report::run_with;
-use bench_schedules::{Compared, Plan as Schedules, line_numbers, schedules, show, shrink};
+use bench_schedules::{
+    Compared, Plan as Schedules, Preempted, Wanted, Within, line_numbers, preemptions, schedules,
+    show, show_order, shrink,
+};
 use bench_sweep::{
     Plan, Recovered, RecoveryFile, Sweep, WantedRow, run_bench, run_bench_recovered, show_row,
 };
@@ -314,7 +316,7 @@ pub fn write_shrunk<R: Threads + Sync, W: Write + Drop>(
 
 /// Runs all orders of the script with few preemptions, with these payloads in the slots, and writes which differ, to the end.
 ///
-/// Refused as `bench_preemptions::preemptions` is, and `Output` also where what the writer held back could not be written.
+/// Refused as `bench_schedules::preemptions` is, and `Output` also where what the writer held back could not be written.
 pub fn write_preemptions<R: Threads + Sync, W: Write + Drop>(
     jobs: &Jobs<'_, R>,
     alloc: Global,
@@ -346,7 +348,7 @@ pub fn write_preemptions<R: Threads + Sync, W: Write + Drop>(
 /// Writes an order of the script that differs to the end. The script's own run and those of the orders before it have these payloads
 /// in the slots.
 ///
-/// Refused as `bench_preemptions::show_order` is, and `Output` also where what the writer held back could not be written.
+/// Refused as `bench_schedules::show_order` is, and `Output` also where what the writer held back could not be written.
 pub fn write_order<R: Threads + Sync, W: Write + Drop>(
     jobs: &Jobs<'_, R>,
     alloc: Global,

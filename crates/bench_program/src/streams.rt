@@ -21,8 +21,7 @@ use crate::{
     READ_AT_MOST, read_script, write_bench, write_order, write_preemptions, write_recovered,
     write_recovered_row, write_report, write_row, write_schedule, write_schedules, write_shrunk,
 };
-use bench_preemptions::{Wanted, Within};
-use bench_schedules::Plan as Schedules;
+use bench_schedules::{Plan as Schedules, Wanted, Within};
 use bench_sweep::{Plan, WantedRow};
 use board::Payloads;
 use board_files::{PayloadFiles, read_payloads};

@@ -10,8 +10,7 @@ ghost use Rattle.command_line.specs.Parses.{AreParsed};
 ghost use Rattle.bench_sweep.specs.Swept.{whole};
 ghost use Rattle.bench_program.specs.Usage.{bench_or_row, number_up_to, count_rule, crew_rule, jobs_rule, part_between, part_named, parted, work_of_flags, schedules_named, preempt_or_show, preemptions_named, without_options, savers_of, sbibench, script_rule, seed_of, Flags, IsBounded, compare_or_show, quietly, tested, without_benches, with_manners, with_part, with_preemptions, with_quiet, with_schedules, with_recovery, with_tap, work_asked, work_by, work_without, IsFlag, IsNamedBy, NamesConflict, NamesNoWork};
 
-use bench_preemptions::{Wanted, Within};
-use bench_schedules::Plan as Schedules;
+use bench_schedules::{Plan as Schedules, Wanted, Within};
 use bench_sweep::{Bench, Plan, WantedRow};
 use board_model::refusal_lines;
 use clap::builder::ValueParser;

@@ -1,3 +1,10 @@
+pub mod Steps
+pub mod PointNumbers
+pub mod OrderRows
+pub mod RanOrders
+pub mod MadeOrders
+pub mod Handing
+pub mod KeptOrders
 pub mod Shortened
 pub mod Alike
 pub mod Aparts

@@ -1,3 +1,10 @@
+pub mod Stepped
+pub mod Points
+pub mod Orders
+pub mod Preemptions
+pub mod SoFar
+pub mod Handing
+pub mod Shown
 pub mod Shrunk
 pub mod Told
 pub mod Compared

@@ -6,8 +6,8 @@ use Rattle.script_lang.specs.declared.line.Line.{Line}
 use Rattle.script_lang.specs.declared.line.Line.TheVariants as lines
 use Rattle.bench_orders.specs.Orders.{IsScheduleOf, is_other}
 use Rattle.bench_schedules.specs.Numbers.{numbers_of}
-use Rattle.bench_preemptions.specs.Shown.{HasNoOrder, IsNthThatDiffers, order_script}
-use Rattle.bench_preemptions.specs.declared.points.Preemption.{Preemption}
+use Rattle.bench_schedules.specs.Shown.{HasNoOrder, IsNthThatDiffers, order_script}
+use Rattle.bench_schedules.specs.declared.points.Preemption.{Preemption}
 use Rattle.debug_options.specs.declared.given.Begin.{Begin}
 use Rattle.debug_options.specs.declared.given.Begin.TheVariants.{End, Order, Schedule}
 

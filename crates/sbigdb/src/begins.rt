@@ -14,8 +14,7 @@ ghost use Rattle.bench_schedules.specs.Numbers.{numbers_of};
 ghost use Rattle.debug_options.specs.Limits.{IsBounded, IsUpTo};
 ghost use Rattle.sbigdb.specs.Begins.{BeginsAt, HasNone, IsFound, PartsAt, both_turn, is_same_row, turns_of_both};
 
-use bench_preemptions::{Wanted, show_order};
-use bench_schedules::show;
+use bench_schedules::{Wanted, show, show_order};
 use board::Payloads;
 use board_model::Refusal;
 use debug_options::{Begin, Drawn, Preempted};
@@ -174,7 +173,7 @@ fn jobs_of<R: Threads>(threads: &R) -> usize
     }
 }
 
-/// The order of a script that [`bench_preemptions::show_order`] writes.
+/// The order of a script that [`bench_schedules::show_order`] writes.
 fn order_found<R: Threads + Sync>(
     threads: &R,
     alloc: Global,

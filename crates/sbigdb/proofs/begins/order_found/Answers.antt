@@ -2,7 +2,7 @@ use Rattle.std.proofs.Common.{◌∙◌, ◌×◌, ◌≡◌, List, inl, subst, 
 use Rattle.std.proofs.lemmas.Result.{IfErr-weaker, IfOk-weaker}
 use Rattle.script_lang.specs.Scripts.{Script}
 use Rattle.bench_orders.specs.Orders.{IsScheduleOf}
-use Rattle.bench_preemptions.specs.Shown.{order_script}
+use Rattle.bench_schedules.specs.Shown.{order_script}
 use Rattle.sbigdb.proofs.begins.order_found.Goals as goal
 
 pub returns-clause-found : goal.returns-clause-found

@@ -1,0 +1,127 @@
+//! Before which turns of an order something is done.
+
+ghost use Rattle.std.specs.Prelude.{◌≡◌, ◌≤◌, All, IfErr, IfOk, OnOk, slice_index_or};
+ghost use Rattle.board_model.specs.declared.refusal.Refusal.TheVariants.{Memory};
+ghost use Rattle.script_lang.specs.Lines.{IsLineInRange};
+ghost use Rattle.bench_report.specs.Bench.{Bench};
+ghost use Rattle.bench_live.specs.Lives.{IsSound, Shows};
+ghost use Rattle.bench_schedules.specs.Stepped.{LineDid, RanByTurns, RowDid, is_busy};
+
+use crate::line_runs::{end_run, run_line};
+use bench_live::{LiveBench, Row, is_idle};
+use bench_report::Setting;
+use board::Payloads;
+use board_model::{HartId, Refusal};
+use crew::Crew;
+use script_lang::Line;
+
+/// Whether a turn that was asked alone did something.
+fn is_busy(row: Row) -> bool
+    ensures { result ≡ is_busy row }
+{
+    match row {
+        Row::Off => false,
+        Row::Made(_, word) => !is_idle(word),
+        Row::Lost(_) => true,
+    }
+}
+
+/// Asks the turns of a row one by one, as long as each does something. Answers how many did.
+fn step_row<C: Crew>(
+    setting: &Setting<'_, C>,
+    live: &mut LiveBench,
+    hart: HartId,
+    count: u32,
+) -> u32
+    requires sound { IsSound live.old }
+    ensures sound { IsSound live.new }
+    ensures few { result ≤ count }
+    ensures did { (b : Bench) → Shows setting.now.shape.now b live.old
+        → (new : Bench) × RowDid setting.now.shape.now hart count result b new × Shows setting.now.shape.now new live.new }
+{
+    for busy in 0..count {
+        let row = live.turns(setting, hart, 1);
+        if !is_busy(row) {
+            return busy;
+        }
+    }
+    count
+}
+
+/// Runs a line, the turns of a row one by one. Answers how many first turns of the row did something; of another line 0. Refused
+/// `Memory` alone.
+fn step_line<C: Crew>(
+    setting: &Setting<'_, C>,
+    line: &Line,
+    live: &mut LiveBench,
+) -> Result<u32, Refusal>
+    requires range { IsLineInRange setting.now.shape.now line.now }
+    requires sound { IsSound live.old }
+    ensures sound { OnOk result (IsSound live.new) }
+    ensures few { IfOk result (λ count. count ≤ 1000000) }
+    ensures did { IfOk result (λ count. (b : Bench) → Shows setting.now.shape.now b live.old
+        → (new : Bench) × LineDid setting.now.shape.now line.now count b new × Shows setting.now.shape.now new live.new) }
+    ensures refused { IfErr result (λ e. e ≡ Memory) }
+{
+    match line {
+        Line::Turn(hart, count) => Ok(step_row(setting, live, *hart, *count)),
+        _ => {
+            run_line(setting, line, live)?;
+            Ok(0)
+        }
+    }
+}
+
+/// Runs an order, with these payloads in the slots, its turns one by one, and answers of each line how many of its first turns did
+/// something. Refused `Memory` alone.
+fn run_by_turns<C: Crew>(
+    setting: &Setting<'_, C>,
+    payloads: &Payloads,
+    lines: &[Line],
+) -> Result<Vec<u32>, Refusal>
+    requires ranges { All (IsLineInRange setting.now.shape.now) lines.now }
+    ensures ran { IfOk result (λ counts. RanByTurns setting.now.shape.now payloads.now lines.now counts.items) }
+    ensures few { IfOk result (λ counts. All (λ count. count ≤ 1000000) counts.items) }
+    ensures refused { IfErr result (λ e. e ≡ Memory) }
+{
+    let mut live = LiveBench::blank(setting.alloc, setting.shape, payloads)?;
+    let mut counts = Vec::new(setting.alloc);
+    for line in lines {
+        let count = step_line(setting, line, &mut live)?;
+        counts.push(count)?;
+    }
+    end_run(live, setting.shape)?;
+    Ok(counts)
+}
+
+/// As `run_by_turns`, twice: where the second run counts otherwise, a guest's suspension was refused memory, which no answer tells.
+/// Then this is refused `Memory`. No clause says it.
+pub fn confirmed_counts<C: Crew>(
+    setting: &Setting<'_, C>,
+    payloads: &Payloads,
+    lines: &[Line],
+) -> Result<Vec<u32>, Refusal>
+    requires ranges { All (IsLineInRange setting.now.shape.now) lines.now }
+    ensures ran { IfOk result (λ counts. RanByTurns setting.now.shape.now payloads.now lines.now counts.items) }
+    ensures few { IfOk result (λ counts. All (λ count. count ≤ 1000000) counts.items) }
+    ensures refused { IfErr result (λ e. e ≡ Memory) }
+{
+    let counts = run_by_turns(setting, payloads, lines)?;
+    let again = run_by_turns(setting, payloads, lines)?;
+    if again.as_slice() != counts.as_slice() {
+        return Err(Refusal::Memory);
+    }
+    Ok(counts)
+}
+
+/// How many first turns of the line at a place did something.
+pub fn count_at(counts: &[u32], place: usize) -> u32
+    requires few { All (λ count. count ≤ 1000000) counts.now }
+    ensures value { result ≡ slice_index_or counts.now place 0 }
+    ensures few { result ≤ 1000000 }
+{
+    match counts.get(place) {
+        Some(count) => *count,
+        None => 0,
+    }
+}

@@ -1,0 +1,233 @@
+//! The orders that one more preemption makes of an order, run by several threads.
+
+ghost use Rattle.std.specs.Prelude.{◌≡◌, ◌⊎◌, ◌+◌, ◌≤◌, ◌<◌, ◌^◌, ℕ, List, Option, length, IfErr, IfOk, OnOk};
+ghost use Rattle.std.specs.Io.KnownBytes.{Appends};
+ghost use Rattle.board_model.specs.declared.refusal.Refusal.TheVariants.{Memory, Output};
+ghost use Rattle.bench_orders.specs.Orders.{other_count};
+ghost use Rattle.bench_schedules.specs.Handing.{IsTold, ToldText, told_count};
+ghost use Rattle.bench_schedules.specs.Points.{number_in};
+ghost use Rattle.bench_schedules.specs.Preemptions.{basis};
+ghost use Rattle.bench_schedules.specs.SoFar.{IsMade, RanPoints, kept_behind};
+ghost use Rattle.bench_schedules.specs.Stepped.{RanByTurns};
+ghost use Rattle.bench_schedules.specs.declared.points.Preemption.{Preemption as Once};
+
+use crate::nodes::{Node, Runner, Search, is_enough, parted_node, run_node};
+use crate::numbers::number_of_other;
+use crate::points::{Preemption, point_at};
+use crate::preempted_lines::write_order;
+use crate::runs::Difference;
+use crate::script_points::script_points;
+use board_model::Refusal;
+use crew::Crew;
+use jobs::{Jobs, Progress, Sink, Task, hand_on_all};
+use std::alloc::Global;
+use std::io::Write;
+use std::thread::Threads;
+
+/// Where an order answers other than the script's own run, as its line tells it.
+#[derive(Drop)]
+pub struct Told {
+    /// The points of the script at which it was parted.
+    pub points: Vec<Preemption>,
+    /// The number of the script's line at which it first differs.
+    pub number: u64,
+    pub difference: Difference,
+}
+
+/// An order that was run.
+#[derive(Drop)]
+pub struct NextRun {
+    /// Its preemptions.
+    pub ones: Vec<Preemption>,
+    /// Where it differs.
+    pub told: Option<Told>,
+}
+
+/// The runs of the orders that one more preemption makes of an order, by the numbers of its points.
+#[derive(Drop)]
+pub struct NextRuns<'a, 'b, C> {
+    pub runner: &'a Runner<'b, C>,
+    /// The order.
+    pub node: &'a Node,
+    /// How many first turns of each line of it did something.
+    pub counts: &'a [u32],
+}
+
+/// Where an order differs, as its line tells it. Refused `Memory` alone.
+fn told_of<C>(
+    runner: &Runner<'_, C>,
+    node: &Node,
+    differs: Option<Difference>,
+) -> Result<Option<Told>, Refusal>
+    requires few { (length runner.now.lines.now ≤ 65535) × (length node.now.ones.items ≤ 3) }
+    requires made { IsMade (basis runner.now.setting.shape.now runner.now.payloads.now runner.now.lines.now runner.now.own.now
+        runner.now.numbers.now runner.now.most) node.now.lines.items node.now.ones.items node.now.from }
+    ensures told { IfOk result (λ told. IsTold (basis runner.now.setting.shape.now runner.now.payloads.now runner.now.lines.now
+        runner.now.own.now runner.now.numbers.now runner.now.most) node.now.ones.items differs told) }
+    ensures refused { IfErr result (λ e. e ≡ Memory) }
+{
+    match differs {
+        None => Ok(None),
+        Some(difference) => {
+            let points = script_points(runner.setting.alloc, runner.lines, &node.ones)?;
+            let number = number_of_other(runner.numbers, runner.lines, difference.place);
+            Ok(Some(Told {
+                points,
+                number,
+                difference,
+            }))
+        }
+    }
+}
+
+impl<'a, 'b, C: Crew + Sync> Task for NextRuns<'a, 'b, C> {
+    ghost use Rattle.std.specs.Thread.{IsSync};
+    ghost use Rattle.bench_schedules.specs.Handing.{HasPoint, IsNext};
+
+    type Row = NextRun;
+
+    ghost has = { λ runs k. HasPoint (basis runs.runner.now.setting.shape.now runs.runner.now.payloads.now runs.runner.now.lines.now runs.runner.now.own.now
+        runs.runner.now.numbers.now runs.runner.now.most)
+        runs.node.now.lines.items runs.node.now.ones.items runs.node.now.from runs.counts.now k × IsSync C.Handle.row };
+
+    ghost is_row = { λ runs k run. IsNext (basis runs.runner.now.setting.shape.now runs.runner.now.payloads.now runs.runner.now.lines.now runs.runner.now.own.now
+        runs.runner.now.numbers.now runs.runner.now.most)
+        runs.node.now.ones.items runs.counts.now k run };
+
+    /// Runs the order that a preemption makes at the point of that number.
+    fn row(&self, number: u64) -> Result<NextRun, Refusal> {
+        let one = point_at(self.counts, number);
+        let next = parted_node(self.runner, self.node, self.counts, one)?;
+        let differs = run_node(self.runner, &next)?;
+        let told = told_of(self.runner, &next, differs)?;
+        Ok(NextRun {
+            ones: next.ones,
+            told,
+        })
+    }
+}
+
+/// Writes the line of an order where it differs. Answers how many orders that are: 1, or 0.
+fn write_told<W: Write>(
+    alloc: Global,
+    numbers: &[u64],
+    told: &Option<Told>,
+    out: &mut W,
+) -> Result<u64, Refusal>
+    ensures ok { IfOk result (λ m. (text : List ℕ) × ToldText numbers.now told.now text
+        × Appends (W.contents out.old) (W.contents out.new) text × (m ≡ told_count told.now)) }
+    ensures err { IfErr result (λ e. (e ≡ Memory) ⊎ (e ≡ Output)) }
+{
+    match told {
+        None => Ok(0),
+        Some(told) => {
+            write_order(
+                alloc,
+                out,
+                numbers,
+                &told.points,
+                told.number,
+                &told.difference,
+            )?;
+            Ok(1)
+        }
+    }
+}
+
+/// Counts an order of these preemptions, of which so many differ: 1, or 0. It is kept where as many as are enough differ with it. Refused
+/// `Memory` where that is more than 2^64 orders, which no machine runs.
+fn count(enough: u64, ones: Vec<Preemption>, more: u64, search: &mut Search) -> Result<(), Refusal>
+    ensures counted { OnOk result ((search.new.orders ≡ search.old.orders + 1) × (search.new.differ ≡ search.old.differ + more)
+        × (search.new.kept.items ≡ kept_behind enough more (search.old.differ + more) search.old.kept.items ones.items)) }
+    ensures refused { IfErr result (λ e. e ≡ Memory) }
+{
+    let Some(orders) = search.orders.checked_add(1) else {
+        return Err(Refusal::Memory);
+    };
+    let Some(differ) = search.differ.checked_add(more) else {
+        return Err(Refusal::Memory);
+    };
+    search.orders = orders;
+    search.differ = differ;
+    if 0 < more && differ == enough {
+        search.kept = ones;
+    }
+    Ok(())
+}
+
+/// What is written of orders, and which were run.
+#[derive(Drop)]
+pub struct Report<'a, 'b, C, W> {
+    pub runner: &'a Runner<'b, C>,
+    pub out: &'a mut W,
+    pub search: Search,
+}
+
+impl<'a, 'b, C, W: Write> Sink<NextRun> for Report<'a, 'b, C, W> {
+    ghost use Rattle.bench_schedules.specs.Handing.{TellsNext};
+
+    ghost takes = { λ old run new. TellsNext W.contents old run new };
+
+    /// Writes the line of an order where it differs, and counts it; or leaves it out, where enough orders differ.
+    fn take<P: Progress>(&mut self, run: NextRun, progress: &P) -> Result<(), Refusal> {
+        progress.pause();
+        if is_enough(self.runner, &self.search) {
+            return Ok(());
+        }
+        let NextRun { ones, told } = run;
+        let alloc = self.runner.setting.alloc;
+        let more = write_told(alloc, self.runner.numbers, &told, self.out)?;
+        count(self.runner.enough, ones, more, &mut self.search)
+    }
+}
+
+/// Hands a writer back as it is.
+fn hand_back<W: Write>(out: &mut W)
+    ensures { out.new ≡ out.old }
+{
+    let _out = out;
+}
+
+/// Runs the orders of so many points of an order, from that number on, by the threads of these jobs.
+pub fn hand_on_points<R: Threads + Sync, C: Crew + Sync, W: Write>(
+    jobs: &Jobs<'_, R>,
+    runs: &NextRuns<'_, '_, C>,
+    first: u64,
+    points: u64,
+    done: Search,
+    out: &mut W,
+) -> Result<Search, Refusal>
+    requires few { (length runs.now.runner.now.lines.now ≤ 65535) × (runs.now.runner.now.most ≤ 3) }
+    requires count { length runs.now.runner.now.own.now ≡ other_count runs.now.runner.now.lines.now }
+    requires most { length runs.now.node.now.ones.items + 1 ≤ runs.now.runner.now.most }
+    requires made { IsMade (basis runs.now.runner.now.setting.shape.now runs.now.runner.now.payloads.now runs.now.runner.now.lines.now runs.now.runner.now.own.now
+        runs.now.runner.now.numbers.now runs.now.runner.now.most)
+        runs.now.node.now.lines.items runs.now.node.now.ones.items runs.now.node.now.from }
+    requires asked { RanByTurns runs.now.runner.now.setting.shape.now runs.now.runner.now.payloads.now runs.now.node.now.lines.items
+        runs.now.counts.now }
+    requires begin { number_in runs.now.counts.now runs.now.node.now.from 0 ≤ first }
+    requires end { first + points ≤ number_in runs.now.counts.now (length runs.now.counts.now) 0 }
+    requires room { first + points < 2 ^ 64 }
+    // With the points before these, as many are taken.
+    ensures went { IfOk result (λ now. (old : Option (List ℕ)) (orders differ : ℕ) (kept : List Once)
+        → RanPoints (basis runs.now.runner.now.setting.shape.now runs.now.runner.now.payloads.now runs.now.runner.now.lines.now runs.now.runner.now.own.now
+        runs.now.runner.now.numbers.now runs.now.runner.now.most)
+        runs.now.runner.now.enough 0 runs.now.node.now.ones.items runs.now.counts.now first old (W.contents out.old)
+        orders differ kept done.orders done.differ done.kept.items
+        → RanPoints (basis runs.now.runner.now.setting.shape.now runs.now.runner.now.payloads.now runs.now.runner.now.lines.now runs.now.runner.now.own.now
+        runs.now.runner.now.numbers.now runs.now.runner.now.most)
+        runs.now.runner.now.enough 0 runs.now.node.now.ones.items runs.now.counts.now (first + points) old (W.contents out.new)
+        orders differ kept now.orders now.differ now.kept.items) }
+    ensures err { IfErr result (λ e. (e ≡ Memory) ⊎ (e ≡ Output)) }
+{
+    let mut report = Report {
+        runner: runs.runner,
+        out,
+        search: done,
+    };
+    let alloc = runs.runner.setting.alloc;
+    hand_on_all(jobs, alloc, runs, first, points, &mut report)?;
+    let Report { out, search, .. } = report;
+    hand_back(out);
+    Ok(search)
+}
