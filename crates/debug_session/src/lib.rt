@@ -10,7 +10,6 @@ mod script;
 mod session;
 mod stops;
 
-pub use debug_timeline::{DebuggedBench, PC, REGISTERS, Row, Timeline};
 pub use halts::{Halt, Stop};
 pub use session::{Plan, Session};
 pub use stops::{Watch, WatchKind};
