@@ -23,8 +23,8 @@ use Rattle.debug_session.specs.declared.halts.Halt.TheVariants as halts
 use Rattle.debug_session.specs.declared.halts.Stop.{Stop}
 use Rattle.debug_session.specs.declared.session.Session.{Session}
 use Rattle.debug_session.specs.declared.stops.Stops.{Stops}
-use Rattle.debug_timeline.specs.Ats.{Ran}
-use Rattle.debug_timeline.specs.declared.timeline.Timeline.{Timeline}
+use Rattle.debug_session.specs.Ats.{Ran}
+use Rattle.debug_session.specs.declared.timeline.Timeline.{Timeline}
 use Rattle.gdb_protocol.specs.Fields.{behind_prefix}
 use Rattle.debug_packets.specs.declared.asked.Asked.{Asked}
 use Rattle.debug_packets.specs.declared.asked.Asked.TheVariants as asked

@@ -3,8 +3,8 @@
 use Rattle.std.specs.Prelude.{◌≡◌, ⊤, ℕ, ◌+◌, ◌-◌, List, [], ◌∷◌, ◌++◌, Option, Some, None, false, nat_lt, nat_le, ◌&&◌, length, ◌==◌, if◌then◌else◌}
 use Rattle.std.specs.Fmt.{digits}
 use Rattle.board_model.specs.Shapes.{Size}
-use Rattle.debug_timeline.specs.Lives.{machine_of, memory_in, register_in}
-use Rattle.debug_timeline.specs.declared.debugged.DebuggedBench.{DebuggedBench}
+use Rattle.debug_session.specs.Lives.{machine_of, memory_in, register_in}
+use Rattle.debug_session.specs.declared.debugged.DebuggedBench.{DebuggedBench}
 use Rattle.gdb_protocol.specs.Packets.{digit_of}
 use Rattle.debug_packets.specs.Talks.{hart_or}
 use Rattle.debug_packets.specs.Texts.{threads_object}

@@ -7,8 +7,8 @@ use Rattle.board_model.specs.Shapes.{Size}
 use Rattle.debug_session.specs.Texts.{state_text}
 use Rattle.debug_session.specs.Turns.{lives_begun, turns_told}
 use Rattle.script_lang.specs.declared.line.Line.{Line}
-use Rattle.debug_timeline.specs.Lives.{machine_of, pc_in}
-use Rattle.debug_timeline.specs.declared.debugged.DebuggedBench.{DebuggedBench}
+use Rattle.debug_session.specs.Lives.{machine_of, pc_in}
+use Rattle.debug_session.specs.declared.debugged.DebuggedBench.{DebuggedBench}
 use Rattle.gdb_protocol.specs.Replies.{pairs_of}
 use lib.Chars.{codes}
 

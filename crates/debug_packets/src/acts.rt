@@ -1,7 +1,7 @@
 //! Requests that may move the board.
 
 ghost use Rattle.std.specs.Prelude.{◌≡◌, ◌<◌, [], codes, map, IfOk, OnOk};
-ghost use Rattle.debug_timeline.specs.Ats.{IsAt};
+ghost use Rattle.debug_session.specs.Ats.{IsAt};
 ghost use Rattle.debug_session.specs.Sessions.{plan_of, size_of, stops_of, timeline_of};
 ghost use Rattle.debug_packets.specs.Kept.{IsTalk};
 ghost use Rattle.debug_packets.specs.Moved.{IsTold, MovedBy, ResumedBy, SteppedOnce, WentAlone, WentBack, WentFarBack, WentOn};

@@ -1,7 +1,7 @@
 //! What is answered to a packet.
 
 ghost use Rattle.std.specs.Prelude.{◌≡◌, true, false, [], None, map, IfOk, OnOk};
-ghost use Rattle.debug_timeline.specs.Ats.{IsAt};
+ghost use Rattle.debug_session.specs.Ats.{IsAt};
 ghost use Rattle.debug_session.specs.Sessions.{bench_of, plan_of, points_of, size_of, stops_of, timeline_of, watches_of};
 ghost use Rattle.debug_packets.specs.Replies.{IsReply, Replied, Shown, hart_shown};
 ghost use Rattle.debug_packets.specs.Kept.{IsKept, IsTalk, Keeps, Listed, points_after, watches_after};

@@ -2,7 +2,7 @@
 
 ghost use Rattle.std.specs.Prelude.{◌≡◌, ◌≤◌, ◌<◌, [], codes, map, string_bytes, IfOk, IfSome, OnOk};
 ghost use Rattle.std.specs.Option.{option_map};
-ghost use Rattle.debug_timeline.specs.Ats.{IsAt};
+ghost use Rattle.debug_session.specs.Ats.{IsAt};
 ghost use Rattle.debug_session.specs.Sessions.{begins_of, history_of, plan_of, size_of, stops_of, timeline_of};
 ghost use Rattle.debug_packets.specs.Kept.{StaysOpen};
 ghost use Rattle.debug_packets.specs.Moved.{GotoOr, LineRan, MonitoredBy, TextSaid, WentForth, WentOver, goto_in, hexed, just_one, line_in, script_text};

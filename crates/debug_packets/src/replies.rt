@@ -4,7 +4,7 @@ ghost use Rattle.std.specs.Prelude.{◌≡◌, ◌+◌, ◌++◌, ◌∷◌, [],
 ghost use Rattle.std.specs.Option.{option_map};
 ghost use Rattle.gdb_protocol.specs.Packets.{digit_of};
 ghost use Rattle.gdb_protocol.specs.Replies.{registers_text};
-ghost use Rattle.debug_timeline.specs.Lives.{memory_in, register_in};
+ghost use Rattle.debug_session.specs.Lives.{memory_in, register_in};
 ghost use Rattle.debug_session.specs.Sessions.{bench_of, machine_of_session, size_of};
 ghost use Rattle.debug_packets.specs.Replies.{features_text, hart_named, memory_reply, register_reply, thread_reply, IsLookReply, IsPart};
 ghost use Rattle.debug_packets.specs.Stops.{stop_text};

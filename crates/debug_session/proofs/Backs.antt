@@ -12,9 +12,9 @@ use Rattle.report_lines.specs.declared.printed.Answer.{Answer}
 use Rattle.bench_report.specs.Bench.{Bench, bench_with}
 use Rattle.bench_report.specs.Steps.{Run}
 use Rattle.bench_live.specs.Notes.{Leaves}
-use Rattle.debug_timeline.specs.Ats.{IsPlace}
-use Rattle.debug_timeline.specs.declared.timeline.Timeline.{Timeline}
-use Rattle.debug_timeline.proofs.Histories.{left_moments, place_at, place_before}
+use Rattle.debug_session.specs.Ats.{IsPlace}
+use Rattle.debug_session.specs.declared.timeline.Timeline.{Timeline}
+use Rattle.debug_session.proofs.Histories.{left_moments, place_at, place_before}
 use Rattle.debug_session.specs.Backs.{BackTo, EndsAt, FoundIn, FoundOf, IsEnd, IsPassed, IsRowPast, IsSeen, IsWhyBack, MayMove, PassBack, before_place, halt_back, later_place, later_turn}
 use Rattle.debug_session.specs.Firsts.{Touches, is_at_point, one_turn}
 use Rattle.debug_session.specs.Steps.{MakesNone}

@@ -1,3 +1,9 @@
+pub mod Rests
+pub mod Histories
+pub mod Timelines
+pub mod Passed
+pub mod OneLoad
+mod Flats
 pub mod Wents
 pub mod Scripts
 pub mod Places

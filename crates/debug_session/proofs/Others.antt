@@ -4,7 +4,7 @@ use Rattle.std.specs.Prelude.{if◌then◌else◌}
 use Rattle.machine.specs.Machine.{Machine}
 use Rattle.debug_session.specs.declared.stops.Watch.{Watch}
 use Rattle.debug_session.specs.Firsts.{is_quiet, seen_by, touched_since}
-use Rattle.debug_timeline.specs.declared.loads.Load.{Load}
+use Rattle.debug_session.specs.declared.loads.Load.{Load}
 use Rattle.debug_session.specs.Others.{first_other, or_later, other_of}
 
 either : (quiet : Bool) (w : Watch) (later : Option Watch) → or_later (if quiet then None else Some w) later ≡ (if quiet then later else Some w)

@@ -6,7 +6,7 @@ use Rattle.std.proofs.lemmas.List.Elements.{All-append, All-cons, All-nil}
 use Rattle.script_lang.specs.declared.line.Line.{Line}
 use Rattle.script_lang.specs.declared.line.Line.TheVariants as lines
 use Rattle.report_lines.specs.declared.printed.Answer.{Answer}
-use Rattle.debug_timeline.specs.Ats.{IsNoted}
+use Rattle.debug_session.specs.Ats.{IsNoted}
 use Rattle.debug_session.specs.Steps.{AreNoted, MakesNone}
 
 pub makes_none : (line : Line) → ((h n : ℕ) → line ≡ lines.Turn h n → ⊥) → MakesNone line

@@ -6,8 +6,8 @@ use Rattle.std.proofs.lemmas.List.Sums.{sum_by_push, sum_by-append}
 use Rattle.script_lang.specs.declared.line.Line.{Line}
 use Rattle.script_lang.specs.declared.line.Line.TheVariants as lines
 use Rattle.bench_live.specs.Pasts.{some_turns}
-use Rattle.debug_timeline.specs.Ats.{IsBefore}
-use Rattle.debug_timeline.specs.declared.timeline.Timeline.{Timeline}
+use Rattle.debug_session.specs.Ats.{IsBefore}
+use Rattle.debug_session.specs.declared.timeline.Timeline.{Timeline}
 use Rattle.debug_session.specs.Turns.{WentTo, turns_made, turns_of, turns_told}
 
 -- of the first lines, with one more

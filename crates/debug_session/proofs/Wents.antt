@@ -10,11 +10,11 @@ use Rattle.bench_live.specs.Pasts.{moments}
 use Rattle.bench_live.specs.declared.rows.Row.{Row}
 use Rattle.bench_live.specs.declared.rows.Row.TheVariants as rows
 use Rattle.bench_live.specs.Rows.{IsWithin, made_in}
-use Rattle.debug_timeline.specs.declared.timeline.Timeline.{Timeline}
+use Rattle.debug_session.specs.declared.timeline.Timeline.{Timeline}
 use Rattle.bench_report.specs.Bench.{Bench}
-use Rattle.debug_timeline.specs.Passes.{GoesTo, Passes}
-use Rattle.debug_timeline.specs.Ats.{IsAt}
-use Rattle.debug_timeline.specs.Lives.{machine_of, pc_in}
+use Rattle.debug_session.specs.Passes.{GoesTo, Passes}
+use Rattle.debug_session.specs.Ats.{IsAt}
+use Rattle.debug_session.specs.Lives.{machine_of, pc_in}
 use Rattle.debug_session.specs.declared.forth.Part.{Part}
 use Rattle.debug_session.specs.declared.halts.Halt.{Halt}
 use Rattle.debug_session.specs.declared.halts.Halt.TheVariants as halts

@@ -8,7 +8,7 @@ use Rattle.report_lines.specs.declared.printed.Answer.{Answer}
 use Rattle.bench_report.specs.Bench.{Bench, bench_with}
 use Rattle.bench_report.specs.Steps.{Moves}
 use Rattle.bench_live.specs.Notes.{Leaves}
-use Rattle.debug_timeline.specs.declared.timeline.Timeline.{Timeline}
+use Rattle.debug_session.specs.declared.timeline.Timeline.{Timeline}
 use Rattle.debug_session.specs.declared.back.Place.{Place}
 use Rattle.debug_session.specs.declared.back.Way.{Way}
 use Rattle.debug_session.specs.declared.back.Way.TheVariants as ways

@@ -13,12 +13,12 @@ use Rattle.bench_report.specs.Bench.{Bench}
 use Rattle.bench_live.specs.declared.rows.Row.{Row}
 use Rattle.bench_live.specs.declared.rows.Row.TheVariants as rows
 use Rattle.bench_live.specs.Rows.{IsWithin, RowMoves, is_off, made_in}
-use Rattle.debug_timeline.specs.declared.timeline.Timeline.{Timeline}
-use Rattle.debug_timeline.specs.Ats.{IsLeft, MadeTurns}
-use Rattle.debug_timeline.specs.Lives.{machine_of, memory_in, pc_in, stands_in}
-use Rattle.debug_timeline.specs.Loads.{LoadsNext}
-use Rattle.debug_timeline.specs.Passes.{machine_left}
-use Rattle.debug_timeline.specs.declared.loads.Load.{Load}
+use Rattle.debug_session.specs.declared.timeline.Timeline.{Timeline}
+use Rattle.debug_session.specs.Ats.{IsLeft, MadeTurns}
+use Rattle.debug_session.specs.Lives.{machine_of, memory_in, pc_in, stands_in}
+use Rattle.debug_session.specs.Loads.{LoadsNext}
+use Rattle.debug_session.specs.Passes.{machine_left}
+use Rattle.debug_session.specs.declared.loads.Load.{Load}
 use Rattle.debug_session.specs.declared.halts.Halt.{Halt}
 use Rattle.debug_session.specs.declared.halts.Halt.TheVariants as halts
 use Rattle.debug_session.specs.declared.stops.Stops.{Stops}

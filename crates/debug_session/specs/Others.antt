@@ -3,7 +3,7 @@ use Rattle.std.specs.Prelude.{ℕ, List, [], ◌∷◌, Option, Some, None, if�
 use Rattle.machine.specs.Machine.{Machine}
 use Rattle.debug_session.specs.declared.stops.Watch.{Watch}
 use Rattle.debug_session.specs.Firsts.{is_quiet, seen_by}
-use Rattle.debug_timeline.specs.declared.loads.Load.{Load}
+use Rattle.debug_session.specs.declared.loads.Load.{Load}
 
 -- what was seen, where it was touched
 abbrev pub other_of : Option Machine → Option Load → Watch × List ℕ → Option Watch

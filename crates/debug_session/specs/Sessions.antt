@@ -3,13 +3,13 @@ use Rattle.std.specs.Prelude.{ℕ, List, Option}
 use Rattle.board_model.specs.Shapes.{Size}
 use Rattle.machine.specs.Machine.{Machine}
 use Rattle.script_lang.specs.declared.line.Line.{Line}
-use Rattle.debug_timeline.specs.declared.debugged.DebuggedBench.{DebuggedBench}
+use Rattle.debug_session.specs.declared.debugged.DebuggedBench.{DebuggedBench}
 use Rattle.debug_session.specs.declared.stops.Stops.{Stops}
 use Rattle.debug_session.specs.declared.stops.Watch.{Watch}
 use Rattle.debug_session.specs.declared.session.Plan.{Plan}
 use Rattle.debug_session.specs.declared.session.Session.{Session}
-use Rattle.debug_timeline.specs.declared.timeline.Timeline.{Timeline}
-use Rattle.debug_timeline.specs.Lives.{machine_of}
+use Rattle.debug_session.specs.declared.timeline.Timeline.{Timeline}
+use Rattle.debug_session.specs.Lives.{machine_of}
 
 module _ {C : Type 0} where
   -- its bench, with its history

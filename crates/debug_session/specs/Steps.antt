@@ -8,9 +8,9 @@ use Rattle.report_lines.specs.declared.printed.Answer.{Answer}
 use Rattle.bench_live.specs.declared.rows.Row.{Row}
 use Rattle.bench_live.specs.declared.rows.Row.TheVariants as rows
 use Rattle.bench_live.specs.Rows.{IsWithin}
-use Rattle.debug_timeline.specs.declared.timeline.Timeline.{Timeline}
-use Rattle.debug_timeline.specs.Ats.{IsAt, IsNoted, MadeTurns}
-use Rattle.debug_timeline.specs.Lives.{machine_of, pc_in}
+use Rattle.debug_session.specs.declared.timeline.Timeline.{Timeline}
+use Rattle.debug_session.specs.Ats.{IsAt, IsNoted, MadeTurns}
+use Rattle.debug_session.specs.Lives.{machine_of, pc_in}
 use Rattle.debug_session.specs.declared.halts.Halt.{Halt}
 use Rattle.debug_session.specs.declared.halts.Halt.TheVariants as halts
 use Rattle.debug_session.specs.Firsts.{is_of_turn}

@@ -9,8 +9,8 @@ use Rattle.script_lang.specs.Spellings.{board_text}
 use Rattle.script_lang.specs.declared.line.Line.{Line}
 use Rattle.hsm.specs.declared.state.State.{State}
 use Rattle.hsm.specs.declared.state.State.TheVariants as states
-use Rattle.debug_timeline.specs.declared.debugged.DebuggedBench.{DebuggedBench}
-use Rattle.debug_timeline.specs.Lives.{machine_of, state_in}
+use Rattle.debug_session.specs.declared.debugged.DebuggedBench.{DebuggedBench}
+use Rattle.debug_session.specs.Lives.{machine_of, state_in}
 use lib.Chars.{codes}
 
 -- a comment that names the payload with which a slot begins, which no line has room for; none where there is none

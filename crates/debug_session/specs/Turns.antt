@@ -3,8 +3,8 @@ use Rattle.std.specs.Prelude.{◌≡◌, ◌≤◌, ℕ, Bool, true, false, List
 use Rattle.std.specs.List.{sum_by}
 use Rattle.script_lang.specs.declared.line.Line.{Line}
 use Rattle.script_lang.specs.declared.line.Line.TheVariants as lines
-use Rattle.debug_timeline.specs.Ats.{IsBefore}
-use Rattle.debug_timeline.specs.declared.timeline.Timeline.{Timeline}
+use Rattle.debug_session.specs.Ats.{IsBefore}
+use Rattle.debug_session.specs.declared.timeline.Timeline.{Timeline}
 
 -- how many turns a line makes
 abbrev pub turns_of : Line → ℕ

@@ -6,10 +6,10 @@ use Rattle.bench_report.specs.Bench.{Bench}
 use Rattle.bench_live.specs.declared.rows.Row.{Row}
 use Rattle.bench_live.specs.declared.rows.Row.TheVariants as rows
 use Rattle.bench_live.specs.Rows.{IsWithin, RowMoves, made_in}
-use Rattle.debug_timeline.specs.declared.timeline.Timeline.{Timeline}
-use Rattle.debug_timeline.specs.Ats.{IsLeft, MadeTurns}
-use Rattle.debug_timeline.specs.Lives.{Rests, machine_of, pc_in}
-use Rattle.debug_timeline.specs.Passes.{machine_left}
+use Rattle.debug_session.specs.declared.timeline.Timeline.{Timeline}
+use Rattle.debug_session.specs.Ats.{IsLeft, MadeTurns}
+use Rattle.debug_session.specs.Lives.{Rests, machine_of, pc_in}
+use Rattle.debug_session.specs.Passes.{machine_left}
 use Rattle.debug_session.specs.declared.forth.Part.{Part}
 use Rattle.debug_session.specs.declared.forth.Within.{Within}
 use Rattle.debug_session.specs.declared.halts.Halt.{Halt}

@@ -6,19 +6,21 @@ ghost use Rattle.board_model.specs.declared.refusal.Refusal.TheVariants.{Memory}
 ghost use Rattle.bench_live.specs.Notes.{AreInRange};
 ghost use Rattle.bench_live.specs.Pasts.{moments, singles};
 ghost use Rattle.bench_report.specs.Bench.{Bench, bench_with};
-ghost use Rattle.debug_timeline.specs.Ats.{IsAt, IsPlace};
+ghost use Rattle.debug_session.specs.Ats.{IsAt, IsPlace};
 ghost use Rattle.debug_session.specs.Backs.{BackTo, FoundIn, FoundOf, IfEnded, IsEnd, IsRowPast, IsSeen, MayMove, StaysBack, halt_back, later_place, later_turn};
 ghost use Rattle.debug_session.specs.Firsts.{one_turn};
 ghost use Rattle.debug_session.specs.Steps.{MakesNone};
-ghost use Rattle.debug_timeline.specs.Lives.{IsSound, Shows};
+ghost use Rattle.debug_session.specs.Lives.{IsSound, Shows};
 ghost use Rattle.script_lang.specs.Lines.{IsLineInRange};
 
+use crate::debugged::DebuggedBench;
 use crate::halts::{Halt, Stop};
+use crate::replays::replay;
 use crate::stops::{Stops, Watch, first_touched};
+use crate::timeline::Timeline;
 use bench_report::Setting;
 use board_model::{HartId, Refusal};
 use crew::Crew;
-use debug_timeline::{DebuggedBench, Timeline, replay};
 use script_lang::Line;
 use std::sync::atomic::{AtomicBool, Ordering};
 
@@ -40,7 +42,7 @@ enum Way {
 }
 
 /// The first turn of a history.
-#[tactic(auto, using(debug_timeline::proofs::Histories::place_at, debug_timeline::proofs::Histories::row_some))]
+#[tactic(auto, using(crate::proofs::Histories::place_at, crate::proofs::Histories::row_some))]
 fn first_turn<C: Crew>(setting: &Setting<'_, C>, lines: &[Line]) -> Option<Place>
     requires { AreInRange setting.now.shape.now lines.now }
     ensures some { IfSome result (λ place. IsPlace place.stop.hart place.line place.turns lines.now) }
@@ -222,7 +224,7 @@ fn place_back<C: Crew>(
 
 /// Goes back to before the last turn of which the hart stood at a breakpoint, or that touched a watchpoint; where
 /// there is none, to before the first turn. Interrupted it leaves the timeline as it was.
-#[tactic(auto, using(debug_timeline::proofs::Histories::place_hart))]
+#[tactic(auto, using(crate::proofs::Histories::place_hart))]
 pub(crate) fn go_back<C: Crew>(
     setting: &Setting<'_, C>,
     stops: &Stops,

@@ -2,14 +2,14 @@
 
 ghost use Rattle.std.specs.Prelude.{◌≡◌, ◌≤◌, ◌<◌, ◌+◌, ◌-◌, ℕ, take, min, IfNone, IfOk, IfErr, IfSome, OnOk};
 ghost use Rattle.board_model.specs.declared.refusal.Refusal.TheVariants.{Memory};
-ghost use Rattle.debug_timeline.specs.Ats.{IsAt, IsPlace};
+ghost use Rattle.debug_session.specs.Ats.{IsAt, IsPlace};
 ghost use Rattle.script_lang.specs.declared.line.Line.TheVariants as lines;
 ghost use Rattle.debug_session.specs.Turns.{WentTo, begins_life, lives_begun, turns_made, turns_of, turns_told};
 
+use crate::timeline::Timeline;
 use bench_report::Setting;
 use board_model::{HartId, Refusal};
 use crew::Crew;
-use debug_timeline::Timeline;
 use script_lang::Line;
 
 /// How many turns a line makes.

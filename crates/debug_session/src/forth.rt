@@ -4,20 +4,21 @@ ghost use Rattle.std.specs.Prelude.{◌≡◌, ◌⊎◌, ◌≤◌, ◌<◌, �
 ghost use Rattle.board_model.specs.declared.refusal.Refusal.TheVariants.{Memory};
 ghost use Rattle.bench_live.specs.declared.rows.Row.{Row};
 ghost use Rattle.bench_live.specs.Rows.{IsWithin, is_off, made_in};
-ghost use Rattle.debug_timeline.specs.Ats.{IsAt, MadeTurns};
+ghost use Rattle.debug_session.specs.Ats.{IsAt, MadeTurns};
 ghost use Rattle.debug_session.specs.Steps.{IsStep, Went, halt_step};
 ghost use Rattle.debug_session.specs.Withins.{MadeOne, StepsWithin, is_in};
 ghost use Rattle.debug_session.specs.Firsts.{Stretched, ToHalt, halt_after, halt_seen, halts_all, touched_since};
-ghost use Rattle.debug_timeline.specs.Lives.{machine_of, pc_in, stands_in};
-ghost use Rattle.debug_timeline.specs.Loads.{LoadsNext};
+ghost use Rattle.debug_session.specs.Lives.{machine_of, pc_in, stands_in};
+ghost use Rattle.debug_session.specs.Loads.{LoadsNext};
 
 use crate::halts::{Halt, Stop};
+use crate::loads::Load;
 use crate::stops::{Seen, Stops, Watch, first_touched};
+use crate::timeline::Timeline;
 use bench_live::Row;
 use bench_report::{Answer, Setting};
 use board_model::{HartId, Refusal, Shape};
 use crew::Crew;
-use debug_timeline::{Load, Timeline};
 use machine::{Did, Word};
 use std::sync::atomic::{AtomicBool, Ordering};
 

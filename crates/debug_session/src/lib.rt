@@ -1,15 +1,29 @@
+//! The bench of a debugger with its history: the lines that were run, and how it goes forward and back. Its state is one
+//! that its history may leave.
+//!
 //! A board under a debugger: a session over its timeline, how it runs forward and back, and its history as a script;
 //! docs/DEBUGGING.md has it in plain words.
 #![tactic(auto)]
 
 mod back;
 mod counts;
+mod debugged;
 mod forth;
 mod halts;
+mod loads;
+mod looks;
+mod replays;
 mod script;
 mod session;
 mod stops;
+mod timeline;
 
+pub use bench_live::Row;
+pub use debugged::DebuggedBench;
 pub use halts::{Halt, Stop};
+pub use loads::Load;
+pub use looks::{PC, REGISTERS};
+pub use replays::replay;
 pub use session::{Plan, Session};
 pub use stops::{Watch, WatchKind};
+pub use timeline::Timeline;

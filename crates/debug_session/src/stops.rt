@@ -5,11 +5,12 @@ ghost use Rattle.std.specs.List.{list_any};
 ghost use Rattle.debug_session.specs.Points.{with_point, with_watch, without_point, without_watch};
 ghost use Rattle.debug_session.specs.Firsts.{is_kept, is_read, is_unread, minds_changes, minds_reads, seen_all, seen_by, touched_since};
 ghost use Rattle.debug_session.specs.Others.{first_other, other_of};
-ghost use Rattle.debug_timeline.specs.Lives.{machine_of};
+ghost use Rattle.debug_session.specs.Lives.{machine_of};
 ghost use Rattle.board_model.specs.declared.refusal.Refusal.TheVariants.{Memory};
 
+use crate::debugged::DebuggedBench;
+use crate::loads::Load;
 use board_model::Refusal;
-use debug_timeline::{DebuggedBench, Load};
 use std::alloc::Global;
 
 /// What a watchpoint minds.

@@ -3,7 +3,7 @@ use Rattle.std.specs.Prelude.{◌≡◌, ◌⊎◌, ℕ, true, false, List, [], 
 use Rattle.std.specs.Iterator.{Yields}
 use Rattle.board_model.specs.Shapes.{Size}
 use Rattle.script_lang.specs.declared.line.Line.{Line}
-use Rattle.debug_timeline.specs.Ats.{IsAt}
+use Rattle.debug_session.specs.Ats.{IsAt}
 use Rattle.debug_session.specs.Sessions.{begins_of, history_of, plan_of, points_of, size_of, timeline_of, watches_of}
 use Rattle.debug_session.specs.Steps.{AreNoted}
 use Rattle.debug_session.specs.declared.session.Plan.{Plan}

@@ -3,7 +3,7 @@
 ghost use Rattle.std.specs.Prelude.{◌≡◌, ℕ, false, List, [], Some, All, length, codes, if◌then◌else◌, OnOk, OnSome};
 ghost use Rattle.std.specs.Io.KnownBytes.{Appends};
 ghost use Rattle.std.specs.Iterator.{IsFinite};
-ghost use Rattle.debug_timeline.specs.Ats.{IsAt};
+ghost use Rattle.debug_session.specs.Ats.{IsAt};
 ghost use Rattle.script_lang.specs.Lines.{IsLineInRange};
 ghost use Rattle.debug_session.specs.Sessions.{size_of, timeline_of};
 ghost use Rattle.debug_packets.specs.Talks.{acknowledges_in, is_over_in, session_in};

@@ -1,5 +1,5 @@
 use Rattle.std.proofs.Common.{◌∙◌, ◌++◌, ap, sym}
-use Rattle.debug_timeline.specs.Lives.{register_in}
+use Rattle.debug_session.specs.Lives.{register_in}
 use Rattle.debug_session.specs.Sessions.{machine_of_session}
 use Rattle.gdb_protocol.proofs.Counted.{counted_more}
 use Rattle.gdb_protocol.specs.Replies.{register_text}

@@ -1,5 +1,5 @@
 use Rattle.std.proofs.Common.{◌≡◌}
-use Rattle.debug_timeline.specs.Lives.{register_in}
+use Rattle.debug_session.specs.Lives.{register_in}
 use Rattle.debug_session.specs.Sessions.{machine_of_session}
 use Rattle.gdb_protocol.specs.Replies.{registers_text}
 use Rattle.debug_packets.proofs.replies.registers.Given as goal

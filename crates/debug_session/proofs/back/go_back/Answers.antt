@@ -1,5 +1,5 @@
 use Rattle.std.proofs.Common.{inl, sym}
-use Rattle.debug_timeline.proofs.Histories.{place_hart}
+use Rattle.debug_session.proofs.Histories.{place_hart}
 use Rattle.debug_session.proofs.Backs.{went_back}
 use Rattle.debug_session.proofs.back.go_back.Goals as goal
 

@@ -7,8 +7,8 @@ use Rattle.bench_report.specs.Bench.{Bench, bench_with}
 use Rattle.bench_live.specs.Notes.{AreInRange}
 use Rattle.script_lang.specs.Lines.{IsLineInRange}
 use Rattle.script_lang.specs.declared.line.Line.{Line}
-use Rattle.debug_timeline.specs.Ats.{IsPlace}
-use Rattle.debug_timeline.specs.Lives.{Shows}
+use Rattle.debug_session.specs.Ats.{IsPlace}
+use Rattle.debug_session.specs.Lives.{Shows}
 use Rattle.debug_session.specs.declared.back.Place.{Place}
 use Rattle.debug_session.specs.declared.halts.Stop.{Stop}
 use Rattle.debug_session.specs.Backs.{FoundIn, FoundOf, IsRowPast}

@@ -2,8 +2,8 @@ use Rattle.std.proofs.Common.{take}
 use Rattle.std.specs.Prelude.{IfSome}
 use Rattle.bench_live.specs.Pasts.{moments}
 use Rattle.bench_report.specs.Bench.{Bench, bench_with}
-use Rattle.debug_timeline.specs.Ats.{IsPlace}
-use Rattle.debug_timeline.specs.Lives.{IsSound, Shows}
+use Rattle.debug_session.specs.Ats.{IsPlace}
+use Rattle.debug_session.specs.Lives.{IsSound, Shows}
 use Rattle.debug_session.specs.Backs.{FoundOf}
 use Rattle.debug_session.proofs.back.last_halt.Given as goal
 

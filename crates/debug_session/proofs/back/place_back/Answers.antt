@@ -3,7 +3,7 @@ use Rattle.std.specs.Prelude.{All, IfSome}
 use Rattle.bench_live.specs.Pasts.{moments}
 use Rattle.bench_report.specs.Bench.{bench_with}
 use Rattle.script_lang.specs.declared.line.Line.{Line}
-use Rattle.debug_timeline.specs.Ats.{IsPlace}
+use Rattle.debug_session.specs.Ats.{IsPlace}
 use Rattle.debug_session.specs.declared.back.Place.{Place}
 use Rattle.debug_session.specs.declared.halts.Halt.TheVariants as halts
 use Rattle.debug_session.specs.Backs.{FoundOf, IsEnd}

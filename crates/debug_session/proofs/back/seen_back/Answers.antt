@@ -1,11 +1,11 @@
 use Rattle.std.proofs.Common.{◌≡◌, List, ℕ, Option, sym, ap, ◌∙◌, subst}
 use Rattle.machine.specs.Machine.{Machine}
 use Rattle.bench_live.specs.Rows.{row_answer}
-use Rattle.debug_timeline.specs.Lives.{Shows, machine_of, pc_in, stands_in}
-use Rattle.debug_timeline.specs.Loads.{LoadsNext}
-use Rattle.debug_timeline.specs.declared.debugged.DebuggedBench.{DebuggedBench}
-use Rattle.debug_timeline.specs.Passes.{machine_left}
-use Rattle.debug_timeline.proofs.Passed.{shown_machine}
+use Rattle.debug_session.specs.Lives.{Shows, machine_of, pc_in, stands_in}
+use Rattle.debug_session.specs.Loads.{LoadsNext}
+use Rattle.debug_session.specs.declared.debugged.DebuggedBench.{DebuggedBench}
+use Rattle.debug_session.specs.Passes.{machine_left}
+use Rattle.debug_session.proofs.Passed.{shown_machine}
 use Rattle.debug_session.specs.declared.halts.Halt.{Halt}
 use Rattle.debug_session.specs.Backs.{IsSeen}
 use Rattle.debug_session.proofs.Backs.{is_seen}

@@ -1,5 +1,5 @@
 use Rattle.std.proofs.Common.{rules, ◌<◌, ◌∙◌, length, sym}
-use Rattle.debug_timeline.proofs.Histories.{place_at}
+use Rattle.debug_session.proofs.Histories.{place_at}
 use Rattle.debug_session.proofs.counts.turn_behind.Goals as goal
 
 pub returns-in-Ok-clause-place : goal.returns-in-Ok-clause-place

@@ -1,6 +1,6 @@
 use Rattle.std.proofs.Common.{◌≡◌, List, ℕ, map, subst}
-use Rattle.debug_timeline.specs.declared.debugged.DebuggedBench.{DebuggedBench}
-use Rattle.debug_timeline.specs.Lives.{machine_of}
+use Rattle.debug_session.specs.declared.debugged.DebuggedBench.{DebuggedBench}
+use Rattle.debug_session.specs.Lives.{machine_of}
 use Rattle.debug_session.specs.declared.stops.Watch.{Watch}
 use Rattle.debug_session.specs.Firsts.{Stretched, seen_all}
 use Rattle.debug_session.proofs.Firsts.{watched_halts}

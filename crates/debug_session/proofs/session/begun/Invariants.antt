@@ -1,6 +1,6 @@
 use Rattle.std.proofs.Common.{◌≡◌, ◌++◌, []}
 use Rattle.std.specs.Vec.Iter.{into_iter_items}
-use Rattle.debug_timeline.specs.Ats.{IsAt}
+use Rattle.debug_session.specs.Ats.{IsAt}
 use Rattle.debug_session.specs.Steps.{AreNoted}
 use Rattle.debug_session.proofs.session.begun.Given as goal
 

@@ -1,6 +1,6 @@
 use Rattle.std.proofs.Common.{◌≡◌, ◌<◌, ◌∷◌, suc, ℕ, List, Option, Some, length, map, drop, get_or, sym, ap, ◌∙◌}
 use Rattle.std.proofs.Math.Seq.{drop-cons}
-use Rattle.debug_timeline.specs.Lives.{machine_of}
+use Rattle.debug_session.specs.Lives.{machine_of}
 use Rattle.debug_session.specs.declared.stops.Seen.{Seen}
 use Rattle.debug_session.specs.declared.stops.Watch.{Watch}
 use Rattle.debug_session.specs.Others.{first_other, or_later, other_of}

@@ -1,6 +1,6 @@
 use Rattle.std.proofs.Common.{◌≡◌, ◌+◌, List, [], ◌∷◌, ℕ, ◌++◌, map, take, get_or, sym, ap, ◌∙◌}
 use Rattle.std.proofs.lemmas.List.{map-append}
-use Rattle.debug_timeline.specs.Lives.{machine_of}
+use Rattle.debug_session.specs.Lives.{machine_of}
 use Rattle.debug_session.specs.declared.stops.Seen.{Seen}
 use Rattle.debug_session.specs.declared.stops.Watch.{Watch}
 use Rattle.debug_session.specs.declared.stops.WatchKind.TheVariants as kinds

@@ -1,0 +1,35 @@
+-- What a turn reads is one thing.
+use Rattle.std.proofs.Common.{◌≡◌, ℕ, Bool, true, false, List, length, nat_lt, Option, Some, None, refl, sym, ap, ◌∙◌}
+use Rattle.std.specs.Bool.{MatchBool}
+use Rattle.hart.specs.Means.{word_at}
+use Rattle.machine.specs.Machine.{Machine, hart_at}
+use Rattle.rv_decode.proofs.Unique.{unique}
+use Rattle.rv_decode.specs.Spells.{Reads}
+use Rattle.rv_decode.specs.declared.instr.Instr.{Instr}
+use Rattle.debug_session.specs.Loads.{Fetches, LoadsAt, LoadsNext, is_stepping, is_there, load_in, made_load}
+use Rattle.debug_session.specs.declared.loads.Load.{Load}
+
+both : (A : Type 0) (t : Bool) (P : Option A → Type 0) (a b : Option A) → ((x y : Option A) → P x → P y → x ≡ y) → MatchBool t (P a) (a ≡ None) → MatchBool t (P b) (b ≡ None) → a ≡ b
+both A true P a b same one two = same a b one two
+both A false P a b same one two = one ∙ sym two
+
+one_reading : (w : ℕ) (a b : Option Instr) → Reads a w → Reads b w → a ≡ b
+one_reading w None None one two = refl
+one_reading w None (Some j) one two = absurd (one j two)
+one_reading w (Some i) None one two = absurd (two i one)
+one_reading w (Some i) (Some j) one two = ap (λ (x : Instr). Some x) (unique i j w one two)
+
+one_fetch : (memory : List ℕ) (pc : ℕ) (a b : Option Instr) → Fetches memory pc a → Fetches memory pc b → a ≡ b
+one_fetch memory pc a b one two =
+    let P : Option Instr → Type 0 = λ x. Reads x (word_at memory pc) in both Instr (is_there memory pc 4) P a b (one_reading (word_at memory pc)) one two
+
+one_at : (m : Machine) (h : ℕ) (a b : Option Load) → LoadsAt m h a → LoadsAt m h b → a ≡ b
+one_at m h a b one two =
+    let P : Option Load → Type 0 = λ x. (i : Option Instr) × Fetches m.memory (hart_at m h).pc i × (x ≡ made_load m.memory (load_in i (hart_at m h))) in
+    both Load (is_stepping m h) P a b
+    (λ x y px py. px.2 ∙ ap (λ (i : Option Instr). made_load m.memory (load_in i (hart_at m h))) (one_fetch m.memory (hart_at m h).pc px.0 py.0 px.1 py.1) ∙ sym py.2)
+    one two
+
+pub one_load : (m : Option Machine) (h : ℕ) (a b : Option Load) → LoadsNext m h a → LoadsNext m h b → a ≡ b
+one_load None h a b one two = one ∙ sym two
+one_load (Some m) h a b one two = let P : Option Load → Type 0 = λ x. LoadsAt m h x in both Load (nat_lt h (length m.harts)) P a b (one_at m h) one two

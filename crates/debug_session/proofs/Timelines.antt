@@ -1,0 +1,76 @@
+-- A bench with its history, one line or row further.
+use Rattle.std.proofs.Common.{◌≡◌, ◌<◌, ◌+◌, ℕ, Bool, true, false, List, [], ◌∷◌, ◌++◌, Result, Ok, Err, take, get_or, length, refl, sym, ap, subst}
+use Rattle.std.specs.Prelude.{OnOk}
+use Rattle.std.proofs.lemmas.List.{take_more}
+use Rattle.board_model.specs.Shapes.{Size}
+use Rattle.sbi.specs.Words.{ends}
+use Rattle.script_lang.specs.declared.line.Line.{Line}
+use Rattle.script_lang.specs.declared.line.Line.TheVariants as lines
+use Rattle.report_lines.specs.declared.printed.Answer.{Answer}
+use Rattle.bench_report.specs.Bench.{Bench, bench_with}
+use Rattle.bench_report.specs.Steps.{Moves}
+use Rattle.bench_live.specs.declared.rows.Row.{Row}
+use Rattle.bench_live.specs.declared.rows.Row.TheVariants as rows
+use Rattle.bench_live.specs.Rows.{RowMoves, goes_on, made_in}
+use Rattle.bench_live.specs.Notes.{Joins, Leaves, NotesRow}
+use Rattle.bench_live.proofs.Noted.{leaves_more}
+use Rattle.debug_session.specs.declared.debugged.DebuggedBench.{DebuggedBench}
+use Rattle.debug_session.specs.Ats.{GoesOnBy}
+use Rattle.debug_session.specs.Lives.{Shows}
+use Rattle.debug_session.proofs.Rests.{not_true}
+
+-- what holds whatever is answered
+pub always_ok : {A E : Type 0} (r : Result A E) (P : Type 0) → P → OnOk r P
+always_ok (Ok x) P h = h
+always_ok (Err e) P h = tt
+
+-- what a history and a bench together are
+abbrev pub Left : Size → List (List ℕ) → List Line → Bool → DebuggedBench → Bench → Type 0
+Left size begins past joins live b = Leaves size (bench_with begins) past b × Joins size (bench_with begins) joins past b × Shows size b live
+
+-- a row of turns was made and noted
+pub row_left : (size : Size) (h : ℕ) (row : Row) (begins : List (List ℕ)) (was now : List Line) (joined joins : Bool) (before after : DebuggedBench) (Also : Bench → Bench → Type 0)
+    → NotesRow size h row joined joins was now
+    → ((b : Bench) → Shows size b before → (x : Bench) × RowMoves size h row b x × Also b x × Shows size x after)
+    → (b : Bench) → Left size begins was joined before b → (x : Bench) × RowMoves size h row b x × Also b x × Left size begins now joins after x
+row_left size h row begins was now joined joins before after Also notes moves b left =
+    let did = moves b left.2 in
+    let noted = notes (bench_with begins) b did.0 left.0 left.1 did.1 in
+    (did.0, did.1, did.2, (noted.0, noted.1, did.3))
+
+-- a line was run and noted
+pub line_left : (size : Size) (line : Line) (answer : Answer) (begins : List (List ℕ)) (was : List Line) (joined : Bool) (before after : DebuggedBench)
+    → ((b : Bench) → Shows size b before → (x : Bench) × Moves size line b answer x × Shows size x after)
+    → (b : Bench) → Left size begins was joined before b → (x : Bench) × Moves size line b answer x × Left size begins (was ++ line ∷ []) false after x
+line_left size line answer begins was joined before after moves b left =
+    let did = moves b left.2 in
+    (did.0, did.1, (leaves_more size (bench_with begins) was b line answer did.0 left.0 did.1, tt, did.2))
+
+-- ---- a history that is run again
+no_true : false ≡ true → ⊥
+no_true e = let never : ⊥ = cc in never
+
+-- a row of which all turns were made, and that goes on
+pub goes_by : (size : Size) (h n : ℕ) (row : Row) (b new : Bench) (joins : Bool) → (joins ≡ true → goes_on row ≡ true) → (joins ≡ true → made_in row ≡ n) → RowMoves size h row b new → GoesOnBy size joins (lines.Turn h n) b new
+goes_by size h n row b new false goes all moves = tt
+goes_by size h n rows.Off b new true goes all moves = absurd (no_true (goes refl))
+goes_by size h n (rows.Lost k) b new true goes all moves = absurd (no_true (goes refl))
+goes_by size h n (rows.Made k word) b new true goes all moves =
+    let P : ℕ → Type 0 = λ x. RowMoves size h (rows.Made x word) b new in
+    (h, n, word, refl, subst P (all refl) moves, not_true (ends word) (goes refl))
+
+joins_more : (size : Size) (start mid new : Bench) (joins : Bool) (past : List Line) (line : Line) → Leaves size start past mid → GoesOnBy size joins line mid new → Joins size start joins (past ++ line ∷ []) new
+joins_more size start mid new false past line leaves goes = tt
+joins_more size start mid new true past line leaves (h, n, word, is, moves, runs) =
+    (past, h, n, mid, word, ap (λ (l : Line). past ++ l ∷ []) is, leaves, moves, runs)
+
+pub again_more : (size : Size) (begins : List (List ℕ)) (lines : List Line) (i : ℕ) (d : Line) (joined joins : Bool) (before after : DebuggedBench) → i < length lines
+    → ((b : Bench) → Shows size b before → (answer : Answer) × (new : Bench) × Moves size (get_or lines i d) b answer new × Shows size new after × GoesOnBy size joins (get_or lines i d) b new)
+    → (b : Bench) × Left size begins (take i lines) joined before b → (b : Bench) × Left size begins (take (i + 1) lines) joins after b
+again_more size begins lines i d joined joins before after less moves (b, left) =
+    let did = moves b left.2 in
+    let here : Leaves size (bench_with begins) (take i lines ++ get_or lines i d ∷ []) did.1 = leaves_more size (bench_with begins) (take i lines) b (get_or lines i d) did.0 did.1 left.0 did.2 in
+    let joined = joins_more size (bench_with begins) b did.1 joins (take i lines) (get_or lines i d) left.0 did.4 in
+    let P : List Line → Type 0 = λ xs. Leaves size (bench_with begins) xs did.1 × Joins size (bench_with begins) joins xs did.1 in
+    let there = subst P (sym (take_more lines i d less)) (here, joined) in
+    (did.1, (there.0, there.1, did.3))

@@ -1,0 +1,33 @@
+use Rattle.std.proofs.Common.{◌≡◌, nat_eq, sym, ◌∙◌, subst, arith}
+use Rattle.std.proofs.lemmas.Bool.Decides.{nat_tests}
+use Rattle.report_lines.specs.declared.printed.Answer.{Answer}
+use Rattle.bench_report.specs.Bench.{Bench}
+use Rattle.bench_report.specs.Steps.{Moves}
+use Rattle.bench_live.specs.Rows.{row_answer}
+use Rattle.script_lang.specs.declared.line.Line.{Line}
+use Rattle.debug_session.specs.Ats.{GoesOnBy}
+use Rattle.debug_session.specs.Lives.{Shows}
+use Rattle.debug_session.proofs.Timelines.{goes_by}
+use Rattle.debug_session.proofs.replays.replay.Goals as goal
+
+pub returns-then-goes_on-clause-moves : goal.returns-then-goes_on-clause-moves
+returns-then-goes_on-clause-moves g c = λ b shows.
+    let size = c.args.setting.now.shape.now in
+    let row = c.turns-row in
+    let h = c.in-Turn.hart in
+    let n = c.in-Turn.count in
+    let did = row.ensures.reported size b shows in
+    let goes = goes_by size h n row.result b did.0 (nat_eq c.made.result n) (λ e. sym c.goes_on.ensures ∙ c.if-goes_on.true) (λ e. (let same : c.made.result ≡ n = grind (arith, nat_tests) in sym c.made.ensures ∙ same)) did.1 in
+    let P : Line → Type 0 = λ line. (x : Answer) × (x' : Bench) × Moves size line b x x' × Shows size x' row.new.self × GoesOnBy size (nat_eq c.made.result n) line b x' in
+    subst P (sym c.in-Turn.is) (row_answer h row.result, did.0, did.2, did.3, goes)
+
+pub returns-else-goes_on-clause-moves : goal.returns-else-goes_on-clause-moves
+returns-else-goes_on-clause-moves g c = λ b shows.
+    let size = c.args.setting.now.shape.now in
+    let row = c.turns-row in
+    let h = c.in-Turn.hart in
+    let n = c.in-Turn.count in
+    let did = row.ensures.reported size b shows in
+    let goes = goes_by size h n row.result b did.0 c.goes_on.result (λ e. sym c.goes_on.ensures ∙ e) (λ e. absurd (let never : ⊥ = cc (e, c.if-goes_on.false) in never)) did.1 in
+    let P : Line → Type 0 = λ line. (x : Answer) × (x' : Bench) × Moves size line b x x' × Shows size x' row.new.self × GoesOnBy size c.goes_on.result line b x' in
+    subst P (sym c.in-Turn.is) (row_answer h row.result, did.0, did.2, did.3, goes)

@@ -1,0 +1,37 @@
+use Rattle.std.proofs.Common.{sym, ◌∙◌}
+use Rattle.bench_report.specs.Bench.{Bench}
+use Rattle.simdisk.specs.declared.fill.Fill.TheVariants as fills
+use Rattle.debug_session.specs.Lives.{Rests}
+use Rattle.debug_session.specs.Passes.{GoesTo}
+use Rattle.debug_session.proofs.Timelines.{row_left}
+use Rattle.debug_session.proofs.timeline.Timeline.turns_to.Goals as goal
+
+pub returns-clause-at : goal.returns-clause-at
+returns-clause-at g c =
+    let size = c.args.setting.now.shape.now in
+    let at = c.requires.at in
+    let row = c.turns_to-row in
+    let note = c.in_ok-self.ensures in
+    let old = c.args.self.now in
+    let Also : Bench → Bench → Type 0 = λ b x. Rests size c.args.hart row.result.1 x × GoesTo size c.args.hart c.args.points.now row.result.0 b x in
+    let did = row_left size c.args.hart row.result.0 old.begins old.history c.note.new.history old.joins _ old.bench row.new.self Also (note.left size) (λ b shows. (let d = row.ensures.reported size b shows in (d.0, d.1, (d.3, d.4), d.2))) at.left.0 at.left.1 in
+    record {
+      left = (did.0, did.3);
+      sound = row.ensures.sound;
+      fill = row.ensures.fill ∙ at.fill ∙ sym (note.fill fills.Old);
+      ranges = note.ranges size c.requires.hart at.ranges;
+    }
+
+pub returns-clause-made : goal.returns-clause-made
+returns-clause-made g c =
+    let size = c.args.setting.now.shape.now in
+    let row = c.turns_to-row in
+    let note = c.in_ok-self.ensures in
+    let old = c.args.self.now in
+    let Also : Bench → Bench → Type 0 = λ b x. Rests size c.args.hart row.result.1 x × GoesTo size c.args.hart c.args.points.now row.result.0 b x in
+    let did = row_left size c.args.hart row.result.0 old.begins old.history c.note.new.history old.joins _ old.bench row.new.self Also (note.left size) (λ b shows. (let d = row.ensures.reported size b shows in (d.0, d.1, (d.3, d.4), d.2))) in
+    record {
+      moves = λ b left. (let one = did b left in (one.0, one.1, one.3, one.2.0, one.2.1));
+      grew = note.moments;
+      busy = row.ensures.busy;
+    }

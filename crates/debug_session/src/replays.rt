@@ -1,0 +1,69 @@
+//! A history, run again.
+
+ghost use Rattle.std.specs.Prelude.{◌≡◌, IfOk, IfErr, OnOk};
+ghost use Rattle.board_model.specs.declared.refusal.Refusal.TheVariants.{Memory};
+ghost use Rattle.bench_report.specs.Agree.{fill_after, fills_after};
+ghost use Rattle.bench_report.specs.Bench.{Bench, bench_with};
+ghost use Rattle.bench_report.specs.Steps.{Moves};
+ghost use Rattle.report_lines.specs.declared.printed.Answer.{Answer};
+ghost use Rattle.bench_live.specs.Notes.{AreInRange, Joins, Leaves};
+ghost use Rattle.debug_session.specs.Ats.{GoesOnBy};
+ghost use Rattle.debug_session.specs.Lives.{IsSound, Shows};
+ghost use Rattle.script_lang.specs.Lines.{IsLineInRange};
+ghost use Rattle.simdisk.specs.declared.fill.Fill.TheVariants as fills;
+
+use crate::debugged::DebuggedBench;
+use bench_report::Setting;
+use board::Payloads;
+use board_model::Refusal;
+use crew::Crew;
+use script_lang::Line;
+
+/// Runs a line: whether it is a row of turns with which a further one is one row.
+pub fn replay<C: Crew>(
+    setting: &Setting<'_, C>,
+    line: &Line,
+    bench: &mut DebuggedBench,
+) -> Result<bool, Refusal>
+    requires range { IsLineInRange setting.now.shape.now line.now }
+    requires sound { IsSound bench.old }
+    ensures moves { IfOk result (λ joins. (b : Bench) → Shows setting.now.shape.now b bench.old
+        → (answer : Answer) × (new : Bench) × Moves setting.now.shape.now line.now b answer new
+        × Shows setting.now.shape.now new bench.new × GoesOnBy setting.now.shape.now joins line.now b new) }
+    ensures sound { OnOk result (IsSound bench.new) }
+    ensures fill { OnOk result (bench.new.live.fill ≡ fill_after line.now bench.old.live.fill) }
+    ensures refused { IfErr result (λ e. e ≡ Memory) }
+{
+    match line {
+        Line::Turn(hart, count) => {
+            let row = bench.turns(setting, *hart, *count);
+            Ok(row.goes_on() && row.made() == *count)
+        }
+        _ => {
+            bench.run(setting, line)?;
+            Ok(false)
+        }
+    }
+}
+
+/// The bench behind these lines of a script that begins with these payloads, and whether a further turn of the hart
+/// of the last line is one row with it. Refused `Memory` alone.
+pub(crate) fn replayed<C: Crew>(
+    setting: &Setting<'_, C>,
+    begins: &Payloads,
+    lines: &[Line],
+) -> Result<(DebuggedBench, bool), Refusal>
+    requires ranges { AreInRange setting.now.shape.now lines.now }
+    ensures left { IfOk result (λ did. (b : Bench) × Leaves setting.now.shape.now (bench_with begins.now) lines.now b
+        × Joins setting.now.shape.now (bench_with begins.now) did.1 lines.now b × Shows setting.now.shape.now b did.0) }
+    ensures sound { IfOk result (λ did. IsSound did.0) }
+    ensures fill { IfOk result (λ did. did.0.live.fill ≡ fills_after lines.now fills.Old) }
+    ensures refused { IfErr result (λ e. e ≡ Memory) }
+{
+    let mut bench = DebuggedBench::blank(setting.alloc, setting.shape, begins)?;
+    let mut joins = false;
+    for line in lines {
+        joins = replay(setting, line, &mut bench)?;
+    }
+    Ok((bench, joins))
+}

@@ -1,0 +1,245 @@
+//! The bench with its history.
+
+ghost use Rattle.std.specs.Prelude.{◌≡◌, ◌⊎◌, ◌≤◌, ◌<◌, ◌++◌, ◌∷◌, [], ℕ, true, false, take, replicate, IfOk, OnOk, IfErr, MatchResult, ⊤};
+ghost use Rattle.std.specs.Bool.{MatchBool};
+ghost use Rattle.board_model.specs.declared.refusal.Refusal.TheVariants.{Memory};
+ghost use Rattle.bench_live.specs.Pasts.{IsBack, NoRow, moments, some_turns};
+ghost use Rattle.bench_report.specs.Bench.{Bench};
+ghost use Rattle.bench_report.specs.Steps.{Moves};
+ghost use Rattle.bench_live.specs.Notes.{AreInRange};
+ghost use Rattle.debug_session.specs.Ats.{IsAt, IsBefore, IsLeft, IsPlace, MadeTurns, Ran};
+ghost use Rattle.debug_session.specs.Lives.{HasHalted, machine_of, register_in, state_in};
+ghost use Rattle.debug_session.specs.Loads.{LoadsNext};
+ghost use Rattle.bench_live.specs.Rows.{IsWithin, made_in, row_answer};
+ghost use Rattle.script_lang.specs.Lines.{IsLineInRange};
+ghost use Rattle.script_lang.specs.declared.line.Line.TheVariants as lines;
+
+use crate::debugged::DebuggedBench;
+use crate::loads::Load;
+use crate::replays::replayed;
+use bench_live::{History, Row, note};
+use bench_report::{Answer, Setting};
+use board::Payloads;
+use board_model::{HartId, Refusal, Shape};
+use crew::Crew;
+use machine::State;
+use script_lang::Line;
+use std::alloc::Global;
+
+/// The bench that a history leaves, with that history.
+#[derive(Drop)]
+pub struct Timeline {
+    begins: Payloads,
+    history: History,
+    joins: bool,
+    bench: DebuggedBench,
+}
+
+impl Timeline {
+    /// Before the first line of a script that begins with these payloads.
+    pub fn blank(alloc: Global, shape: &Shape, begins: Payloads) -> Result<Timeline, Refusal>
+        ensures at { IfOk result (IsAt shape.now) }
+        ensures history { IfOk result (λ t. t.history ≡ []) }
+        ensures begins { IfOk result (λ t. t.begins ≡ begins) }
+        ensures refused { IfErr result (λ e. e ≡ Memory) }
+    {
+        let bench = DebuggedBench::blank(alloc, shape, &begins)?;
+        Ok(Timeline {
+            begins,
+            history: History::new(alloc),
+            joins: false,
+            bench,
+        })
+    }
+
+    /// The lines that were run, of a script that runs them again.
+    pub fn lines(&self) -> &[Line]
+        ensures { result.now ≡ self.now.history }
+    {
+        self.history.lines()
+    }
+
+    /// The payloads with which that script begins.
+    pub fn begins(&self) -> &Payloads
+        ensures { result.now ≡ self.now.begins }
+    {
+        &self.begins
+    }
+
+    /// The bench as it stands.
+    pub fn bench(&self) -> &DebuggedBench
+        ensures { result.now ≡ self.now.bench }
+    {
+        &self.bench
+    }
+
+    /// A register of a hart, as `DebuggedBench::register` shows it.
+    pub fn register(&mut self, hart: HartId, number: u64) -> Option<u64>
+        ensures same { self.new ≡ self.old }
+        ensures shown { result ≡ register_in hart number (machine_of self.old.bench) }
+    {
+        self.bench.register(hart, number)
+    }
+
+    /// The state of a hart, as `DebuggedBench::state` shows it.
+    pub fn state(&mut self, hart: HartId) -> Option<State>
+        ensures same { self.new ≡ self.old }
+        ensures shown { result ≡ state_in hart (machine_of self.old.bench) }
+    {
+        self.bench.state(hart)
+    }
+
+    /// What the next turn of a hart reads, as `DebuggedBench::next_load` shows it.
+    pub fn next_load(&mut self, hart: HartId) -> Option<Load>
+        ensures same { self.new ≡ self.old }
+        ensures loads { LoadsNext (machine_of self.old.bench) hart result }
+    {
+        self.bench.next_load(hart)
+    }
+
+    /// Up to so many turns of a hart, which become part of the history: what came of them. Refused `Memory` alone,
+    /// and then the timeline is of no use.
+    fn turns<C: Crew>(
+        &mut self,
+        setting: &Setting<'_, C>,
+        hart: HartId,
+        count: u32,
+    ) -> Result<Row, Refusal>
+        requires at { IsAt setting.now.shape.now self.old }
+        requires hart { hart < setting.now.shape.now.harts }
+        requires count { (1 ≤ count) × (count ≤ 1000000) }
+        ensures at { OnOk result (IsAt setting.now.shape.now self.new) }
+        ensures ran { IfOk result (λ row. Ran setting.now.shape.now (lines.Turn hart count) (row_answer hart row) self.old
+            self.new) }
+        ensures begins { self.new.begins ≡ self.old.begins }
+        ensures refused { IfErr result (λ e. e ≡ Memory) }
+    {
+        let row = self.bench.turns(setting, hart, count);
+        self.joins = note(&mut self.history, self.joins, hart, row)?;
+        Ok(row)
+    }
+
+    /// Turns of a hart up to an address, an end, or an idle turn, as `DebuggedBench::turns_to` makes them, which become
+    /// part of the history: what came of them, and whether the next turn is idle. Refused `Memory` alone, and then
+    /// the timeline is of no use.
+    pub fn turns_to<C: Crew>(
+        &mut self,
+        setting: &Setting<'_, C>,
+        hart: HartId,
+        most: u32,
+        points: &[u64],
+    ) -> Result<(Row, bool), Refusal>
+        requires at { IsAt setting.now.shape.now self.old }
+        requires hart { hart < setting.now.shape.now.harts }
+        requires most { most ≤ 1000000 }
+        ensures at { OnOk result (IsAt setting.now.shape.now self.new) }
+        ensures made { IfOk result (λ did. MadeTurns setting.now.shape.now hart points.now did.0 did.1 self.old self.new) }
+        ensures within { IfOk result (λ did. IsWithin most did.0) }
+        ensures why { IfOk result (λ did. did.1 ≡ false
+            → (made_in did.0 ≡ most) ⊎ HasHalted hart points.now did.0 (machine_of self.new.bench)) }
+        ensures begins { self.new.begins ≡ self.old.begins }
+        ensures refused { IfErr result (λ e. e ≡ Memory) }
+    {
+        let (row, rests) = self.bench.turns_to(setting, hart, most, points);
+        self.joins = note(&mut self.history, self.joins, hart, row)?;
+        Ok((row, rests))
+    }
+
+    /// Runs a line as it is, and notes it.
+    fn whole_line<C: Crew>(
+        &mut self,
+        setting: &Setting<'_, C>,
+        line: Line,
+    ) -> Result<Answer, Refusal>
+        requires at { IsAt setting.now.shape.now self.old }
+        requires range { IsLineInRange setting.now.shape.now line }
+        ensures at { OnOk result (IsAt setting.now.shape.now self.new) }
+        ensures moves { IfOk result (λ answer. (b : Bench) → IsLeft setting.now.shape.now self.old b
+            → (new : Bench) × Moves setting.now.shape.now line b answer new × IsLeft setting.now.shape.now self.new new) }
+        ensures grew { OnOk result (self.new.history ≡ self.old.history ++ line ∷ []) }
+        ensures begins { self.new.begins ≡ self.old.begins }
+        ensures refused { IfErr result (λ e. e ≡ Memory) }
+    {
+        let answer = self.bench.run(setting, &line)?;
+        self.history.add(line)?;
+        self.joins = false;
+        Ok(answer)
+    }
+
+    /// Runs a line, which becomes part of the history: what it says. A row of turns becomes so with as many as were
+    /// made. Refused `Memory` alone, and then the timeline is of no use.
+    pub fn line<C: Crew>(&mut self, setting: &Setting<'_, C>, line: Line) -> Result<Answer, Refusal>
+        requires at { IsAt setting.now.shape.now self.old }
+        requires range { IsLineInRange setting.now.shape.now line }
+        ensures at { OnOk result (IsAt setting.now.shape.now self.new) }
+        ensures ran { IfOk result (λ answer. Ran setting.now.shape.now line answer self.old self.new) }
+        ensures begins { self.new.begins ≡ self.old.begins }
+        ensures refused { IfErr result (λ e. e ≡ Memory) }
+    {
+        match line {
+            Line::Turn(hart, count) => {
+                let row = self.turns(setting, hart, count)?;
+                Ok(row.answer(hart))
+            }
+            other => self.whole_line(setting, other),
+        }
+    }
+
+    /// Runs the history again from its begin.
+    fn again<C: Crew>(&mut self, setting: &Setting<'_, C>) -> Result<(), Refusal>
+        requires ranges { AreInRange setting.now.shape.now self.old.history }
+        ensures at { OnOk result (IsAt setting.now.shape.now self.new) }
+        ensures history { self.new.history ≡ self.old.history }
+        ensures begins { self.new.begins ≡ self.old.begins }
+        ensures refused { IfErr result (λ e. e ≡ Memory) }
+    {
+        let (bench, joins) = replayed(setting, &self.begins, self.history.lines())?;
+        self.bench = bench;
+        self.joins = joins;
+        Ok(())
+    }
+
+    /// Goes back to before the last turn of that hart, and forgets it and whatever came after it: whether there was
+    /// one. Where there was none nothing changes. Refused `Memory` alone, and then the timeline is of no use.
+    #[tactic(auto, using(crate::proofs::Histories::row_cut_ranges))]
+    pub fn step_back<C: Crew>(
+        &mut self,
+        setting: &Setting<'_, C>,
+        hart: HartId,
+    ) -> Result<bool, Refusal>
+        requires at { IsAt setting.now.shape.now self.old }
+        ensures at { OnOk result (IsAt setting.now.shape.now self.new) }
+        ensures back { MatchResult result (λ found. MatchBool found (IsBack hart self.old.history self.new.history)
+            (NoRow hart self.old.history × (self.new ≡ self.old))) (λ e. ⊤) }
+        ensures begins { self.new.begins ≡ self.old.begins }
+        ensures refused { IfErr result (λ e. e ≡ Memory) }
+    {
+        if !self.history.step_back(hart)? {
+            return Ok(false);
+        }
+        self.again(setting)?;
+        Ok(true)
+    }
+
+    /// Goes back to behind so many first lines and so many turns of that hart in the line behind them, of which it
+    /// has more, and forgets whatever came after. Refused `Memory` alone, and then the timeline is of no use.
+    #[tactic(auto, using(crate::proofs::Histories::cut_ranges, crate::proofs::Histories::place_before))]
+    pub fn go_back<C: Crew>(
+        &mut self,
+        setting: &Setting<'_, C>,
+        hart: HartId,
+        place: usize,
+        turns: u32,
+    ) -> Result<(), Refusal>
+        requires at { IsAt setting.now.shape.now self.old }
+        requires row { IsPlace hart place turns self.old.history }
+        ensures at { OnOk result (IsAt setting.now.shape.now self.new) }
+        ensures history { OnOk result (self.new.history ≡ take place self.old.history ++ some_turns hart turns) }
+        ensures back { OnOk result (IsBefore hart self.old.history self.new.history) }
+        ensures begins { self.new.begins ≡ self.old.begins }
+        ensures refused { IfErr result (λ e. e ≡ Memory) }
+    {
+        self.history.cut_to(hart, place, turns)?;
+        self.again(setting)
+    }
+}

@@ -1,6 +1,0 @@
-pub mod Rests
-pub mod Histories
-pub mod Timelines
-pub mod Passed
-pub mod OneLoad
-mod Flats

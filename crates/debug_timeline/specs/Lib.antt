@@ -1,4 +1,0 @@
-pub mod Lives
-pub mod Loads
-pub mod Passes
-pub mod Ats
