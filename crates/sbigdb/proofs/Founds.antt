@@ -1,5 +1,5 @@
 -- A script up to where what was found parts from it.
-use Rattle.std.proofs.Common.{◌≡◌, ◌∙◌, ℕ, List, Result, Ok, Err, refl, sym, subst, ap}
+use Rattle.std.proofs.Common.{◌≡◌, ℕ, List, Result, Ok, Err, refl, subst}
 use Rattle.std.specs.Prelude.{IfOk}
 use Rattle.std.proofs.lemmas.Result.{IfOk-weaker}
 use Rattle.board_model.specs.declared.refusal.Refusal.{Refusal}
@@ -12,7 +12,7 @@ use Rattle.debug_options.specs.declared.given.Drawn.{Drawn}
 use Rattle.debug_options.specs.declared.given.Preempted.{Preempted}
 use Rattle.debug_options.specs.declared.given.Begin.TheVariants.{End, Order, Schedule}
 use Rattle.sbigdb.specs.Begins.{BeginsAt, IsFound, PartsAt}
-use Rattle.sbigdb.proofs.Begins.{parts_nowhere, same_script}
+use Rattle.sbigdb.proofs.Partings.{parts_nowhere, same_script}
 
 pub begins_end : (text : List ℕ) (payloads : List (List ℕ)) (own : Script) → script_of text ≡ Ok own → BeginsAt End text payloads own
 begins_end text payloads own read = record {

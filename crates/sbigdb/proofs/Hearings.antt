@@ -1,5 +1,5 @@
 -- What is heard, byte by byte.
-use Rattle.std.proofs.Common.{◌≡◌, ℕ, Bool, true, List, [], ◌∷◌, ◌++◌, Option, sym, subst}
+use Rattle.std.proofs.Common.{◌≡◌, ℕ, Bool, List, [], ◌∷◌, ◌++◌, Option, sym, subst}
 use Rattle.std.specs.Io.KnownBytes.{Consumes}
 use Rattle.gdb_protocol.specs.Streams.{Completes, Hears, Standing, standing_after}
 use Rattle.gdb_protocol.specs.declared.heard.Heard.{Heard}

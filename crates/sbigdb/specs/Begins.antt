@@ -23,14 +23,14 @@ both_turn (a ∷ left) [] = []
 both_turn (a ∷ left) (b ∷ right) = option_to_list (turns_of_both a b)
 
 -- Lines up to where two scripts part: those with which both begin, as many as there are, and then the turns that both make.
-pub record PartsAt (own other stands : List Line) : Type 0 where
+pub record PartsAt (own other lines : List Line) : Type 0 where
   pub front : List Line
   pub left : List Line
   pub right : List Line
   pub of_own : own ≡ front ++ left
   pub of_other : other ≡ front ++ right
   pub parts : (line : Line) (a b : List Line) → left ≡ line ∷ a → right ≡ line ∷ b → ⊥
-  pub stands : stands ≡ front ++ both_turn left right
+  pub stands : lines ≡ front ++ both_turn left right
 
 -- What a bench found of a script that begins with these payloads: a schedule; or the order of that number among those that differ.
 abbrev pub IsFound : Begin → Script → List (List ℕ) → List ℕ → Script → Type 0

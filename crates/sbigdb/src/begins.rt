@@ -12,6 +12,7 @@ ghost use Rattle.script_lang.specs.declared.line.Line.{Line as SaidLine};
 ghost use Rattle.bench_orders.specs.Orders.{AreOrderOf, IsScheduleOf};
 ghost use Rattle.bench_schedules.specs.Numbers.{numbers_of};
 ghost use Rattle.debug_options.specs.Limits.{IsBounded, IsUpTo};
+ghost use Rattle.debug_options.specs.declared.given.Begin.TheVariants.{Order};
 ghost use Rattle.sbigdb.specs.Begins.{BeginsAt, HasNone, IsFound, PartsAt, both_turn, is_same_row, turns_of_both};
 
 use bench_schedules::{Wanted, show, show_order};
@@ -62,7 +63,7 @@ fn turns_of_both(one: &Line, other: &Line) -> Option<Line>
 }
 
 /// Those of the first line of both.
-#[tactic(auto, using(crate::proofs::Begins::both_first, crate::proofs::Begins::none_left, crate::proofs::Begins::none_right))]
+#[tactic(auto, using(crate::proofs::Partings::both_first, crate::proofs::Partings::none_left, crate::proofs::Partings::none_right))]
 fn first_turns(left: &[Line], right: &[Line]) -> Option<Line>
     ensures { option_to_list result ≡ both_turn left.now right.now }
 {
@@ -73,7 +74,7 @@ fn first_turns(left: &[Line], right: &[Line]) -> Option<Line>
 }
 
 /// How many lines both scripts begin with.
-#[tactic(auto, using(crate::proofs::Begins::one_more_same, crate::proofs::Begins::part_here, crate::proofs::Begins::part_at_end))]
+#[tactic(auto, using(crate::proofs::Partings::one_more_same, crate::proofs::Partings::part_here, crate::proofs::Partings::part_at_end))]
 fn parting(own: &[Line], other: &[Line]) -> usize
     requires order { AreOrderOf own.now other.now }
     ensures few { result ≤ length own.now }

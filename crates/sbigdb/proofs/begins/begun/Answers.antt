@@ -1,11 +1,11 @@
-use Rattle.std.proofs.Common.{◌≡◌, subst, sym}
+use Rattle.std.proofs.Common.{subst, sym}
 use Rattle.std.specs.Prelude.{IfOk}
 use Rattle.script_lang.specs.Scripts.{Script}
 use Rattle.script_lang.specs.Views.{view}
 use Rattle.bench_orders.specs.Orders.{IsScheduleOf}
 use Rattle.debug_options.specs.declared.given.Begin.{Begin}
 use Rattle.sbigdb.specs.Begins.{BeginsAt}
-use Rattle.sbigdb.proofs.Begins.{same_script}
+use Rattle.sbigdb.proofs.Partings.{same_script}
 use Rattle.sbigdb.proofs.Founds.{begins_end, begins_order, begins_schedule}
 use Rattle.sbigdb.proofs.begins.begun.Goals as goal
 
@@ -14,25 +14,25 @@ returns-in-End-clause-begins g c =
     subst (λ (b : Begin). BeginsAt b c.args.script.now c.args.payloads.now (view c.args.own)) (sym c.in-End.is)
     (begins_end c.args.script.now c.args.payloads.now (view c.args.own) c.requires.read)
 
-pub script_to-requires-in-Schedule-clause-order : goal.script_to-requires-in-Schedule-clause-order
-script_to-requires-in-Schedule-clause-order g c =
+pub script_to-requires-clause-order : goal.script_to-requires-clause-order
+script_to-requires-clause-order g c =
     let found = c.in_ok-found-in-Schedule.ensures.found in
     subst (λ (s : Script). IsScheduleOf s (view c.in_ok-found-in-Schedule.found)) (same_script _ _ _ found.1 c.requires.read) found.2
 
-pub returns-in-Schedule-clause-begins : goal.returns-in-Schedule-clause-begins
-returns-in-Schedule-clause-begins g c =
+pub returns-in_ok-found-in-Schedule-clause-begins : goal.returns-in_ok-found-in-Schedule-clause-begins
+returns-in_ok-found-in-Schedule-clause-begins g c =
     let found = c.in_ok-found-in-Schedule.ensures.found in
-    let told = c.script_to-in-Schedule.ensures in
-    subst (λ (b : Begin). IfOk c.script_to-in-Schedule.result (λ s. BeginsAt b c.args.script.now c.args.payloads.now (view s))) (sym c.in-Schedule.is)
-    (begins_schedule c.in-Schedule.drawn c.args.script.now c.args.payloads.now c.args.own c.in_ok-found-in-Schedule.found found.0 c.script_to-in-Schedule.result found.1 c.requires.read found.2 told.board told.parts)
+    let told = c.script_to.ensures in
+    subst (λ (b : Begin). IfOk c.script_to.result (λ s. BeginsAt b c.args.script.now c.args.payloads.now (view s))) (sym c.in-Schedule.is)
+    (begins_schedule c.in-Schedule.drawn c.args.script.now c.args.payloads.now c.args.own c.in_ok-found-in-Schedule.found found.0 c.script_to.result found.1 c.requires.read found.2 told.board told.parts)
 
 pub script_to-requires-in-Order-clause-order : goal.script_to-requires-in-Order-clause-order
 script_to-requires-in-Order-clause-order g c =
     let found = c.in_ok-found-in-Order.ensures.found in
     subst (λ (s : Script). IsScheduleOf s (view c.in_ok-found-in-Order.found)) (same_script _ _ _ found.1 c.requires.read) found.2
 
-pub returns-in-Order-clause-begins : goal.returns-in-Order-clause-begins
-returns-in-Order-clause-begins g c =
+pub returns-in_ok-found-in-Order-clause-begins : goal.returns-in_ok-found-in-Order-clause-begins
+returns-in_ok-found-in-Order-clause-begins g c =
     let found = c.in_ok-found-in-Order.ensures.found in
     let told = c.script_to-in-Order.ensures in
     subst (λ (b : Begin). IfOk c.script_to-in-Order.result (λ s. BeginsAt b c.args.script.now c.args.payloads.now (view s))) (sym c.in-Order.is)

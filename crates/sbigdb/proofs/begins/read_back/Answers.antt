@@ -1,5 +1,5 @@
-use Rattle.std.proofs.Common.{List, ℕ, take, ap, ◌∙◌}
-use Rattle.sbigdb.proofs.Begins.{all_but_last, reads_back, refused_back}
+use Rattle.std.proofs.Common.{ℕ, take, ap, ◌∙◌}
+use Rattle.sbigdb.proofs.Partings.{all_but_last, reads_back, refused_back}
 use Rattle.sbigdb.proofs.begins.read_back.Goals as goal
 
 pub returns-clause-read : goal.returns-clause-read

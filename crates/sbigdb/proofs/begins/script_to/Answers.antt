@@ -8,7 +8,7 @@ use Rattle.sbigdb.specs.Begins.{PartsAt}
 use Rattle.sbigdb.proofs.begins.script_to.Goals as goal
 
 pub lines_to-requires : goal.lines_to-requires
-lines_to-requires c = subst (λ (xs : List Line). AreOrderOf xs c.args.found.lines.items) (sym c.deref.ensures.value) c.requires.order.lines
+lines_to-requires c = record { order = subst (λ (xs : List Line). AreOrderOf xs c.args.found.lines.items) (sym c.deref.ensures.value) c.requires.order.lines }
 
 pub returns-clause-parts : goal.returns-clause-parts
 returns-clause-parts c =

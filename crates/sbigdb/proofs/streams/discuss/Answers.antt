@@ -1,10 +1,7 @@
-use Rattle.std.proofs.Common.{◌++◌, ◌≡◌, ◌∙◌, List, ℕ, Option, Some, None, refl, sym, ap, subst}
+use Rattle.std.proofs.Common.{◌++◌}
 use Rattle.std.proofs.lemmas.Result.{on_ok_weaker}
 use Rattle.report_lines.proofs.Written.{appended}
-use Rattle.gdb_protocol.specs.declared.heard.Heard.{Heard}
-use Rattle.debug_packets.specs.Talks.{acknowledges_in, is_over_in}
-use Rattle.debug_packets.specs.declared.talk.Talk.{Talk}
-use Rattle.sbigdb.specs.Responses.{AnswersAll, AnswersFrom, ack_text, first_ack}
+use Rattle.sbigdb.specs.Responses.{first_ack}
 use Rattle.sbigdb.proofs.Responses.{begun, finite_on, from_given}
 use Rattle.sbigdb.proofs.streams.discuss.Goals as goal
 

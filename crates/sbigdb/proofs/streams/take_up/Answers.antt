@@ -1,4 +1,4 @@
-use Rattle.std.proofs.Common.{◌++◌, Bool, refl, ap}
+use Rattle.std.proofs.Common.{◌++◌, Bool, ap}
 use Rattle.std.proofs.lemmas.Result.{on_ok_weaker}
 use Rattle.report_lines.proofs.Written.{appended}
 use Rattle.sbigdb.specs.Responses.{ack_text}

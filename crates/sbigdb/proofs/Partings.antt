@@ -1,9 +1,9 @@
 -- Two scripts that differ in rows of turns alone: the line in which they part.
-use Rattle.std.proofs.Common.{◌≡◌, ◌∙◌, ◌==◌, ◌<◌, ◌≤◌, ◌+◌, ◌-◌, ℕ, suc, true, false, List, [], ◌∷◌, ◌++◌, None, Some, Ok, Err, Result, inl, inr, if◌then◌else◌, min, get_or, take, drop, length, refl, ap, sym, subst, arith, add-one, length-append}
+use Rattle.std.proofs.Common.{◌≡◌, ◌∙◌, ◌==◌, ◌<◌, ◌+◌, ◌-◌, ℕ, suc, true, false, List, [], ◌∷◌, ◌++◌, None, Some, Ok, Err, Result, inl, inr, if◌then◌else◌, min, get_or, take, drop, length, refl, ap, ap₂, sym, subst, arith, add-one, length-append}
 use Rattle.std.specs.Prelude.{All, IfErr, IfOk}
 use Rattle.std.specs.Option.{option_to_list}
 use Rattle.std.proofs.Math.Seq.{drop-cons, take-append_seam, take-suc}
-use Rattle.std.proofs.lemmas.List.{append-nil, length-drop, take-append-drop}
+use Rattle.std.proofs.lemmas.List.{append-nil, length-drop, take-append-drop, take_rest}
 use Rattle.std.proofs.lemmas.List.Elements.{All-append, All-drop, All-head, All-nil, All-push, All-take}
 use Rattle.board_model.specs.Shapes.{Size}
 use Rattle.board_model.specs.declared.refusal.Refusal.{Refusal}
@@ -108,6 +108,11 @@ none_right [] right none = refl
 none_right (a ∷ left) [] none = refl
 none_right (a ∷ left) (b ∷ right) none = absurd (omega arith)
 
+-- the rest of each, as it is cut out
+pub both_rest : (n : ℕ) (own other seen : List Line) → seen ≡ other
+    → both_turn (take (length own - n) (drop n own)) (take (length seen - n) (drop n seen)) ≡ both_turn (drop n own) (drop n other)
+both_rest n own other seen same = ap₂ both_turn (take_rest own n) (take_rest seen n ∙ ap (drop n) same)
+
 both_ranged : (size : Size) (x y : Line) → IsLineInRange size x → IsLineInRange size y → All (IsLineInRange size) (option_to_list (turns_of_both x y))
 both_ranged size (lines.Turn h n) (lines.Turn g m) one other =
     elim (h == g) as (λ v. All (IsLineInRange size) (option_to_list (if v then Some (lines.Turn h (min n m)) else None))) [
@@ -162,13 +167,13 @@ all_but_last text bytes is =
     ap (λ (n : ℕ). take n text) count ∙ ap (take (length bytes)) is ∙ take-append_seam bytes (10 ∷ [])
 
 pub reads_back : (r : Result code.Script Refusal) (said : Script) (bytes : List ℕ) → Gives view r (script_of bytes) → bytes ≡ script_text said → script_of (script_text said) ≡ Ok said → IfOk r (λ script. view script ≡ said)
-reads_back (Ok script) said bytes gives is reads = let same : Ok {E = Refusal} (view script) ≡ Ok said = sym gives ∙ ap script_of is ∙ reads in cc
+reads_back (Ok script) said bytes gives is reads = let same = sym gives ∙ ap script_of is ∙ reads in cc
 reads_back (Err e) said bytes gives is reads = tt
 
 pub refused_back : (r : Result code.Script Refusal) (said : Script) (bytes : List ℕ) → Gives view r (script_of bytes) → bytes ≡ script_text said → script_of (script_text said) ≡ Ok said → IfErr r (λ e. e ≡ Memory)
 refused_back (Ok script) said bytes gives is reads = tt
 refused_back (Err e) said bytes (inl want) is reads = want
-refused_back (Err e) said bytes (inr fault) is reads = let same : Err {T = Script} e ≡ Ok said = sym fault ∙ ap script_of is ∙ reads in let never : ⊥ = cc in absurd never
+refused_back (Err e) said bytes (inr fault) is reads = let same = sym fault ∙ ap script_of is ∙ reads in let never : ⊥ = cc in absurd never
 
 pub same_script : (read : Result Script Refusal) (a b : Script) → read ≡ Ok a → read ≡ Ok b → a ≡ b
-same_script read a b one other = let same : Ok {E = Refusal} a ≡ Ok b = sym one ∙ other in cc
+same_script read a b one other = let same = sym one ∙ other in cc
