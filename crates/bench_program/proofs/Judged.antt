@@ -1,12 +1,14 @@
 -- What a bench wrote, behind which what the writer held back is handed on.
-use Rattle.std.proofs.Common.{◌≡◌, ◌⊎◌, inl, inr, ℕ, List, Option, Result, Ok, Err}
-use Rattle.std.specs.Io.KnownBytes.{Keeps}
+use Rattle.std.proofs.Common.{◌≡◌, ◌∙◌, ◌⊎◌, inl, inr, ℕ, List, Option, None, Some, Result, Ok, Err}
+use Rattle.std.specs.Io.KnownBytes.{Appends, Keeps}
 use Rattle.board_model.specs.declared.refusal.Refusal.{Refusal}
 use Rattle.bench_sweep.specs.declared.judges.Sweep.{Sweep}
 use Rattle.bench_sweep.specs.declared.plan.Plan.{Plan}
 use Rattle.bench_sweep.specs.Swept.{IsBenchOf, IsRecoveredBenchOf}
 use Rattle.bench_sweep.specs.declared.sweeps.Recovered.{Recovered}
-use Rattle.bench_sweep.proofs.Written.{handed_on}
+use Rattle.bench_sweep.specs.Shown.{IsRowOf}
+use Rattle.bench_sweep.specs.declared.points.Bench.{Bench}
+use Rattle.bench_sweep.specs.declared.recovery.RecoveryFile.{RecoveryFile}
 use Rattle.script_lang.specs.Scripts.{script_of, Script as Said}
 use Rattle.bench_schedules.specs.Numbers.{numbers_of}
 use Rattle.bench_schedules.specs.Preemptions.{WrotePreemptions}
@@ -16,6 +18,13 @@ use Rattle.bench_schedules.specs.Shrunk.{Shrunk}
 use Rattle.bench_schedules.specs.declared.shown.Wanted.{Wanted}
 use Rattle.bench_program.specs.declared.usage.Drawn.{Drawn}
 use Rattle.bench_program.specs.Written.{IsOrderShown, IsPreempted, IsShrunk}
+
+-- what is handed on stays written
+pub handed_on : (a b c : Option (List ℕ)) (x : List ℕ) → Appends a b x → Keeps b c → Appends a c x
+handed_on None b c x h k = tt
+handed_on (Some a) (Some b) (Some c) x h k = k ∙ h
+handed_on (Some a) None c x h k = absurd h
+handed_on (Some a) (Some b) None x h k = absurd k
 
 pub wrote_on : (plan : Plan) (start : List (List ℕ)) (script : List ℕ) (a b c : Option (List ℕ)) (sweep : Sweep) → IsBenchOf plan start script a b sweep → Keeps b c → IsBenchOf plan start script a c sweep
 wrote_on plan start script a b c sweep (said, is, w) keeps = (

@@ -4,3 +4,4 @@ pub mod Simple
 pub mod Told
 pub mod Judged
 pub mod Tested
+pub mod Parted

@@ -1,5 +1,7 @@
 -- The command as its parser reads it, and what its words ask for. Source: docs/SCRIPT.md, "The program".
-use Rattle.std.specs.Prelude.{◌≡◌, ◌≤◌, ◌+◌, ◌==◌, ⊤, ℕ, Bool, true, false, List, [], ◌∷◌, Option, Some, None, if◌then◌else◌, nat_lt, bytes_eq, drop, map, position, string_bytes, take}
+use Rattle.std.proofs.Common.{inl, inr}
+use Rattle.std.proofs.lemmas.Bool.{cases_lt}
+use Rattle.std.specs.Prelude.{◌≡◌, ◌⊎◌, ◌≤◌, ◌<◌, ◌+◌, ◌==◌, ⊤, ℕ, Bool, true, false, List, [], ◌∷◌, Option, Some, None, if◌then◌else◌, nat_lt, bytes_eq, drop, map, position, string_bytes, take}
 use Rattle.std.specs.Option.{option_map}
 use Rattle.clap.specs.Words.{App, IsAmong, Rule, Text, fault_of, first_value, new_rule, one_text, with_rule}
 use Rattle.clap.specs.declared.builder.action.ArgAction.TheVariants.{Set}
@@ -235,11 +237,16 @@ with_recovery None work = work
 with_recovery (Some path) work = recovered work
 
 -- part k of so many, up to 4,096
+abbrev pub part_if : (k of : ℕ) → (k < 1) ⊎ (1 ≤ k) → (of < k) ⊎ (k ≤ of) → (4096 < of) ⊎ (of ≤ 4096) → Option Part
+part_if k of (inl none) within most = None
+part_if k of (inr some) (inl beyond) most = None
+part_if k of (inr some) (inr within) (inl many) = None
+part_if k of (inr some) (inr within) (inr most) = Some (record { number = k; of = of; some = some; within = within; most = most })
+
 abbrev pub part_between : Option ℕ → Option ℕ → Option Part
 part_between None of = None
 part_between (Some k) None = None
-part_between (Some k) (Some of) =
-    if nat_lt k 1 then None else (if nat_lt of k then None else (if nat_lt 4096 of then None else Some (record { number = k; of = of })))
+part_between (Some k) (Some of) = part_if k of (cases_lt k 1) (cases_lt of k) (cases_lt 4096 of)
 
 abbrev pub part_at : List ℕ → Option ℕ → Option Part
 part_at word None = None

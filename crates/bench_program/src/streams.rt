@@ -1,6 +1,6 @@
 //! The program over any streams: it does what the command line asks for, from a reader to a writer.
 
-ghost use Rattle.std.specs.Prelude.{◌≡◌, ◌⊎◌, ◌≤◌, ◌<◌, [], map, Err, Result, OnOk, IfOk, IfErr, IfSome};
+ghost use Rattle.std.specs.Prelude.{◌≡◌, ◌⊎◌, ◌≤◌, ◌<◌, true, false, [], map, Err, Result, OnOk, IfOk, IfErr, IfSome};
 ghost use Rattle.board_model.specs.declared.refusal.Refusal.TheVariants.{Memory};
 ghost use Rattle.std.specs.Io.Buffered.{writer_buffer, writer_contents, writer_inner};
 ghost use Rattle.bench_program.specs.Faults.{fault_by, status_after, unread_by, without_work};

@@ -1,6 +1,6 @@
 //! The command line, and what `--help` says.
 
-ghost use Rattle.std.specs.Prelude.{◌≡◌, ◌⊎◌, ◌≤◌, false, Bool, Some, None, map, codes, IfOk, IfErr, IfSome};
+ghost use Rattle.std.specs.Prelude.{◌≡◌, ◌⊎◌, ◌≤◌, ◌<◌, ◌==◌, false, length, position, Bool, Some, None, map, codes, IfOk, IfErr, IfSome};
 ghost use Rattle.std.specs.Option.{option_map};
 ghost use Rattle.script_lang.specs.Words.{number_of};
 ghost use Rattle.clap.specs.Words.{app_of, first_value, found_of, kind_of, rule_of};
@@ -593,17 +593,35 @@ fn with_recovery(path: Option<&str>, work: Option<Work>) -> Option<Work>
 fn part_between(number: Option<u64>, of: Option<u64>) -> Option<Part>
     ensures { result ≡ part_between number of }
 {
-    Part::new(number?, of?)
+    match (number, of) {
+        (Some(number), Some(of)) => Part::new(number, of),
+        _ => None,
+    }
 }
 
-/// The part that a word names: both numbers, with a `/` between them. None where it names none.
-#[tactic(auto, using(crate::proofs::Tested::all_from))]
+/// Where the first `/` is.
+fn first_slash(bytes: &[u8]) -> Option<usize>
+    ensures at { result ≡ position (λ b. b == 47) bytes.now }
+    ensures bound { IfSome result (λ at. at < length bytes.now) }
+{
+    bytes.iter().position(|b| *b == b'/')
+}
+
+/// The part that these bytes of a word name: both numbers, with a `/` between them. None where they name none.
+fn part_spelled(word: &[u8]) -> Option<Part>
+    ensures { result ≡ part_named word.now }
+{
+    let Some(slash) = first_slash(word) else {
+        return None;
+    };
+    part_between(number(&word[..slash]), number(&word[slash + 1..]))
+}
+
+/// The part that a word names. None where it names none.
 fn part_named(word: &str) -> Option<Part>
     ensures { result ≡ part_named word.now }
 {
-    let bytes = word.as_bytes();
-    let place = bytes.iter().position(|b| *b == b'/')?;
-    part_between(number(&bytes[..place]), number(&bytes[place + 1..]))
+    part_spelled(word.as_bytes())
 }
 
 /// A part of that work. None where it has none.

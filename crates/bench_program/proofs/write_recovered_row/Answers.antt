@@ -1,4 +1,5 @@
 use Rattle.std.proofs.Common.{◌∙◌, Some, refl}
+use Rattle.std.proofs.lemmas.Result.{err_from_is_err_and}
 use Rattle.std.specs.Io.Buffered.{writer_contents}
 use Rattle.bench_sweep.specs.declared.recovery.RecoveryFile.{RecoveryFile}
 use Rattle.bench_program.proofs.Judged.{row_on}
@@ -17,4 +18,5 @@ returns-in-Ok-clause-wrote g c =
 pub returns-in_err-show_row-clause-refused : goal.returns-in_err-show_row-clause-refused
 returns-in_err-show_row-clause-refused g c =
     let file : RecoveryFile = record { bytes = c.args.recovery; numbers = c.deref.result } in
-    none_of_file c.args.row c.args.payloads c.args.script.now c.args.recovery.now file _ (refl, c.deref.ensures.value ∙ c.in_ok-numbers.ensures) c.in_err-show_row.ensures.refused
+    let p = err_from_is_err_and c.from_residual-in_err-show_row.result c.from_residual-in_err-show_row.ensures.1 in
+    rw (p.1, p.2) (none_of_file c.args.row c.args.payloads c.args.script.now c.args.recovery.now file _ (refl, c.deref.ensures.value ∙ c.in_ok-numbers.ensures) c.in_err-show_row.ensures.refused)

@@ -1,4 +1,5 @@
 use Rattle.std.proofs.Common.{None}
+use Rattle.std.proofs.lemmas.Result.{err_from_is_err_and}
 use Rattle.std.specs.Io.Buffered.{writer_contents}
 use Rattle.bench_program.proofs.Judged.{row_on}
 use Rattle.bench_program.proofs.Told.{none_without}
@@ -10,4 +11,6 @@ returns-in-Ok-clause-wrote g c =
     c.in_ok-show_row.ensures.shown c.flush.ensures.bytes
 
 pub returns-in_err-show_row-clause-refused : goal.returns-in_err-show_row-clause-refused
-returns-in_err-show_row-clause-refused g c = none_without c.args.row c.args.payloads c.args.script.now _ c.in_err-show_row.ensures.refused
+returns-in_err-show_row-clause-refused g c =
+    let p = err_from_is_err_and c.from_residual.result c.from_residual.ensures.1 in
+    rw (p.1, p.2) (none_without c.args.row c.args.payloads c.args.script.now _ c.in_err-show_row.ensures.refused)

@@ -16,8 +16,8 @@ returns-in-Recover-clause-faults g c =
 
 pub returns-in-ShowRecovered-clause-worked : goal.returns-in-ShowRecovered-clause-worked
 returns-in-ShowRecovered-clause-worked g c =
-    rw c.in-ShowRecovered.is (on_ok_weaker c.show_recovered.result (λ did. rw (sym c.deref.ensures.value) did) c.show_recovered.ensures.written)
+    rw c.in-ShowRecovered.is (on_ok_weaker c.show_recovered.result (λ did. rw (sym c.deref-in-ShowRecovered.ensures.value) did) c.show_recovered.ensures.written)
 
 pub returns-in-ShowRecovered-clause-faults : goal.returns-in-ShowRecovered-clause-faults
 returns-in-ShowRecovered-clause-faults g c =
-    rw c.in-ShowRecovered.is (IfErr-weaker c.show_recovered.result _ _ (λ fault is. rw (sym c.deref.ensures.value) is) c.show_recovered.ensures.faults)
+    rw c.in-ShowRecovered.is (IfErr-weaker c.show_recovered.result _ _ (λ fault is. rw (sym c.deref-in-ShowRecovered.ensures.value) is) c.show_recovered.ensures.faults)

@@ -1,5 +1,5 @@
 use Rattle.std.specs.Io.Buffered.{writer_contents}
-use Rattle.bench_sweep.proofs.Written.{handed_on}
+use Rattle.bench_program.proofs.Judged.{handed_on}
 use Rattle.bench_program.specs.Taps.{tap_text}
 use Rattle.bench_program.proofs.taps.put_tap.Goals as goal
 
