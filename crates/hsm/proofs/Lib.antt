@@ -5,3 +5,4 @@ pub mod Entering
 pub mod Starting
 pub mod Quieting
 pub mod Computed
+pub mod Copying

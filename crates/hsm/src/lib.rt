@@ -5,10 +5,14 @@
 #![tactic(auto)]
 
 mod calls;
+mod copies;
 mod seen;
+mod standings;
 mod state;
 
 pub use calls::{quiet, start, status, stop, suspend, try_enter, unquiet, wake};
+pub use copies::copy;
 pub use hsm_steps::{HartSeat, HartTable, SeatTable, Seats, laws};
 pub use seen::one_table;
+pub use standings::{Standing, standing_of};
 pub use state::State;

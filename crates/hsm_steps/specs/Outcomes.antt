@@ -92,6 +92,37 @@ Sees harts st m found m' =
     (m'.0 ≡ m.0) × (m'.1 ≡ m.1)
     × (((h : ℕ) → h < harts → IsBetweenCalls h m.0.harts) → (states : ℕ → HartState) × Shows harts m.0 states)
 
+-- ---- looks at the one seat of all harts that it does not note
+abbrev pub IsUnnoted : SeatState HartSeatView → SeatState HartSeatView → Type 0
+IsUnnoted m m' = (m'.0 ≡ m.0) × (m'.1 ≡ m.1)
+
+-- what is found is the address, or the opaque value, with which a hart is START_PENDING, where it is
+abbrev pub IsStartAddress : ℕ → HartSeatView → ℕ → ℕ → Type 0
+IsStartAddress harts c h found = (states : ℕ → HartState) (a o : ℕ) → Shows harts c states → states h ≡ start_pending a o
+    → (found ≡ a) × IsSite found
+
+abbrev pub IsStartOpaque : ℕ → HartSeatView → ℕ → ℕ → Type 0
+IsStartOpaque harts c h found = (states : ℕ → HartState) (a o : ℕ) → Shows harts c states → states h ≡ start_pending a o
+    → found ≡ o
+
+-- a quiet hart of the seat finds every other one STOPPED
+abbrev pub IsAloneIn : ℕ → List HartView → ℕ → Type 0
+IsAloneIn harts vs found = (h t : ℕ) → stands h Quiet vs → t < harts → t ≢ h → bit_at found t ≡ 0
+
+-- some hart is not START_PENDING: it is claimed where it has entered
+abbrev pub HasSettled : ℕ → ℕ → Type 0
+HasSettled harts found = (h : ℕ) × (h < harts) × (bit_at found h ≡ bit_at found (16 + h))
+
+abbrev pub Peeks : ℕ → Step (Unit {0}) → SeatState HartSeatView → ℕ → SeatState HartSeatView → Type 0
+Peeks harts st m found m' =
+    IsUnnoted m m' × Tells harts m.0 found × IsAloneIn harts m.0.harts found × HasSettled harts found
+
+abbrev pub PeeksAddress : ℕ → ℕ → Step (Unit {0}) → SeatState HartSeatView → ℕ → SeatState HartSeatView → Type 0
+PeeksAddress harts h st m found m' = IsUnnoted m m' × IsStartAddress harts m.0 h found
+
+abbrev pub PeeksOpaque : ℕ → ℕ → Step (Unit {0}) → SeatState HartSeatView → ℕ → SeatState HartSeatView → Type 0
+PeeksOpaque harts h st m found m' = IsUnnoted m m' × IsStartOpaque harts m.0 h found
+
 -- ---- the table at the start
 -- one hart runs, and no other has entered
 abbrev pub opening_stage : ℕ → ℕ → Stage

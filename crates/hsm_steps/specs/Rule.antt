@@ -78,7 +78,8 @@ Fits harts m g h Suspended = (m.entered h ≡ 1) × (m.suspended h ≡ 1)
 Fits harts m g h Quiet = (m.entered h ≡ 1) × (m.suspended h ≡ 0) × ((t : ℕ) → t < harts → t ≢ h → m.claimed t ≡ 0)
 
 -- The words and the views agree. `flying`: a claimed hart that is not armed is the start in flight of just
--- one view. `armed`: until an armed hart enters, its argument words are its claim's.
+-- one view. `armed`: until an armed hart enters, its argument words are its claim's. `settled`: some hart is not
+-- START_PENDING, as the one that made the last claim was not.
 pub record Sound (harts : ℕ) (m : WordBits) (g : Grants) (views : List HartSeatView) : Type 0 where
   pub order : (h : ℕ) → h < harts
       → (m.suspended h ≤ m.entered h) × (m.entered h ≤ m.armed h) × (m.armed h ≤ m.claimed h) × (m.claimed h ≤ 1)
@@ -88,6 +89,7 @@ pub record Sound (harts : ℕ) (m : WordBits) (g : Grants) (views : List HartSea
   pub armed : (t : ℕ) → t < harts → m.armed t ≡ 1 → m.entered t ≡ 0
       → (m.address t ≡ g.address t) × (m.opaque t ≡ g.opaque t)
   pub fits : Everywhere (λ v. Fits harts m g v.hart v.stage) views
+  pub settled : (h : ℕ) × (h < harts) × (m.claimed h ≡ m.entered h)
 
 -- ---- the actions as steps
 -- the word in which an action was

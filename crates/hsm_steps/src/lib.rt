@@ -7,6 +7,7 @@
 
 mod entries;
 mod looks;
+mod peeks;
 mod promises;
 mod seats;
 mod starts;
@@ -16,6 +17,7 @@ mod view;
 
 pub use entries::{enter, poll, read_address, read_opaque};
 pub use looks::look;
+pub use peeks::{peek, peek_address, peek_opaque};
 pub use promises::laws;
 pub use starts::{arm, claim, put_address, put_opaque};
 pub use states::{quiet, stop, suspend, unquiet, wake};

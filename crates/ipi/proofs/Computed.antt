@@ -19,7 +19,7 @@ lt_true m n lt = search (arith, rules)
 lt_false : (m n : ℕ) → n ≤ m → nat_lt m n ≡ false
 lt_false m n le = search (arith, rules)
 
-lt_told : (m n : ℕ) → IsTrue (nat_lt m n) ↔ (m < n)
+pub lt_told : (m n : ℕ) → IsTrue (nat_lt m n) ↔ (m < n)
 lt_told m n = ((λ t. ⊎_elim (λ (l : m < n). l) (λ (g : n ≤ m). absurd (true≢false (sym t ∙ lt_false m n g))) (cases_lt m n)), lt_true m n)
 
 same_bool : (a b : Bool) → (IsTrue a → IsTrue b) → (IsTrue b → IsTrue a) → a ≡ b
@@ -51,7 +51,7 @@ pub at_pairs : (harts : ℕ) (c : PendingSeatView) (sender target : ℕ) → sen
 at_pairs harts c s t ls lt =
     ap (λ (row : List Bool). get_or row s false) (at_all (λ t. map (λ s. pair_in c s t) (numbers_from 0 harts)) [] harts t lt) ∙ at_all (λ s. pair_in c s t) false harts s ls
 
-shows_as : (harts : ℕ) (c : PendingSeatView) (p q : ℕ → ℕ → Bool) → ((s t : ℕ) → q s t ≡ p s t) → Shows harts c p → Shows harts c q
+pub shows_as : (harts : ℕ) (c : PendingSeatView) (p q : ℕ → ℕ → Bool) → ((s t : ℕ) → q s t ≡ p s t) → Shows harts c p → Shows harts c q
 shows_as harts c p q same shown = (shown.0, (λ s t. subst (λ (b : Bool). IsTrue b ↔ IsPending c s t) (sym (same s t)) (shown.1 s t)))
 
 -- one row is another

@@ -135,3 +135,8 @@ abbrev pub Looks : ℕ → Step (Unit {0}) → SeatState PendingSeatView → ℕ
 Looks harts st m found m' =
     Notes st.word tt (Looked found) m m' × Tells harts m.0 st.word found × OwnsUp m.0 st.word found
     × InRange harts found
+
+-- a look at the word of a hart that a seat does not note: it stays as it was
+abbrev pub Peeks : ℕ → Step (Unit {0}) → SeatState PendingSeatView → ℕ → SeatState PendingSeatView → Type 0
+Peeks harts st m found m' =
+    ((m'.0 ≡ m.0) × (m'.1 ≡ m.1)) × Tells harts m.0 st.word found × InRange harts found

@@ -3,3 +3,4 @@ pub mod Senders
 pub mod Pairs
 pub mod Seating
 pub mod Views
+pub mod Copies

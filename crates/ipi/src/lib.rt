@@ -5,7 +5,9 @@
 #![tactic(auto)]
 
 mod calls;
+mod copies;
 mod pairs;
+mod peeks;
 mod seats;
 mod seen;
 mod senders;

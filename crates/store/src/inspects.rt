@@ -132,7 +132,9 @@ fn examine<D: Disk>(alloc: Global, disk: &mut D, shape: &Shape) -> Result<Inspec
         (D.fault_state disk.new) }
     ensures calls { ExaminedCalls shape.now result (D.facts disk.old).calls (D.facts disk.new).calls }
 {
-    let records = read_records(disk).map_err(|_| Refusal::Device)?;
+    let Ok(records) = read_records(disk) else {
+        return Err(Refusal::Device);
+    };
     let live = parse_record(&records.live, shape);
     let other = parse_record(&records.other, shape);
     let image = see_image(alloc, disk, shape, &live)?;
@@ -180,7 +182,9 @@ pub fn inspect<D: Disk>(alloc: Global, disk: &mut D) -> Result<Inspection, Refus
     if sectors == 0 {
         return Err(Refusal::BadShape);
     }
-    let superblock = read_sector(disk, 0).map_err(|_| Refusal::Device)?;
+    let Ok(superblock) = read_sector(disk, 0) else {
+        return Err(Refusal::Device);
+    };
     let shape = parse_superblock(&superblock, sectors)?;
     examine(alloc, disk, &shape)
 }

@@ -28,3 +28,10 @@ returns-in-Err-load_image-clause-settles g c =
     let old = g.D.Disk.facts c.args.disk in
     let settled = read_later old (disk_of c.in-Ok.store) (disk_of c.load_image.new.self) c.in-Ok.ensures.settles c.load_image.ensures.reads_alone in
     subst (λ d. IsSettled old (g.D.Disk.facts d)) (sym c.into_disk-in-Err-load_image.ensures.disk) settled
+
+pub returns-in-Err-clause-settles : goal.returns-in-Err-clause-settles
+returns-in-Err-clause-settles g c = c.in-Err.ensures.settles
+
+pub returns-in-Err-new-clause-settles : goal.returns-in-Err-new-clause-settles
+returns-in-Err-new-clause-settles g c =
+    subst (λ d. IsSettled (g.D.Disk.facts c.args.disk) (g.D.Disk.facts d)) (sym c.into_disk.ensures.disk) c.in-Ok.ensures.settles

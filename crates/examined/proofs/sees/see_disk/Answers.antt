@@ -24,3 +24,29 @@ returns-in-Err-clause-settles g c = read_settled (g.D.Disk.facts c.args.disk) (g
 
 pub returns-in-Ok-found-clause-seen : goal.returns-in-Ok-found-clause-seen
 returns-in-Ok-found-clause-seen g c = search rules
+
+-- the other way round: what the inspection was refused
+pub returns-in-Err-clause-unformatted : goal.returns-in-Err-clause-unformatted
+returns-in-Err-clause-unformatted g c reads = c.in-Err.ensures.unformatted reads
+
+pub returns-in-Err-clause-bad_shape : goal.returns-in-Err-clause-bad_shape
+returns-in-Err-clause-bad_shape g c reads = c.in-Err.ensures.bad_shape reads
+
+pub returns-in-Err-clause-board : goal.returns-in-Err-clause-board
+returns-in-Err-clause-board g c size is = c.in-Err.ensures.board size is
+
+-- a disk that was inspected reads as neither
+pub returns-in-Ok-found-clause-unformatted : goal.returns-in-Ok-found-clause-unformatted
+returns-in-Ok-found-clause-unformatted g c reads = c.in-Ok.ensures.unformatted reads
+
+pub returns-in-Ok-found-clause-bad_shape : goal.returns-in-Ok-found-clause-bad_shape
+returns-in-Ok-found-clause-bad_shape g c reads = c.in-Ok.ensures.bad_shape reads
+
+pub returns-in-Ok-found-clause-board : goal.returns-in-Ok-found-clause-board
+returns-in-Ok-found-clause-board g c size is = tt
+
+pub returns-in-Err-found-clause-unformatted : goal.returns-in-Err-found-clause-unformatted
+returns-in-Err-found-clause-unformatted g c reads = absurd (c.in-Ok.ensures.unformatted reads)
+
+pub returns-in-Err-found-clause-bad_shape : goal.returns-in-Err-found-clause-bad_shape
+returns-in-Err-found-clause-bad_shape g c reads = absurd (c.in-Ok.ensures.bad_shape reads)

@@ -9,7 +9,7 @@ pub returns-clause-inspected : goal.returns-clause-inspected
 returns-clause-inspected g c =
     let content = (g.D.Disk.facts c.args.disk.now).content in
     let size = c.args.shape.now in
-    let records = c.in_ok-records.records in
+    let records = c.in-Ok.records in
     let gate : records.gate ≡ selected content = search rules in
     let live : records.live ≡ live_sector content = search rules in
     let other : records.other ≡ other_sector content = search rules in
