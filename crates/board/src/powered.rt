@@ -1,5 +1,7 @@
 //! The board.
 
+mod copies;
+
 use crate::payloads::Payloads;
 use crate::ready::ready;
 use board_model::{BootMode, CallWords, ConsoleCommand, Durable, Entry, HartId, Refusal, Shape};

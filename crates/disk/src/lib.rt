@@ -7,10 +7,12 @@
 //! keeps. docs/PORTING.md says how.
 #![tactic(auto)]
 
+mod copies;
 mod device;
 mod log;
 mod synced;
 
+pub use copies::CopyDisk;
 pub use device::{ArmedFault, Disk, Fault, Lane, LaneCall, Sector};
 pub use log::Log;
 pub use synced::{read_sector, write_synced};

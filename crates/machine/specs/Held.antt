@@ -1,5 +1,5 @@
 -- What a machine holds: both tables of a board of its shape, and the one seat of all harts in each.
-use Rattle.std.specs.Prelude.{◌≡◌, ℕ, ◌<◌, List, [], length, get_or, Option, Some, None}
+use Rattle.std.specs.Prelude.{◌≡◌, ℕ, ◌<◌, List, [], length, get_or, nat_lt, if◌then◌else◌, Option, Some, None}
 use Rattle.board_model.specs.Shapes.{Size}
 use Rattle.hart.specs.State.{ArchState, never_started}
 use Rattle.hsm.specs.Views.{states_in}
@@ -34,6 +34,11 @@ stage_left (Over end) = Running
 abbrev pub RestsBy : Option Doze → ℕ → Seats → Type 0
 RestsBy None h s = Rests h s
 RestsBy (Some d) h s = Acts h Quiet s
+
+-- the hart that is quiet in a doze, where the board has it
+abbrev pub quiet_in : ℕ → Option Doze → Option ℕ
+quiet_in harts None = None
+quiet_in harts (Some d) = if nat_lt d.at.hart harts then Some d.at.hart else None
 
 -- The seats have every hart, and show a state of each and the pending interrupts; between two turns each hart
 -- rests, or is quiet in its doze.

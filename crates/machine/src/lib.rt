@@ -6,6 +6,7 @@
 #![tactic(auto)]
 
 mod calls;
+mod copies;
 mod holds;
 mod laws;
 mod line;

@@ -22,6 +22,7 @@ ghost use Rattle.sbi.specs.Words.{word_of_sleep};
 ghost use Rattle.susp.specs.declared.sleeps.Sleep.TheVariants.{ToRam};
 
 use crate::calls::call_in_place;
+use crate::copies::{copy_harts, copy_tables};
 use crate::holds::make_held;
 use crate::parts::Parts;
 use crate::states::see;
@@ -379,6 +380,30 @@ impl Machine {
         ensures refused { IfErr result (λ e. (e ≡ NotDozing) × (self.new ≡ self.old)) }
     {
         susp::wake(&mut self.bus)
+    }
+
+    /// A machine that stands as this one, which stays as it was. Refused `Memory` where there is no room for it.
+    pub fn copy(&mut self, alloc: Global) -> Result<Machine, Refusal>
+        ensures stays { self.new ≡ self.old }
+        ensures same { IfOk result (λ copy. copy ≡ self.old) }
+        ensures refused { OnErr result (result ≡ Err Memory) }
+    {
+        let ram = self.bus.ram.copy(alloc)?;
+        let harts = copy_harts(alloc, self.harts.as_slice())?;
+        let mut seats = self.seats.take().unwrap();
+        let made = copy_tables(alloc, &self.tables, &mut seats, &self.shape, &self.bus.doze);
+        self.seats = Some(seats);
+        let (tables, all) = made?;
+        Ok(Machine {
+            bus: Bus {
+                ram,
+                doze: self.bus.doze,
+            },
+            harts,
+            shape: self.shape,
+            tables,
+            seats: Some(all),
+        })
     }
 
     /// The parts of the machine, with the seat of all harts, by which `split` makes one for each.

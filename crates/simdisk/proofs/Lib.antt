@@ -8,3 +8,4 @@ pub mod Replaced
 pub mod Rows
 pub mod Walks
 pub mod Arms
+pub mod Copying

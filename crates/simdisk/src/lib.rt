@@ -3,6 +3,7 @@
 //! read to the letter, and it can be cut, with a fill that says what the crash leaves. docs/DISK.md has the model.
 #![tactic(auto)]
 
+mod copies;
 mod device;
 mod exactness;
 mod faults;

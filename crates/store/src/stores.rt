@@ -13,6 +13,8 @@ ghost use Rattle.store.specs.Commits.{Keeps};
 ghost use Rattle.store.specs.Follows.{next_of, durable_after, suspended, FitsBoard, Follows};
 ghost use Rattle.store.specs.declared.doubts.Doubt.{Doubt};
 
+mod copies;
+
 use crate::commits::{Uncommitted, commit};
 use crate::doubts::Doubt;
 use crate::opens::find;

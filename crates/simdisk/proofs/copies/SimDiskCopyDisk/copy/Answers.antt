@@ -1,0 +1,30 @@
+use Rattle.std.proofs.Common.{◌≡◌, ◌<◌, ◌≤◌, ◌+◌, ◌*◌, length, sym, ap, ◌∙◌, subst}
+use Rattle.disk.specs.Facts.{Content}
+use Rattle.write_log.specs.WriteLog.{WriteLog, synced, newest, ranges, AgreesOutside}
+use Rattle.simdisk.specs.History.{log_of}
+use Rattle.simdisk.specs.Views.{IsLatest, lent_of}
+use Rattle.simdisk.proofs.Copying.{same_facts, same_latest}
+use Rattle.simdisk.proofs.copies.SimDiskCopyDisk.copy.Goals as goal
+
+pub invariant_of-result : goal.invariant_of-result
+invariant_of-result c =
+    let s = c.args.self.now in
+    let log = c.in_ok-history.ensures.log in
+    let content : c.in_ok-content.content.items ≡ s.content.items = c.in_ok-content.ensures ∙ c.deref.ensures.value in
+    let latest = c.in_ok-latest.ensures in
+    record {
+      agrees = subst (λ (r : WriteLog). AgreesOutside (synced r) (ranges r.written) c.in_ok-content.content.items) (sym log)
+          (subst (λ (m : Content). AgreesOutside (synced (log_of s.history)) (ranges (log_of s.history).written) m) (sym content) s.agrees);
+      newest = ap newest log ∙ (s.newest ∙ sym (same_latest s.latest c.in_ok-latest.latest s.content.items c.in_ok-content.content.items latest.as_read latest.sectors content));
+      room = ap (λ (m : Content). length m) latest.sectors ∙ (s.room ∙ sym (ap (λ (m : Content). length m) content));
+      few = s.few;
+      few_calls = s.few_calls;
+      within = subst (λ (m : Content). s.loan.first + s.loan.lanes * s.loan.each ≤ length m) (sym content) s.within;
+      noted = subst (λ (r : WriteLog). 0 < s.loan.lanes → IsLatest (ranges r.written) s.loan.patch (s.loan.first, s.loan.lanes * s.loan.each)) (sym log) s.noted;
+    }
+
+pub returns-clause-facts : goal.returns-clause-facts
+returns-clause-facts c =
+    let s = c.args.self.now in
+    same_facts s.content.items c.in_ok-content.content.items (log_of s.history) (log_of c.in_ok-history.history) s.failures s.calls (lent_of s.loan)
+    (c.in_ok-content.ensures ∙ c.deref.ensures.value) c.in_ok-history.ensures.log

@@ -1,0 +1,119 @@
+//! A disk in memory is copied, with what it keeps of its writes and syncs and what is armed.
+ghost use Rattle.std.specs.Prelude.{◌≡◌, ◌↔◌, IfOk};
+ghost use Rattle.disk.specs.Facts.{Unchanged};
+ghost use Rattle.disk.specs.declared.device.ArmedFault.{ArmedFault};
+ghost use Rattle.simdisk.specs.Views.{piece, pieces};
+
+use crate::history::History;
+use crate::latest::Latest;
+use crate::logged::Logged;
+use crate::patch::{Patch, copy_of};
+use crate::remembered::Remembered;
+use crate::sim::SimDisk;
+use disk::{CopyDisk, Disk};
+use std::alloc::{AllocError, Global};
+use write_log::Log;
+
+impl Remembered {
+    /// The same once more.
+    fn again(&self) -> Remembered
+        ensures { (result.kept.log ≡ self.now.kept.log) × (result.kept.armings ≡ self.now.kept.armings) }
+    {
+        Remembered {
+            kept: Log::with_parts(&self.kept),
+        }
+    }
+}
+
+impl Patch {
+    /// The same sectors, written where these were.
+    fn again(&self) -> Patch
+        ensures { piece result ≡ piece self.now }
+    {
+        Patch {
+            first: self.first,
+            count: self.count,
+            bytes: self.bytes.again(),
+        }
+    }
+}
+
+/// The same patches once more.
+fn patches_again(alloc: Global, patches: &[Patch]) -> Result<Vec<Patch>, AllocError>
+    ensures { IfOk result (λ copy. pieces copy.items ≡ pieces patches.now) }
+{
+    let mut copies = Vec::new(alloc);
+    for patch in patches {
+        copies.push(patch.again())?;
+    }
+    Ok(copies)
+}
+
+impl History {
+    ghost use Rattle.simdisk.specs.History.{log_of};
+
+    /// The history of a disk of its own with the same writes and syncs.
+    fn copy(&self, alloc: Global) -> Result<History, AllocError>
+        ensures log { IfOk result (λ copy. log_of copy ≡ log_of self.now) }
+        ensures pieces { IfOk result (λ copy. pieces copy.written.items ≡ pieces self.now.written.items) }
+    {
+        Ok(History {
+            stood: copy_of(alloc, &self.stood)?,
+            written: patches_again(alloc, &self.written)?,
+            past: self.past.again(),
+        })
+    }
+}
+
+impl Latest {
+    /// That of a disk of its own.
+    fn copy(&self, alloc: Global) -> Result<Latest, AllocError>
+        ensures sectors { IfOk result (λ copy. copy.sectors.items ≡ self.now.sectors.items) }
+        ensures as_read { IfOk result (λ copy. copy.as_read ≡ self.now.as_read) }
+    {
+        Ok(Latest {
+            sectors: copy_of(alloc, &self.sectors)?,
+            as_read: self.as_read,
+        })
+    }
+}
+
+impl CopyDisk for SimDisk {
+    ghost use Rattle.simdisk.specs.History.{log_of};
+    ghost use Rattle.std.specs.Prelude.{◌≡◌};
+
+    ghost alike = { λ d e. (log_of e.history ≡ log_of d.history) × (e.faults.armed ≡ d.faults.armed)
+        × (e.lane_calls ≡ d.lane_calls) };
+
+    fn copy(&self) -> Result<SimDisk, AllocError>
+        requires none_out { (⟦<SimDisk as Disk>⟧.facts self.now).lent.lanes ≡ 0 }
+        ensures facts { IfOk result
+            (λ copy. Unchanged (⟦<SimDisk as Disk>⟧.facts self.now) (⟦<SimDisk as Disk>⟧.facts copy)) }
+        ensures fault_state { IfOk result
+            (λ copy. ⟦<SimDisk as Disk>⟧.fault_state copy ≡ ⟦<SimDisk as Disk>⟧.fault_state self.now) }
+        ensures arms { IfOk result (λ copy. (fault : ArmedFault) → ⟦<SimDisk as Disk>⟧.arms copy fault
+            ↔ ⟦<SimDisk as Disk>⟧.arms self.now fault) }
+        ensures alike { IfOk result (λ copy. (⟦<SimDisk as Logged>⟧.log copy ≡ ⟦<SimDisk as Logged>⟧.log self.now)
+            × (⟦<SimDisk as Logged>⟧.armed copy ≡ ⟦<SimDisk as Logged>⟧.armed self.now)
+            × (⟦<SimDisk as Logged>⟧.lane_calls copy ≡ ⟦<SimDisk as Logged>⟧.lane_calls self.now)) }
+    {
+        let alloc = self.alloc;
+        let content = copy_of(alloc, &self.content)?;
+        let history = self.history.copy(alloc)?;
+        let latest = self.latest.copy(alloc)?;
+        let lane_calls = self.lane_calls;
+        Ok(SimDisk {
+            alloc,
+            content,
+            history,
+            latest,
+            failures: self.failures,
+            calls: self.calls,
+            lane_calls,
+            refused: self.refused,
+            loan: self.loan,
+            faults: self.faults,
+            past: self.past.again(),
+        })
+    }
+}
