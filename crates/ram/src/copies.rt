@@ -18,7 +18,7 @@ impl Ram {
         let bytes = Vec::from_slice(alloc, self.bytes.as_slice())?;
         Ok(Ram {
             bytes,
-            kept: Kept::new(alloc)?,
+            kept: Kept::new(alloc, self.pages() as usize)?,
         })
     }
 }

@@ -10,9 +10,9 @@ use crate::logged::Logged;
 use crate::patch::{Patch, copy_of};
 use crate::remembered::Remembered;
 use crate::sim::SimDisk;
-use disk::{CopyDisk, Disk};
+use disk::{CopyDisk, Disk, Log};
 use std::alloc::{AllocError, Global};
-use write_log::Log;
+
 
 impl Remembered {
     /// The same once more.
