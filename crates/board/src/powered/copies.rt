@@ -38,4 +38,11 @@ impl<D: CopyDisk + Drop> Board<D> {
         let store = self.store.copy(alloc)?;
         Ok(Board { store, machine })
     }
+
+    /// The disk below, as it stands.
+    pub fn disk(&self) -> &D
+        ensures { result.now ≡ device_of (store_of self.now) }
+    {
+        self.store.disk()
+    }
 }

@@ -53,4 +53,11 @@ impl<D: CopyDisk + Drop> Store<D> {
             refused_memory: self.refused_memory,
         })
     }
+
+    /// The disk below, as it stands.
+    pub fn disk(&self) -> &D
+        ensures { result.now ≡ device_of self.now }
+    {
+        &self.disk
+    }
 }
