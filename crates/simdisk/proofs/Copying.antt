@@ -1,7 +1,7 @@
 -- What a disk of the same content and the same log has.
 use Rattle.std.proofs.Common.{◌≡◌, ℕ, ◌∙◌, Bool, if◌then◌else◌, refl, sym, ap, subst}
 use Rattle.disk.specs.Facts.{Content, Facts, Lent, Unchanged}
-use Rattle.write_log.specs.WriteLog.{WriteLog, sim_facts, synced, newest, ranges, AgreesOutside}
+use Rattle.disk.specs.WriteLog.{WriteLog, sim_facts, synced}
 use Rattle.simdisk.specs.declared.latest.Latest.{Latest}
 use Rattle.simdisk.specs.Latest.{latest_of}
 

@@ -13,7 +13,6 @@ use crate::sim::SimDisk;
 use disk::{CopyDisk, Disk, Log};
 use std::alloc::{AllocError, Global};
 
-
 impl Remembered {
     /// The same once more.
     fn again(&self) -> Remembered
@@ -66,13 +65,19 @@ impl History {
 }
 
 impl Latest {
-    /// That of a disk of its own.
-    fn copy(&self, alloc: Global) -> Result<Latest, AllocError>
+    ghost use Rattle.simdisk.specs.Latest.{HasPlace};
+
+    /// That of a disk of its own, with room for as many sectors as this has.
+    fn copy(&self, alloc: Global, count: usize) -> Result<Latest, AllocError>
+        requires place { HasPlace count self.now }
         ensures sectors { IfOk result (λ copy. copy.sectors.items ≡ self.now.sectors.items) }
         ensures as_read { IfOk result (λ copy. copy.as_read ≡ self.now.as_read) }
+        ensures place { IfOk result (λ copy. HasPlace count copy) }
     {
+        let mut sectors = Vec::with_capacity(alloc, count)?;
+        sectors.extend_from_slice(&self.sectors)?;
         Ok(Latest {
-            sectors: copy_of(alloc, &self.sectors)?,
+            sectors,
             as_read: self.as_read,
         })
     }
@@ -100,7 +105,7 @@ impl CopyDisk for SimDisk {
         let alloc = self.alloc;
         let content = copy_of(alloc, &self.content)?;
         let history = self.history.copy(alloc)?;
-        let latest = self.latest.copy(alloc)?;
+        let latest = self.latest.copy(alloc, self.content.len())?;
         let lane_calls = self.lane_calls;
         Ok(SimDisk {
             alloc,
