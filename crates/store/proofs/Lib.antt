@@ -15,6 +15,7 @@ pub mod Reading
 pub mod Renewing
 pub mod Bridges
 pub mod Armed
+pub mod Copied
 pub mod Kept
 pub mod Inspecting
 pub mod Taken

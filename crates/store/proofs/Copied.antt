@@ -1,0 +1,49 @@
+-- A store over a disk of the same content, with the same journal.
+use Rattle.std.proofs.Common.{◌≡◌, ◌∙◌, ℕ, Bool, List, Option, None, map, true, option_map, ap, subst, sym}
+use Rattle.board_model.specs.Durable.{after, fold, refusal_of}
+use Rattle.board_model.specs.Shapes.{Size}
+use Rattle.board_model.specs.Views.{change_in}
+use Rattle.board_model.specs.declared.durable.Entry.{Entry}
+use Rattle.disk.specs.Facts.{Content}
+use Rattle.layout.specs.declared.records.Record.{Record}
+use Rattle.store.specs.Lives.{Life}
+use Rattle.store.specs.Standing.{state_of, memory_in}
+use Rattle.store.specs.Taken.{are_taken}
+use Rattle.store.specs.declared.doubts.Doubt.{Doubt}
+
+-- the life that these make
+abbrev pub life_from : Size → Record → Record → Option Doubt → Bool → Content → List Entry → Life
+life_from size opened current doubt over c entries = record {
+  found = state_of size opened c;
+  journal = map (λ e. change_in e (memory_in size current c)) entries;
+  doubt = option_map (λ x. change_in x.entry (memory_in size x.next c)) doubt;
+  over = over;
+}
+
+module _ (size : Size) (opened current : Record) (c d : Content) (same : d ≡ c) (entries copies : List Entry) (items : copies ≡ entries) where
+  pub same_life : (doubt : Option Doubt) (over : Bool)
+      → life_from size opened current doubt over d copies ≡ life_from size opened current doubt over c entries
+  same_life doubt over = ap (λ m. life_from size opened current doubt over m copies) same
+      ∙ ap (λ es. life_from size opened current doubt over c es) items
+
+  pub still_folded : fold (state_of size opened c) (map (λ e. change_in e (memory_in size current c)) entries) ≡ state_of size current c
+      → fold (state_of size opened d) (map (λ e. change_in e (memory_in size current d)) copies) ≡ state_of size current d
+  still_folded folded =
+      subst (λ (m : Content). fold (state_of size opened m) (map (λ e. change_in e (memory_in size current m)) copies) ≡ state_of size current m) (sym same)
+      (subst (λ (es : List Entry). fold (state_of size opened c) (map (λ e. change_in e (memory_in size current c)) es) ≡ state_of size current c) (sym items) folded)
+
+  pub still_legal : are_taken (state_of size opened c) (map (λ e. change_in e (memory_in size current c)) entries) ≡ true
+      → are_taken (state_of size opened d) (map (λ e. change_in e (memory_in size current d)) copies) ≡ true
+  still_legal legal =
+      subst (λ (m : Content). are_taken (state_of size opened m) (map (λ e. change_in e (memory_in size current m)) copies) ≡ true) (sym same)
+      (subst (λ (es : List Entry). are_taken (state_of size opened c) (map (λ e. change_in e (memory_in size current c)) es) ≡ true) (sym items) legal)
+
+  pub still_doubted : (x : Doubt) → state_of size x.next c ≡ after (state_of size current c) (change_in x.entry (memory_in size x.next c))
+      → state_of size x.next d ≡ after (state_of size current d) (change_in x.entry (memory_in size x.next d))
+  still_doubted x doubted =
+      subst (λ (m : Content). state_of size x.next m ≡ after (state_of size current m) (change_in x.entry (memory_in size x.next m))) (sym same) doubted
+
+  pub still_allowed : (x : Doubt) → refusal_of (state_of size current c) (change_in x.entry (memory_in size x.next c)) ≡ None
+      → refusal_of (state_of size current d) (change_in x.entry (memory_in size x.next d)) ≡ None
+  still_allowed x allowed =
+      subst (λ (m : Content). refusal_of (state_of size current m) (change_in x.entry (memory_in size x.next m)) ≡ None) (sym same) allowed
