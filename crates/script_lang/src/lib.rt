@@ -13,6 +13,7 @@ mod texts;
 mod words;
 
 pub use armings::Arming;
+pub use commands::command_said;
 pub use laws::{lines_read_as_spelled, lines_read_in_order, scripts_read_as_written};
 pub use line::Line;
 pub use looks::Look;
