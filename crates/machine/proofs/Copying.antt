@@ -25,7 +25,7 @@ use Rattle.machine.proofs.Owners.{its_own, other_none, rests_moved}
 use Rattle.machine.proofs.Holding.{IsOneList, IsOneSet, one_shown}
 
 -- ---- the seats that are copied stay
-module _ (harts : ℕ) (t : Tables) (s s' : Seats) (doze : Option Doze) (whole : AreWhole harts t s doze) (seats : AreSeatsOfBoth t s') (same : harts_known s' ≡ harts_known s) (also : pair_crew s' ≡ pair_crew s) where
+module _ (harts : ℕ) (s s' : Seats) (same : harts_known s' ≡ harts_known s) (also : pair_crew s' ≡ pair_crew s) where
   -- with the same harts
   kept : KeepsOthers 0 (views s) (views s')
   kept = subst (λ (c : HartSeatView). KeepsOthers 0 (views s) c.harts) (sym same) (record { harts = refl; stages = λ k st ne p. p })
@@ -33,8 +33,8 @@ module _ (harts : ℕ) (t : Tables) (s s' : Seats) (doze : Option Doze) (whole :
   paired : SameHarts (pair_crew s) (pair_crew s')
   paired = subst (λ (d : Pairs). SameHarts (pair_crew s) d) (sym also) (record { harts = refl; each = λ h. refl })
 
-  pub stays_whole : AreWhole harts t s' doze
-  stays_whole = record {
+  pub stays_whole : (t : Tables) (doze : Option Doze) → AreWhole harts t s doze → AreSeatsOfBoth t s' → AreWhole harts t s' doze
+  stays_whole t doze whole seats = record {
     seats = seats;
     all = (kept.harts ∙ whole.all.0, paired.harts ∙ whole.all.1);
     shows = (
