@@ -15,7 +15,7 @@ use Rattle.turns.proofs.Begun.{sits}
 use Rattle.machine.specs.Held.{RestsBy}
 
 -- a doze of another hart is none of this one
-other_none : (k : ℕ) (x : Doze) → x.at.hart ≢ k → doze_of k (Some x) ≡ None
+pub other_none : (k : ℕ) (x : Doze) → x.at.hart ≢ k → doze_of k (Some x) ≡ None
 other_none k x ne = rw (ne_eqb x.at.hart k ne) refl
 
 -- and one of this hart is
