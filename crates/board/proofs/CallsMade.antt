@@ -72,6 +72,11 @@ by_mode (Some n) size e a why = of_mode why.1
     of_mode (inl is) = subst (λ (x : Refusal). UnbootedCalls size x a a) (sym is) refl
     of_mode (inr is) = subst (λ (x : Refusal). UnbootedCalls size x a a) (sym is) refl
 
+pub by_start : (size : Size) (payloads : List (List ℕ)) (e : Refusal) (a : ℕ) → IsStartRefusal size payloads e → UnbootedCalls size e a a
+by_start size payloads BadShape a why = refl
+by_start size payloads Memory a why = refl
+by_start size payloads e a why = absurd why
+
 -- ---- behind the open
 board_of : (c : Content) (size : Size) (s : DurableState) → StandsFor c size s → IsBoard size c
 unfolding StandsFor
