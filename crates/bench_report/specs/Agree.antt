@@ -1,13 +1,14 @@
 -- How the code's disk and board stand for the bench of the model.
-use Rattle.std.specs.Prelude.{◌≡◌, false, ◌⊎◌, Bool, true, false, ℕ, List, [], ◌∷◌, All, ◌≤◌, Option, Some, None, Result, Ok, OnOk, IfOk, length, ⊤}
+use Rattle.std.specs.Prelude.{◌≡◌, ◌↔◌, false, ◌⊎◌, Bool, true, false, ℕ, List, [], ◌∷◌, All, ◌≤◌, Option, Some, None, Result, Ok, OnOk, IfOk, length, ⊤}
 use Rattle.board_model.specs.Durable.{DurableState}
 use Rattle.board_model.specs.Kept.{Kept, MayFind, found_of}
 use Rattle.board_model.specs.Shapes.{Size, sectors_of}
 use Rattle.board_model.specs.declared.refusal.Refusal.{Refusal}
-use Rattle.disk.specs.Facts.{Facts}
+use Rattle.disk.specs.Facts.{Facts, Unchanged}
 use Rattle.disk.specs.FaultState.{FaultState}
 use Rattle.disk.specs.declared.device.ArmedFault.{ArmedFault}
 use Rattle.simdisk.specs.declared.SimDisk.{SimDisk}
+use Rattle.simdisk.specs.contracts.logged.SimDiskLogged.TheImpl as sim_logged
 use Rattle.simdisk.specs.declared.fill.Fill.{Fill}
 use Rattle.simdisk.specs.Views.{left_by_fill}
 use Rattle.disk.specs.WriteLog.{synced}
@@ -102,6 +103,15 @@ IsBench size b power payloads = Agrees size b power × (payloads ≡ b.payloads)
 abbrev pub HasDisk : Power → SimDisk → Type 0
 HasDisk (Off off) d = d ≡ off.disk
 HasDisk (On board) d = d ≡ disk_in board
+
+-- The second disk stands as the first: a read gives the same, a crash may leave the same, its calls and its lanes' are counted
+-- alike, and the same is armed.
+pub record IsCopyOf (d e : SimDisk) : Type 0 where
+  pub same : Unchanged (facts d) (facts e)
+  pub faults : fault_state e ≡ fault_state d
+  pub armed : (fault : ArmedFault) → arms e fault ↔ arms d fault
+  pub log : sim_log_of e ≡ sim_log_of d
+  pub lanes : sim_logged.ghosts.lane_calls e ≡ sim_logged.ghosts.lane_calls d
 
 -- power was cut, and the disk holds exactly what the fill says of what was written since the last sync
 abbrev pub IsCutBy : Fill → SimDisk → Power → Type 0

@@ -3,11 +3,11 @@ use Rattle.std.proofs.Common.{◌≡◌, ◌+◌, ℕ, List, [], ◌∷◌, ◌+
 use Rattle.std.proofs.lemmas.List.{length-append}
 use Rattle.jobs.specs.Handed.{AreRows, TakesAll, Handed}
 
-taken_both : {Row S : Type 0} (takes : S → Row → S → Type 0) (s t u : S) (xs ys : List Row) → TakesAll takes s xs t → TakesAll takes t ys u → TakesAll takes s (xs ++ ys) u
+pub taken_both : {Row S : Type 0} (takes : S → Row → S → Type 0) (s t u : S) (xs ys : List Row) → TakesAll takes s xs t → TakesAll takes t ys u → TakesAll takes s (xs ++ ys) u
 taken_both {Row} {S} takes s t u [] ys first second = subst (λ (v : S). TakesAll takes v ys u) first second
 taken_both takes s t u (x ∷ xs) ys first second = (first.0, first.1, taken_both takes first.0 t u xs ys first.2 second)
 
-rows_both : {Row : Type 0} (is : ℕ → Row → Type 0) (first n : ℕ) (xs ys : List Row) → length xs ≡ n → AreRows is first xs → AreRows is (first + n) ys → AreRows is first (xs ++ ys)
+pub rows_both : {Row : Type 0} (is : ℕ → Row → Type 0) (first n : ℕ) (xs ys : List Row) → length xs ≡ n → AreRows is first xs → AreRows is (first + n) ys → AreRows is first (xs ++ ys)
 rows_both is first n [] ys len a b = subst (λ (k : ℕ). AreRows is k ys) (let e : first + n ≡ first = omega (arith, len) in e) b
 rows_both is first n (x ∷ xs) ys len a b = (a.0, rows_both is (first + 1) (length xs) xs ys refl a.1 (subst (λ (k : ℕ). AreRows is k ys) (let e : first + n ≡ first + 1 + length xs = omega (arith, len) in e) b))
 

@@ -1,2 +1,3 @@
 pub mod HandedOn
 pub mod Pieces
+pub mod Chunked

@@ -1,7 +1,8 @@
 -- Rows that are handed on in order.
-use Rattle.std.specs.Prelude.{◌≡◌, ◌+◌, ℕ, List, [], ◌∷◌, Option, None, Some, Result, Ok, Err, length}
+use Rattle.std.specs.Prelude.{◌≡◌, ◌+◌, ◌-◌, ℕ, List, [], ◌∷◌, Option, None, Some, Result, Ok, Err, length}
 use Rattle.board_model.specs.declared.refusal.Refusal.{Refusal}
 use Rattle.board_model.specs.declared.refusal.Refusal.TheVariants.{Memory}
+use Rattle.jobs.specs.Parts.{chunk_from, chunk_to}
 
 -- what a slot holds once the row of that number was made
 abbrev pub IsMade : {Row : Type 0} → (ℕ → Row → Type 0) → ℕ → Option (Result Row Refusal) → Type 0
@@ -13,6 +14,11 @@ IsMade is n (Some (Err e)) = e ≡ Memory
 abbrev pub AreRows : {Row : Type 0} → (ℕ → Row → Type 0) → ℕ → List Row → Type 0
 AreRows is first [] = Unit {0}
 AreRows is first (row ∷ rows) = is first row × AreRows is (first + 1) rows
+
+-- Rows of a chunk: those of the numbers from the first of chunk k of a window up to the first behind it, in order.
+pub record IsChunk {Row : Type 0} (is : ℕ → Row → Type 0) (from to each k : ℕ) (made : List Row) : Type 0 where
+  pub many : length made ≡ chunk_to from to each k - chunk_from from each k
+  pub are : AreRows is (chunk_from from each k) made
 
 -- these rows are taken, one after another
 abbrev pub TakesAll : {Row S : Type 0} → (S → Row → S → Type 0) → S → List Row → S → Type 0

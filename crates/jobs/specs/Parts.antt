@@ -1,5 +1,5 @@
 -- Parts of a run, for several machines. Source: docs/SCRIPT.md, "Over many machines".
-use Rattle.std.specs.Prelude.{◌+◌, ◌-◌, ◌*◌, ◌/◌, ℕ, zero, suc, List, [], ◌++◌, Option, None, Some, length, take, drop}
+use Rattle.std.specs.Prelude.{◌+◌, ◌-◌, ◌*◌, ◌/◌, ℕ, zero, suc, List, [], ◌++◌, Option, None, Some, length, min, take, drop}
 use Rattle.std.specs.Fmt.{decimal}
 use Rattle.jobs.specs.declared.part.Part.{Part}
 use lib.Chars.{codes}
@@ -7,6 +7,14 @@ use lib.Chars.{codes}
 -- of some things those from that number on, counted from 0, up to another one
 abbrev pub window : {X : Type 0} → ℕ → ℕ → List X → List X
 window from to xs = take (to - from) (drop from xs)
+
+-- of a window the number of the first of chunk k, k from 0, and of the first behind it: so many are in each chunk, and the last may
+-- have fewer
+abbrev pub chunk_from : ℕ → ℕ → ℕ → ℕ
+chunk_from from each k = from + k * each
+
+abbrev pub chunk_to : ℕ → ℕ → ℕ → ℕ → ℕ
+chunk_to from to each k = min to (chunk_from from each k + each)
 
 -- part k of so many, k from 1
 abbrev pub piece : {X : Type 0} → ℕ → ℕ → List X → List X

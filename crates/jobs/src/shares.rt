@@ -1,7 +1,7 @@
 //! What a part of a run has of so many things.
 
-ghost use Rattle.std.specs.Prelude.{◌≡◌, ◌-◌, ◌*◌, ◌/◌, ◌<◌, ◌≤◌, ℕ, List, Some};
-ghost use Rattle.jobs.specs.Parts.{begin_of, end_of, joined, part_text};
+ghost use Rattle.std.specs.Prelude.{◌≡◌, ◌-◌, ◌+◌, ◌*◌, ◌/◌, ◌<◌, ◌≤◌, ℕ, List, Some};
+ghost use Rattle.jobs.specs.Parts.{begin_of, end_of, chunk_from, chunk_to, joined, part_text};
 
 use crate::part::Part;
 use std::fmt;
@@ -52,6 +52,29 @@ impl Window {
         Window {
             from: self.from.saturating_sub(n),
             to: self.to.saturating_sub(n),
+        }
+    }
+
+    /// How many chunks of so many each they are: each chunk has some, and the last may have fewer.
+    #[tactic(auto, using(crate::proofs::Chunked::chunks_cover, crate::proofs::Chunked::chunk_begins))]
+    pub fn chunks(self, each: u64) -> u64
+        requires { 0 < each }
+        ensures cover { self.to - self.from ≤ result * each }
+        ensures some { (k : ℕ) → k < result → chunk_from self.from each k < self.to }
+    {
+        (self.to - self.from).div_ceil(each)
+    }
+
+    /// Chunk k of so many each, k from 0.
+    pub fn chunk(self, each: u64, k: u64) -> Window
+        requires { chunk_from self.from each k < self.to }
+        ensures from { result.from ≡ chunk_from self.from each k }
+        ensures to { result.to ≡ chunk_to self.from self.to each k }
+    {
+        let from = self.from + k * each;
+        Window {
+            from,
+            to: self.to.min(from.saturating_add(each)),
         }
     }
 }

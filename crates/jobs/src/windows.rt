@@ -55,6 +55,13 @@ impl<'a, R, P: Progress> Jobs<'a, R, P> {
     pub fn begin(&self, rows: u64) {
         self.progress.begin(rows);
     }
+
+    /// How many threads make rows, at most.
+    pub fn count(&self) -> usize
+        ensures some { 0 < result }
+    {
+        self.count
+    }
 }
 
 /// How the row of a number is made.
@@ -79,7 +86,8 @@ pub trait Sink<Row> {
     /// From the first to the second it takes that row.
     ghost takes: { Self → Row → Self → Type 0 };
 
-    /// Takes a row, and pauses what tells how far the run is before it writes. Refused `Memory` or `Output`.
+    /// Takes a row, pauses what tells how far the run is before it writes, and tells how many rows it stands for. Refused `Memory`
+    /// or `Output`.
     fn take<P: Progress>(&mut self, row: Row, progress: &P) -> Result<(), Refusal>
         ensures took { OnOk result (takes self.old row self.new) }
         ensures refused { IfErr result (λ e. (e ≡ Memory) ⊎ (e ≡ Output)) };
@@ -144,7 +152,7 @@ fn hand_on<P: Progress, T: Task, S: Sink<T::Row>>(
     Ok(())
 }
 
-/// Makes the rows of the slots, hands them on, and tells so.
+/// Makes the rows of the slots, and hands them on.
 fn run_window<R: Threads + Sync, P: Progress, T: Task, S: Sink<T::Row>>(
     jobs: &Jobs<'_, R, P>,
     task: &T,
@@ -159,9 +167,7 @@ fn run_window<R: Threads + Sync, P: Progress, T: Task, S: Sink<T::Row>>(
     ensures refused { IfErr result (λ e. (e ≡ Memory) ⊎ (e ≡ Output)) }
 {
     make_each(jobs, task, first, slots);
-    hand_on(task, first, slots, sink, &jobs.progress)?;
-    jobs.progress.went(slots.len() as u64);
-    Ok(())
+    hand_on(task, first, slots, sink, &jobs.progress)
 }
 
 /// Makes the rows of so many of the slots, from the first on, and hands them on.
@@ -224,7 +230,7 @@ fn no_rows<Row: Drop>(
 }
 
 /// Makes so many rows from that number on, by the threads of these jobs, and hands them on in order. A window of rows is
-/// kept at a time, which are handed on once all of them are made; who is told how far the run is, is told behind each.
+/// kept at a time, which are handed on once all of them are made. The sink tells how far the run is.
 ///
 /// It ends at the first row that is refused, or that the sink refuses, with that refusal: `Memory`, or `Output` of the sink.
 /// All rows before it were handed on then, and none behind it.

@@ -1,0 +1,81 @@
+//! The board of a bench is copied as it stands, armed, and looked into.
+
+ghost use Rattle.std.specs.Prelude.{◌≡◌, IfOk, IfErr};
+ghost use Rattle.board_model.specs.Shapes.{Size};
+ghost use Rattle.board_model.specs.declared.refusal.Refusal.TheVariants.{Memory};
+ghost use Rattle.bench_report.specs.Agree.{Agrees, HasDisk, IsArmed, IsCopyOf, OffIs, OnIs};
+ghost use Rattle.bench_report.specs.Bench.{Bench};
+ghost use Rattle.bench_report.specs.Happens.{armed_with};
+ghost use Rattle.bench_report.specs.Views.{disk_in};
+ghost use Rattle.simdisk.specs.declared.SimDisk.{SimDisk};
+
+use crate::power::{OffDisk, Power};
+use crate::steps::arm_disk;
+use board::Board;
+use board_model::Refusal;
+use disk::{ArmedFault, CopyDisk};
+use simdisk::SimDisk;
+use std::alloc::Global;
+use store::kept_disks;
+
+/// A disk that no store holds is copied. Refused `Memory` where memory is.
+fn copy_off(off: &OffDisk) -> Result<OffDisk, Refusal>
+    ensures copy { IfOk result (λ copy. (size : Size) (b : Bench) → OffIs size b off.now.disk → OffIs size b copy.disk) }
+    ensures alike { IfOk result (λ copy. IsCopyOf off.now.disk copy.disk) }
+    ensures refused { IfErr result (λ e. e ≡ Memory) }
+{
+    kept_disks::<SimDisk>();
+    let disk = off.disk.copy()?;
+    Ok(OffDisk { disk })
+}
+
+/// A board that is on is copied, with its disk. Refused `Memory` where memory is.
+fn copy_on(alloc: Global, board: &mut Board<SimDisk>) -> Result<Board<SimDisk>, Refusal>
+    ensures stays { (size : Size) (b : Bench) → OnIs size b board.old → OnIs size b board.new }
+    ensures same { disk_in board.new ≡ disk_in board.old }
+    ensures copy { IfOk result (λ copy. (size : Size) (b : Bench) → OnIs size b board.old → OnIs size b copy) }
+    ensures alike { IfOk result (λ copy. IsCopyOf (disk_in board.old) (disk_in copy)) }
+    ensures refused { IfErr result (λ e. e ≡ Memory) }
+{
+    kept_disks::<SimDisk>();
+    board.copy(alloc)
+}
+
+/// A board that stands as this one, off or on, with a disk of its own that holds what this one's holds, has counted the same
+/// calls and has the same armed. This one stays as it is. Refused `Memory` where memory is.
+pub fn copy_power(alloc: Global, power: &mut Power) -> Result<Power, Refusal>
+    ensures stays { (size : Size) (b : Bench) → Agrees size b power.old → Agrees size b power.new }
+    ensures same { (d : SimDisk) → HasDisk power.old d → HasDisk power.new d }
+    ensures copy { IfOk result (λ copy. (size : Size) (b : Bench) → Agrees size b power.old → Agrees size b copy) }
+    ensures alike { IfOk result (λ copy. (d e : SimDisk) → HasDisk power.old d → HasDisk copy e → IsCopyOf d e) }
+    ensures refused { IfErr result (λ e. e ≡ Memory) }
+{
+    match power {
+        Power::Off(off) => Ok(Power::Off(copy_off(off)?)),
+        Power::On(board) => Ok(Power::On(copy_on(alloc, board)?)),
+    }
+}
+
+/// The board with a cut or a failure armed on its disk, or on one of its lanes, in the place of an older one.
+pub fn arm_power(power: Power, fault: ArmedFault) -> Power
+    ensures reported { (size : Size) (b : Bench) → Agrees size b power → Agrees size (armed_with fault b) result }
+    ensures arms { IsArmed fault result }
+{
+    match power {
+        Power::Off(off) => Power::Off(arm_disk(off, fault)),
+        Power::On(mut board) => {
+            board.arm(fault);
+            Power::On(board)
+        }
+    }
+}
+
+/// The disk of a board that is off, or the one that its store holds.
+pub fn disk_of(power: &Power) -> &SimDisk
+    ensures { HasDisk power.now result.now }
+{
+    match power {
+        Power::Off(off) => &off.disk,
+        Power::On(board) => board.disk(),
+    }
+}
