@@ -20,7 +20,7 @@ invariant_of-result c =
       newest = ap newest log ∙ (s.newest ∙ sym (same_latest s.latest c.in_ok-latest.latest s.content.items c.in_ok-content.content.items latest.as_read latest.sectors content));
       room = subst (λ (n : ℕ). HasPlace n c.in_ok-latest.latest) long latest.place;
       few = s.few;
-      few_calls = omega (arith, s.few_calls);
+      few_calls = s.few_calls;
       within = subst (λ (m : Content). s.loan.first + s.loan.lanes * s.loan.each ≤ length m) (sym content) s.within;
       noted = subst (λ (r : WriteLog). 0 < s.loan.lanes → IsLatest (ranges r.written) s.loan.patch (s.loan.first, s.loan.lanes * s.loan.each)) (sym log) s.noted;
     }
