@@ -166,6 +166,7 @@ impl<'a, 'b, 'c, C, W: Write> Sink<DrawnRun> for Report<'a, 'b, 'c, C, W> {
         }
         let differ = write_run(self.runner, drawn.number, drawn.differs, self.out)?;
         self.differ = self.differ.saturating_add(differ);
+        progress.went(1);
         Ok(())
     }
 }

@@ -172,12 +172,15 @@ impl<'a, 'b, C, W: Write> Sink<NextRun> for Report<'a, 'b, C, W> {
     fn take<P: Progress>(&mut self, run: NextRun, progress: &P) -> Result<(), Refusal> {
         progress.pause();
         if is_enough(self.runner, &self.search) {
+            progress.went(1);
             return Ok(());
         }
         let NextRun { ones, told } = run;
         let alloc = self.runner.setting.alloc;
         let more = write_told(alloc, self.runner.numbers, &told, self.out)?;
-        count(self.runner.enough, ones, more, &mut self.search)
+        count(self.runner.enough, ones, more, &mut self.search)?;
+        progress.went(1);
+        Ok(())
     }
 }
 
