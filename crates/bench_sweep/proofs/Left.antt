@@ -41,7 +41,7 @@ use Rattle.bench_report.specs.Happens.{FailsByFault, acknowledged, armed_with, i
 use Rattle.bench_report.specs.Commands.{Writes, Issued, IssuesAll}
 use Rattle.bench_report.specs.Steps.{ConsoleStep, OnStep, Step}
 use Rattle.bench_report.specs.PowerOns.{life_begun, IsBooted, Boots, Opens, ShowsFound, IsOpenRefusal, PowersOn, TellsNow}
-use Rattle.bench_report.specs.Agree.{BoardIs, DiskIs, OffIs, OnIs, Agrees, Matches, StepsTo}
+use Rattle.bench_report.specs.Agree.{BoardIs, DiskIs, OffIs, OnIs, Agrees, IsUnstruck, Matches, StepsTo}
 use Rattle.bench_report.specs.Sides.{SidesOf}
 use Rattle.bench_report.proofs.Determined.{found_as}
 use Rattle.bench_report.proofs.Ended.{left_on, cut_leaves}
@@ -161,15 +161,34 @@ pub off_sits : (size : Size) (b : Bench) (disk : OffDisk) (slots : List (List �
 off_sits size b disk slots ledger l = record { agrees = l.off; same = l.same; follows = l.follows }
 
 -- a cut or a failure is armed
-pub armed_off : (size : Size) (b : Bench) (old new : OffDisk) (fault is : ArmedFault) (slots : List (List ℕ)) (ledger : Ledger) → fault ≡ is → LeftOff size b old slots ledger
-    → ((z : Size) (c : Bench) → OffIs z c old.disk → OffIs z (armed_with fault c) new.disk) → RunsCalm size (armed_with is b) (Off new) slots ledger
-armed_off size b old new fault is slots ledger e l arms =
-    let B : ArmedFault → Type 0 = λ f. OffIs size (armed_with f b) new.disk in record {
-      agrees = subst B e (arms size b l.off);
-      same = l.same;
-      follows = record { formatted = l.follows.formatted; kept = l.follows.kept; enough = l.follows.enough };
-      calm = ap (λ (m : FaultState). m.struck) l.left;
+pub armed_runs : (size : Size) (b : Bench) (old new : Power) (fault is : ArmedFault) (slots : List (List ℕ)) (ledger : Ledger) → fault ≡ is → RunsCalm size b old slots ledger
+    → ((z : Size) (c : Bench) → Agrees z c old → Agrees z (armed_with fault c) new) → RunsCalm size (armed_with is b) new slots ledger
+armed_runs size b old new fault is slots ledger e r arms =
+    let B : ArmedFault → Type 0 = λ f. Agrees size (armed_with f b) new in record {
+      agrees = subst B e (arms size b r.agrees);
+      same = r.same;
+      follows = record { formatted = r.follows.formatted; kept = r.follows.kept; enough = r.follows.enough };
+      calm = r.calm;
     }
+
+-- the board was copied, with its payloads and the ledger
+pub copied_runs : (size : Size) (b : Bench) (old new : Power) (slots now : List (List ℕ)) (was ledger : Ledger) → RunsCalm size b old slots was → Agrees size b new → now ≡ slots → ((kept : Kept) → Tells was kept → Tells ledger kept)
+    → RunsCalm size b new now ledger
+copied_runs size b old new slots now was ledger r agrees same tells = record {
+  agrees = agrees;
+  same = same ∙ r.same;
+  follows = record {
+    formatted = r.follows.formatted;
+    kept = record { tells = tells b.kept r.follows.kept.tells; whole = r.follows.kept.whole; doubt = r.follows.kept.doubt };
+    enough = r.follows.enough;
+  };
+  calm = r.calm;
+}
+
+-- no cut has struck the board's own disk either
+pub unstruck : (size : Size) (b : Bench) (power : Power) → Agrees size b power → b.fault_state.struck ≡ false → IsUnstruck power
+unstruck size b (Off off) agrees calm = refl
+unstruck size b (On board) agrees calm = ap (λ (m : FaultState). m.struck) (sym agrees.1.0) ∙ calm
 
 -- the board is off
 pub off_runs : (size : Size) (b : Bench) (power : Power) (disk : OffDisk) (slots : List (List ℕ)) (ledger : Ledger) → Runs size b power slots ledger → ((z : Size) (c : Bench) → Agrees z c power → OffIs z (off c) disk.disk) → Runs size (off b) (Off disk) slots ledger

@@ -22,3 +22,4 @@ pub mod Compared
 pub mod Nth
 pub mod ShownRows
 pub mod Crews
+pub mod Along

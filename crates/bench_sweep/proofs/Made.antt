@@ -1,6 +1,6 @@
 -- Rows of runs that were made.
 use Rattle.std.proofs.Common.{◌≡◌, ◌≤◌, ◌<◌, ◌+◌, ◌-◌, ◌⊎◌, ◌++◌, ◌∷◌, [], ℕ, suc, List, Option, None, true, false, inl, inr, length, take, drop, refl, sym, ◌∙◌, ap, subst, arith}
-use Rattle.std.proofs.lemmas.List.{take-append-drop, take-take, take_all, drop_all, drop-take, length-drop, length-take-le, append-nil}
+use Rattle.std.proofs.lemmas.List.{take-append-drop, take-take, take_all, drop_all, drop-drop, drop-take, length-drop, length-take-le, append-nil}
 use Rattle.std.proofs.lemmas.Bool.{cases_lt}
 use Rattle.std.proofs.lemmas.Grind.{flat_map-append}
 use Rattle.std.specs.List.{flat_map, AllZip}
@@ -25,7 +25,7 @@ use Rattle.bench_sweep.specs.Recovers.{Compared}
 use Rattle.report_lines.specs.declared.printed.Printed.{Printed}
 use Rattle.bench_sweep.specs.Points.{fault_at, MadeCalls}
 use Rattle.simdisk.specs.declared.SimDisk.{SimDisk}
-use Rattle.bench_sweep.specs.Reports.{IsLeft, RunsRow, IsRow}
+use Rattle.bench_sweep.specs.Reports.{IsLeft, RunsAlong, RunsRow, IsRow}
 use Rattle.bench_sweep.specs.Runs.{RunsAt, RanTo, IsEnd, IsLife}
 
 -- ---- a run with a fault armed
@@ -95,7 +95,7 @@ all_of lives = flat_map (λ (life : List Line). life) lives
 all_more : (lives : List (List Line)) (life : List Line) → all_of (lives ++ life ∷ []) ≡ all_of lives ++ life
 all_more lives life = flat_map-append (λ (l : List Line). l) lives (life ∷ []) ∙ ap (λ ls. all_of lives ++ ls) (append-nil life)
 
-take_plus : (n m : ℕ) (lines : List Line) → take n lines ++ take m (drop n lines) ≡ take (n + m) lines
+pub take_plus : (n m : ℕ) (lines : List Line) → take n lines ++ take m (drop n lines) ≡ take (n + m) lines
 take_plus n m lines =
     ap (λ ls. ls ++ take m (drop n lines)) (sym (take-take n (n + m) lines (omega arith))) ∙ ap (λ ls. take n (take (n + m) lines) ++ ls) (sym (drop-take n m lines))
     ∙ take-append-drop n (take (n + m) lines)
@@ -205,11 +205,22 @@ uncut_run size first lines rest own site e recovers =
     let P : Bench → Type 0 = λ x. Recovers size x rest own in
     record { before = e.before; bench = e.bench; lives = e.lives; answers = e.answers; end = e.end; run = e.run; recovers = subst P e.same recovers }
 
--- a row behind so many lines
-pub row_of : (size : Size) (kind : Kind) (before : ℕ) (first : Bench) (lines rest : List Line) (n : ℕ) (at : Site) → rest ≡ drop n lines → (f : SoFar size first (take n lines) at) → (then : Compared) (row : Row) → RunsRow size kind before (unpowered f.bench) rest then row
+-- a row behind so many lines, and behind some of the life under way
+pub row_of : (size : Size) (kind : Kind) (before : ℕ) (first : Bench) (lines rest : List Line) (n : ℕ) (at : Site) → rest ≡ drop n lines → (f : SoFar size first (take n lines) at) → (then : Compared) (row : Row) → RunsAlong size kind at before (unpowered f.bench) rest then row
     → IsRow size kind first lines then row
 row_of size kind before first lines rest n at is f then row r =
-    let P : List Line → Type 0 = λ ls. RunsWith size kind row.caller before row.number (unpowered f.bench) ls then row.left row.recovered in record { before = n; bench = f.bench; plain = f.comes; made = before; run = subst P is r }
+    let P : List Line → Type 0 = λ ls. Run size (unpowered f.bench) (take r.more ls) r.answers r.at in
+    let Q : List Line → Type 0 = λ ls. RunsWith size kind row.caller (before + r.made) row.number r.at ls then row.left row.recovered in record {
+      before = n;
+      bench = f.bench;
+      plain = f.comes;
+      more = r.more;
+      answers = r.answers;
+      at = r.at;
+      along = subst P is r.along;
+      made = before + r.made;
+      run = subst Q (ap (λ (ls : List Line). drop r.more ls) is ∙ drop-drop r.more n lines) r.runs;
+    }
 
 -- ---- counts of callers
 pub zip_long : {A B : Type 0} (R : A → B → Type 0) (xs : List A) (ys : List B) → AllZip R xs ys → length ys ≡ length xs

@@ -12,3 +12,4 @@ pub mod Resumes
 pub mod Reports
 pub mod Recovers
 pub mod Shown
+pub mod Along

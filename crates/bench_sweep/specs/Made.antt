@@ -115,8 +115,8 @@ abbrev pub EndsAs : Kind → List Line → ℕ → List Answer → Bench → Typ
 EndsAs Cuts lines count answers end = (before : List Answer) × (answers ≡ before ++ says printed.PowerLost ∷ [])
 EndsAs Fails lines count answers end = (count ≡ length lines) × (end.fault_state.armed ≡ Unarmed)
 
--- Lines are run on a bench that is off, on whose disk that is armed: at the call of that caller that has that number,
--- where so many were made before. No memory is refused. Then power is cut, and a power-on that keeps the image says that:
+-- Lines are run on a bench, on or off, on whose disk that is armed: at the call of that caller that has that number, where so
+-- many were made before. No memory is refused. Then power is cut, and a power-on that keeps the image says that:
 -- it found a state.
 pub record RunsWith (size : Size) (kind : Kind) (caller : Caller) (made number : ℕ) (b : Bench) (lines : List Line) (rest : Compared)
     (left : Answer) (differs : Option Differs) : Type 0 where
@@ -134,11 +134,16 @@ pub record RunsWith (size : Size) (kind : Kind) (caller : Caller) (made number :
   pub finds : ShowsState left
   pub recovered : IsRecovered size end rest left differs
 
--- A row that says that is such a run: some first lines are run as they are, and those behind them with that armed.
+-- A row that says that is such a run: some first lines are run as they are, and so are so many of the life under way, and those
+-- behind them with that armed.
 pub record IsRunOf (size : Size) (kind : Kind) (caller : Caller) (number : ℕ) (first : Bench) (lines : List Line) (rest : Compared)
     (left : Answer) (differs : Option Differs) : Type 0 where
   pub before : ℕ
   pub bench : Bench
   pub plain : ComesTo size first (take before lines) bench
+  pub more : ℕ
+  pub answers : List Answer
+  pub at : Bench
+  pub along : Run size (unpowered bench) (take more (drop before lines)) answers at
   pub made : ℕ
-  pub run : RunsWith size kind caller made number (unpowered bench) (drop before lines) rest left differs
+  pub run : RunsWith size kind caller made number at (drop (before + more) lines) rest left differs

@@ -8,10 +8,13 @@ use Rattle.simdisk.specs.declared.fill.Fill.{Fill}
 use Rattle.disk.specs.WriteLog.{synced}
 use Rattle.board_model.specs.Shapes.{Size}
 use Rattle.script_lang.specs.declared.line.Line.{Line}
+use Rattle.bench_report.specs.Agree.{Agrees, HasDisk}
 use Rattle.bench_report.specs.Bench.{Bench}
 use Rattle.bench_report.specs.Examined.{OpensOf}
 use Rattle.bench_report.specs.Happens.{unpowered}
+use Rattle.bench_report.specs.Steps.{Run}
 use Rattle.bench_report.specs.Views.{facts, sim_log_of}
+use Rattle.bench_report.specs.declared.power.Power.{Power}
 use Rattle.bench_sweep.specs.declared.points.Bench.{Bench as Kind}
 use Rattle.bench_sweep.specs.declared.points.Caller.{Caller}
 use Rattle.bench_sweep.specs.declared.rows.Row.{Row}
@@ -20,13 +23,14 @@ use Rattle.bench_sweep.specs.declared.site.Site.{Site}
 use Rattle.bench_sweep.specs.declared.sweeps.Report.{Report}
 use Rattle.bench_sweep.specs.declared.recovery.Differs.{Differs}
 use Rattle.bench_sweep.specs.Made.{LooksAt, ShowsState, IsFormatted, IsPlainRun, IsUncut, IsRecovered, Recovers, RunsWith, IsRunOf}
-use Rattle.bench_sweep.specs.Points.{cut_fill}
+use Rattle.bench_sweep.specs.Points.{cut_fill, MadeCalls}
 use Rattle.bench_sweep.specs.Recovers.{Compared, TellsFirst}
 use Rattle.bench_sweep.specs.Rows.{differing_rows}
 use Rattle.bench_sweep.specs.Runs.{LeftAt, RunsAt, Sits, SitsLeft}
+use Rattle.report_lines.specs.declared.printed.Answer.{Answer}
 use Rattle.report_lines.specs.declared.printed.Printed.{Printed}
 use Rattle.bench_sweep.specs.Swept.{Cell, Spot, Writes, AreSwept, all_points, cell_of, rows_text, runs_at, runs_of, callers}
-use Rattle.jobs.specs.Parts.{own_of}
+use Rattle.jobs.specs.Parts.{chunk_from, own_of}
 use Rattle.jobs.specs.declared.part.Part.{Part}
 
 -- The report goes on in the same writer: the runs at these points were made, what the bench says of each was written, and each
@@ -66,9 +70,24 @@ pub record IsLeftBy (size : Size) (end : Bench) (disk : SimDisk) (rest : Compare
   pub opens : OpensOf (cut_content disk (cut_fill row.fill)) row.left
   pub over : ToldOver rest.own size (cut_content disk (cut_fill row.fill)) rest row.recovered
 
--- a row whose run begins at that bench, which is off, where its caller had made so many calls
+-- a row whose run begins at that bench, where its caller had made so many calls
 abbrev pub RunsRow : Size → Kind → ℕ → Bench → List Line → Compared → Row → Type 0
 RunsRow size kind made b lines rest row = RunsWith size kind row.caller made row.number b lines rest row.left row.recovered
+
+-- A row whose run goes on behind some of those lines, which are run as they are from that bench on, where a board stands. So many
+-- calls were made up to the site, and the disk of the board then has counted those behind it too.
+pub record RunsAlong (size : Size) (kind : Kind) (site : Site) (before : ℕ) (b : Bench) (lines : List Line) (rest : Compared) (row : Row) : Type 0 where
+  pub more : ℕ
+  pub answers : List Answer
+  pub at : Bench
+  pub along : Run size b (take more lines) answers at
+  pub power : Power
+  pub stands : Agrees size at power
+  pub disk : SimDisk
+  pub has : HasDisk power disk
+  pub made : ℕ
+  pub counts : MadeCalls site.off.disk disk row.caller made
+  pub runs : RunsRow size kind (before + made) at (drop more lines) rest row
 
 -- a row of a bench over those lines, of which the first begin at that bench
 abbrev pub IsRow : Size → Kind → Bench → List Line → Compared → Row → Type 0
@@ -91,20 +110,20 @@ pub record Judged (Is : Row → Type 0) (rows : PointRows) (made : List Cell) : 
   pub runs : rows.sweep.runs ≡ counted 0 (length rows.rows.items)
   pub right : rows.sweep.wrong ≡ 0
 
--- A bench may run those lines from that site on, up to the next one at most, with the call armed before which so many were
--- made from there.
-pub record HasCall (size : Size) (lines after : List Line) (count : ℕ) (site : Site) (before done : ℕ) : Type 0 where
+-- A bench may run those lines from that site on, up to the next one at most, with the calls of chunk k of a window armed.
+pub record HasChunk (size : Size) (lines after : List Line) (count : ℕ) (site : Site) (before from to each k : ℕ) : Type 0 where
   pub few : count ≤ length lines
   pub swept : AreSwept size lines
   pub recovery : AreSwept size after
   pub sits : Sits size site
-  pub room : before + done + 1 < 2 ^ 64
+  pub begins : chunk_from from each k < to
+  pub room : before + to < 2 ^ 64
 
--- those are the rows of that call
+-- those are the rows of the call before which so many were made from the site on
 abbrev pub IsOfCall : Size → Kind → Caller → ℕ → List Line → Compared → Site → ℕ → PointRows → Type 0
 IsOfCall size kind caller before lines rest site done rows =
     (b : Bench) → RunsAt size b site
-    → Judged (RunsRow size kind before (unpowered b) lines rest) rows (runs_of kind caller (before + done + 1))
+    → Judged (RunsAlong size kind site before (unpowered b) lines rest) rows (runs_of kind caller (before + done + 1))
 
 -- What the bench says of these rows was written, where none is wrong, and the point and its runs are counted with those before.
 pub record TakesPoint {W : Type 0} (contents : W → Option (List ℕ)) (old : Report W) (rows : PointRows) (new : Report W) : Type 0 where

@@ -26,6 +26,8 @@ use Rattle.bench_sweep.specs.Judged.{IsRight}
 use Rattle.bench_sweep.specs.Ledgers.{Tells}
 use Rattle.bench_sweep.specs.declared.ledgers.Ledger.{Ledger}
 use Rattle.bench_sweep.specs.declared.points.Bench.TheVariants.{Cuts}
+use Rattle.bench_sweep.specs.declared.moments.Moment.{Moment}
+use Rattle.bench_sweep.specs.declared.site.Going.{Going}
 use Rattle.bench_sweep.specs.declared.site.Site.{Site}
 use Rattle.bench_sweep.specs.Made.{IsFormatted, EndsAs, WasRefusedNoMemory, ComesTo, shows}
 use Rattle.bench_sweep.specs.Resumes.{lines_resume, Resumes}
@@ -55,6 +57,19 @@ pub record RunsCalm (size : Size) (b : Bench) (power : Power) (slots : List (Lis
   pub same : slots ≡ b.payloads
   pub follows : Follows size b ledger
   pub calm : b.fault_state.struck ≡ false
+
+-- the same for some bench
+abbrev pub SitsCalm : Size → Going → Type 0
+SitsCalm size going = (b : Bench) × RunsCalm size b going.power going.payloads going.ledger
+
+-- The first lines from that bench on were run as they are, up to that moment: the board with its payloads stands for the bench
+-- then, the ledger follows it, and nothing has struck.
+pub record CameAlong (size : Size) (b : Bench) (lines : List Line) (moment : Moment) : Type 0 where
+  pub few : moment.count ≤ length lines
+  pub answers : List Answer
+  pub at : Bench
+  pub run : Run size b (take moment.count lines) answers at
+  pub runs : RunsCalm size at moment.going.power moment.going.payloads moment.going.ledger
 
 -- the same of a disk that a power cut has left: nothing is armed
 pub record LeftOff (size : Size) (b : Bench) (disk : OffDisk) (slots : List (List ℕ)) (ledger : Ledger) : Type 0 where

@@ -5,8 +5,8 @@ ghost use Rattle.disk.specs.FaultState.{Unarmed};
 ghost use Rattle.board_model.specs.Shapes.{Size};
 ghost use Rattle.board_model.specs.declared.refusal.Refusal.TheVariants.{Memory};
 ghost use Rattle.bench_report.specs.Bench.{Bench as ModelBench};
-ghost use Rattle.bench_report.specs.Happens.{off, unpowered};
-ghost use Rattle.bench_sweep.specs.Runs.{Runs, RunsAt, LeftAt, Sits, SitsLeft};
+ghost use Rattle.bench_report.specs.Happens.{off};
+ghost use Rattle.bench_sweep.specs.Runs.{Runs, RunsAt, RunsCalm, Sits, SitsCalm};
 ghost use Rattle.bench_sweep.specs.Swept.{AreSwept, cell, runs_of};
 ghost use Rattle.bench_sweep.specs.Reports.{cut_content, Keeps, Judged, IsLeftBy, RunsRow, ToldOver};
 ghost use Rattle.bench_sweep.specs.Recovers.{compared};
@@ -15,7 +15,7 @@ ghost use Rattle.bench_report.specs.Examined.{OpensOf};
 
 use crate::finds::count_run;
 use crate::judges::Sweep;
-use crate::points::{Bench, Caller, FILLS, Point, cut_fill};
+use crate::points::{Bench, FILLS, Point, cut_fill};
 use crate::recovery::Differs;
 use crate::rows::Row;
 use crate::runner::Runner;
@@ -24,7 +24,6 @@ use crate::sites::{Went, cut_by, run_lines};
 use bench_report::Answer;
 use board_model::Refusal;
 use crew::Crew;
-use jobs::Task;
 use simdisk::Fill;
 use std::alloc::Global;
 
@@ -140,45 +139,45 @@ fn judge_each_fill<C: Crew>(
     Ok(made)
 }
 
-/// Runs the lines with a cut armed at that call, up to the one in which it strikes, and judges what each fill
+/// Runs the lines on with a cut armed at that call, up to the one in which it strikes, and judges what each fill
 /// leaves of it.
 fn run_to_cut<C: Crew>(
     runner: &Runner<'_, C>,
-    site: Site,
+    from: Going,
     point: Point,
 ) -> Result<PointRows, Refusal>
     requires lines { AreSwept runner.now.setting.shape.now runner.now.lines.now }
     requires recovery { AreSwept runner.now.setting.shape.now runner.now.recovery.lines.now }
-    requires sits { SitsLeft runner.now.setting.shape.now site }
+    requires sits { SitsCalm runner.now.setting.shape.now from }
     ensures judged { IfOk result (λ made. (b : ModelBench)
-        → LeftAt runner.now.setting.shape.now b site
+        → RunsCalm runner.now.setting.shape.now b from.power from.payloads from.ledger
         → Judged (RunsRow runner.now.setting.shape.now Bench.Cuts point.before b runner.now.lines.now (compared runner.now.recovery)) made
         (runs_of Bench.Cuts point.caller point.number)) }
     ensures refused { IfErr result (λ e. e ≡ Memory) }
 {
-    let armed = site.armed(Bench::Cuts, point);
+    let armed = from.armed(Bench::Cuts, point);
     let went = run_lines(&runner.setting, runner.lines, false, armed)?;
     // The plain run made the call. Only one that was refused memory can have missed it.
     let left = turn_off(went.going, true)?;
     judge_each_fill(runner, &left, point)
 }
 
-/// Runs the lines to their end with a failure armed at that call, cuts power, and judges what is left.
+/// Runs the lines on to their end with a failure armed at that call, cuts power, and judges what is left.
 fn run_past_failure<C: Crew>(
     runner: &Runner<'_, C>,
-    site: Site,
+    from: Going,
     point: Point,
 ) -> Result<PointRows, Refusal>
     requires lines { AreSwept runner.now.setting.shape.now runner.now.lines.now }
     requires recovery { AreSwept runner.now.setting.shape.now runner.now.recovery.lines.now }
-    requires sits { SitsLeft runner.now.setting.shape.now site }
+    requires sits { SitsCalm runner.now.setting.shape.now from }
     ensures judged { IfOk result (λ made. (b : ModelBench)
-        → LeftAt runner.now.setting.shape.now b site
+        → RunsCalm runner.now.setting.shape.now b from.power from.payloads from.ledger
         → Judged (RunsRow runner.now.setting.shape.now Bench.Fails point.before b runner.now.lines.now (compared runner.now.recovery)) made
         (runs_of Bench.Fails point.caller point.number)) }
     ensures refused { IfErr result (λ e. e ≡ Memory) }
 {
-    let armed = site.armed(Bench::Fails, point);
+    let armed = from.armed(Bench::Fails, point);
     let went = run_lines(&runner.setting, runner.lines, false, armed)?;
     let left = turn_off_failed(went, runner.lines.len())?;
     let mut made = PointRows::none(runner.setting.alloc);
@@ -225,19 +224,19 @@ pub fn turn_off_failed(went: Went, all: usize) -> Result<Site, Refusal>
     Ok(left)
 }
 
-/// Makes the one run of the bench at that point, or the five. So many lines stand up to the next site.
-fn run_at_point<C: Crew>(
+/// Makes the one run of the bench at that point, or the five, which go on from there. So many lines stand up to the next site.
+pub fn run_at_point<C: Crew>(
     runner: &Runner<'_, C>,
     count: usize,
-    site: Site,
+    from: Going,
     point: Point,
 ) -> Result<PointRows, Refusal>
     requires few { count ≤ length runner.now.lines.now }
     requires lines { AreSwept runner.now.setting.shape.now runner.now.lines.now }
     requires recovery { AreSwept runner.now.setting.shape.now runner.now.recovery.lines.now }
-    requires sits { SitsLeft runner.now.setting.shape.now site }
+    requires sits { SitsCalm runner.now.setting.shape.now from }
     ensures judged { IfOk result (λ made. (b : ModelBench)
-        → LeftAt runner.now.setting.shape.now b site
+        → RunsCalm runner.now.setting.shape.now b from.power from.payloads from.ledger
         → Judged (RunsRow runner.now.setting.shape.now runner.now.bench point.before b runner.now.lines.now (compared runner.now.recovery)) made
         (runs_of runner.now.bench point.caller point.number)) }
     ensures refused { IfErr result (λ e. e ≡ Memory) }
@@ -250,46 +249,8 @@ fn run_at_point<C: Crew>(
                 lines: &runner.lines[..count],
                 recovery: runner.recovery,
             };
-            run_to_cut(&front, site, point)
+            run_to_cut(&front, from, point)
         }
-        Bench::Fails => run_past_failure(runner, site, point),
-    }
-}
-
-/// The runs at calls of a caller, which lines make from a site on.
-#[derive(Drop)]
-pub struct RunsAtCalls<'a, 'b, C> {
-    pub runner: &'a Runner<'b, C>,
-    /// How many lines stand up to the next site.
-    pub count: usize,
-    pub site: &'a Site,
-    pub caller: Caller,
-    /// How many calls the caller made up to the site.
-    pub before: u64,
-}
-
-impl<'a, 'b, C: Crew + Sync> Task for RunsAtCalls<'a, 'b, C> {
-    ghost use Rattle.std.specs.Thread.{IsSync};
-    ghost use Rattle.bench_sweep.specs.Reports.{HasCall, IsOfCall};
-
-    type Row = PointRows;
-
-    ghost has = { λ task done. HasCall task.runner.now.setting.shape.now task.runner.now.lines.now
-        task.runner.now.recovery.lines.now task.count task.site.now task.before done
-        × IsSync C.Handle.row };
-
-    ghost is_row = { λ task done made. IsOfCall task.runner.now.setting.shape.now task.runner.now.bench task.caller task.before
-        task.runner.now.lines.now (compared task.runner.now.recovery) task.site.now done made };
-
-    /// Makes the runs at the call before which so many were made from the site on.
-    fn row(&self, done: u64) -> Result<PointRows, Refusal> {
-        let point = Point {
-            caller: self.caller,
-            number: self.before + done + 1,
-            call: done + 1,
-            before: self.before,
-        };
-        let from = self.site.copy(self.runner.setting.alloc)?;
-        run_at_point(self.runner, self.count, from, point)
+        Bench::Fails => run_past_failure(runner, from, point),
     }
 }

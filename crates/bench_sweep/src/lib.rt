@@ -8,12 +8,14 @@
 
 mod apart;
 mod begins;
+mod chunks;
 mod finds;
 mod follows;
 mod harts;
 mod judges;
 mod judging;
 mod ledgers;
+mod moments;
 mod plan;
 mod points;
 mod recovery;

@@ -20,7 +20,7 @@ use crate::judging::{turn_off, turn_off_failed};
 use crate::points::{Bench, CALLERS, Caller, FILLS, Point, RunAt, cut_fill};
 use crate::recovery::{Recovery, RecoveryFile, numbers_of_looks, recovery_lines};
 use crate::runner::Runner;
-use crate::site::Site;
+use crate::site::{Going, Site};
 use crate::sites::{Went, run_lines};
 use crate::sweeps::{calls_between, check_plain, check_recovery, run_plain};
 use bench_orders::{copied, fits, shape_in_range, write_script};
@@ -208,7 +208,8 @@ fn count_armed<C: Crew>(runner: &Runner<'_, C>, site: &Site, run: RunAt) -> Resu
         call: run.call,
         before: 0,
     };
-    let from = site.copy(runner.setting.alloc)?;
+    let copy = site.copy(runner.setting.alloc)?;
+    let from = Going::from(copy);
     let armed = from.armed(runner.bench, point);
     let went = run_lines(&runner.setting, runner.lines, false, armed)?;
     let count = went.count;

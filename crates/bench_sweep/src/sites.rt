@@ -14,10 +14,10 @@ ghost use Rattle.disk.specs.WriteLog.{synced};
 ghost use Rattle.bench_report.specs.declared.power.Power.TheVariants.{Off};
 ghost use Rattle.bench_report.specs.Agree.{Agrees, OffIs, IsUnstruck};
 ghost use Rattle.bench_report.specs.Bench.{Bench};
-ghost use Rattle.bench_report.specs.Happens.{armed_with, off, unpowered};
-ghost use Rattle.bench_report.specs.Views.{arms, facts, sim_log_of};
+ghost use Rattle.bench_report.specs.Happens.{off, unpowered};
+ghost use Rattle.bench_report.specs.Views.{facts, sim_log_of};
 ghost use Rattle.bench_sweep.specs.Lines.{LineMoves, LineSays};
-ghost use Rattle.bench_sweep.specs.Points.{calls_of, fault_at};
+ghost use Rattle.bench_sweep.specs.Points.{calls_of};
 ghost use Rattle.bench_sweep.specs.Reports.{cut_content};
 ghost use Rattle.bench_sweep.specs.Runs.{Runs, RunsAt, RunsCalm, LeftAt, RanTo, SettlesAt, StopsOff};
 ghost use Rattle.bench_sweep.specs.Swept.{IsPlainLine};
@@ -27,10 +27,9 @@ ghost use Rattle.bench_sweep.specs.declared.points.Caller.{Caller};
 use crate::follows::{record_answered, record_console, record_powered};
 use crate::harts::{is_of_harts, run_hart_line};
 use crate::ledgers::Ledger;
-use crate::points::{Bench as Kind, Point};
 use crate::site::{Going, Site};
 use bench_report::{
-    OffDisk, Power, Printed, Setting, arm_disk, console, disk_left, line_alone, power_on, struck,
+    OffDisk, Power, Printed, Setting, console, disk_left, line_alone, power_on, struck,
 };
 use board::Payloads;
 use board_model::{BootMode, ConsoleCommand, Durable, Refusal, Shape};
@@ -116,26 +115,6 @@ impl Site {
         ensures refused { IfErr result (λ e. e ≡ Memory) }
     {
         self.left(alloc, Fill::Old)
-    }
-
-    /// The site with what a bench of that kind does at the point armed on its disk.
-    pub fn armed(self, bench: Kind, point: Point) -> Site
-        ensures runs { (size : Size) (b : Bench) → LeftAt size b self
-            → RunsCalm size (armed_with (fault_at bench point.caller point.call) b) (Off result.off) result.payloads result.ledger }
-        ensures ledger { result.ledger ≡ self.ledger }
-        ensures arms { arms result.off.disk (fault_at bench point.caller point.call) }
-    {
-        let Site {
-            off,
-            payloads,
-            ledger,
-        } = self;
-        let fault = bench.fault_at(point.caller, point.call);
-        Site {
-            off: arm_disk(off, fault),
-            payloads,
-            ledger,
-        }
     }
 }
 
@@ -351,19 +330,20 @@ pub struct Went {
     pub going: Going,
 }
 
-/// Runs these lines from that site on, no further than to the one in which an armed cut strikes, or where so asked to
-/// the first after which the board is off. Refused `Memory` alone.
+/// Runs these lines from there on, no further than to the one in which an armed cut strikes, or where so asked to the first
+/// after which the board is off. Refused `Memory` alone.
 pub fn run_lines<C: Crew>(
     setting: &Setting<'_, C>,
     lines: &[Line],
     until_off: bool,
-    site: Site,
+    from: Going,
 ) -> Result<Went, Refusal>
     requires ranges { All (IsLineInRange setting.now.shape.now) lines.now }
     requires plain { All IsPlainLine lines.now }
+    requires calm { IsUnstruck from.power }
     ensures ran { IfOk result (λ went. (b : Bench)
-        → RunsCalm setting.now.shape.now b (Off site.off) site.payloads site.ledger
-        → RanTo setting.now.shape.now b (take went.count lines.now) went.going.power went.going.payloads site.ledger went.going.ledger) }
+        → RunsCalm setting.now.shape.now b from.power from.payloads from.ledger
+        → RanTo setting.now.shape.now b (take went.count lines.now) went.going.power went.going.payloads from.ledger went.going.ledger) }
     ensures stops { IfOk result (λ went. until_off ≡ true → went.count < length lines.now → StopsOff went.going.power) }
     // Where it is not asked to end at a board that is off, only an armed cut that struck ends it early.
     ensures whole { IfOk result (λ went. until_off ≡ false → (size : Size) (b : Bench) → Agrees size b went.going.power
@@ -372,7 +352,7 @@ pub fn run_lines<C: Crew>(
     ensures some { IfOk result (λ went. 0 < length lines.now → 0 < went.count) }
     ensures refused { IfErr result (λ e. e ≡ Memory) }
 {
-    let mut going = Going::from(site);
+    let mut going = from;
     let mut count = 0;
     for line in lines {
         match line {

@@ -15,17 +15,18 @@ ghost use Rattle.bench_sweep.specs.Runs.{Runs, RunsAt, LeftAt, Sits, SitsLeft, I
 ghost use Rattle.bench_sweep.specs.Swept.{IsPlainLine, IsNoFormat, IsNotPlain, NoBenchRuns, NoRecoveryRuns, AreSwept, all_points, all_runs, callers, joined_runs, points_from, total, WroteRows, IsBenchOf, IsRecoveredBenchOf};
 ghost use Rattle.bench_sweep.specs.Recovers.{compared};
 ghost use Rattle.jobs.specs.Parts.{own_of, window};
-ghost use Rattle.bench_sweep.specs.Reports.{Reports, ReportsAll, ReportsScript, IsLeft, RunsRow, IsRow};
+ghost use Rattle.bench_sweep.specs.Reports.{Reports, ReportsAll, ReportsScript, IsLeft, RunsAlong, IsRow, TakesPoint};
 
 use crate::begins::run_to_format;
+use crate::chunks::{RunsAtCalls, chunk_size, marks_of};
 use crate::judges::Sweep;
-use crate::judging::{PointRows, RunsAtCalls, turn_off};
+use crate::judging::{PointRows, turn_off};
 use crate::plan::Plan;
 use crate::points::{CALLERS, Caller};
 use crate::recovery::{Recovery, RecoveryFile, looks_of, numbers_of_looks, recovery_lines};
 use crate::rows::{differing, write_recovered, write_rows, write_sweep};
 use crate::runner::Runner;
-use crate::site::Site;
+use crate::site::{Going, Site};
 use crate::sites::run_lines;
 use bench_report::Setting;
 use board::Payloads;
@@ -46,24 +47,40 @@ struct Report<'a, W> {
     quiet: bool,
 }
 
-impl<'a, W: Write> Sink<PointRows> for Report<'a, W> {
-    ghost use Rattle.bench_sweep.specs.Reports.{TakesPoint};
-
-    ghost takes = { λ old made new. TakesPoint W.contents old made new };
-
+impl<'a, W: Write> Report<'a, W> {
     /// Writes the lines of a point, and counts it and its runs. Where one is wrong, all are written.
-    fn take<P: Progress>(&mut self, made: PointRows, progress: &P) -> Result<(), Refusal> {
-        let PointRows { rows, sweep } = made;
+    fn take_point<P: Progress>(&mut self, made: &PointRows, progress: &P) -> Result<(), Refusal>
+        ensures took { OnOk result (TakesPoint W.contents self.old made.now self.new) }
+        ensures refused { IfErr result (λ e. (e ≡ Memory) ⊎ (e ≡ Output)) }
+    {
+        let rows = made.rows.as_slice();
+        let sweep = made.sweep;
         let quiet = self.quiet && sweep.wrong == 0;
-        let differ = differing(rows.as_slice());
+        let differ = differing(rows);
         if !quiet || differ != 0 {
             progress.pause();
         }
-        write_rows(self.out, quiet, rows.as_slice())?;
+        write_rows(self.out, quiet, rows)?;
         self.done.sweep.points = self.done.sweep.points.saturating_add(1);
         self.done.differ = self.done.differ.saturating_add(differ);
         self.done.sweep.runs = self.done.sweep.runs.saturating_add(sweep.runs);
         self.done.sweep.wrong = self.done.sweep.wrong.saturating_add(sweep.wrong);
+        progress.went(1);
+        Ok(())
+    }
+}
+
+impl<'a, W: Write> Sink<Vec<PointRows>> for Report<'a, W> {
+    ghost use Rattle.jobs.specs.Handed.{TakesAll};
+    ghost use Rattle.bench_sweep.specs.Reports.{TakesPoint};
+
+    ghost takes = { λ old made new. TakesAll (TakesPoint W.contents) old made.items new };
+
+    /// Writes the lines of the points of a chunk, in order, and tells of each that it went.
+    fn take<P: Progress>(&mut self, made: Vec<PointRows>, progress: &P) -> Result<(), Refusal> {
+        for point in made.as_slice() {
+            self.take_point(point, progress)?;
+        }
         Ok(())
     }
 }
@@ -78,8 +95,8 @@ struct Calls {
     count: u64,
 }
 
-/// Makes the runs at those calls, which the lines make from the site on: at those within a window of them. So many lines stand
-/// up to the next site.
+/// Makes the runs at those calls, which the lines make from the site on: at those within a window of them, a chunk of them by one
+/// thread. So many lines stand up to the next site.
 fn run_at_calls<R: Threads + Sync, P: Progress, C: Crew + Sync, W: Write>(
     jobs: &Jobs<'_, R, P>,
     runner: &Runner<'_, C>,
@@ -96,20 +113,30 @@ fn run_at_calls<R: Threads + Sync, P: Progress, C: Crew + Sync, W: Write>(
     requires sits { Sits runner.now.setting.shape.now site.now }
     ensures wrote { OnOk result ((b : ModelBench)
         → RunsAt runner.now.setting.shape.now b site.now
-        → Reports W.contents runner.now.bench (RunsRow runner.now.setting.shape.now runner.now.bench calls.made (unpowered b) runner.now.lines.now (compared runner.now.recovery))
+        → Reports W.contents runner.now.bench (RunsAlong runner.now.setting.shape.now runner.now.bench site.now calls.made (unpowered b) runner.now.lines.now (compared runner.now.recovery))
         report.old report.new (window within.from within.to (points_from calls.caller (calls.made + 1) calls.count))) }
     ensures refused { IfErr result (λ e. (e ≡ Memory) ⊎ (e ≡ Output)) }
 {
+    let from = within.from.min(calls.count);
+    let to = within.to.min(calls.count);
+    if from == to {
+        return Ok(());
+    }
+    let within = Window { from, to };
+    let each = chunk_size(to - from, jobs.count());
+    let marks = marks_of(runner, count, site, calls.caller)?;
     let task = RunsAtCalls {
         runner,
         count,
         site,
         caller: calls.caller,
         before: calls.made,
+        within,
+        each,
+        marks: &marks,
     };
-    let from = within.from.min(calls.count);
-    let to = within.to.min(calls.count);
-    hand_on_all(jobs, runner.setting.alloc, &task, from, to - from, report)
+    let chunks = within.chunks(each);
+    hand_on_all(jobs, runner.setting.alloc, &task, 0, chunks, report)
 }
 
 /// Lines of the plain run up to the next moment at which the board is off.
@@ -133,7 +160,8 @@ fn stretch_of<C: Crew>(runner: &Runner<'_, C>, site: &Site) -> Result<Stretch, R
         → IsLife runner.now.setting.shape.now b runner.now.lines.now did.count did.next) }
     ensures refused { IfErr result (λ e. e ≡ Memory) }
 {
-    let plain = site.copy(runner.setting.alloc)?;
+    let copy = site.copy(runner.setting.alloc)?;
+    let plain = Going::from(copy);
     let went = run_lines(&runner.setting, runner.lines, true, plain)?;
     let count = went.count;
     let next = turn_off(went.going, false)?;
@@ -180,7 +208,7 @@ fn sweep_stretch<R: Threads + Sync, P: Progress, C: Crew + Sync, W: Write>(
         → IsLife runner.now.setting.shape.now b runner.now.lines.now did.0 site.new) }
     ensures wrote { IfOk result (λ did. (b : ModelBench)
         → RunsAt runner.now.setting.shape.now b site.old
-        → Reports W.contents runner.now.bench (RunsRow runner.now.setting.shape.now runner.now.bench made (unpowered b) runner.now.lines.now (compared runner.now.recovery))
+        → Reports W.contents runner.now.bench (RunsAlong runner.now.setting.shape.now runner.now.bench site.old made (unpowered b) runner.now.lines.now (compared runner.now.recovery))
         report.old report.new (window within.from within.to (points_from caller (made + 1) did.1))) }
     ensures refused { IfErr result (λ e. (e ≡ Memory) ⊎ (e ≡ Output)) }
 {
@@ -196,8 +224,8 @@ fn sweep_stretch<R: Threads + Sync, P: Progress, C: Crew + Sync, W: Write>(
     Ok((count, made_here))
 }
 
-/// Goes over the points of that caller that lie within the window, and answers how many calls it made. Each run begins at the
-/// last moment before its call at which the board was off.
+/// Goes over the points of that caller that lie within the window, and answers how many calls it made. Each run goes on from the
+/// line in which its call lies.
 fn sweep_caller<R: Threads + Sync, P: Progress, C: Crew + Sync, W: Write>(
     jobs: &Jobs<'_, R, P>,
     runner: &Runner<'_, C>,

@@ -3,9 +3,17 @@ use Rattle.bench_sweep.specs.declared.points.Bench.TheVariants.{Cuts}
 use Rattle.bench_sweep.specs.Points.{fault_at}
 use Rattle.bench_report.specs.Happens.{armed_with, off}
 use Rattle.bench_sweep.specs.Recovers.{compared}
+use Rattle.bench_sweep.proofs.Left.{unstruck}
 use Rattle.bench_sweep.proofs.Made.{to_cut}
 use Rattle.bench_sweep.proofs.Rowed.{judged_at}
 use Rattle.bench_sweep.proofs.judging.run_to_cut.Goals as goal
+
+pub run_lines-requires-clause-calm : goal.run_lines-requires-clause-calm
+run_lines-requires-clause-calm g c κs within =
+    let size = c.args.runner.now.setting.shape.now in
+    let sits = c.requires.sits in
+    let calm = c.armed-armed.ensures.runs size sits.0 sits.1 in
+    unstruck size (armed_with (fault_at Cuts c.args.point.caller c.args.point.call) sits.0) _ calm.agrees calm.calm
 
 pub judge_each_fill-requires-clause-sits : goal.judge_each_fill-requires-clause-sits
 judge_each_fill-requires-clause-sits g c κs within =

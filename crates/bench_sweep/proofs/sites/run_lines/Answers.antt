@@ -25,7 +25,7 @@ moved g c mid r =
     ]
 
 pub loop-line-init : goal.loop-line-init
-loop-line-init g c = record { calm = c.from-going.ensures.calm; ran = λ b r. ran_none _ b _ _ _ _ c.from-going.ensures.ledger (c.from-going.ensures.runs _ b r); count = refl }
+loop-line-init g c = record { calm = c.requires.calm; ran = λ b r. ran_none _ b _ _ _ _ refl r; count = refl }
 
 pub loop-line-preserved : goal.loop-line-preserved
 loop-line-preserved g c =
@@ -46,7 +46,7 @@ returns-then-stops-clause-ran g c = λ b r.
     let far = i.ran b r in
     let m = moved g (goal.at.returns-then-stops-clause-ran g c).After-stops far.bench far.runs in
     let count : c.loop-line.line-index + 1 ≡ c.loop-line.count + 1 = omega (arith, i.count) in
-    let P : ℕ → Type 0 = λ n. RanTo size b (take n c.args.lines.now) c.match-line.going.power c.match-line.going.payloads c.args.site.ledger c.match-line.going.ledger in
+    let P : ℕ → Type 0 = λ n. RanTo size b (take n c.args.lines.now) c.match-line.going.power c.match-line.going.payloads c.args.from.ledger c.match-line.going.ledger in
     subst P count (ran_line size b c.args.lines.now c.loop-line.line-index c.line-item.result c.line-item.result _ _ _ _ _ _ _ c.loop-line-test.true c.line-item.is far m)
 
 pub returns-then-stops-clause-stops : goal.returns-then-stops-clause-stops
@@ -59,7 +59,7 @@ pub returns-clause-ran : goal.returns-clause-ran
 returns-clause-ran g c = λ b r.
     let size = c.args.setting.now.shape.now in
     let i = c.loop-line.invariant in
-    let P : ℕ → Type 0 = λ n. RanTo size b (take n c.args.lines.now) c.loop-line.going.power c.loop-line.going.payloads c.args.site.ledger c.loop-line.going.ledger in
+    let P : ℕ → Type 0 = λ n. RanTo size b (take n c.args.lines.now) c.loop-line.going.power c.loop-line.going.payloads c.args.from.ledger c.loop-line.going.ledger in
     subst P (sym i.count) (ran_calm size b _ _ _ _ _ (i.ran b r))
 
 pub returns-clause-stops : goal.returns-clause-stops

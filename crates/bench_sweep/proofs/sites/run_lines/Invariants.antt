@@ -1,7 +1,6 @@
 use Rattle.std.proofs.Common.{◌≡◌, take}
 use Rattle.bench_report.specs.Agree.{IsUnstruck}
 use Rattle.bench_report.specs.Bench.{Bench}
-use Rattle.bench_report.specs.declared.power.Power.TheVariants.{Off}
 use Rattle.bench_sweep.specs.Runs.{RunsCalm}
 use Rattle.bench_sweep.proofs.Ran.{Runs_to}
 use Rattle.bench_sweep.proofs.sites.run_lines.Given as goal
@@ -9,6 +8,6 @@ use Rattle.bench_sweep.proofs.sites.run_lines.Given as goal
 abbrev pub invariant-loop-line : goal.invariant-loop-line
 invariant-loop-line g l = record {
   calm : IsUnstruck l.going.power;
-  ran : (b : Bench) → RunsCalm l.setting.shape.now b (Off l.fn.site.off) l.fn.site.payloads l.fn.site.ledger → Runs_to l.setting.shape.now b (take l.line-index l.lines) l.going.power l.going.payloads l.fn.site.ledger l.going.ledger;
+  ran : (b : Bench) → RunsCalm l.setting.shape.now b l.fn.from.power l.fn.from.payloads l.fn.from.ledger → Runs_to l.setting.shape.now b (take l.line-index l.lines) l.going.power l.going.payloads l.fn.from.ledger l.going.ledger;
   count : l.count ≡ l.line-index;
 }

@@ -1,0 +1,18 @@
+use Rattle.std.proofs.Common.{◌≡◌, ◌≤◌, ◌-◌, length}
+use Rattle.bench_report.specs.Bench.{Bench}
+use Rattle.bench_report.specs.Happens.{unpowered}
+use Rattle.jobs.specs.Handed.{AreRows}
+use Rattle.bench_sweep.specs.Recovers.{compared}
+use Rattle.bench_sweep.specs.Reports.{IsOfCall}
+use Rattle.bench_sweep.specs.Along.{CameTold}
+use Rattle.bench_sweep.specs.Runs.{RunsAt}
+use Rattle.bench_sweep.proofs.chunks.RunsAtCallsTask.row.Given as goal
+
+-- the moment is one of the lines' run, and the rows of the calls so far are made
+abbrev pub invariant-loop-done : goal.invariant-loop-done
+invariant-loop-done g l = record {
+  few : l.moment.count ≤ l.self.count;
+  came : (b : Bench) → RunsAt l.self.runner.now.setting.shape.now b l.self.site.now → CameTold l.self.runner.now.setting.shape.now (unpowered b) l.self.runner.now.lines.now l.self.site.now.ledger l.moment;
+  many : length l.rows.items ≡ l.done - l.from;
+  are : AreRows (IsOfCall l.self.runner.now.setting.shape.now l.self.runner.now.bench l.self.caller l.self.before l.self.runner.now.lines.now (compared l.self.runner.now.recovery) l.self.site.now) l.from l.rows.items;
+}

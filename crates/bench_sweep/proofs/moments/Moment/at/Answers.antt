@@ -1,0 +1,18 @@
+use Rattle.std.proofs.Common.{[], ◌∙◌, ap, refl, sym, arith}
+use Rattle.std.proofs.lemmas.List.{append-nil}
+use Rattle.bench_report.specs.Happens.{unpowered}
+use Rattle.bench_sweep.specs.declared.ledgers.Ledger.{Ledger}
+use Rattle.bench_sweep.proofs.Left.{calm_off}
+use Rattle.bench_sweep.proofs.moments.Moment.at.Goals as goal
+
+pub returns-clause-came : goal.returns-clause-came
+returns-clause-came c = λ size b lines r. record {
+  came = record {
+    few = omega arith;
+    answers = [];
+    at = unpowered b;
+    run = refl;
+    runs = c.from-going.ensures.runs size (unpowered b) (calm_off size (unpowered b) _ _ _ (c.in_ok-copy.ensures.runs size b r));
+  };
+  resumed = ap (λ (l : Ledger). l.resumed.items) c.from-going.ensures.ledger ∙ c.in_ok-copy.ensures.resumed ∙ sym (append-nil c.args.site.now.ledger.resumed.items);
+}

@@ -1,0 +1,163 @@
+//! The runs at a chunk of neighbouring calls: one thread makes them, each from the line in which its call lies.
+
+ghost use Rattle.std.specs.Prelude.{◌≡◌, ◌≤◌, ◌<◌, ◌+◌, ◌^◌, length, IfOk, IfErr};
+ghost use Rattle.board_model.specs.declared.refusal.Refusal.TheVariants.{Memory};
+ghost use Rattle.bench_report.specs.Bench.{Bench as ModelBench};
+ghost use Rattle.bench_sweep.specs.Recovers.{compared};
+ghost use Rattle.bench_sweep.specs.Reports.{Judged, RunsAlong};
+ghost use Rattle.bench_sweep.specs.Along.{CameTold};
+ghost use Rattle.bench_sweep.specs.Runs.{Sits};
+ghost use Rattle.bench_sweep.specs.Swept.{AreSwept, runs_of};
+
+use crate::judging::{PointRows, run_at_point};
+use crate::moments::Moment;
+use crate::points::{Caller, Point};
+use crate::runner::Runner;
+use crate::site::{Going, Site};
+use crate::sites::run_lines;
+use board_model::Refusal;
+use crew::Crew;
+use jobs::{Task, Window};
+
+/// The most calls of a chunk.
+const MOST_CALLS: u64 = 64;
+
+/// How many calls each chunk of so many has, for so many threads: each has four chunks or more to make, where there are as many calls.
+pub fn chunk_size(calls: u64, threads: usize) -> u64
+    requires { 0 < threads }
+    ensures some { 0 < result }
+    ensures most { result ≤ 64 }
+{
+    let chunks = (threads as u64).saturating_mul(4);
+    (calls / chunks).clamp(1, MOST_CALLS)
+}
+
+/// How many calls the caller has made from the site on behind each of so many first lines. It is a hint for chunks: a wrong one would
+/// make their runs longer, or have them refused. Refused `Memory` alone.
+pub fn marks_of<C: Crew>(
+    runner: &Runner<'_, C>,
+    count: usize,
+    site: &Site,
+    caller: Caller,
+) -> Result<Vec<u64>, Refusal>
+    requires few { count ≤ length runner.now.lines.now }
+    requires lines { AreSwept runner.now.setting.shape.now runner.now.lines.now }
+    requires sits { Sits runner.now.setting.shape.now site.now }
+    ensures refused { IfErr result (λ e. e ≡ Memory) }
+{
+    let mut marks = Vec::new(runner.setting.alloc);
+    let mut moment = Moment::at(runner.setting.alloc, site)?;
+    for i in 0..count {
+        moment = moment.run_to(&runner.setting, runner.lines, i + 1)?;
+        marks.push(moment.going.calls_since(site, caller)?)?;
+    }
+    Ok(marks)
+}
+
+/// How many lines stand before the one in which the call lies before which so many were made, by these marks: as many as have run, or
+/// more, and no more than `count`.
+fn line_of(marks: &[u64], from: usize, count: usize, done: u64) -> usize
+    requires { from ≤ count }
+    ensures order { from ≤ result }
+    ensures few { result ≤ count }
+{
+    let last = count.min(marks.len());
+    for i in from..last {
+        if done < marks[i] {
+            return i;
+        }
+    }
+    last.max(from)
+}
+
+/// The runs at calls of a caller, which lines make from a site on.
+#[derive(Drop)]
+pub struct RunsAtCalls<'a, 'b, C> {
+    pub runner: &'a Runner<'b, C>,
+    /// How many lines stand up to the next site.
+    pub count: usize,
+    pub site: &'a Site,
+    pub caller: Caller,
+    /// How many calls the caller made up to the site.
+    pub before: u64,
+    /// Which of its calls from the site on, counted from 0.
+    pub within: Window,
+    /// How many of them a chunk has.
+    pub each: u64,
+    /// How many calls the caller has made behind each line: a hint in which line a call lies.
+    pub marks: &'a [u64],
+}
+
+impl<'a, 'b, C: Crew> RunsAtCalls<'a, 'b, C> {
+    /// Makes the runs at the call before which so many were made from the site on, from that moment. Refused `Memory` where the
+    /// moment is behind it: by the plain run it is not.
+    fn rows_at(&self, moment: &mut Moment, done: u64) -> Result<PointRows, Refusal>
+        requires few { self.now.count ≤ length self.now.runner.now.lines.now }
+        requires order { moment.old.count ≤ self.now.count }
+        requires lines { AreSwept self.now.runner.now.setting.shape.now self.now.runner.now.lines.now }
+        requires recovery { AreSwept self.now.runner.now.setting.shape.now self.now.runner.now.recovery.lines.now }
+        requires room { self.now.before + done + 1 < 2 ^ 64 }
+        requires sits { (b : ModelBench) × CameTold self.now.runner.now.setting.shape.now b self.now.runner.now.lines.now self.now.site.now.ledger moment.old }
+        ensures stays { (b : ModelBench) → CameTold self.now.runner.now.setting.shape.now b self.now.runner.now.lines.now self.now.site.now.ledger moment.old
+            → CameTold self.now.runner.now.setting.shape.now b self.now.runner.now.lines.now self.now.site.now.ledger moment.new }
+        ensures count { moment.new.count ≡ moment.old.count }
+        ensures judged { IfOk result (λ made. (b : ModelBench)
+            → CameTold self.now.runner.now.setting.shape.now b self.now.runner.now.lines.now self.now.site.now.ledger moment.old
+            → Judged (RunsAlong self.now.runner.now.setting.shape.now self.now.runner.now.bench self.now.site.now self.now.before b
+            self.now.runner.now.lines.now (compared self.now.runner.now.recovery)) made
+            (runs_of self.now.runner.now.bench self.now.caller (self.now.before + done + 1))) }
+        ensures refused { IfErr result (λ e. e ≡ Memory) }
+    {
+        let made = moment.going.calls_since(self.site, self.caller)?;
+        if done < made {
+            return Err(Refusal::Memory);
+        }
+        let point = Point {
+            caller: self.caller,
+            number: self.before + done + 1,
+            call: done - made + 1,
+            before: self.before + made,
+        };
+        let runner = self.runner;
+        let going = moment.going.copy(runner.setting.alloc)?;
+        let behind = Runner {
+            setting: runner.setting,
+            bench: runner.bench,
+            lines: &runner.lines[moment.count..],
+            recovery: runner.recovery,
+        };
+        run_at_point(&behind, self.count - moment.count, going, point)
+    }
+}
+
+impl<'a, 'b, C: Crew + Sync> Task for RunsAtCalls<'a, 'b, C> {
+    ghost use Rattle.std.specs.Thread.{IsSync};
+    ghost use Rattle.jobs.specs.Handed.{IsChunk};
+    ghost use Rattle.bench_sweep.specs.Reports.{HasChunk, IsOfCall};
+
+    type Row = Vec<PointRows>;
+
+    ghost has = { λ task k. HasChunk task.runner.now.setting.shape.now task.runner.now.lines.now
+        task.runner.now.recovery.lines.now task.count task.site.now task.before task.within.from task.within.to task.each k
+        × IsSync C.Handle.row };
+
+    ghost is_row = { λ task k made. IsChunk (IsOfCall task.runner.now.setting.shape.now task.runner.now.bench task.caller task.before
+        task.runner.now.lines.now (compared task.runner.now.recovery) task.site.now)
+        task.within.from task.within.to task.each k made.items };
+
+    /// Makes the runs at the calls of that chunk: the lines run on from the site as they are, and each call is armed on a copy of
+    /// the board as it stands before the line in which the call lies.
+    fn row(&self, number: u64) -> Result<Vec<PointRows>, Refusal> {
+        let Window { from, to } = self.within.chunk(self.each, number);
+        let alloc = self.runner.setting.alloc;
+        let mut moment = Moment::at(alloc, self.site)?;
+        let mut rows = Vec::new(alloc);
+        for done in from..to {
+            let next = line_of(self.marks, moment.count, self.count, done);
+            moment = moment.run_to(&self.runner.setting, self.runner.lines, next)?;
+            let made = self.rows_at(&mut moment, done)?;
+            rows.push(made)?;
+        }
+        Ok(rows)
+    }
+}

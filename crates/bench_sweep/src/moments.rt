@@ -1,0 +1,134 @@
+//! Moments of a run: at each the board is copied as it stands, and the copy is armed.
+
+ghost use Rattle.std.specs.Prelude.{◌≡◌, ◌≤◌, List, length, IfOk, IfErr};
+ghost use Rattle.board_model.specs.Shapes.{Size};
+ghost use Rattle.board_model.specs.declared.refusal.Refusal.TheVariants.{Memory};
+ghost use Rattle.bench_report.specs.Agree.{HasDisk, IsArmed, IsCopyOf};
+ghost use Rattle.bench_report.specs.Bench.{Bench};
+ghost use Rattle.bench_report.specs.Happens.{armed_with, unpowered};
+ghost use Rattle.bench_sweep.specs.Points.{fault_at, MadeCalls};
+ghost use Rattle.bench_sweep.specs.Along.{CameTold};
+ghost use Rattle.bench_sweep.specs.Runs.{RunsAt, RunsCalm};
+ghost use Rattle.bench_sweep.specs.declared.ledgers.Ledger.{Ledger as LedgerThen};
+ghost use Rattle.bench_sweep.specs.Swept.{AreSwept};
+ghost use Rattle.script_lang.specs.declared.line.Line.{Line as ScriptLine};
+ghost use Rattle.simdisk.specs.declared.SimDisk.{SimDisk};
+
+use crate::points::{Bench as Kind, Caller, Point};
+use crate::site::{Going, Site};
+use crate::sites::run_lines;
+use bench_report::{Setting, arm_power, copy_power, disk_of};
+use board_model::Refusal;
+use crew::Crew;
+use script_lang::Line;
+use std::alloc::Global;
+
+/// A run that has come behind so many of its lines.
+#[derive(Drop)]
+pub struct Moment {
+    pub count: usize,
+    pub going: Going,
+}
+
+impl Going {
+    /// The same run once more, with a board and a disk of its own. This one stays as it is. Refused `Memory` where memory is.
+    pub fn copy(&mut self, alloc: Global) -> Result<Going, Refusal>
+        ensures stays { (size : Size) (b : Bench) → RunsCalm size b self.old.power self.old.payloads self.old.ledger
+            → RunsCalm size b self.new.power self.new.payloads self.new.ledger }
+        ensures same { (d : SimDisk) → HasDisk self.old.power d → HasDisk self.new.power d }
+        ensures ledger { self.new.ledger ≡ self.old.ledger }
+        ensures runs { IfOk result (λ copy. (size : Size) (b : Bench)
+            → RunsCalm size b self.old.power self.old.payloads self.old.ledger
+            → RunsCalm size b copy.power copy.payloads copy.ledger) }
+        ensures alike { IfOk result (λ copy. (d e : SimDisk) → HasDisk self.old.power d → HasDisk copy.power e → IsCopyOf d e) }
+        ensures resumed { IfOk result (λ copy. copy.ledger.resumed.items ≡ self.old.ledger.resumed.items) }
+        ensures refused { IfErr result (λ e. e ≡ Memory) }
+    {
+        let power = copy_power(alloc, &mut self.power)?;
+        let payloads = self.payloads.copy()?;
+        let ledger = self.ledger.copy(alloc)?;
+        Ok(Going {
+            power,
+            payloads,
+            ledger,
+        })
+    }
+
+    /// The run with what a bench of that kind does at the point armed on its disk.
+    pub fn armed(self, bench: Kind, point: Point) -> Going
+        ensures runs { (size : Size) (b : Bench) → RunsCalm size b self.power self.payloads self.ledger
+            → RunsCalm size (armed_with (fault_at bench point.caller point.call) b) result.power result.payloads result.ledger }
+        ensures ledger { result.ledger ≡ self.ledger }
+        ensures arms { IsArmed (fault_at bench point.caller point.call) result.power }
+    {
+        let Going {
+            power,
+            payloads,
+            ledger,
+        } = self;
+        let fault = bench.fault_at(point.caller, point.call);
+        Going {
+            power: arm_power(power, fault),
+            payloads,
+            ledger,
+        }
+    }
+
+    /// How many calls that caller has made since that site. Refused `Memory` where a disk counted back.
+    pub fn calls_since(&self, site: &Site, caller: Caller) -> Result<u64, Refusal>
+        ensures calls { IfOk result (λ n. (d : SimDisk) × HasDisk self.now.power d × MadeCalls site.now.off.disk d caller n) }
+        ensures refused { IfErr result (λ e. e ≡ Memory) }
+    {
+        let before = caller.calls(&site.off.disk);
+        let after = caller.calls(disk_of(&self.power));
+        if after < before {
+            return Err(Refusal::Memory);
+        }
+        Ok(after - before)
+    }
+}
+
+impl Moment {
+    /// The moment of a site, with none of the lines behind it.
+    pub fn at(alloc: Global, site: &Site) -> Result<Moment, Refusal>
+        ensures came { IfOk result (λ at. (size : Size) (b : Bench) (lines : List ScriptLine) → RunsAt size b site.now
+            → CameTold size (unpowered b) lines site.now.ledger at) }
+        ensures none { IfOk result (λ at. at.count ≡ 0) }
+        ensures refused { IfErr result (λ e. e ≡ Memory) }
+    {
+        let copy = site.copy(alloc)?;
+        let going = Going::from(copy);
+        Ok(Moment { count: 0, going })
+    }
+
+    /// Runs the lines on, as they are, up to the one behind so many. Refused `Memory` alone.
+    pub fn run_to<C: Crew>(
+        self,
+        setting: &Setting<'_, C>,
+        lines: &[Line],
+        to: usize,
+    ) -> Result<Moment, Refusal>
+        requires lines { AreSwept setting.now.shape.now lines.now }
+        requires order { self.count ≤ to }
+        requires few { to ≤ length lines.now }
+        requires sits { (b : Bench) × (first : LedgerThen) × CameTold setting.now.shape.now b lines.now first self }
+        ensures came { IfOk result (λ at. (b : Bench) (first : LedgerThen)
+            → CameTold setting.now.shape.now b lines.now first self → CameTold setting.now.shape.now b lines.now first at) }
+        ensures few { IfOk result (λ at. at.count ≤ to) }
+        ensures refused { IfErr result (λ e. e ≡ Memory) }
+    {
+        if to == self.count {
+            return Ok(self);
+        }
+        let Moment { count, going } = self;
+        let went = run_lines(setting, &lines[count..to], false, going)?;
+        // Nothing is armed that could strike.
+        if went.going.is_struck() {
+            return Err(Refusal::Memory);
+        }
+        Ok(Moment {
+            count: count + went.count,
+            going: went.going,
+        })
+    }
+}
