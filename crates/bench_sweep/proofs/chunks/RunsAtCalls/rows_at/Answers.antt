@@ -34,3 +34,8 @@ returns-clause-judged g c = IfOk-weaker c.run_at_point.result _ _ (λ rows did b
     (λ row who number is. along size runner.bench self.site.now self.before b lines _ (compared runner.recovery) c.args.moment.now told.came since.0 self.caller c.in_ok-made.made since.1 since.2 (rest_is c.args.moment.now.count lines) row who is)
     (did told.came.at (c.in_ok-going.ensures.runs size told.came.at told.came.runs))))
     c.run_at_point.ensures.judged
+
+pub returns-in_err-going-clause-stays : goal.returns-in_err-going-clause-stays
+returns-in_err-going-clause-stays g c = λ b told.
+    let runner = c.args.self.now.runner.now in
+    came_again runner.setting.shape.now b runner.lines.now c.args.self.now.site.now.ledger c.args.moment.now _ told refl c.copy.ensures.ledger (c.copy.ensures.stays runner.setting.shape.now told.came.at told.came.runs)

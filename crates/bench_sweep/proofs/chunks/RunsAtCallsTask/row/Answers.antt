@@ -8,6 +8,21 @@ use Rattle.bench_sweep.specs.declared.judging.PointRows.{PointRows}
 use Rattle.bench_sweep.proofs.Along.{rows_more}
 use Rattle.bench_sweep.proofs.chunks.RunsAtCallsTask.row.Goals as goal
 
+pub loop-done-init : goal.loop-done-init
+loop-done-init g c =
+    let self = c.args.self.now in
+    let runner = self.runner.now in
+    let from = c.chunk-from.result.from in
+    let is = IsOfCall runner.setting.shape.now runner.bench self.caller self.before runner.lines.now (compared runner.recovery) self.site.now in
+    let items : c.new-rows.result.items ≡ [] = c.new-rows.ensures.items in
+    let A : List PointRows → Type 0 = λ rows. AreRows is from rows in
+    let none : length c.new-rows.result.items ≡ 0 = ap (λ (rows : List PointRows). length rows) items in record {
+      few = omega (arith, c.in_ok-moment.ensures.none);
+      came = λ b r. c.in_ok-moment.ensures.came runner.setting.shape.now b runner.lines.now r;
+      many = omega (arith, none);
+      are = subst A (sym items) tt;
+    }
+
 pub run_to-requires-clause-sits : goal.run_to-requires-clause-sits
 run_to-requires-clause-sits g c κs within = let sits = c.requires.has.0.sits in (unpowered sits.0, c.args.self.now.site.now.ledger, c.loop-done.invariant.came sits.0 sits.1)
 
