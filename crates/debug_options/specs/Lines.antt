@@ -3,6 +3,7 @@ use Rattle.std.specs.Prelude.{true, Some}
 use Rattle.clap.specs.Words.{App, Rule, new_rule, with_rule}
 use Rattle.clap.specs.declared.builder.action.ArgAction.TheVariants.{Set}
 use Rattle.clap.specs.declared.builder.value_parser.ValueParser.TheVariants.{NonEmptyString, Unsigned}
+use Rattle.command_line.specs.Flags.{flag_rule}
 use Rattle.command_line.specs.Options.{number_rule, option_rule, value_rule, with_payloads}
 use Rattle.command_line.specs.Programs.{named_app}
 use lib.Chars.{codes}
@@ -11,13 +12,20 @@ use lib.Chars.{codes}
 abbrev pub script_rule : Rule
 script_rule = record (new_rule (codes "SCRIPT")) { action = Some Set; parser = Some NonEmptyString; required = true }
 
+-- those that say by which row of a bench
+abbrev pub with_rows : App → App
+with_rows app =
+    with_rule (with_rule (with_rule app (flag_rule (codes "sweep"))) (flag_rule (codes "faults")))
+    (value_rule (codes "row") (Unsigned 1 1000000))
+
 -- the options that say where a session begins
 abbrev pub with_begins : App → App
 with_begins app =
-    with_rule
+    with_rows
+    (with_rule
     (with_rule (with_rule (with_rule app (value_rule (codes "schedule") (Unsigned 1 1000000))) (option_rule (codes "seed")))
     (value_rule (codes "preemptions") (Unsigned 1 3)))
-    (value_rule (codes "order") (Unsigned 1 1000000))
+    (value_rule (codes "order") (Unsigned 1 1000000)))
 
 abbrev pub sbigdb : App
 sbigdb =

@@ -1,5 +1,5 @@
 -- What the words of a command line name. Source: docs/DEBUGGING.md, "Options and statuses".
-use Rattle.std.specs.Prelude.{◌≡◌, ◌⊎◌, ℕ, List, Option, None, Some, if◌then◌else◌, map, nat_lt, option_and_then, string_bytes}
+use Rattle.std.specs.Prelude.{◌≡◌, ◌⊎◌, ℕ, Bool, true, false, List, Option, None, Some, if◌then◌else◌, bytes_eq, map, nat_lt, option_and_then, string_bytes}
 use Rattle.std.specs.Option.{option_map}
 use Rattle.clap.specs.Words.{IsAmong, fault_of, first_value}
 use Rattle.clap.specs.declared.error.kind.ErrorKind.{ErrorKind}
@@ -11,7 +11,7 @@ use Rattle.script_lang.specs.Words.{number_of}
 use Rattle.debug_options.specs.Limits.{IsUpTo}
 use Rattle.debug_options.specs.Lines.{sbigdb}
 use Rattle.debug_options.specs.declared.given.Begin.{Begin}
-use Rattle.debug_options.specs.declared.given.Begin.TheVariants.{End, Order, Schedule}
+use Rattle.debug_options.specs.declared.given.Begin.TheVariants.{Cut, End, Failure, Order, Schedule}
 use Rattle.debug_options.specs.declared.given.Options.{Options}
 use lib.Chars.{codes}
 
@@ -55,10 +55,39 @@ begin_named None (Some seed) most order = None
 begin_named (Some number) seed most order =
     without_order most order (drawn_by (number_up_to 1000000 (number_of number)) (seed_of seed))
 
+-- an option without a value was given: the parser keeps the word `true` of it
+abbrev pub is_true : Option (List ℕ) → Bool
+is_true None = false
+is_true (Some word) = bytes_eq word (codes "true")
+
+-- the row of that number, of the one bench that is named
+abbrev pub row_by : Bool → Bool → Option ℕ → Option Begin
+row_by sweep faults None = None
+row_by true true (Some number) = None
+row_by true false (Some number) = Some (Cut number)
+row_by false true (Some number) = Some (Failure number)
+row_by false false (Some number) = None
+
+abbrev pub row_named : Bool → Bool → List ℕ → Option Begin
+row_named sweep faults word = row_by sweep faults (number_up_to 1000000 (number_of word))
+
+-- nothing else says where the session begins
+abbrev pub begin_alone : Option Begin → Option Begin → Option Begin
+begin_alone (Some End) begin = begin
+begin_alone other begin = None
+
+-- Where the session begins, by `--sweep`, `--faults` and the word of `--row`, and by what the other options say.
+abbrev pub with_row : Bool → Bool → Option (List ℕ) → Option Begin → Option Begin
+with_row sweep faults (Some word) other = begin_alone other (row_named sweep faults word)
+with_row false false None other = other
+with_row true faults None other = None
+with_row false true None other = None
+
 abbrev pub begin_in : Found → Option Begin
 begin_in f =
-    begin_named (first_value f (codes "schedule")) (first_value f (codes "seed")) (first_value f (codes "preemptions"))
-    (first_value f (codes "order"))
+    with_row (is_true (first_value f (codes "sweep"))) (is_true (first_value f (codes "faults"))) (first_value f (codes "row"))
+    (begin_named (first_value f (codes "schedule")) (first_value f (codes "seed")) (first_value f (codes "preemptions"))
+    (first_value f (codes "order")))
 
 -- each option is what the value of its name says
 pub record ReadsOptions (f : Found) (o : Options) : Type 0 where

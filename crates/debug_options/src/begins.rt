@@ -4,7 +4,7 @@ ghost use Rattle.std.specs.Prelude.{◌≡◌, ◌≤◌, IfSome};
 ghost use Rattle.std.specs.Option.{option_map};
 ghost use Rattle.script_lang.specs.Words.{number_of};
 ghost use Rattle.debug_options.specs.Limits.{IsBounded, IsUpTo};
-ghost use Rattle.debug_options.specs.Reads.{begin_named, drawn_by, number_up_to, order_named, ordered_by, seed_of, without_order};
+ghost use Rattle.debug_options.specs.Reads.{begin_alone, begin_named, drawn_by, is_true, number_up_to, order_named, ordered_by, row_by, row_named, seed_of, with_row, without_order};
 
 use crate::given::{Begin, Drawn, Preempted};
 use crate::help::{MOST_NUMBER, MOST_PREEMPTIONS};
@@ -101,6 +101,76 @@ pub(crate) fn begin_named(
                 return None;
             }
             order_named(most, order)
+        }
+    }
+}
+
+/// Whether that is the word `true`, which the parser keeps of an option without a value that was given.
+fn is_true(word: Option<&str>) -> bool
+    ensures { result ≡ is_true (option_map (λ s. s.now) word.entry) }
+{
+    match word {
+        None => false,
+        Some(word) => word.as_bytes() == b"true".as_slice(),
+    }
+}
+
+/// Where the row of that number strikes, of the one bench that is named.
+fn row_by(sweep: bool, faults: bool, number: Option<u64>) -> Option<Begin>
+    requires range { IfSome number (IsUpTo 1000000) }
+    ensures value { result ≡ row_by sweep faults number }
+    ensures bounded { IfSome result IsBounded }
+{
+    let number = number?;
+    match (sweep, faults) {
+        (true, false) => Some(Begin::Cut(number)),
+        (false, true) => Some(Begin::Failure(number)),
+        (_, _) => None,
+    }
+}
+
+/// The same, by the word of `--row`.
+fn row_named(sweep: bool, faults: bool, row: &str) -> Option<Begin>
+    ensures value { result ≡ row_named sweep faults row.now }
+    ensures bounded { IfSome result IsBounded }
+{
+    row_by(sweep, faults, number_up_to(MOST_NUMBER, row))
+}
+
+/// Where the session begins by a row, where nothing else says it.
+fn begin_alone(other: Option<Begin>, begin: Option<Begin>) -> Option<Begin>
+    requires bounded { IfSome begin IsBounded }
+    ensures value { result ≡ begin_alone other begin }
+    ensures bounded { IfSome result IsBounded }
+{
+    match other {
+        Some(Begin::End) => begin,
+        _ => None,
+    }
+}
+
+/// Where the session begins, by the words that the parser keeps of `--sweep`, `--faults` and `--row`, and by what the other options
+/// say. A row goes with one of the benches, and with nothing else.
+pub(crate) fn with_row(
+    sweep: Option<&str>,
+    faults: Option<&str>,
+    row: Option<&str>,
+    other: Option<Begin>,
+) -> Option<Begin>
+    requires bounded { IfSome other IsBounded }
+    ensures value { result ≡ with_row (is_true (option_map (λ s. s.now) sweep.entry)) (is_true (option_map (λ s. s.now) faults.entry))
+        (option_map (λ s. s.now) row.entry) other }
+    ensures bounded { IfSome result IsBounded }
+{
+    let sweep = is_true(sweep);
+    let faults = is_true(faults);
+    match row {
+        Some(row) => begin_alone(other, row_named(sweep, faults, row)),
+        None => {
+            if sweep || faults {
+                return None;
+            }
+            other
         }
     }
 }

@@ -29,6 +29,10 @@ pub enum Begin {
     Schedule(Drawn),
     /// Where an order that differs parts from it.
     Order(Preempted),
+    /// Where the cut of that row of the power-cut bench strikes, 1 to 1,000,000 (docs/SCRIPT.md, "The benches").
+    Cut(u64),
+    /// Where the failure of that row of the fault bench strikes, 1 to 1,000,000.
+    Failure(u64),
 }
 
 /// What the command line asks for.

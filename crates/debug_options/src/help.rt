@@ -4,16 +4,17 @@ ghost use Rattle.std.specs.Prelude.{◌≡◌, false, codes, IfOk};
 ghost use Rattle.clap.specs.Words.{app_of, rule_of, with_rule};
 ghost use Rattle.clap.specs.declared.builder.value_parser.ValueParser.TheVariants.{Unsigned};
 ghost use Rattle.command_line.specs.Options.{number_rule, value_rule};
-ghost use Rattle.debug_options.specs.Lines.{sbigdb, script_rule, with_begins};
+ghost use Rattle.debug_options.specs.Lines.{sbigdb, script_rule, with_begins, with_rows};
 
 use clap::builder::ValueParser;
 use clap::{Arg, ArgAction, Command};
-use command_line::{number, option, program, with_payloads};
+use command_line::{flag, number, option, program, with_payloads};
 use std::alloc::{AllocError, Global};
 
 /// How the program is called.
 pub const USAGE: &str =
-    "sbigdb SCRIPT [--schedule K | --preemptions K --order N] [--p0 PATH .. --p3 PATH]";
+    "sbigdb SCRIPT [--schedule K | --preemptions K --order N | --sweep --row R | \
+--faults --row R] [--p0 PATH .. --p3 PATH]";
 
 const ABOUT: &str = "\
 Debugs the modelled RISC-V board that a script leaves: speaks GDB's Remote Serial
@@ -28,7 +29,9 @@ sbibench runs to the same reports, and `monitor help` tells the rest.
 
 --schedule and --order take a script that sbibench found: the one that its
 --schedules --show K, or --preemptions K --show N, writes. The session begins
-where the turns of that script part from those of SCRIPT.";
+where the turns of that script part from those of SCRIPT. --row takes the one
+that its --sweep --show R, or --faults --show R, writes: the session begins
+before the line, or the turn, in which the cut or the failure strikes.";
 
 const STATUS: &str = "\
 Status:
@@ -61,7 +64,16 @@ pub const PREEMPTIONS: &str = "preemptions";
 /// An order that differs, by its number.
 pub const ORDER: &str = "order";
 
-/// The highest number of a schedule, or of an order.
+/// The flag of the bench of power cuts.
+pub const SWEEP: &str = "sweep";
+
+/// The flag of the bench of failures.
+pub const FAULTS: &str = "faults";
+
+/// A row of one of them, by its number.
+pub const ROW: &str = "row";
+
+/// The highest number of a schedule, an order, or a row.
 pub const MOST_NUMBER: u64 = 1_000_000;
 
 /// The most preemptions of an order.
@@ -93,6 +105,19 @@ fn count<'a>(alloc: Global, id: &'a str, most: u64, value: &'a str, help: &'a st
     option(alloc, id, value, help).value_parser(ValueParser::unsigned(1, most))
 }
 
+/// The command with the options that say by which row of a bench a session begins.
+fn with_rows<'a>(alloc: Global, command: Command<'a>) -> Result<Command<'a>, AllocError>
+    ensures { IfOk result (λ c. app_of c ≡ with_rows (app_of command.entry)) }
+{
+    let sweep = "With --row: the bench of power cuts";
+    let faults = "With --row: the bench of failures";
+    let row = "Begins where the cut or the failure of row R of the bench strikes";
+    command
+        .arg(flag(alloc, SWEEP, sweep))?
+        .arg(flag(alloc, FAULTS, faults))?
+        .arg(count(alloc, ROW, MOST_NUMBER, "R", row))
+}
+
 /// The command with the options that say where a session begins.
 fn with_begins<'a>(alloc: Global, command: Command<'a>) -> Result<Command<'a>, AllocError>
     ensures { IfOk result (λ c. app_of c ≡ with_begins (app_of command.entry)) }
@@ -101,11 +126,12 @@ fn with_begins<'a>(alloc: Global, command: Command<'a>) -> Result<Command<'a>, A
     let seed = "The number that schedules are drawn from; 1 if not given";
     let preemptions = "With --order: orders with at most K preemptions, 1 to 3";
     let order = "Begins where the N-th order that reports otherwise parts from the script";
-    command
+    let command = command
         .arg(count(alloc, SCHEDULE, MOST_NUMBER, "K", schedule))?
         .arg(option(alloc, SEED, "S", seed))?
         .arg(count(alloc, PREEMPTIONS, MOST_PREEMPTIONS, "K", preemptions))?
-        .arg(count(alloc, ORDER, MOST_NUMBER, "N", order))
+        .arg(count(alloc, ORDER, MOST_NUMBER, "N", order))?;
+    with_rows(alloc, command)
 }
 
 /// The command with the options of every session.

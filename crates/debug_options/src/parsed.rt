@@ -8,10 +8,11 @@ ghost use Rattle.debug_options.specs.Limits.{IsBounded, IsUpTo};
 ghost use Rattle.debug_options.specs.Lines.{sbigdb};
 ghost use Rattle.debug_options.specs.Reads.{GivesNone, IsNamedBy, NamesNone, ReadsOptions, begin_in};
 
-use crate::begins::begin_named;
+use crate::begins::{begin_named, with_row};
 use crate::given::{Begin, Options};
 use crate::help::{
-    MOST, MOST_QUANTUM, MOST_TURNS, ORDER, PREEMPTIONS, QUANTUM, SCHEDULE, SCRIPT, SEED, command,
+    FAULTS, MOST, MOST_QUANTUM, MOST_TURNS, ORDER, PREEMPTIONS, QUANTUM, ROW, SCHEDULE, SCRIPT,
+    SEED, SWEEP, command,
 };
 use clap::error::ErrorKind;
 use clap::{ArgMatches, Command, Error};
@@ -22,7 +23,8 @@ use std::convert::AsStr;
 
 /// What is said of options that do not go together.
 const APART: &str =
-    "--order goes with --preemptions, and --seed, a number below 2^64, with --schedule alone";
+    "--order goes with --preemptions, --seed, a number below 2^64, with --schedule alone, and \
+--row with --sweep or --faults alone";
 
 /// A number that was given, 1 to `most`, in decimal digits.
 fn number(matches: &ArgMatches<'_>, id: &str, most: u64) -> Option<u32>
@@ -44,11 +46,17 @@ fn begin(matches: &ArgMatches<'_>) -> Option<Begin>
     ensures value { result ≡ begin_in (found_of matches.now) }
     ensures bounded { IfSome result IsBounded }
 {
-    begin_named(
+    let other = begin_named(
         matches.get_str(SCHEDULE),
         matches.get_str(SEED),
         matches.get_str(PREEMPTIONS),
         matches.get_str(ORDER),
+    );
+    with_row(
+        matches.get_str(SWEEP),
+        matches.get_str(FAULTS),
+        matches.get_str(ROW),
+        other,
     )
 }
 

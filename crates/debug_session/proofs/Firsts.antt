@@ -1,7 +1,8 @@
 -- Running forward ends at the first halt.
-use Rattle.std.proofs.Common.{Result, Ok, Err, ◌≡◌, ◌<◌, ◌==◌, take, get_or, length, ◌+◌, ◌-◌, ℕ, zero, suc, Bool, true, false, List, [], ◌∷◌, ◌++◌, Option, Some, None, refl, sym, ap, ◌∙◌, subst, append_assoc, arith}
+use Rattle.std.proofs.Common.{Result, Ok, Err, ◌≡◌, ◌<◌, ◌==◌, take, get_or, length, ◌+◌, ◌-◌, ℕ, zero, suc, Bool, true, false, List, [], ◌∷◌, ◌++◌, Option, Some, None, refl, sym, ap, ap₂, ◌∙◌, subst, append_assoc, arith}
 use Rattle.std.specs.Option.{is_some}
-use Rattle.std.specs.Prelude.{IfOk, map, replicate, if◌then◌else◌}
+use Rattle.std.specs.Prelude.{IfOk, ◌&&◌, bytes_eq, map, replicate, if◌then◌else◌}
+use Rattle.std.proofs.lemmas.Slice.Eq.{bytes_eq-Decides}
 use Rattle.std.proofs.lemmas.List.{append-nil, map-append, replicate-append-replicate, take_more}
 use Rattle.board_model.specs.Shapes.{Size}
 use Rattle.machine.specs.Machine.{Machine}
@@ -29,7 +30,7 @@ use Rattle.debug_session.specs.declared.halts.Halt.TheVariants as halts
 use Rattle.debug_session.specs.declared.stops.Stops.{Stops}
 use Rattle.debug_session.specs.declared.stops.Watch.{Watch}
 use Rattle.debug_session.specs.Steps.{halt_step}
-use Rattle.debug_session.specs.Firsts.{KeepsWatched, PassAll, RanBy, RanTo, Stretched, ToHalt, Touches, halt_after, halt_seen, halts_all, is_at_point, is_of_turn, is_quiet, one_turn, seen_all, seen_by, touched_by, touched_in, touched_since}
+use Rattle.debug_session.specs.Firsts.{KeepsWatched, PassAll, RanBy, RanTo, Stretched, ToHalt, Touches, halt_after, halt_seen, halts_all, is_at_point, is_kept, is_of_turn, is_quiet, is_unread, minds_changes, one_turn, seen_all, seen_by, TellsTouched, touched_by, touched_in, touched_since}
 
 pub ok_more : {A E : Type 0} (r : Result A E) (P Q : A → Type 0) → ((x : A) → P x → Q x) → IfOk r P → IfOk r Q
 ok_more (Ok x) P Q more h = more x h
@@ -50,6 +51,45 @@ since_seen before now load [] = refl
 since_seen before now load (w ∷ more) =
     ap (λ (rest : Option Watch). if is_quiet load w (seen_by before w) (seen_by now w) then rest else Some w) (since_seen before now load more)
 
+pub tells_seen : (m : Option Machine) (watches : List Watch) (before : List (Watch × List ℕ)) → before ≡ seen_all m watches → TellsTouched m watches before
+tells_seen m watches before had = λ now load. ap (touched_since now load) had ∙ since_seen m now load watches
+
+-- ---- what was seen, behind a turn that touches nothing
+kept_by : (minds : Bool) (was now later : List ℕ) → (if minds then bytes_eq was now else true) ≡ true → (if minds then bytes_eq was later else true) ≡ (if minds then bytes_eq now later else true)
+kept_by true was now later kept = ap (λ (bytes : List ℕ). bytes_eq bytes later) ((bytes_eq-Decides was now).0 kept)
+kept_by false was now later kept = refl
+
+both_true : (a b : Bool) → (a && b) ≡ true → a ≡ true
+both_true true b e = refl
+both_true false b e = e
+
+quiet_by : (w : Watch) (load : Option Load) (was now later : List ℕ) → is_kept w was now ≡ true → is_quiet load w was later ≡ is_quiet load w now later
+quiet_by w load was now later kept = ap (λ (k : Bool). k && is_unread w load) (kept_by (minds_changes w.kind) was now later kept)
+
+goes_quiet : (quiet : Bool) (w : Watch) (rest : Option Watch) → (if quiet then rest else Some w) ≡ None → (quiet ≡ true) × (rest ≡ None)
+goes_quiet true w rest e = (refl, e)
+goes_quiet false w rest e = absurd (let no : ⊥ = cc in no)
+
+quiet_on : (m new now : Option Machine) (load other : Option Load) (watches : List Watch) → touched_in m new load watches ≡ None → touched_in m now other watches ≡ touched_in new now other watches
+quiet_on m new now load other [] none = refl
+quiet_on m new now load other (w ∷ more) none =
+    let was = seen_by m w in
+    let is = seen_by new w in
+    let here = goes_quiet (is_quiet load w was is) w (touched_in m new load more) none in
+    let same = quiet_by w other was is (seen_by now w) (both_true (is_kept w was is) (is_unread w load) here.0) in
+    ap₂ (λ (quiet : Bool) (rest : Option Watch). if quiet then rest else Some w) same (quiet_on m new now load other more here.1)
+
+pub tells_on : (m new : Option Machine) (load : Option Load) (watches : List Watch) (before : List (Watch × List ℕ)) → TellsTouched m watches before → touched_since new load before ≡ None → TellsTouched new watches before
+tells_on m new load watches before tells none = λ now other. tells now other ∙ quiet_on m new now load other watches (sym (tells new load) ∙ none)
+
+-- nothing halts: nothing was touched
+pub untouched : (halt : Option Halt) (touched : Option Watch) → halt_seen halt touched ≡ None → touched ≡ None
+untouched None None e = refl
+untouched None (Some w) e = absurd (let no : ⊥ = cc in no)
+untouched (Some halts.Point) None e = refl
+untouched (Some halts.Point) (Some w) e = absurd (let no : ⊥ = cc in no)
+untouched (Some halt) touched e = absurd (let no : ⊥ = cc in no)
+
 module _ (size : Size) (stops : Stops) where
   -- ---- turns, and then others
   pass_more : (xs ys : List ℕ) (b mid new : Bench) → PassAll size stops xs b mid → PassAll size stops ys mid new → PassAll size stops (xs ++ ys) b new
@@ -67,14 +107,18 @@ module _ (size : Size) (stops : Stops) where
 
   -- ---- one turn
   -- what was seen before a turn tells what it touched, where both machines are those of its benches
-  pub touched_along : (h : ℕ) (was now : Option Machine) (load : Option Load) (before : List (Watch × List ℕ)) (touched : Option Watch) (b new : Bench) → before ≡ seen_all was stops.watches.items → was ≡ machine_left b.power → now ≡ machine_left new.power
+  touched_told : (h : ℕ) (was now : Option Machine) (load : Option Load) (before : List (Watch × List ℕ)) (touched : Option Watch) (b new : Bench) → TellsTouched was stops.watches.items before → was ≡ machine_left b.power → now ≡ machine_left new.power
       → LoadsNext was h load → touched ≡ touched_since now load before → Touches stops h b new touched
-  touched_along h was now load before touched b new had at_first at_last loads is other reads =
+  touched_told h was now load before touched b new tells at_first at_last loads is other reads =
       let P : Option Machine → Type 0 = λ m. touched ≡ touched_in m now load stops.watches.items in
       let Q : Option Machine → Type 0 = λ m. touched ≡ touched_in (machine_left b.power) m load stops.watches.items in
       let R : Option Machine → Type 0 = λ m. LoadsNext m h load in
       let same : other ≡ load = one_load (machine_left b.power) h other load reads (subst R at_first loads) in
-      ap (λ (x : Option Load). touched_by stops x b new) same ∙ sym (subst Q at_last (subst P at_first (is ∙ ap (touched_since now load) had ∙ since_seen was now load stops.watches.items)))
+      ap (λ (x : Option Load). touched_by stops x b new) same ∙ sym (subst Q at_last (subst P at_first (is ∙ tells now load)))
+
+  pub touched_along : (h : ℕ) (was now : Option Machine) (load : Option Load) (before : List (Watch × List ℕ)) (touched : Option Watch) (b new : Bench) → before ≡ seen_all was stops.watches.items → was ≡ machine_left b.power → now ≡ machine_left new.power
+      → LoadsNext was h load → touched ≡ touched_since now load before → Touches stops h b new touched
+  touched_along h was now load before touched b new had at_first at_last loads is = touched_told h was now load before touched b new (tells_seen was stops.watches.items before had) at_first at_last loads is
 
   made_ran : (h : ℕ) (word : Word) (changed : Option Watch) (b new : Bench) (ended stands : Bool) → halts_all word ≡ ended → is_at_point stops h new ≡ stands
       → RowMoves size h (rows.Made 1 word) b new → Touches stops h b new changed
@@ -188,7 +232,7 @@ module _ (size : Size) (stops : Stops) where
 
   -- one turn, where bytes are watched
   pub watched_halts : (h made : ℕ) (rests : Bool) (at halt : Option Halt) (load : Option Load) (changed : Option Watch) (before : List (Watch × List ℕ)) (old new : Timeline) → LoadsNext (machine_of old.bench) h load → Stretched size h 1 stops.points.items made rests at old new
-      → halt ≡ halt_seen at changed → (made ≡ 0 → changed ≡ None) → before ≡ seen_all (machine_of old.bench) stops.watches.items
+      → halt ≡ halt_seen at changed → (made ≡ 0 → changed ≡ None) → TellsTouched (machine_of old.bench) stops.watches.items before
       → ((made ≡ 0 → ⊥) → changed ≡ touched_since (machine_of new.bench) load before)
       → ToHalt size stops h halt old new
   watched_halts h made rests at halt load changed before old new loads (row, turns, count, within, why, is) seen none had same = record {
@@ -197,7 +241,7 @@ module _ (size : Size) (stops : Stops) where
     ran = λ b left. (let did = turns.moves b left in
         let stands : stands_in stops.points.items (pc_in h (machine_of new.bench)) ≡ is_at_point stops h did.0 = ap (λ (m : Option Machine). stands_in stops.points.items (pc_in h m)) (shown new did.0 did.2) in
         let P : Option Halt → Type 0 = λ x. RanTo size stops h x (replicate (made_in row) h) b did.0 in
-        let facts = λ (one : made_in row ≡ 1). touched_along h (machine_of old.bench) (machine_of new.bench) load before changed b did.0 had (shown old b left) (shown new did.0 did.2) loads (same (λ zero. absurd (omega (arith, one, zero, count)))) in
+        let facts = λ (one : made_in row ≡ 1). touched_told h (machine_of old.bench) (machine_of new.bench) load before changed b did.0 had (shown old b left) (shown new did.0 did.2) loads (same (λ zero. absurd (omega (arith, one, zero, count)))) in
         (did.0, subst P (sym (seen ∙ ap (λ (x : Option Halt). halt_seen x changed) (is ∙ ap (halt_after row rests) stands))) (one_ran h row rests changed b did.0 within did.1 (λ e. none (count ∙ e)) facts), did.2));
   }
 

@@ -1,5 +1,5 @@
 -- What a turn reads is one thing.
-use Rattle.std.proofs.Common.{◌≡◌, ℕ, Bool, true, false, List, length, nat_lt, Option, Some, None, refl, sym, ap, ◌∙◌}
+use Rattle.std.proofs.Common.{◌≡◌, ℕ, Bool, true, false, List, length, nat_lt, Option, Some, None, refl, sym, ap, subst, ◌∙◌}
 use Rattle.std.specs.Bool.{MatchBool}
 use Rattle.hart.specs.Means.{word_at}
 use Rattle.machine.specs.Machine.{Machine, hart_at}
@@ -33,3 +33,18 @@ one_at m h a b one two =
 pub one_load : (m : Option Machine) (h : ℕ) (a b : Option Load) → LoadsNext m h a → LoadsNext m h b → a ≡ b
 one_load None h a b one two = one ∙ sym two
 one_load (Some m) h a b one two = let P : Option Load → Type 0 = λ x. LoadsAt m h x in both Load (nat_lt h (length m.harts)) P a b (one_at m h) one two
+
+-- ---- as the code finds it
+-- of an instruction that reads nothing there, whether or not the turn is that of one
+pub loads_none : (m : Machine) (h : ℕ) (i : Option Instr) (found : Option Load) → Fetches m.memory (hart_at m h).pc i → found ≡ made_load m.memory (load_in i (hart_at m h)) → found ≡ None → LoadsAt m h found
+loads_none m h i found fetch is none = by_stepping (is_stepping m h)
+  where
+    by_stepping : (t : Bool) → MatchBool t ((j : Option Instr) × Fetches m.memory (hart_at m h).pc j × (found ≡ made_load m.memory (load_in j (hart_at m h)))) (found ≡ None)
+    by_stepping true = (i, fetch, is)
+    by_stepping false = none
+
+-- of one that its turn carries out
+pub loads_there : (m : Machine) (h : ℕ) (i : Option Instr) (found : Option Load) → is_stepping m h ≡ true → Fetches m.memory (hart_at m h).pc i → found ≡ made_load m.memory (load_in i (hart_at m h)) → LoadsAt m h found
+loads_there m h i found steps fetch is =
+    let P : Bool → Type 0 = λ t. MatchBool t ((j : Option Instr) × Fetches m.memory (hart_at m h).pc j × (found ≡ made_load m.memory (load_in j (hart_at m h)))) (found ≡ None) in
+    subst P (sym steps) (i, fetch, is)

@@ -21,6 +21,7 @@ use Rattle.debug_session.specs.Passes.{machine_left}
 use Rattle.debug_session.specs.declared.loads.Load.{Load}
 use Rattle.debug_session.specs.declared.halts.Halt.{Halt}
 use Rattle.debug_session.specs.declared.halts.Halt.TheVariants as halts
+use Rattle.debug_session.specs.declared.stops.Seen.{Seen}
 use Rattle.debug_session.specs.declared.stops.Stops.{Stops}
 use Rattle.debug_session.specs.declared.stops.Watch.{Watch}
 use Rattle.debug_session.specs.declared.stops.WatchKind.{WatchKind}
@@ -170,6 +171,15 @@ abbrev pub touched_since : Option Machine → Option Load → List (Watch × Lis
 touched_since now load [] = None
 touched_since now load (was ∷ more) =
     if is_quiet load was.0 was.1 (seen_by now was.0) then touched_since now load more else Some was.0
+
+-- the same of the code
+abbrev pub seen_in : List Seen → List (Watch × List ℕ)
+seen_in all = map (λ was. (was.watch, was.bytes.items)) all
+
+-- what was seen tells what a turn touches, from that machine on
+abbrev pub TellsTouched : Option Machine → List Watch → List (Watch × List ℕ) → Type 0
+TellsTouched m watches before =
+    (now : Option Machine) (load : Option Load) → touched_since now load before ≡ touched_in m now load watches
 
 -- a row of a hart to the first that halts there
 abbrev pub Stretched : Size → ℕ → ℕ → List ℕ → ℕ → Bool → Option Halt → Timeline → Timeline → Type 0

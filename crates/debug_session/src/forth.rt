@@ -7,7 +7,7 @@ ghost use Rattle.bench_live.specs.Rows.{IsWithin, is_off, made_in};
 ghost use Rattle.debug_session.specs.Ats.{IsAt, MadeTurns};
 ghost use Rattle.debug_session.specs.Steps.{IsStep, Went, halt_step};
 ghost use Rattle.debug_session.specs.Withins.{MadeOne, StepsWithin, is_in};
-ghost use Rattle.debug_session.specs.Firsts.{Stretched, ToHalt, halt_after, halt_seen, halts_all, touched_since};
+ghost use Rattle.debug_session.specs.Firsts.{Stretched, ToHalt, halt_after, halt_seen, halts_all, seen_in, touched_since, TellsTouched};
 ghost use Rattle.debug_session.specs.Lives.{machine_of, pc_in, stands_in};
 ghost use Rattle.debug_session.specs.Loads.{LoadsNext};
 
@@ -166,8 +166,7 @@ fn touched_behind(
     before: &Vec<Seen>,
 ) -> Option<Watch>
     ensures none { made ≡ 0 → result ≡ None }
-    ensures told { (made ≡ 0 → ⊥) → result ≡ touched_since (machine_of timeline.now.bench) load
-        (map (λ was. (was.watch, was.bytes.items)) before.now.items) }
+    ensures told { (made ≡ 0 → ⊥) → result ≡ touched_since (machine_of timeline.now.bench) load (seen_in before.now.items) }
 {
     if made == 0 {
         return None;
@@ -210,6 +209,7 @@ fn stretch<C: Crew>(
 fn loading_turn<C: Crew>(
     setting: &Setting<'_, C>,
     stops: &Stops,
+    before: &Vec<Seen>,
     timeline: &mut Timeline,
     hart: HartId,
     load: Option<Load>,
@@ -218,17 +218,19 @@ fn loading_turn<C: Crew>(
     requires at { IsAt setting.now.shape.now timeline.old }
     requires hart { hart < setting.now.shape.now.harts }
     requires loads { LoadsNext (machine_of timeline.old.bench) hart load }
+    requires tells { TellsTouched (machine_of timeline.old.bench) stops.now.watches.items (seen_in before.now.items) }
     ensures at { OnOk result (IsAt setting.now.shape.now timeline.new) }
     ensures went { IfOk result (λ part. Went (λ h. h ≡ hart) part.made setting.now.shape.now timeline.old timeline.new) }
     ensures first { IfOk result (λ part. ToHalt setting.now.shape.now stops.now hart part.halt timeline.old timeline.new) }
     ensures one { IfOk result (λ part. part.made ≤ 1) }
     ensures made { IfOk result (λ part. MadeOne setting.now.shape.now hart stops.now.points.items part timeline.old timeline.new) }
+    ensures tells { IfOk result (λ part. (part.made ≡ 0 → ⊥) → part.halt ≡ None
+        → TellsTouched (machine_of timeline.new.bench) stops.now.watches.items (seen_in before.now.items)) }
     ensures begins { timeline.new.begins ≡ timeline.old.begins }
     ensures refused { IfErr result (λ e. e ≡ Memory) }
 {
-    let before = stops.watched(setting.alloc, timeline.bench())?;
     let part = stretch(setting, stops.points(), timeline, hart, 1, told)?;
-    let touched = touched_behind(timeline, part.made, load, &before);
+    let touched = touched_behind(timeline, part.made, load, before);
     let halt = halt_seen(part.halt, touched);
     Ok(Part {
         halt,
@@ -241,22 +243,26 @@ fn loading_turn<C: Crew>(
 fn watched_turn<C: Crew>(
     setting: &Setting<'_, C>,
     stops: &Stops,
+    before: &Vec<Seen>,
     timeline: &mut Timeline,
     hart: HartId,
     told: &mut Vec<Answer>,
 ) -> Result<Part, Refusal>
     requires at { IsAt setting.now.shape.now timeline.old }
     requires hart { hart < setting.now.shape.now.harts }
+    requires tells { TellsTouched (machine_of timeline.old.bench) stops.now.watches.items (seen_in before.now.items) }
     ensures at { OnOk result (IsAt setting.now.shape.now timeline.new) }
     ensures went { IfOk result (λ part. Went (λ h. h ≡ hart) part.made setting.now.shape.now timeline.old timeline.new) }
     ensures first { IfOk result (λ part. ToHalt setting.now.shape.now stops.now hart part.halt timeline.old timeline.new) }
     ensures one { IfOk result (λ part. part.made ≤ 1) }
     ensures made { IfOk result (λ part. MadeOne setting.now.shape.now hart stops.now.points.items part timeline.old timeline.new) }
+    ensures tells { IfOk result (λ part. (part.made ≡ 0 → ⊥) → part.halt ≡ None
+        → TellsTouched (machine_of timeline.new.bench) stops.now.watches.items (seen_in before.now.items)) }
     ensures begins { timeline.new.begins ≡ timeline.old.begins }
     ensures refused { IfErr result (λ e. e ≡ Memory) }
 {
     let load = timeline.next_load(hart);
-    loading_turn(setting, stops, timeline, hart, load, told)
+    loading_turn(setting, stops, before, timeline, hart, load, told)
 }
 
 /// A hart's part of a round where bytes are watched, turn by turn.
@@ -275,9 +281,10 @@ fn watched_part<C: Crew>(
     ensures few { IfOk result (λ part. part.made ≤ most) }
     ensures refused { IfErr result (λ e. e ≡ Memory) }
 {
+    let before = stops.watched(setting.alloc, timeline.bench())?;
     let mut sum = 0;
     while sum < most {
-        let part = watched_turn(setting, stops, timeline, hart, told)?;
+        let part = watched_turn(setting, stops, &before, timeline, hart, told)?;
         sum += part.made;
         if part.halt.is_some() || part.rests || part.made == 0 {
             return Ok(Part {
@@ -335,7 +342,8 @@ pub(crate) fn step<C: Crew>(
     ensures begins { timeline.new.begins ≡ timeline.old.begins }
     ensures refused { IfErr result (λ e. e ≡ Memory) }
 {
-    let part = watched_turn(setting, stops, timeline, hart, told)?;
+    let before = stops.watched(setting.alloc, timeline.bench())?;
+    let part = watched_turn(setting, stops, &before, timeline, hart, told)?;
     let halt = halt_step(part.halt, part.made);
     Ok(Stop { hart, halt })
 }
@@ -379,9 +387,10 @@ pub(crate) fn step_within<C: Crew>(
     ensures there { IfOk result (λ stop. stop.hart ≡ hart) }
     ensures refused { IfErr result (λ e. e ≡ Memory) }
 {
+    let before = stops.watched(setting.alloc, timeline.bench())?;
     let mut done = 0;
     while done < within.most {
-        let part = watched_turn(setting, stops, timeline, hart, told)?;
+        let part = watched_turn(setting, stops, &before, timeline, hart, told)?;
         if let Some(halt) = part.halt {
             return Ok(Stop { hart, halt });
         }

@@ -149,18 +149,23 @@ fn made_load(bytes: &[u8], load: Option<Load>) -> Option<Load>
     }
 }
 
-/// What the next turn of a hart of this board reads.
+/// What the next turn of a hart of this board reads. Of most instructions it is none, whatever else is so: then no more is looked at.
+#[tactic(auto, using(crate::proofs::OneLoad::loads_none, crate::proofs::OneLoad::loads_there))]
 fn load_at(board: &mut Board<SimDisk>, hart: HartId) -> Option<Load>
     requires { hart < length (machine_in board.old).harts }
     ensures same { board.new ≡ board.old }
     ensures loads { LoadsAt (machine_in board.old) hart result }
 {
+    let found = instruction(board, hart);
+    let load = load_in(flatten(found), board.hart(hart));
+    let made = made_load(board.ram().bytes(), load);
+    if made.is_none() {
+        return None;
+    }
     if !is_stepping(board, hart) {
         return None;
     }
-    let found = instruction(board, hart);
-    let load = load_in(flatten(found), board.hart(hart));
-    made_load(board.ram().bytes(), load)
+    made
 }
 
 /// The same of a board that may be off, or lack the hart.

@@ -3,7 +3,7 @@
 ghost use Rattle.std.specs.Prelude.{◌≡◌, ◌+◌, [], true, false, ◌==◌, ◌++◌, map, nat_lt, IfErr, IfOk, OnErr, OnOk};
 ghost use Rattle.std.specs.List.{list_any};
 ghost use Rattle.debug_session.specs.Points.{with_point, with_watch, without_point, without_watch};
-ghost use Rattle.debug_session.specs.Firsts.{is_kept, is_read, is_unread, minds_changes, minds_reads, seen_all, seen_by, touched_since};
+ghost use Rattle.debug_session.specs.Firsts.{is_kept, is_read, is_unread, minds_changes, minds_reads, seen_all, seen_by, seen_in, touched_since};
 ghost use Rattle.debug_session.specs.Others.{first_other, other_of};
 ghost use Rattle.debug_session.specs.Lives.{machine_of};
 ghost use Rattle.board_model.specs.declared.refusal.Refusal.TheVariants.{Memory};
@@ -137,10 +137,10 @@ impl Stops {
         self.watches.retain(|w| *w != watch);
     }
 
-    /// What is watched, as it is now.
+    /// What is watched, as it is now. It tells what the next turn touches; and behind turns that touched nothing what the one behind them
+    /// does, since all that is minded is as it was.
     pub(crate) fn watched(&self, alloc: Global, bench: &DebuggedBench) -> Result<Vec<Seen>, Refusal>
-        ensures seen { IfOk result (λ all. map (λ was. (was.watch, was.bytes.items)) all.items
-            ≡ seen_all (machine_of bench.now) self.now.watches.items) }
+        ensures seen { IfOk result (λ all. seen_in all.items ≡ seen_all (machine_of bench.now) self.now.watches.items) }
         ensures refused { IfErr result (λ e. e ≡ Memory) }
     {
         let mut all = Vec::new(alloc);
@@ -188,12 +188,12 @@ fn is_read(watch: Watch, load: Option<Load>) -> bool
     }
 }
 
-/// Whether nothing is changed that a watchpoint minds.
-fn is_kept(watch: Watch, was: &[u8], now: &[u8]) -> bool
-    ensures { result ≡ is_kept watch was.now now.now }
+/// Whether nothing is changed that a watchpoint minds of what was seen. One that minds no changes is not compared.
+fn is_kept(bench: &DebuggedBench, was: &Seen) -> bool
+    ensures { result ≡ is_kept was.now.watch was.now.bytes.items (seen_by (machine_of bench.now) was.now.watch) }
 {
-    if watch.kind.minds_changes() {
-        was == now
+    if was.watch.kind.minds_changes() {
+        was.bytes.as_slice() == bytes_of(bench, was.watch)
     } else {
         true
     }
@@ -214,7 +214,7 @@ fn is_unread(watch: Watch, load: Option<Load>) -> bool
 fn other_now(bench: &DebuggedBench, load: Option<Load>, was: &Seen) -> Option<Watch>
     ensures { result ≡ other_of (machine_of bench.now) load (was.now.watch, was.now.bytes.items) }
 {
-    let kept = is_kept(was.watch, was.bytes.as_slice(), bytes_of(bench, was.watch));
+    let kept = is_kept(bench, was);
     if kept && is_unread(was.watch, load) {
         None
     } else {
@@ -224,7 +224,7 @@ fn other_now(bench: &DebuggedBench, load: Option<Load>, was: &Seen) -> Option<Wa
 
 /// The first of these that a turn touched, which read that.
 fn first_in(bench: &DebuggedBench, load: Option<Load>, before: &[Seen]) -> Option<Watch>
-    ensures { result ≡ first_other (machine_of bench.now) load (map (λ was. (was.watch, was.bytes.items)) before.now) }
+    ensures { result ≡ first_other (machine_of bench.now) load (seen_in before.now) }
 {
     for was in before {
         if let Some(watch) = other_now(bench, load, was) {
@@ -241,8 +241,7 @@ pub(crate) fn first_touched(
     load: Option<Load>,
     before: &Vec<Seen>,
 ) -> Option<Watch>
-    ensures { result ≡ touched_since (machine_of bench.now) load
-        (map (λ was. (was.watch, was.bytes.items)) before.now.items) }
+    ensures { result ≡ touched_since (machine_of bench.now) load (seen_in before.now.items) }
 {
     first_in(bench, load, before)
 }

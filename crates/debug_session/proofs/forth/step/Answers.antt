@@ -1,8 +1,10 @@
 use Rattle.std.proofs.Common.{◌≡◌, Option, None, Some, refl, sym, ap, ◌∙◌, subst}
 use Rattle.debug_session.specs.declared.halts.Halt.{Halt}
-use Rattle.debug_session.specs.Firsts.{ToHalt}
+use Rattle.debug_session.specs.Firsts.{TellsTouched, ToHalt, seen_in}
+use Rattle.debug_session.specs.Lives.{machine_of}
+use Rattle.debug_session.specs.declared.debugged.DebuggedBench.{DebuggedBench}
 use Rattle.debug_session.specs.Steps.{IsStep, halt_step}
-use Rattle.debug_session.proofs.Firsts.{step_halts}
+use Rattle.debug_session.proofs.Firsts.{step_halts, tells_seen}
 use Rattle.debug_session.proofs.Wents.{step_of}
 use Rattle.debug_session.proofs.forth.step.Goals as goal
 
@@ -17,3 +19,10 @@ returns-clause-first g c =
     let part = c.in_ok-part.part in
     let P : Halt → Type 0 = λ halt. ToHalt c.args.setting.now.shape.now c.args.stops.now c.args.hart (Some halt) c.args.timeline.now c.watched_turn.new.timeline in
     subst P (sym c.halt_step-halt.ensures) (step_halts c.args.setting.now.shape.now c.args.stops.now c.args.hart part.made part.halt c.args.timeline.now c.watched_turn.new.timeline c.in_ok-part.ensures.first)
+
+pub watched_turn-requires-clause-tells : goal.watched_turn-requires-clause-tells
+watched_turn-requires-clause-tells g c κs within =
+    let watches = c.args.stops.now.watches.items in
+    let before = seen_in c.in_ok-before.before.items in
+    let P : DebuggedBench → Type 0 = λ b. TellsTouched (machine_of b) watches before in
+    subst P c.bench.ensures (tells_seen (machine_of c.bench.result.now) watches before c.in_ok-before.ensures.seen)

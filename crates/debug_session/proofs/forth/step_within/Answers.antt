@@ -1,12 +1,18 @@
-use Rattle.std.proofs.Common.{None, Some, refl, ◌≡◌, ◌≤◌, ◌+◌, sym, ◌∙◌, arith}
+use Rattle.std.proofs.Common.{None, Some, refl, ◌≡◌, ◌≤◌, ◌+◌, sym, ◌∙◌, arith, subst}
 use Rattle.debug_session.specs.declared.halts.Halt.TheVariants as halts
-use Rattle.debug_session.proofs.Firsts.{halt_then, no_halt, other_halt}
+use Rattle.debug_session.specs.Firsts.{TellsTouched, seen_in}
+use Rattle.debug_session.specs.Lives.{machine_of}
+use Rattle.debug_session.specs.declared.debugged.DebuggedBench.{DebuggedBench}
+use Rattle.debug_session.proofs.Firsts.{halt_then, no_halt, other_halt, tells_seen}
 use Rattle.debug_session.proofs.Wents.{few_went, step_more, went_none}
 use Rattle.debug_session.proofs.Withins.{stayed_more, stayed_none, steps_asked, steps_halt, steps_idle, steps_out, steps_spent}
 use Rattle.debug_session.proofs.forth.step_within.Goals as goal
 
 pub loop-done-init : goal.loop-done-init
-loop-done-init g c = record { went = (0, omega arith, went_none (λ h. h ≡ c.args.hart) c.args.setting.now.shape.now c.args.timeline.now c.requires.at); first = no_halt c.args.setting.now.shape.now c.args.stops.now c.args.hart c.args.timeline.now; within = stayed_none c.args.setting.now.shape.now c.args.within c.args.hart c.args.timeline.now; few = omega arith }
+loop-done-init g c =
+    let watches = c.args.stops.now.watches.items in
+    let P : DebuggedBench → Type 0 = λ b. TellsTouched (machine_of b) watches (seen_in c.in_ok-before.before.items) in
+    record { went = (0, omega arith, went_none (λ h. h ≡ c.args.hart) c.args.setting.now.shape.now c.args.timeline.now c.requires.at); first = no_halt c.args.setting.now.shape.now c.args.stops.now c.args.hart c.args.timeline.now; within = stayed_none c.args.setting.now.shape.now c.args.within c.args.hart c.args.timeline.now; few = omega arith; tells = subst P c.bench.ensures (tells_seen (machine_of c.bench.result.now) watches (seen_in c.in_ok-before.before.items) c.in_ok-before.ensures.seen) }
 
 pub returns-in-Some-clause-went : goal.returns-in-Some-clause-went
 returns-in-Some-clause-went g c =
@@ -40,7 +46,7 @@ pub loop-done-preserved : goal.loop-done-preserved
 loop-done-preserved g c =
     let part = c.in_ok-part in
     let made : part.part.made ≡ 1 = omega (arith, part.ensures.one, c.if-part-eq0.false) in
-    record { went = step_more c.args.hart c.loop-done.done part.part.made c.args.setting.now.shape.now c.args.timeline.now c.loop-done.timeline c.watched_turn.new.timeline c.loop-done.invariant.went part.ensures.one part.ensures.went; first = halt_then c.args.setting.now.shape.now c.args.stops.now c.args.hart c.args.hart c.in_ok-part.part.halt None c.args.timeline.now c.loop-done.timeline c.watched_turn.new.timeline c.in_default.is c.loop-done.invariant.first c.in_ok-part.ensures.first; within = stayed_more c.args.setting.now.shape.now c.args.within c.args.hart c.loop-done.done c.args.stops.now.points.items c.in_ok-part.part c.args.timeline.now c.loop-done.timeline c.watched_turn.new.timeline c.loop-done.invariant.within part.ensures.made made (sym c.stands_within.ensures ∙ c.if-not-stands_within.false); few = omega (arith, c.loop-done-test.true) }
+    record { went = step_more c.args.hart c.loop-done.done part.part.made c.args.setting.now.shape.now c.args.timeline.now c.loop-done.timeline c.watched_turn.new.timeline c.loop-done.invariant.went part.ensures.one part.ensures.went; first = halt_then c.args.setting.now.shape.now c.args.stops.now c.args.hart c.args.hart c.in_ok-part.part.halt None c.args.timeline.now c.loop-done.timeline c.watched_turn.new.timeline c.in_default.is c.loop-done.invariant.first c.in_ok-part.ensures.first; within = stayed_more c.args.setting.now.shape.now c.args.within c.args.hart c.loop-done.done c.args.stops.now.points.items c.in_ok-part.part c.args.timeline.now c.loop-done.timeline c.watched_turn.new.timeline c.loop-done.invariant.within part.ensures.made made (sym c.stands_within.ensures ∙ c.if-not-stands_within.false); few = omega (arith, c.loop-done-test.true); tells = part.ensures.tells (λ zero. absurd (omega (arith, zero, made))) c.in_default.is }
 
 pub returns-in-Some-clause-first : goal.returns-in-Some-clause-first
 returns-in-Some-clause-first g c = halt_then c.args.setting.now.shape.now c.args.stops.now c.args.hart c.args.hart c.in_ok-part.part.halt (Some c.in-Some.halt) c.args.timeline.now c.loop-done.timeline c.watched_turn.new.timeline c.in-Some.is c.loop-done.invariant.first c.in_ok-part.ensures.first

@@ -1,5 +1,6 @@
 use Rattle.std.proofs.Common.{None, ◌≡◌, ◌≤◌, ◌-◌, ℕ}
-use Rattle.debug_session.specs.Firsts.{ToHalt}
+use Rattle.debug_session.specs.Firsts.{TellsTouched, ToHalt, seen_in}
+use Rattle.debug_session.specs.Lives.{machine_of}
 use Rattle.debug_session.specs.Steps.{Went}
 use Rattle.debug_session.specs.Withins.{StayedWithin}
 use Rattle.debug_session.proofs.forth.step_within.Given as goal
@@ -10,6 +11,7 @@ invariant-loop-done g l = record {
   first : ToHalt l.setting.shape.now l.stops l.hart None l.fn.timeline l.timeline;
   within : StayedWithin l.setting.shape.now l.within l.hart l.done l.fn.timeline l.timeline;
   few : l.done ≤ l.within.most;
+  tells : TellsTouched (machine_of l.timeline.bench) l.stops.watches.items (seen_in l.before.items);
 }
 
 abbrev pub decreases-loop-done : goal.decreases-loop-done

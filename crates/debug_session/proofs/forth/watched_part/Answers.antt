@@ -1,7 +1,21 @@
-use Rattle.std.proofs.Common.{None, ◌≡◌, arith}
-use Rattle.debug_session.proofs.Firsts.{halt_more, halt_then, none_of}
-use Rattle.debug_session.proofs.Wents.{went_more}
+use Rattle.std.proofs.Common.{None, ◌≡◌, arith, subst}
+use Rattle.debug_session.specs.Firsts.{TellsTouched, seen_in}
+use Rattle.debug_session.specs.Lives.{machine_of}
+use Rattle.debug_session.specs.declared.debugged.DebuggedBench.{DebuggedBench}
+use Rattle.debug_session.proofs.Firsts.{halt_more, halt_then, no_halt, none_of, tells_seen}
+use Rattle.debug_session.proofs.Wents.{went_more, went_none}
 use Rattle.debug_session.proofs.forth.watched_part.Goals as goal
+
+pub loop-sum-init : goal.loop-sum-init
+loop-sum-init g c =
+    let watches = c.args.stops.now.watches.items in
+    let P : DebuggedBench → Type 0 = λ b. TellsTouched (machine_of b) watches (seen_in c.in_ok-before.before.items) in
+    record {
+      went = went_none (λ h. h ≡ c.args.hart) c.args.setting.now.shape.now c.args.timeline.now c.requires.at;
+      first = no_halt c.args.setting.now.shape.now c.args.stops.now c.args.hart c.args.timeline.now;
+      few = omega arith;
+      tells = subst P c.bench.ensures (tells_seen (machine_of c.bench.result.now) watches (seen_in c.in_ok-before.before.items) c.in_ok-before.ensures.seen);
+    }
 
 pub returns-then-is_some-clause-went : goal.returns-then-is_some-clause-went
 returns-then-is_some-clause-went g c = went_more (λ h. h ≡ c.args.hart) (λ h. h ≡ c.args.hart) c.loop-sum.sum c.in_ok-part.part.made c.args.setting.now.shape.now c.args.timeline.now c.loop-sum.timeline c.watched_turn.new.timeline (λ h e. e) c.loop-sum.invariant.went c.in_ok-part.ensures.went
@@ -11,6 +25,7 @@ loop-sum-preserved g c = record {
   went = went_more (λ h. h ≡ c.args.hart) (λ h. h ≡ c.args.hart) c.loop-sum.sum c.in_ok-part.part.made c.args.setting.now.shape.now c.args.timeline.now c.loop-sum.timeline c.watched_turn.new.timeline (λ h e. e) c.loop-sum.invariant.went c.in_ok-part.ensures.went;
   first = halt_then c.args.setting.now.shape.now c.args.stops.now c.args.hart c.args.hart c.in_ok-part.part.halt None c.args.timeline.now c.loop-sum.timeline c.watched_turn.new.timeline (none_of c.in_ok-part.part.halt c.if-is_some.ensures) c.loop-sum.invariant.first c.in_ok-part.ensures.first;
   few = omega (arith, c.loop-sum-test.true, c.in_ok-part.ensures.one);
+  tells = c.in_ok-part.ensures.tells (λ zero. absurd (omega (arith, zero, c.if-part-eq0.false))) (none_of c.in_ok-part.part.halt c.if-is_some.ensures);
 }
 
 pub returns-then-is_some-clause-first : goal.returns-then-is_some-clause-first

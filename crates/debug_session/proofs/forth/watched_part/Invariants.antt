@@ -1,5 +1,6 @@
 use Rattle.std.proofs.Common.{None, ◌≡◌, ◌≤◌, ◌-◌}
-use Rattle.debug_session.specs.Firsts.{ToHalt}
+use Rattle.debug_session.specs.Firsts.{TellsTouched, ToHalt, seen_in}
+use Rattle.debug_session.specs.Lives.{machine_of}
 use Rattle.debug_session.specs.Steps.{Went}
 use Rattle.debug_session.proofs.forth.watched_part.Given as goal
 
@@ -8,6 +9,7 @@ invariant-loop-sum g l = record {
   went : Went (λ h. h ≡ l.hart) l.sum l.setting.shape.now l.fn.timeline l.timeline;
   first : ToHalt l.setting.shape.now l.stops l.hart None l.fn.timeline l.timeline;
   few : l.sum ≤ l.most;
+  tells : TellsTouched (machine_of l.timeline.bench) l.stops.watches.items (seen_in l.before.items);
 }
 
 abbrev pub decreases-loop-sum : goal.decreases-loop-sum
