@@ -3,9 +3,12 @@
 #![tactic(auto)]
 
 mod fault;
+mod run_line;
+mod standing;
 mod streams;
 mod taps;
 mod usage;
+mod watched;
 
 ghost use Rattle.std.specs.Prelude.{◌≡◌, ◌⊎◌, ◌≤◌, [], None, Result, OnOk, IfOk, IfErr, IfSome, Ok, Err};
 ghost use Rattle.std.specs.Io.Buffered.{writer_buffer, writer_contents};
@@ -27,6 +30,7 @@ pub use crate::streams::run_on;
 use crate::streams::{end, without_work};
 use crate::usage::USAGE;
 pub use crate::usage::{Drawn, Options, Savers, Work, options_of};
+pub use crate::watched::Telling;
 use bench_report::run_with;
 use bench_schedules::{
     Compared, Plan as Schedules, Preempted, Wanted, Within, line_numbers, preemptions, schedules,
@@ -40,7 +44,7 @@ use board_model::{MAX_LINE_BYTES, MAX_SCRIPT_LINES, Refusal};
 pub use command_line::Pipe;
 use command_line::{keep_heap, read_at_most, words};
 use crew::Crew;
-use jobs::Jobs;
+use jobs::{Jobs, Progress};
 use std::alloc::Global;
 use std::convert::AsStr;
 use std::io::{self, BufWriter, ErrorKind, IsTerminal, Read, Write};
@@ -102,8 +106,8 @@ pub fn write_report<C: Crew, W: Write + Drop>(
 /// make its runs.
 ///
 /// Refused as `bench_sweep::run_bench` is, and `Output` also where what the writer held back could not be written.
-pub fn write_bench<R: Threads + Sync, W: Write + Drop>(
-    jobs: &Jobs<'_, R>,
+pub fn write_bench<R: Threads + Sync, P: Progress, W: Write + Drop>(
+    jobs: &Jobs<'_, R, P>,
     alloc: Global,
     script: &[u8],
     plan: Plan,
@@ -135,8 +139,8 @@ pub fn write_bench<R: Threads + Sync, W: Write + Drop>(
 /// the end.
 ///
 /// Refused as `bench_sweep::run_bench_recovered` is, and `Output` also where what the writer held back could not be written.
-pub fn write_recovered<R: Threads + Sync, W: Write + Drop>(
-    jobs: &Jobs<'_, R>,
+pub fn write_recovered<R: Threads + Sync, P: Progress, W: Write + Drop>(
+    jobs: &Jobs<'_, R, P>,
     alloc: Global,
     script: &[u8],
     plan: Plan,
@@ -227,8 +231,8 @@ pub fn write_recovered_row<R: Threads + Sync, W: Write + Drop>(
 /// jobs run them.
 ///
 /// Refused as `bench_schedules::schedules` is, and `Output` also where what the writer held back could not be written.
-pub fn write_schedules<R: Threads + Sync, W: Write + Drop>(
-    jobs: &Jobs<'_, R>,
+pub fn write_schedules<R: Threads + Sync, P: Progress, W: Write + Drop>(
+    jobs: &Jobs<'_, R, P>,
     alloc: Global,
     script: &[u8],
     plan: Schedules,
@@ -248,7 +252,7 @@ pub fn write_schedules<R: Threads + Sync, W: Write + Drop>(
         → (writer_contents W.contents out.new ≡ writer_contents W.contents out.old)
         × ((result ≡ Err e) ⊎ (result ≡ Err Refusal.Memory)) }
 {
-    let count = schedules::<R, (), BufWriter<W>>(jobs, alloc, script, payloads, plan, out)?;
+    let count = schedules::<R, P, BufWriter<W>>(jobs, alloc, script, payloads, plan, out)?;
     match out.flush() {
         Ok(()) => Ok(count),
         Err(_) => Err(Refusal::Output),
@@ -397,6 +401,7 @@ fn run_words<R: Threads + Sync, S: AsStr>(rt: &HostRuntime, threads: &R, words: 
 {
     keep_heap(rt.alloc());
     let mut faults = rt.stderr();
+    let is_shared = rt.stdout().is_terminal();
     match BufWriter::with_capacity(rt.alloc(), at_once(rt), Pipe::new(io::writer(rt))) {
         Ok(mut out) => {
             run_on(
@@ -406,7 +411,11 @@ fn run_words<R: Threads + Sync, S: AsStr>(rt: &HostRuntime, threads: &R, words: 
                 words,
                 rt.reader(),
                 &mut out,
-                &mut faults,
+                Telling {
+                    faults: &mut faults,
+                    clock: rt,
+                    is_shared,
+                },
             )
         }
         Err(_) => end(&Err(BenchFault::Refused(Refusal::Memory)), &mut faults),

@@ -17,6 +17,7 @@ ghost use Rattle.script_lang.specs.Scripts.{script_of};
 use crate::fault::{BenchFault, status_of};
 use crate::taps::put_tap;
 use crate::usage::{Drawn, MOST_JOBS, Options, Savers, Work, options_of};
+use crate::watched::{Telling, Unpaused, Watched};
 use crate::{
     READ_AT_MOST, read_script, write_bench, write_order, write_preemptions, write_recovered,
     write_recovered_row, write_report, write_row, write_schedule, write_schedules, write_shrunk,
@@ -30,12 +31,13 @@ use command_line::{
     FileFault, NoWork, Pipe, ProgramFault, explain_fault, read_at_most, show_on, tell_fault,
 };
 use crew::{Crew, Sequential};
-use jobs::Jobs;
+use jobs::{Jobs, Progress};
 use std::alloc::Global;
 use std::convert::AsStr;
 use std::io::{self, BufReader, BufWriter, IsTerminal, Read, Write};
 use std::thread;
 use std::thread::Threads;
+use std::time::Clock;
 
 /// How many bytes of a bench's text are gathered at once where tests are made of it.
 const HELD_BACK: usize = 65_536;
@@ -126,8 +128,8 @@ fn jobs_of<R: Threads>(threads: &R, asked: Option<usize>) -> usize
 }
 
 /// Runs a bench over the script by the threads of these jobs, and writes its lines. Each of them is handed on as it comes.
-fn judge<R: Threads + Sync, O: Write + Drop>(
-    jobs: &Jobs<'_, R>,
+fn judge<R: Threads + Sync, P: Progress, O: Write + Drop>(
+    jobs: &Jobs<'_, R, P>,
     alloc: Global,
     plan: Plan,
     script: &[u8],
@@ -140,7 +142,7 @@ fn judge<R: Threads + Sync, O: Write + Drop>(
     ensures faults { IfErr result (λ fault. IsFaultIn (Judge plan) payloads [] script.now
         (is_closed_pipe (writer_inner out.new)) fault) }
 {
-    match write_bench::<R, Pipe<O>>(jobs, alloc, script, plan, payloads, out) {
+    match write_bench::<R, P, Pipe<O>>(jobs, alloc, script, plan, payloads, out) {
         Ok(sweep) if sweep.wrong == 0 => Ok(()),
         Ok(_) => Err(BenchFault::Wrong),
         Err(e) => Err(fault_of(e, out)),
@@ -148,8 +150,8 @@ fn judge<R: Threads + Sync, O: Write + Drop>(
 }
 
 /// Runs a bench over the script with that recovery behind each run, as `judge` does.
-fn judge_recovered<R: Threads + Sync, O: Write + Drop>(
-    jobs: &Jobs<'_, R>,
+fn judge_recovered<R: Threads + Sync, P: Progress, O: Write + Drop>(
+    jobs: &Jobs<'_, R, P>,
     alloc: Global,
     plan: Plan,
     script: &[u8],
@@ -166,7 +168,7 @@ fn judge_recovered<R: Threads + Sync, O: Write + Drop>(
     ensures faults { IfErr result (λ fault. IsFaultIn (Recover plan) payloads recovery.now script.now
         (is_closed_pipe (writer_inner out.new)) fault) }
 {
-    match write_recovered::<R, Pipe<O>>(jobs, alloc, script, plan, recovery, payloads, out) {
+    match write_recovered::<R, P, Pipe<O>>(jobs, alloc, script, plan, recovery, payloads, out) {
         Ok(done) if done.differ == 0 => Ok(()),
         Ok(_) => Err(BenchFault::Wrong),
         Err(e) => Err(fault_of(e, out)),
@@ -174,8 +176,8 @@ fn judge_recovered<R: Threads + Sync, O: Write + Drop>(
 }
 
 /// Runs schedules of the script by the threads of these jobs, and writes which differ. Each line is handed on as it comes.
-fn compare<R: Threads + Sync, O: Write + Drop>(
-    jobs: &Jobs<'_, R>,
+fn compare<R: Threads + Sync, P: Progress, O: Write + Drop>(
+    jobs: &Jobs<'_, R, P>,
     alloc: Global,
     plan: Schedules,
     script: &[u8],
@@ -192,7 +194,7 @@ fn compare<R: Threads + Sync, O: Write + Drop>(
     ensures faults { IfErr result (λ fault. IsFaultIn (Compare plan) payloads.now [] script.now
         (is_closed_pipe (writer_inner out.new)) fault) }
 {
-    match write_schedules::<R, Pipe<O>>(jobs, alloc, script, plan, payloads, out) {
+    match write_schedules::<R, P, Pipe<O>>(jobs, alloc, script, plan, payloads, out) {
         Ok(count) if count.differ == 0 => Ok(()),
         Ok(_) => Err(BenchFault::Wrong),
         Err(e) => Err(fault_of(e, out)),
@@ -443,14 +445,16 @@ fn named_files<P: PayloadFiles, F: Write>(
     Ok(Given { payloads, recovery })
 }
 
-/// Does the work of the options over the script, which begins with these payloads, and where the work has one with that recovery.
-fn run_work<R: Threads + Sync, O: Write + Drop>(
+/// Does the work of the options over the script, which begins with these payloads, and where the work has one with that recovery. Of a long
+/// run it is told how far that is.
+fn run_work<R: Threads + Sync, P: Progress + Drop, O: Write + Drop>(
     alloc: Global,
     threads: &R,
     options: &Options,
     given: Given,
     script: &[u8],
     out: &mut BufWriter<Pipe<O>>,
+    progress: P,
 ) -> Result<(), BenchFault>
     requires most { IsBounded options.now.work }
     ensures worked { OnOk result (IsMade options.now.work given.payloads given.recovery.items script.now
@@ -463,7 +467,10 @@ fn run_work<R: Threads + Sync, O: Write + Drop>(
         (is_closed_pipe (writer_inner out.new))) }
 {
     let Given { payloads, recovery } = given;
-    let jobs = Jobs::new(threads, jobs_of(threads, options.jobs));
+    let count = jobs_of(threads, options.jobs);
+    let jobs = Jobs::telling(threads, count, progress);
+    // Nobody is told of the orders with few preemptions.
+    let untold = Jobs::new(threads, count);
     match options.work {
         Work::Report(savers) => report(alloc, threads, savers, script, payloads, out),
         Work::Judge(plan) => judge(&jobs, alloc, plan, script, payloads, out),
@@ -477,19 +484,20 @@ fn run_work<R: Threads + Sync, O: Write + Drop>(
         Work::Compare(plan) => compare(&jobs, alloc, plan, script, &payloads, out),
         Work::Show(drawn) => show_schedule::<R, O>(alloc, drawn, script, &payloads, out),
         Work::Shrink(drawn) => show_shrunk::<R, O>(alloc, drawn, script, &payloads, out),
-        Work::Preempt(within) => preempt(&jobs, alloc, within, script, &payloads, out),
-        Work::ShowOrder(wanted) => show_differing(&jobs, alloc, wanted, script, &payloads, out),
+        Work::Preempt(within) => preempt(&untold, alloc, within, script, &payloads, out),
+        Work::ShowOrder(wanted) => show_differing(&untold, alloc, wanted, script, &payloads, out),
     }
 }
 
 /// Does the work as `run_work` does, into memory, and then writes the tests of what it wrote.
-fn run_tested<R: Threads + Sync, O: Write + Drop>(
+fn run_tested<R: Threads + Sync, P: Progress + Copy + Drop, O: Write + Drop>(
     alloc: Global,
     threads: &R,
     options: &Options,
     given: Given,
     script: &[u8],
     out: &mut BufWriter<Pipe<O>>,
+    progress: P,
 ) -> Result<(), BenchFault>
     requires most { IsBounded options.now.work }
     ensures worked { OnOk result (IsPut true true (IsMade options.now.work given.payloads given.recovery.items script.now)
@@ -504,7 +512,17 @@ fn run_tested<R: Threads + Sync, O: Write + Drop>(
     let Ok(mut text) = BufWriter::with_capacity(alloc, HELD_BACK, Pipe::new(Vec::new(alloc))) else {
         return Err(fault_of(Refusal::Memory, out));
     };
-    match run_work::<R, Vec<u8>>(alloc, threads, options, given, script, &mut text) {
+    let done = run_work::<R, Unpaused<P>, Vec<u8>>(
+        alloc,
+        threads,
+        options,
+        given,
+        script,
+        &mut text,
+        Unpaused(progress),
+    );
+    progress.pause();
+    match done {
         Ok(()) => match put_tap(alloc, text.get_ref().get_ref(), true, out) {
             Ok(()) => Ok(()),
             Err(e) => Err(fault_of(e, out)),
@@ -519,13 +537,14 @@ fn run_tested<R: Threads + Sync, O: Write + Drop>(
 }
 
 /// Does the work of the options, and writes what it makes, or the tests of that.
-fn run_either<R: Threads + Sync, O: Write + Drop>(
+fn run_either<R: Threads + Sync, P: Progress + Copy + Drop, O: Write + Drop>(
     alloc: Global,
     threads: &R,
     options: &Options,
     given: Given,
     script: &[u8],
     out: &mut BufWriter<Pipe<O>>,
+    progress: P,
 ) -> Result<(), BenchFault>
     requires most { IsBounded options.now.work }
     ensures worked { OnOk result (IsPut options.now.tap true (IsMade options.now.work given.payloads given.recovery.items script.now)
@@ -538,20 +557,27 @@ fn run_either<R: Threads + Sync, O: Write + Drop>(
         (is_closed_pipe (writer_inner out.new))) }
 {
     if options.tap {
-        return run_tested(alloc, threads, options, given, script, out);
+        return run_tested(alloc, threads, options, given, script, out, progress);
     }
-    run_work(alloc, threads, options, given, script, out)
+    run_work(alloc, threads, options, given, script, out, progress)
 }
 
 /// Does what the options ask for. The files of payloads and of a recovery are read before the script.
-fn run_options<R: Threads + Sync, P: PayloadFiles, I: Read + Drop, O: Write + Drop, F: Write>(
+fn run_options<
+    R: Threads + Sync,
+    P: PayloadFiles,
+    I: Read + Drop,
+    O: Write + Drop,
+    F: Write + IsTerminal,
+    C: Clock,
+>(
     alloc: Global,
     threads: &R,
     files: &P,
     options: &Options,
     input: I,
     out: &mut BufWriter<Pipe<O>>,
-    faults: &mut F,
+    telling: &mut Telling<'_, F, C>,
 ) -> Result<(), BenchFault>
     requires most { IsBounded options.now.work }
     ensures done { OnOk result (AreDone options.now (P.bytes_at files.now) (I.remaining input)
@@ -564,9 +590,15 @@ fn run_options<R: Threads + Sync, P: PayloadFiles, I: Read + Drop, O: Write + Dr
         ⊎ IsFaultOf options.now (P.bytes_at files.now) (I.remaining input)
         (is_closed_pipe (writer_inner out.new)) fault) }
 {
-    let given = named_files(alloc, files, options, faults)?;
-    let script = named_script(alloc, files, options, input, faults)?;
-    run_either(alloc, threads, options, given, &script, out)
+    let given = named_files(alloc, files, options, telling.faults)?;
+    let script = named_script(alloc, files, options, input, telling.faults)?;
+    let clock = telling.clock;
+    let is_shared = telling.is_shared;
+    let faults = &mut *telling.faults;
+    let watched = Watched::new(faults, clock, is_shared, options.work);
+    let done = run_either(alloc, threads, options, given, &script, out, &watched);
+    let _line = watched.end();
+    done
 }
 
 /// Does the work that the words ask for, or shows what they ask to be shown, or their fault.
@@ -576,7 +608,8 @@ fn run_words<
     S: AsStr,
     I: Read + Drop,
     O: Write + Drop,
-    F: Write,
+    F: Write + IsTerminal,
+    C: Clock,
 >(
     alloc: Global,
     threads: &R,
@@ -584,7 +617,7 @@ fn run_words<
     words: &[S],
     input: I,
     out: &mut BufWriter<Pipe<O>>,
-    faults: &mut F,
+    telling: &mut Telling<'_, F, C>,
 ) -> Result<(), BenchFault>
     ensures done { OnOk result ((IsDone (map S.text words.now) (P.bytes_at files.now) (I.remaining input)
         (writer_contents (pipe_contents O.contents) out.old) (writer_contents (pipe_contents O.contents) out.new)
@@ -597,8 +630,8 @@ fn run_words<
         (is_closed_pipe (writer_inner out.new)) fault) }
 {
     match options_of(alloc, words) {
-        Ok(options) => run_options(alloc, threads, files, &options, input, out, faults),
-        Err(text) => without_work(show_on(out, faults, &text)),
+        Ok(options) => run_options(alloc, threads, files, &options, input, out, telling),
+        Err(text) => without_work(show_on(out, telling.faults, &text)),
     }
 }
 
@@ -624,8 +657,9 @@ pub fn end<F: Write + IsTerminal>(done: &Result<(), BenchFault>, faults: &mut F)
 
 /// The program over files and streams: does what the words of a command line ask for, the program's name first, with
 /// the payload files that they name and the script, read in that order: it is the file that they name, or else the input. The report,
-/// the lines of a bench, or what the words ask to be shown goes to `out`, and a fault to `faults`. Answers the status that docs/SCRIPT.md,
-/// "The program", has. The handle makes the threads of lanes, where the words ask for these.
+/// the lines of a bench, or what the words ask to be shown goes to `out`. A fault is told where `telling` says, and where that is a terminal
+/// how far a long run is. Answers the status that docs/SCRIPT.md, "The program", has. The handle makes the threads of lanes, where the words
+/// ask for these.
 pub fn run_on<
     R: Threads + Sync,
     P: PayloadFiles,
@@ -633,6 +667,7 @@ pub fn run_on<
     I: Read + Drop,
     O: Write + Drop,
     F: Write + IsTerminal,
+    C: Clock,
 >(
     alloc: Global,
     threads: &R,
@@ -640,7 +675,7 @@ pub fn run_on<
     words: &[S],
     input: I,
     out: &mut BufWriter<Pipe<O>>,
-    faults: &mut F,
+    telling: Telling<'_, F, C>,
 ) -> u8
     // The status is the one of what was done; and what was done is the work that the words name, whole, where they
     // name any: nothing of what it wrote is held back. A fault is one that this work may have over that input, or that
@@ -658,6 +693,7 @@ pub fn run_on<
         (writer_contents (pipe_contents O.contents) out.new)
         × (writer_buffer out.new ≡ [])) }
 {
-    let done = run_words(alloc, threads, files, words, input, out, faults);
-    end(&done, faults)
+    let mut telling = telling;
+    let done = run_words(alloc, threads, files, words, input, out, &mut telling);
+    end(&done, telling.faults)
 }

@@ -2,12 +2,13 @@
 
 use crate::files::Folder;
 use crate::streams::{Input, Output, Room};
-use bench_program::{Pipe, run_on};
+use bench_program::{Pipe, Telling, run_on};
 use bench_sweep::line_apart;
 use std::alloc::Global;
 use std::fmt;
 use std::io::{self, BufWriter, ErrorKind};
 use std::thread::Threads;
+use std::time::{Clock, Duration};
 use thiserror::Error;
 
 /// A run that came to just what its file says. Only [`compare_run`] makes one.
@@ -177,6 +178,20 @@ fn compare_output(run: &Run<'_>, written: &[u8]) -> Result<(), RunFault> {
     }
 }
 
+/// A clock that stands still, by which no run is a long one.
+#[derive(Clone, Copy, Drop)]
+struct Stopped;
+
+impl Clock for Stopped {
+    fn monotonic(&self) -> io::Result<Duration> {
+        Ok(Duration::ZERO)
+    }
+
+    fn since_1970(&self) -> io::Result<Duration> {
+        Ok(Duration::ZERO)
+    }
+}
+
 /// Makes the run with an output that holds back so many bytes, and compares what comes of it.
 fn compare_held<R: Threads + Sync>(
     alloc: Global,
@@ -202,7 +217,11 @@ fn compare_held<R: Threads + Sync>(
         words.as_slice(),
         input,
         &mut out,
-        &mut faults,
+        Telling {
+            faults: &mut faults,
+            clock: &Stopped,
+            is_shared: false,
+        },
     );
     if status != run.status {
         return Err(RunFault::Status(status));
