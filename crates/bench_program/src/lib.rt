@@ -321,8 +321,8 @@ pub fn write_shrunk<R: Threads + Sync, W: Write + Drop>(
 /// Runs all orders of the script with few preemptions, with these payloads in the slots, and writes which differ, to the end.
 ///
 /// Refused as `bench_schedules::preemptions` is, and `Output` also where what the writer held back could not be written.
-pub fn write_preemptions<R: Threads + Sync, W: Write + Drop>(
-    jobs: &Jobs<'_, R>,
+pub fn write_preemptions<R: Threads + Sync, P: Progress, W: Write + Drop>(
+    jobs: &Jobs<'_, R, P>,
     alloc: Global,
     script: &[u8],
     within: Within,
@@ -342,7 +342,7 @@ pub fn write_preemptions<R: Threads + Sync, W: Write + Drop>(
         → (writer_contents W.contents out.new ≡ writer_contents W.contents out.old)
         × ((result ≡ Err e) ⊎ (result ≡ Err Refusal.Memory)) }
 {
-    let count = preemptions::<R, BufWriter<W>>(jobs, alloc, script, payloads, within, out)?;
+    let count = preemptions::<R, P, BufWriter<W>>(jobs, alloc, script, payloads, within, out)?;
     match out.flush() {
         Ok(()) => Ok(count),
         Err(_) => Err(Refusal::Output),
@@ -353,8 +353,8 @@ pub fn write_preemptions<R: Threads + Sync, W: Write + Drop>(
 /// in the slots.
 ///
 /// Refused as `bench_schedules::show_order` is, and `Output` also where what the writer held back could not be written.
-pub fn write_order<R: Threads + Sync, W: Write + Drop>(
-    jobs: &Jobs<'_, R>,
+pub fn write_order<R: Threads + Sync, P: Progress, W: Write + Drop>(
+    jobs: &Jobs<'_, R, P>,
     alloc: Global,
     script: &[u8],
     wanted: Wanted,
@@ -379,7 +379,7 @@ pub fn write_order<R: Threads + Sync, W: Write + Drop>(
     // Where there is no such order, nothing is written.
     ensures none { result ≡ Err BadShape → writer_contents W.contents out.new ≡ writer_contents W.contents out.old }
 {
-    show_order::<R, BufWriter<W>>(jobs, alloc, script, payloads, wanted, out)?;
+    show_order::<R, P, BufWriter<W>>(jobs, alloc, script, payloads, wanted, out)?;
     match out.flush() {
         Ok(()) => Ok(()),
         Err(_) => Err(Refusal::Output),

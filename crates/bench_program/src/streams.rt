@@ -283,8 +283,8 @@ fn show_shrunk<R: Threads + Sync, O: Write + Drop>(
 }
 
 /// Runs all orders of the script with few preemptions, and writes which differ. Each line is handed on as it is made.
-fn preempt<R: Threads + Sync, O: Write + Drop>(
-    jobs: &Jobs<'_, R>,
+fn preempt<R: Threads + Sync, P: Progress, O: Write + Drop>(
+    jobs: &Jobs<'_, R, P>,
     alloc: Global,
     within: Within,
     script: &[u8],
@@ -301,7 +301,7 @@ fn preempt<R: Threads + Sync, O: Write + Drop>(
     ensures faults { IfErr result (λ fault. IsFaultIn (Preempt within) payloads.now [] script.now
         (is_closed_pipe (writer_inner out.new)) fault) }
 {
-    match write_preemptions::<R, Pipe<O>>(jobs, alloc, script, within, payloads, out) {
+    match write_preemptions::<R, P, Pipe<O>>(jobs, alloc, script, within, payloads, out) {
         Ok(count) if count.differ == 0 => Ok(()),
         Ok(_) => Err(BenchFault::Wrong),
         Err(e) => Err(fault_of(e, out)),
@@ -309,8 +309,8 @@ fn preempt<R: Threads + Sync, O: Write + Drop>(
 }
 
 /// Writes an order of the script that differs.
-fn show_differing<R: Threads + Sync, O: Write + Drop>(
-    jobs: &Jobs<'_, R>,
+fn show_differing<R: Threads + Sync, P: Progress, O: Write + Drop>(
+    jobs: &Jobs<'_, R, P>,
     alloc: Global,
     wanted: Wanted,
     script: &[u8],
@@ -325,7 +325,7 @@ fn show_differing<R: Threads + Sync, O: Write + Drop>(
     ensures faults { IfErr result (λ fault. IsFaultIn (ShowOrder wanted) payloads.now [] script.now
         (is_closed_pipe (writer_inner out.new)) fault) }
 {
-    match write_order::<R, Pipe<O>>(jobs, alloc, script, wanted, payloads, out) {
+    match write_order::<R, P, Pipe<O>>(jobs, alloc, script, wanted, payloads, out) {
         Ok(()) => Ok(()),
         Err(e) => Err(fault_of(e, out)),
     }
@@ -469,8 +469,6 @@ fn run_work<R: Threads + Sync, P: Progress + Drop, O: Write + Drop>(
     let Given { payloads, recovery } = given;
     let count = jobs_of(threads, options.jobs);
     let jobs = Jobs::telling(threads, count, progress);
-    // Nobody is told of the orders with few preemptions.
-    let untold = Jobs::new(threads, count);
     match options.work {
         Work::Report(savers) => report(alloc, threads, savers, script, payloads, out),
         Work::Judge(plan) => judge(&jobs, alloc, plan, script, payloads, out),
@@ -484,8 +482,8 @@ fn run_work<R: Threads + Sync, P: Progress + Drop, O: Write + Drop>(
         Work::Compare(plan) => compare(&jobs, alloc, plan, script, &payloads, out),
         Work::Show(drawn) => show_schedule::<R, O>(alloc, drawn, script, &payloads, out),
         Work::Shrink(drawn) => show_shrunk::<R, O>(alloc, drawn, script, &payloads, out),
-        Work::Preempt(within) => preempt(&untold, alloc, within, script, &payloads, out),
-        Work::ShowOrder(wanted) => show_differing(&untold, alloc, wanted, script, &payloads, out),
+        Work::Preempt(within) => preempt(&jobs, alloc, within, script, &payloads, out),
+        Work::ShowOrder(wanted) => show_differing(&jobs, alloc, wanted, script, &payloads, out),
     }
 }
 

@@ -170,12 +170,14 @@ impl<'a, 'b, C, W: Write> Sink<NextRun> for Report<'a, 'b, C, W> {
 
     /// Writes the line of an order where it differs, and counts it; or leaves it out, where enough orders differ.
     fn take<P: Progress>(&mut self, run: NextRun, progress: &P) -> Result<(), Refusal> {
-        progress.pause();
         if is_enough(self.runner, &self.search) {
             progress.went(1);
             return Ok(());
         }
         let NextRun { ones, told } = run;
+        if told.is_some() {
+            progress.pause();
+        }
         let alloc = self.runner.setting.alloc;
         let more = write_told(alloc, self.runner.numbers, &told, self.out)?;
         count(self.runner.enough, ones, more, &mut self.search)?;
@@ -192,8 +194,8 @@ fn hand_back<W: Write>(out: &mut W)
 }
 
 /// Runs the orders of so many points of an order, from that number on, by the threads of these jobs.
-pub fn hand_on_points<R: Threads + Sync, C: Crew + Sync, W: Write>(
-    jobs: &Jobs<'_, R>,
+pub fn hand_on_points<R: Threads + Sync, P: Progress, C: Crew + Sync, W: Write>(
+    jobs: &Jobs<'_, R, P>,
     runs: &NextRuns<'_, '_, C>,
     first: u64,
     points: u64,

@@ -15,7 +15,7 @@ use crate::points::{point_at, points_before};
 use bench_orders::copied_row;
 use board_model::Refusal;
 use crew::Crew;
-use jobs::Jobs;
+use jobs::{Jobs, Progress};
 use std::io::Write;
 use std::thread::Threads;
 
@@ -30,8 +30,8 @@ pub struct Preempted {
 }
 
 /// Runs all orders with one preemption more than an order has, and writes those that differ; or fewer, where that is enough.
-fn try_points<R: Threads + Sync, C: Crew + Sync, W: Write>(
-    jobs: &Jobs<'_, R>,
+fn try_points<R: Threads + Sync, P: Progress, C: Crew + Sync, W: Write>(
+    jobs: &Jobs<'_, R, P>,
     runs: &NextRuns<'_, '_, C>,
     done: Search,
     out: &mut W,
@@ -66,8 +66,8 @@ fn try_points<R: Threads + Sync, C: Crew + Sync, W: Write>(
 }
 
 /// Runs all orders with so many preemptions more than this one has, and writes those that differ; or fewer, where that is enough.
-fn try_orders<R: Threads + Sync, C: Crew + Sync, W: Write>(
-    jobs: &Jobs<'_, R>,
+fn try_orders<R: Threads + Sync, P: Progress, C: Crew + Sync, W: Write>(
+    jobs: &Jobs<'_, R, P>,
     runner: &Runner<'_, C>,
     node: &Node,
     more: u64,
@@ -110,8 +110,8 @@ fn try_orders<R: Threads + Sync, C: Crew + Sync, W: Write>(
 
 /// Runs all orders with at least one preemption, and at most as many as they may have: first those with one, then those with two.
 /// Or fewer, where that is enough.
-pub fn try_depths<R: Threads + Sync, C: Crew + Sync, W: Write>(
-    jobs: &Jobs<'_, R>,
+pub fn try_depths<R: Threads + Sync, P: Progress, C: Crew + Sync, W: Write>(
+    jobs: &Jobs<'_, R, P>,
     runner: &Runner<'_, C>,
     out: &mut W,
 ) -> Result<Search, Refusal>

@@ -18,7 +18,7 @@ use bench_report::Setting;
 use board::Payloads;
 use board_model::Refusal;
 use crew::{Crew, Sequential};
-use jobs::Jobs;
+use jobs::{Jobs, Progress};
 use script_lang::{Line, Script, parse_script};
 use std::alloc::Global;
 use std::io::Write;
@@ -40,8 +40,8 @@ fn enough_of(first: bool) -> u64
 }
 
 /// Runs lines as they stand, and then all orders of them with few preemptions.
-fn try_lines<'a, R: Threads + Sync, C: Crew + Sync, W: Write>(
-    jobs: &Jobs<'_, R>,
+fn try_lines<'a, R: Threads + Sync, P: Progress, C: Crew + Sync, W: Write>(
+    jobs: &Jobs<'_, R, P>,
     setting: Setting<'a, C>,
     lines: &'a [Line],
     payloads: &'a Payloads,
@@ -72,8 +72,8 @@ fn try_lines<'a, R: Threads + Sync, C: Crew + Sync, W: Write>(
 }
 
 /// Runs a script that was read as it stands, and then all orders of it with few preemptions.
-fn try_script<R: Threads + Sync, W: Write>(
-    jobs: &Jobs<'_, R>,
+fn try_script<R: Threads + Sync, P: Progress, W: Write>(
+    jobs: &Jobs<'_, R, P>,
     alloc: Global,
     script: &Script,
     payloads: &Payloads,
@@ -111,8 +111,8 @@ fn try_script<R: Threads + Sync, W: Write>(
 /// these jobs; what is written is the same however many these are.
 ///
 /// Refused as `crate::schedules` is.
-pub fn preemptions<R: Threads + Sync, W: Write>(
-    jobs: &Jobs<'_, R>,
+pub fn preemptions<R: Threads + Sync, P: Progress, W: Write>(
+    jobs: &Jobs<'_, R, P>,
     alloc: Global,
     script: &[u8],
     payloads: &Payloads,
@@ -131,5 +131,7 @@ pub fn preemptions<R: Threads + Sync, W: Write>(
 {
     let read = parse_script(alloc, script)?;
     let numbers = line_numbers(alloc, script)?;
+    // How many orders there are shows as they are run.
+    jobs.begin(0);
     try_script(jobs, alloc, &read, payloads, &numbers, within, out)
 }

@@ -23,7 +23,7 @@ use bench_report::Setting;
 use board::Payloads;
 use board_model::{Refusal, Shape};
 use crew::{Crew, Sequential};
-use jobs::Jobs;
+use jobs::{Jobs, Progress};
 use script_lang::{Line, Script, parse_script, scripts_read_as_written};
 use std::alloc::Global;
 use std::io::{Write, sink};
@@ -83,8 +83,8 @@ fn write_made<W: Write>(
 }
 
 /// Runs orders of the lines up to the one that is wanted, and answers its preemptions. Refused `BadShape` where fewer differ.
-fn find_order<'a, R: Threads + Sync, C: Crew + Sync>(
-    jobs: &Jobs<'_, R>,
+fn find_order<'a, R: Threads + Sync, P: Progress, C: Crew + Sync>(
+    jobs: &Jobs<'_, R, P>,
     setting: Setting<'a, C>,
     lines: &'a [Line],
     payloads: &'a Payloads,
@@ -117,8 +117,8 @@ fn find_order<'a, R: Threads + Sync, C: Crew + Sync>(
 }
 
 /// Writes the order of the lines that is wanted.
-fn show_lines<R: Threads + Sync, C: Crew + Sync, W: Write>(
-    jobs: &Jobs<'_, R>,
+fn show_lines<R: Threads + Sync, P: Progress, C: Crew + Sync, W: Write>(
+    jobs: &Jobs<'_, R, P>,
     setting: Setting<'_, C>,
     lines: &[Line],
     payloads: &Payloads,
@@ -142,8 +142,8 @@ fn show_lines<R: Threads + Sync, C: Crew + Sync, W: Write>(
 }
 
 /// Writes the order of a script that was read which is wanted.
-fn show_script<R: Threads + Sync, W: Write>(
-    jobs: &Jobs<'_, R>,
+fn show_script<R: Threads + Sync, P: Progress, W: Write>(
+    jobs: &Jobs<'_, R, P>,
     alloc: Global,
     script: &Script,
     payloads: &Payloads,
@@ -182,8 +182,8 @@ fn show_script<R: Threads + Sync, W: Write>(
 ///
 /// Refused as `preemptions` is; and `BadShape` where fewer orders differ, or where the order has more lines than a script may have. Then
 /// nothing is written.
-pub fn show_order<R: Threads + Sync, W: Write>(
-    jobs: &Jobs<'_, R>,
+pub fn show_order<R: Threads + Sync, P: Progress, W: Write>(
+    jobs: &Jobs<'_, R, P>,
     alloc: Global,
     script: &[u8],
     payloads: &Payloads,
@@ -207,5 +207,6 @@ pub fn show_order<R: Threads + Sync, W: Write>(
 {
     let read = parse_script(alloc, script)?;
     let numbers = line_numbers(alloc, script)?;
+    jobs.begin(0);
     show_script(jobs, alloc, &read, payloads, &numbers, wanted, out)
 }
