@@ -58,11 +58,11 @@ same_itself (lines.Turn h n) = grind arith
 same_itself x = refl
 
 -- ---- the line at a place
-split_here : (l : List Line) (i : ℕ) (x : Line) → i < length l → x ≡ get_or l i x → l ≡ take i l ++ (x ∷ drop (suc i) l)
+pub split_here : (l : List Line) (i : ℕ) (x : Line) → i < length l → x ≡ get_or l i x → l ≡ take i l ++ (x ∷ drop (suc i) l)
 split_here l i x within is =
     sym (take-append-drop i l) ∙ ap (λ (r : List Line). take i l ++ r) (drop-cons l i x within ∙ ap (λ (z : Line). z ∷ drop (suc i) l) (sym is))
 
-take_here : (l : List Line) (i : ℕ) (x : Line) → i < length l → x ≡ get_or l i x → take (suc i) l ≡ take i l ++ x ∷ []
+pub take_here : (l : List Line) (i : ℕ) (x : Line) → i < length l → x ≡ get_or l i x → take (suc i) l ≡ take i l ++ x ∷ []
 take_here l i x within is = take-suc l i x within ∙ ap (λ (z : Line). take i l ++ (z ∷ [])) (sym is)
 
 first_here : (l : List Line) (i : ℕ) (x line : Line) (a : List Line) → i < length l → x ≡ get_or l i x → drop i l ≡ line ∷ a → x ≡ line

@@ -1,3 +1,4 @@
+pub mod Strikes
 pub mod Begins
 pub mod Tellings
 pub mod Hearings

@@ -1,4 +1,4 @@
-//! Where a session begins: at the end of its script, or where what a bench found of it parts from it.
+//! Where a session begins: at the end of its script, where what a bench found of it parts from it, or where what a bench arms strikes.
 
 ghost use Rattle.std.specs.Prelude.{◌≡◌, ◌⊎◌, ◌≤◌, ◌<◌, ◌++◌, ◌∷◌, [], ℕ, List, All, Ok, Err, IfErr, IfOk, drop, length, take};
 ghost use Rattle.std.specs.Option.{option_to_list};
@@ -13,9 +13,12 @@ ghost use Rattle.bench_orders.specs.Orders.{AreOrderOf, IsScheduleOf};
 ghost use Rattle.bench_schedules.specs.Numbers.{numbers_of};
 ghost use Rattle.debug_options.specs.Limits.{IsBounded, IsUpTo};
 ghost use Rattle.debug_options.specs.declared.given.Begin.TheVariants.{Order};
-ghost use Rattle.sbigdb.specs.Begins.{BeginsAt, HasNone, IsFound, PartsAt, both_turn, is_same_row, turns_of_both};
+ghost use Rattle.sbigdb.specs.Begins.{BeginsAt, HasNone, IsDrawn, IsFound, IsRow, NoRow, PartsAt, both_turn, is_same_row, turns_of_both};
+ghost use Rattle.sbigdb.specs.Strikes.{StopsBefore};
 
+use crate::strikes::before_strike;
 use bench_schedules::{Wanted, show, show_order};
+use bench_sweep::{Bench, WantedRow, show_row};
 use board::Payloads;
 use board_model::Refusal;
 use debug_options::{Begin, Drawn, Preempted};
@@ -155,7 +158,8 @@ fn schedule_found<R: Threads + Sync>(
     script: &[u8],
     payloads: &Payloads,
 ) -> Result<Script, Refusal>
-    ensures found { IfOk result (λ found. (said : Said) × (script_of script.now ≡ Ok said) × IsScheduleOf said (view found)) }
+    ensures found { IfOk result (λ found. (said : Said) × (script_of script.now ≡ Ok said) × IsScheduleOf said (view found)
+        × IsDrawn drawn said (view found)) }
     ensures ranges { IfOk result (λ found. All (IsLineInRange found.shape) found.lines.items) }
     ensures refused { IfErr result (λ e. (e ≡ Memory) ⊎ (e ≡ Output) ⊎ (script_of script.now ≡ Err e)) }
 {
@@ -187,7 +191,7 @@ fn order_found<R: Threads + Sync>(
         × IsFound (Order order) said payloads.now (numbers_of script.now) (view found)) }
     ensures ranges { IfOk result (λ found. All (IsLineInRange found.shape) found.lines.items) }
     ensures refused { IfErr result (λ e. (e ≡ Memory) ⊎ (e ≡ Output) ⊎ (script_of script.now ≡ Err e)
-        ⊎ ((e ≡ BadShape) × HasNone (Order order) script.now payloads.now)) }
+        ⊎ HasNone (Order order) script.now payloads.now e) }
 {
     let jobs = Jobs::new(threads, jobs_of(threads));
     let wanted = Wanted {
@@ -199,10 +203,48 @@ fn order_found<R: Threads + Sync>(
     read_back(alloc, &text)
 }
 
-/// A script up to where the session begins: to its end, or to where what a bench finds of it, with these payloads in the slots, parts
-/// from it.
+/// The script of a row that [`bench_sweep::show_row`] writes.
+fn row_found<R: Threads + Sync>(
+    alloc: Global,
+    wanted: WantedRow,
+    script: &[u8],
+    payloads: &Payloads,
+) -> Result<Script, Refusal>
+    ensures found { IfOk result (λ found. (said : Said) × (script_of script.now ≡ Ok said) × ((view found).size ≡ said.size)
+        × IsRow wanted.bench wanted.number said payloads.now (view found)) }
+    ensures ranges { IfOk result (λ found. All (IsLineInRange found.shape) found.lines.items) }
+    ensures refused { IfErr result (λ e. (e ≡ Memory) ⊎ (e ≡ Output) ⊎ (script_of script.now ≡ Err e)
+        ⊎ NoRow wanted.bench wanted.number script.now payloads.now e) }
+{
+    let mut text = Vec::new(alloc);
+    let begins = payloads.copy()?;
+    show_row::<R, Vec<u8>>(alloc, wanted, script, None, begins, &mut text)?;
+    read_back(alloc, &text)
+}
+
+/// The script of a row up to where what it arms strikes.
+fn row_to<R: Threads + Sync>(
+    alloc: Global,
+    wanted: WantedRow,
+    script: &[u8],
+    payloads: &Payloads,
+) -> Result<Script, Refusal>
+    ensures stops { IfOk result (λ stop. (said : Said) × (found : Said) × (script_of script.now ≡ Ok said)
+        × IsRow wanted.bench wanted.number said payloads.now found × ((view stop).size ≡ said.size)
+        × StopsBefore said.size payloads.now found.lines (view stop).lines) }
+    ensures ranges { IfOk result (λ stop. All (IsLineInRange stop.shape) stop.lines.items) }
+    ensures refused { IfErr result (λ e. (e ≡ Memory) ⊎ (e ≡ Output) ⊎ (script_of script.now ≡ Err e)
+        ⊎ NoRow wanted.bench wanted.number script.now payloads.now e) }
+{
+    let found = row_found::<R>(alloc, wanted, script, payloads)?;
+    before_strike::<R>(alloc, payloads, found)
+}
+
+/// A script up to where the session begins: to its end; to where what a bench finds of it, with these payloads in the slots, parts from it;
+/// or to where what a row of a bench arms strikes.
 ///
-/// Refused `Memory`; and `BadShape` where so many orders do not differ, or the order has more lines than a script may have.
+/// Refused `Memory`; `BadShape` where so many orders do not differ, the bench has no such row, or the order or the row has more lines than a
+/// script may have; and `NotPlain` where no bench runs the script.
 pub fn begun<R: Threads + Sync>(
     threads: &R,
     alloc: Global,
@@ -216,7 +258,7 @@ pub fn begun<R: Threads + Sync>(
     requires ranges { All (IsLineInRange own.shape) own.lines.items }
     ensures begins { IfOk result (λ begun. BeginsAt begin script.now payloads.now (view begun)) }
     ensures ranges { IfOk result (λ begun. All (IsLineInRange begun.shape) begun.lines.items) }
-    ensures refused { IfErr result (λ e. (e ≡ Memory) ⊎ (e ≡ Output) ⊎ ((e ≡ BadShape) × HasNone begin script.now payloads.now)) }
+    ensures refused { IfErr result (λ e. (e ≡ Memory) ⊎ (e ≡ Output) ⊎ HasNone begin script.now payloads.now e) }
 {
     match begin {
         Begin::End => Ok(own),
@@ -227,6 +269,20 @@ pub fn begun<R: Threads + Sync>(
         Begin::Order(order) => {
             let found = order_found(threads, alloc, order, script, payloads)?;
             script_to(&own, found)
+        }
+        Begin::Cut(number) => {
+            let wanted = WantedRow {
+                bench: Bench::Cuts,
+                number,
+            };
+            row_to::<R>(alloc, wanted, script, payloads)
+        }
+        Begin::Failure(number) => {
+            let wanted = WantedRow {
+                bench: Bench::Fails,
+                number,
+            };
+            row_to::<R>(alloc, wanted, script, payloads)
         }
     }
 }

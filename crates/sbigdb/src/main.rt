@@ -1,6 +1,6 @@
-//! `sbigdb SCRIPT [--schedule K | --preemptions K --order N] [--p0 PATH ..]`: GDB's Remote Serial Protocol on standard input
-//! and output, over the board that the script leaves (docs/DEBUGGING.md). Status 0; 1 for a refusal or a file that could not
-//! be read; 2 for a fault of the command line.
+//! `sbigdb SCRIPT [--schedule K | --preemptions K --order N | --sweep --row R | --faults --row R] [--p0 PATH ..]`: GDB's Remote
+//! Serial Protocol on standard input and output, over the board that the script leaves (docs/DEBUGGING.md). Status 0; 1 for a
+//! refusal or a file that could not be read; 2 for a fault of the command line.
 #![tactic(auto)]
 
 mod begins;
@@ -9,6 +9,7 @@ mod listening;
 mod program;
 mod start;
 mod streams;
+mod strikes;
 mod told;
 
 use crate::program::debug;
