@@ -3,7 +3,6 @@ pub mod Histories
 pub mod Timelines
 pub mod Passed
 pub mod OneLoad
-mod Flats
 pub mod Wents
 pub mod Scripts
 pub mod Places

@@ -1,6 +1,6 @@
 -- What the next turn of a hart reads: the bytes that its load instruction loads. Source: RISC-V Unprivileged ISA 20191213, sections
 -- 2.6 and 5.3; docs/BOARD.md, "A turn of a hart".
-use Rattle.std.specs.Prelude.{◌≡◌, ℕ, ℤ, ◌-◌, ◌+◌, ◌%◌, Bool, true, false, List, Option, Some, None, ◌==◌, ◌&&◌, not, nat_le, nat_lt, length, if◌then◌else◌}
+use Rattle.std.specs.Prelude.{◌≡◌, ℕ, ◌-◌, ◌+◌, ◌%◌, Bool, true, false, List, Option, Some, None, ◌==◌, ◌&&◌, not, nat_le, nat_lt, length, if◌then◌else◌}
 use Rattle.std.specs.Bool.{MatchBool}
 use Rattle.hart.specs.Means.{load_bytes, sum, word_at}
 use Rattle.hart.specs.State.{ArchState, reg}
@@ -8,8 +8,6 @@ use Rattle.hsm.specs.declared.state.State.{State}
 use Rattle.hsm.specs.declared.state.State.TheVariants as states
 use Rattle.machine.specs.Machine.{Machine, hart_at, status_at}
 use Rattle.rv_decode.specs.Spells.{Reads}
-use Rattle.rv_decode.specs.declared.flat.FlatOp.{FlatOp}
-use Rattle.rv_decode.specs.declared.flat.FlatOp.TheVariants as ops
 use Rattle.rv_decode.specs.declared.instr.Instr.{Instr}
 use Rattle.rv_decode.specs.declared.instr.Instr.TheVariants as instr
 use Rattle.debug_session.specs.Lives.{register_at}
@@ -62,19 +60,3 @@ LoadsAt m h found =
 abbrev pub LoadsNext : Option Machine → ℕ → Option Load → Type 0
 LoadsNext None h found = found ≡ None
 LoadsNext (Some m) h found = MatchBool (nat_lt h (length m.harts)) (LoadsAt m h found) (found ≡ None)
-
--- ---- how the code finds it
--- how many bytes a flat operation loads, if it loads any
-abbrev pub width_of : FlatOp → Option ℕ
-width_of ops.Lb = Some 1
-width_of ops.Lh = Some 2
-width_of ops.Lw = Some 4
-width_of ops.Ld = Some 8
-width_of ops.Lbu = Some 1
-width_of ops.Lhu = Some 2
-width_of ops.Lwu = Some 4
-width_of op = None
-
-abbrev pub load_by : Option ℕ → ℕ → ℤ → ArchState → Option Load
-load_by None rs1 imm s = None
-load_by (Some n) rs1 imm s = Some (record { address = sum (reg s rs1) imm; count = n })

@@ -212,12 +212,12 @@ fn loading_turn<C: Crew>(
     before: &Vec<Seen>,
     timeline: &mut Timeline,
     hart: HartId,
-    load: Option<Load>,
+    load: &Option<Load>,
     told: &mut Vec<Answer>,
 ) -> Result<Part, Refusal>
     requires at { IsAt setting.now.shape.now timeline.old }
     requires hart { hart < setting.now.shape.now.harts }
-    requires loads { LoadsNext (machine_of timeline.old.bench) hart load }
+    requires loads { LoadsNext (machine_of timeline.old.bench) hart load.now }
     requires tells { TellsTouched (machine_of timeline.old.bench) stops.now.watches.items (seen_in before.now.items) }
     ensures at { OnOk result (IsAt setting.now.shape.now timeline.new) }
     ensures went { IfOk result (λ part. Went (λ h. h ≡ hart) part.made setting.now.shape.now timeline.old timeline.new) }
@@ -230,7 +230,7 @@ fn loading_turn<C: Crew>(
     ensures refused { IfErr result (λ e. e ≡ Memory) }
 {
     let part = stretch(setting, stops.points(), timeline, hart, 1, told)?;
-    let touched = touched_behind(timeline, part.made, load, before);
+    let touched = touched_behind(timeline, part.made, *load, before);
     let halt = halt_seen(part.halt, touched);
     Ok(Part {
         halt,
@@ -262,7 +262,7 @@ fn watched_turn<C: Crew>(
     ensures refused { IfErr result (λ e. e ≡ Memory) }
 {
     let load = timeline.next_load(hart);
-    loading_turn(setting, stops, before, timeline, hart, load, told)
+    loading_turn(setting, stops, before, timeline, hart, &load, told)
 }
 
 /// A hart's part of a round where bytes are watched, turn by turn.

@@ -3,11 +3,10 @@
 ghost use Rattle.std.specs.Prelude.{◌≡◌, ◌<◌, length, Some, IfSome};
 ghost use Rattle.bench_report.specs.Views.{machine_in};
 ghost use Rattle.debug_session.specs.Lives.{machine_of, machine_on};
-ghost use Rattle.debug_session.specs.Loads.{Fetches, LoadsAt, LoadsNext, is_interrupted, is_set, is_started, is_stepping, is_there, load_in, made_load, width_of};
-ghost use Rattle.hart.specs.Means.{sum};
+ghost use Rattle.debug_session.specs.Loads.{Fetches, LoadsAt, LoadsNext, is_interrupted, is_set, is_started, is_stepping, is_there, load_in, made_load};
+ghost use Rattle.hart.specs.Means.{load_bytes, sum};
 ghost use Rattle.hart.specs.Values.{residue};
 ghost use Rattle.machine.specs.Machine.{hart_at};
-ghost use Rattle.rv_decode.specs.Flat.{reading};
 
 use crate::debugged::DebuggedBench;
 use crate::looks::register_of;
@@ -16,7 +15,7 @@ use board::Board;
 use board_model::{HartId, RAM_BASE};
 use hart::Hart;
 use machine::State;
-use rv_decode::{FlatInstr, FlatOp, Instr, decode, flatten};
+use rv_decode::{Instr, LoadOp, decode};
 use simdisk::SimDisk;
 
 /// Bytes of memory that a turn reads.
@@ -89,17 +88,16 @@ fn instruction(board: &Board<SimDisk>, hart: HartId) -> Option<Instr>
     }
 }
 
-/// How many bytes an operation loads, if it loads any.
-fn width(op: FlatOp) -> Option<u64>
-    ensures is { result ≡ width_of op }
-    ensures some { IfSome result (λ n. 0 < n) }
+/// How many bytes an operation loads.
+fn width(op: LoadOp) -> u64
+    ensures is { result ≡ load_bytes op }
+    ensures some { 0 < result }
 {
     match op {
-        FlatOp::Lb | FlatOp::Lbu => Some(1),
-        FlatOp::Lh | FlatOp::Lhu => Some(2),
-        FlatOp::Lw | FlatOp::Lwu => Some(4),
-        FlatOp::Ld => Some(8),
-        _ => None,
+        LoadOp::Lb | LoadOp::Lbu => 1,
+        LoadOp::Lh | LoadOp::Lhu => 2,
+        LoadOp::Lw | LoadOp::Lwu => 4,
+        LoadOp::Ld => 8,
     }
 }
 
@@ -118,17 +116,16 @@ fn moved(from: u64, by: i32) -> u64
 }
 
 /// The bytes that an instruction loads in that state of a hart, wherever they lie.
-#[tactic(auto, using(crate::proofs::Flats::flat_load))]
-fn load_in(flat: FlatInstr, hart: &Hart) -> Option<Load>
-    ensures is { result ≡ load_in (reading flat) hart.now }
+fn load_in(found: &Option<Instr>, hart: &Hart) -> Option<Load>
+    ensures is { result ≡ load_in found.now hart.now }
     ensures some { IfSome result (λ load. 0 < load.count) }
 {
-    match width(flat.op) {
-        Some(count) => Some(Load {
-            address: moved(hart.reg(flat.rs1), flat.imm),
-            count,
+    match found {
+        Some(Instr::Load { op, rs1, imm, .. }) => Some(Load {
+            address: moved(hart.reg(*rs1), imm.value()),
+            count: width(*op),
         }),
-        None => None,
+        _ => None,
     }
 }
 
@@ -157,7 +154,7 @@ fn load_at(board: &mut Board<SimDisk>, hart: HartId) -> Option<Load>
     ensures loads { LoadsAt (machine_in board.old) hart result }
 {
     let found = instruction(board, hart);
-    let load = load_in(flatten(found), board.hart(hart));
+    let load = load_in(&found, board.hart(hart));
     let made = made_load(board.ram().bytes(), load);
     if made.is_none() {
         return None;
