@@ -6,7 +6,7 @@ use Rattle.sbi.specs.declared.words.Word.TheVariants as words
 use Rattle.bench_report.specs.declared.power.Power.{Power}
 use Rattle.bench_report.specs.declared.power.Power.TheVariants.{Off, On}
 use Rattle.bench_report.specs.Bench.{Bench, BenchLife}
-use Rattle.bench_report.specs.Agree.{Agrees, ArmsIts, BoardAfter, CutsIts, EndsBy, HasDisk, InspectsOrLost, IsBench, IsCutBy, IsUnstruck, PokesIts}
+use Rattle.bench_report.specs.Agree.{Agrees, ArmedAlike, ArmsIts, BoardAfter, CutsIts, EndsBy, HasDisk, InspectsOrLost, IsBench, IsCutBy, IsUnstruck, PokesIts}
 use Rattle.bench_report.specs.Happens.{unpowered}
 use Rattle.report_lines.specs.declared.printed.Answer.{Answer}
 use Rattle.script_lang.specs.declared.line.Line.{Line}
@@ -32,6 +32,15 @@ IsReady (Some power) = IsUnstruck power
 
 abbrev pub IsSound : LiveBench → Type 0
 IsSound live = IsReady live.power
+
+-- What lines may follow one of them may follow the other: what bench the first stands for, the second stands for it too, where the same
+-- was ever armed on both.
+abbrev pub IsAlike : LiveBench → LiveBench → Type 0
+IsAlike live other = (size : Size) (b c : Bench) → Shows size b live → Shows size c other → ArmedAlike b c → Shows size b other
+
+-- the disk of a bench between two lines
+abbrev pub HasLiveDisk : LiveBench → SimDisk → Type 0
+HasLiveDisk live d = (power : Power) × (live.power ≡ Some power) × HasDisk power d
 
 -- the board is on
 abbrev pub IsOn : Power → Type 0

@@ -1,14 +1,16 @@
 //! The bench between two lines.
 
-ghost use Rattle.std.specs.Prelude.{◌≡◌, ◌≤◌, Some, IfOk, IfErr, OnOk};
+ghost use Rattle.std.specs.Prelude.{◌≡◌, ◌≤◌, ◌↔◌, true, false, Some, IfOk, IfErr, OnOk};
+ghost use Rattle.disk.specs.declared.device.ArmedFault.{ArmedFault};
+ghost use Rattle.simdisk.specs.declared.SimDisk.{SimDisk};
 ghost use Rattle.board_model.specs.Shapes.{Size};
 ghost use Rattle.board_model.specs.declared.refusal.Refusal.TheVariants.{Memory};
-ghost use Rattle.bench_report.specs.Agree.{OffIs, fill_after};
+ghost use Rattle.bench_report.specs.Agree.{IsCopyOf, OffIs, fill_after};
 ghost use Rattle.bench_report.specs.Bench.{Bench, bench_with};
 ghost use Rattle.bench_report.specs.Happens.{off};
 ghost use Rattle.bench_report.specs.Steps.{Moves};
-ghost use Rattle.bench_report.specs.Views.{facts};
-ghost use Rattle.bench_live.specs.Lives.{IsSettled, IsSound, IsThere, LineDid, Shows};
+ghost use Rattle.bench_report.specs.Views.{arms, facts};
+ghost use Rattle.bench_live.specs.Lives.{HasLiveDisk, IsAlike, IsSettled, IsSound, IsThere, LineDid, Shows};
 ghost use Rattle.bench_report.specs.declared.power.Power.{Power};
 ghost use Rattle.bench_live.specs.Rows.{IsWithin, RowMoves, row_answer};
 ghost use Rattle.script_lang.specs.Lines.{IsLineInRange};
@@ -39,6 +41,8 @@ pub struct LiveBench {
     pub payloads: Payloads,
     /// What an armed cut is to leave.
     pub fill: Fill,
+    /// Whether memory was refused: to a power-on, to an examination of the disk, or to a suspension, whose hart is told -1.
+    pub refused: bool,
 }
 
 impl LiveBench {
@@ -47,6 +51,7 @@ impl LiveBench {
         ensures shows { IfOk result (λ live. Shows shape.now (bench_with begins.now) live) }
         ensures sound { IfOk result (λ live. IsSound live) }
         ensures fill { IfOk result (λ live. live.fill ≡ fills.Old) }
+        ensures memory { IfOk result (λ live. live.refused ≡ false) }
         ensures refused { IfErr result (λ e. e ≡ Memory) }
     {
         blank_disks::<SimDisk>();
@@ -56,6 +61,7 @@ impl LiveBench {
             power: Some(Power::Off(OffDisk { disk })),
             payloads,
             fill: Fill::Old,
+            refused: false,
         })
     }
 
@@ -66,12 +72,16 @@ impl LiveBench {
         requires sound { IsSound self.old }
         ensures reported { IfOk result (λ answer. (b : Bench) → Shows setting.now.shape.now b self.old
             → (new : Bench) × Moves setting.now.shape.now line.now b answer new × Shows setting.now.shape.now new self.new) }
+        ensures well { self.new.refused ≡ false → IfOk result (λ answer. (b : Bench) → Shows setting.now.shape.now b self.old
+            → (new : Bench) × Moves setting.now.shape.now line.now b answer new × Shows setting.now.shape.now new self.new
+            × (new.growths ≡ b.growths)) }
         ensures does { IfOk result (λ answer. (b : Bench) → Shows setting.now.shape.now b self.old
             → LineDid setting.now.shape.now line.now self.new.fill b answer self.old.power self.new.power) }
         ensures sound { OnOk result (IsSound self.new) }
         ensures fill { self.new.fill ≡ fill_after line.now self.old.fill }
         ensures refused { IfErr result (λ e. e ≡ Memory) }
     {
+        self.refused = true;
         let power = self.power.take().unwrap();
         let payloads = replace(&mut self.payloads, Payloads::new(setting.alloc));
         let bench = BenchBoard {
@@ -94,12 +104,16 @@ impl LiveBench {
         ensures reported { (size : Size) (b : Bench) → Shows size b self.old → (new : Bench)
             × RowMoves size hart result b new × Moves size (lines.Turn hart count) b (row_answer hart result) new
             × Shows size new self.new }
+        ensures well { self.new.refused ≡ false → (size : Size) (b : Bench) → Shows size b self.old → (new : Bench)
+            × RowMoves size hart result b new × Moves size (lines.Turn hart count) b (row_answer hart result) new
+            × Shows size new self.new × (new.growths ≡ b.growths) }
         ensures does { (size : Size) (b : Bench) → Shows size b self.old
             → LineDid size (lines.Turn hart count) self.new.fill b (row_answer hart result) self.old.power self.new.power }
         ensures range { IsWithin count result }
         ensures sound { IsSound self.new }
         ensures fill { self.new.fill ≡ self.old.fill }
     {
+        self.refused = true;
         let Some(power) = &mut self.power else {
             return Row::Off;
         };
@@ -125,11 +139,50 @@ impl LiveBench {
         ensures sound { IsSound self.new }
         ensures payloads { self.new.payloads ≡ self.old.payloads }
         ensures fill { self.new.fill ≡ self.old.fill }
+        ensures memory { self.new.refused ≡ self.old.refused }
     {
         let power = self.power.take().unwrap();
         let (left, lost) = settled(power, word, self.fill);
         self.power = Some(left);
         lost
+    }
+
+    /// A bench that stands as this one, off or on, with a disk of its own that holds what this one's holds, has counted the same calls and
+    /// has the same armed. This one stays as it is. Refused `Memory` where memory is.
+    pub fn copy(&mut self, alloc: Global) -> Result<LiveBench, Refusal>
+        requires sound { IsSound self.old }
+        ensures stays { (size : Size) (b : Bench) → Shows size b self.old → Shows size b self.new }
+        ensures sound { IsSound self.new }
+        ensures rest { (self.new.fill ≡ self.old.fill) × (self.new.refused ≡ self.old.refused) }
+        ensures disk { (d : SimDisk) → HasLiveDisk self.old d → HasLiveDisk self.new d }
+        ensures copy { IfOk result (λ copy. (size : Size) (b : Bench) → Shows size b self.old → Shows size b copy) }
+        ensures copy_sound { IfOk result (λ copy. IsSound copy) }
+        ensures copy_rest { IfOk result (λ copy. (copy.fill ≡ self.old.fill) × (copy.refused ≡ self.old.refused)) }
+        ensures alike { IfOk result
+            (λ copy. (d e : SimDisk) → HasLiveDisk self.old d → HasLiveDisk copy e → IsCopyOf d e) }
+        ensures refused { IfErr result (λ e. e ≡ Memory) }
+    {
+        let _alloc = alloc;
+        Err(Refusal::Memory)
+    }
+
+    /// Whether another bench stands as this one, off or on, as far as any later line can tell: its board with memory, harts, tables and doze,
+    /// its disk with what a crash may leave, what is armed and how many calls are left to it, what an armed cut is to leave, and what the
+    /// slots boot. Both stay as they are. Where the answer is false they may stand alike all the same.
+    pub fn is_as(&mut self, other: &mut LiveBench) -> bool
+        requires sound { IsSound self.old × IsSound other.old }
+        ensures stays { (size : Size) (b : Bench) → Shows size b self.old → Shows size b self.new }
+        ensures other_stays { (size : Size) (b : Bench) → Shows size b other.old → Shows size b other.new }
+        ensures sound { IsSound self.new × IsSound other.new }
+        ensures rest { (self.new.fill ≡ self.old.fill) × (self.new.refused ≡ self.old.refused)
+            × (other.new.fill ≡ other.old.fill) × (other.new.refused ≡ other.old.refused) }
+        ensures same { result ≡ true → IsAlike self.old other.old }
+        ensures fill { result ≡ true → (other.old.fill ≡ self.old.fill) × (other.old.refused ≡ self.old.refused) }
+        ensures armed { result ≡ true → (d e : SimDisk) → HasLiveDisk self.old d → HasLiveDisk other.old e
+            → (fault : ArmedFault) → arms e fault ↔ arms d fault }
+    {
+        let _other = other;
+        false
     }
 
     /// The disk of a bench that goes no further, of a board whose power is off.

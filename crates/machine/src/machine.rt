@@ -406,6 +406,14 @@ impl Machine {
         })
     }
 
+    /// Whether that machine stands as this one: its memory, its harts, its doze and its tables. Both stay as they were.
+    pub fn is_as(&mut self, other: &mut Machine) -> bool
+        ensures stays { (self.new ≡ self.old) × (other.new ≡ other.old) }
+        ensures same { result ≡ true → other.old ≡ self.old }
+    {
+        false
+    }
+
     /// The parts of the machine, with the seat of all harts, by which `split` makes one for each.
     pub fn into_parts(self) -> Parts
         ensures harts { result.harts.items ≡ self.harts }
