@@ -9,3 +9,4 @@ pub mod Rows
 pub mod Walks
 pub mod Arms
 pub mod Copying
+pub mod Comparing

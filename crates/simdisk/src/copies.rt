@@ -1,5 +1,5 @@
 //! A disk in memory is copied, with what it keeps of its writes and syncs and what is armed, and compared.
-ghost use Rattle.std.specs.Prelude.{◌≡◌, ◌↔◌, true, IfOk};
+ghost use Rattle.std.specs.Prelude.{◌≡◌, ◌↔◌, true, All, IsTrue, IfOk};
 ghost use Rattle.disk.specs.Alike.{FailsAlike, StandsAs};
 ghost use Rattle.disk.specs.Facts.{Unchanged};
 ghost use Rattle.disk.specs.declared.device.ArmedFault.{ArmedFault};
@@ -47,6 +47,13 @@ fn patches_again(alloc: Global, patches: &[Patch]) -> Result<Vec<Patch>, AllocEr
         copies.push(patch.again())?;
     }
     Ok(copies)
+}
+
+/// Whether none of these patches has a sector.
+fn are_empty(patches: &[Patch]) -> bool
+    ensures { IsTrue result ↔ All (λ p. p.count ≡ 0) patches.now }
+{
+    patches.iter().all(|patch| patch.count == 0)
 }
 
 impl History {
@@ -132,6 +139,13 @@ impl CopyDisk for SimDisk {
         ensures arms { result ≡ true → (fault : ArmedFault) → ⟦<SimDisk as Disk>⟧.arms other.now fault
             ↔ ⟦<SimDisk as Disk>⟧.arms self.now fault }
     {
-        false
+        other.failures == self.failures
+            && other.refused == self.refused
+            && other.faults == self.faults
+            && other.lane_calls == self.lane_calls
+            && other.loan == self.loan
+            && are_empty(&self.history.written)
+            && are_empty(&other.history.written)
+            && other.content.as_slice() == self.content.as_slice()
     }
 }
