@@ -1,11 +1,12 @@
 -- A table that is made of another's states, hart by hart.
-use Rattle.std.proofs.Common.{◌≡◌, ◌≢◌, ℕ, ◌<◌, ◌≤◌, Bool, true, false, true≢false, if◌then◌else◌, eqb, refl, sym, ap, ◌∙◌, subst, arith, eq-eqb, ne_eqb, List, None, Some, Option, MatchOption, MatchBool, IsSome, IsTrue, ◌↔◌}
+use Rattle.std.proofs.Common.{◌≡◌, ◌≢◌, ℕ, ◌<◌, ◌≤◌, Bool, true, true≢false, if◌then◌else◌, eqb, refl, sym, ap, ◌∙◌, subst, arith, eq-eqb, ne_eqb, List, None, Some, Option, MatchOption, MatchBool, IsSome, IsTrue, ◌↔◌}
 use mathlib.Core.Logic.{dite}
 use native.Mathlib.Decide.{ℕ_discrete}
 use Rattle.std.specs.Option.{IfNone}
 use Rattle.std.proofs.lemmas.Bool.{le-ltb}
 use Rattle.tallies.specs.Notes.{numbers}
 use Rattle.tallies.specs.Seats.{numbers_from}
+use Rattle.tallies.proofs.Seatings.{at_all, map_all}
 use Rattle.hsm_steps.specs.declared.view.Stage.{Stage}
 use Rattle.hsm_steps.specs.declared.view.Stage.TheVariants.{Out, Running, Quiet}
 use Rattle.hsm_steps.specs.Words.{HartView, HartSeatView}
@@ -181,6 +182,9 @@ copied_states harts old c are shown same = (
   are.0,
   (λ k lt. subst (λ (x : HartState). IsIn c k x) (same k lt ∙ one_table harts old (listed (states_in harts old)) are.1 k lt) (shown k lt)),
 )
+
+pub same_states : (harts : ℕ) (c d : HartSeatView) → AreStates harts d (states_in harts d) → ((k : ℕ) → k < harts → state_in c k ≡ state_in d k) → states_in harts c ≡ states_in harts d
+same_states harts c d are same = map_all (state_in c) stopped harts (states_in harts d) are.0 (λ k lt. same k lt ∙ sym (at_all (state_in d) stopped harts k lt))
 
 -- ---- the states so far
 module _ (first : ℕ) (states : ℕ → HartState) where

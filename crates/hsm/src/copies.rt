@@ -1,5 +1,5 @@
 //! A table of the same states, which is made by the calls of its own harts: one of them runs from the start,
-//! brings each other hart to its state, and comes to its own state last.
+//! brings each other hart to its state, and comes to its own state last. And two tables are compared.
 
 ghost use Rattle.std.specs.Prelude.{◌≡◌, ◌≢◌, ◌+◌, ◌<◌, ℕ, true, IfOk, IfErr, IfSome};
 ghost use Rattle.board_model.specs.declared.refusal.Refusal.TheVariants.{Memory};
@@ -290,5 +290,13 @@ pub fn is_as(
     ensures same { result ≡ true → states_in shape.now.harts (hart_view_of_seat others.old)
         ≡ states_in shape.now.harts (hart_view_of_seat seat.old) }
 {
-    false
+    for number in 0..u64::from(shape.harts()) {
+        let hart = shape.hart(number).unwrap();
+        let own = standing_of(table, seat, hart);
+        let theirs = standing_of(other, others, hart);
+        if theirs != own {
+            return false;
+        }
+    }
+    true
 }

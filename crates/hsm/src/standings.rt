@@ -14,7 +14,7 @@ use hsm_steps::{HartSeat, HartTable};
 use std::marker::Brand;
 
 /// The state of a hart, and of a START_PENDING one the address and the opaque value with which it is to begin.
-#[derive(Clone, Copy, Drop)]
+#[derive(Clone, Copy, PartialEq, Eq, Drop)]
 pub enum Standing {
     Stopped,
     StartPending(Addr, u64),

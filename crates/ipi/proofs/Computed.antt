@@ -22,7 +22,7 @@ lt_false m n le = search (arith, rules)
 pub lt_told : (m n : ℕ) → IsTrue (nat_lt m n) ↔ (m < n)
 lt_told m n = ((λ t. ⊎_elim (λ (l : m < n). l) (λ (g : n ≤ m). absurd (true≢false (sym t ∙ lt_false m n g))) (cases_lt m n)), lt_true m n)
 
-same_bool : (a b : Bool) → (IsTrue a → IsTrue b) → (IsTrue b → IsTrue a) → a ≡ b
+pub same_bool : (a b : Bool) → (IsTrue a → IsTrue b) → (IsTrue b → IsTrue a) → a ≡ b
 same_bool true true f g = refl
 same_bool true false f g = sym (f refl)
 same_bool false true f g = g refl

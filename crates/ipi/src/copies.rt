@@ -1,4 +1,4 @@
-//! A table of the same pairs, which is made by the raises of its own harts.
+//! A table of the same pairs, which is made by the raises of its own harts. And two tables are compared.
 
 ghost use Rattle.std.specs.Prelude.{◌≡◌, ◌+◌, ◌<◌, ℕ, true, IfOk, IfErr};
 ghost use Rattle.board_model.specs.declared.refusal.Refusal.TheVariants.{Memory};
@@ -122,6 +122,14 @@ impl PendingTable {
         ensures same { result ≡ true → pairs_in shape.now.harts (pending_view_of_seat others.old)
             ≡ pairs_in shape.now.harts (pending_view_of_seat seat.old) }
     {
-        false
+        for number in 0..u64::from(shape.harts()) {
+            let target = shape.hart(number).unwrap();
+            let own = self.senders(seat, target);
+            let theirs = other.senders(others, target);
+            if theirs != own {
+                return false;
+            }
+        }
+        true
     }
 }

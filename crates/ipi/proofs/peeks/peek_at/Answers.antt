@@ -1,6 +1,4 @@
-use Rattle.std.proofs.Common.{ℕ, subst, arith}
-use Rattle.ipi.specs.Ledger.{Tells, InRange}
-use Rattle.ipi.specs.Seating.{pending_view_of_seat}
+use Rattle.std.proofs.Common.{arith}
 use Rattle.ipi.proofs.Keeps.{peeks}
 use Rattle.ipi.proofs.peeks.peek_at.Goals as goal
 

@@ -1,4 +1,3 @@
-use Rattle.ipi.specs.Ledger.{raised}
 use Rattle.ipi.proofs.Alone.{few_senders}
 use Rattle.ipi.proofs.Copying.{senders_are}
 use Rattle.ipi.proofs.table.PendingTable.senders.Goals as goal
