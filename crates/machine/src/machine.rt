@@ -22,7 +22,7 @@ ghost use Rattle.sbi.specs.Words.{word_of_sleep};
 ghost use Rattle.susp.specs.declared.sleeps.Sleep.TheVariants.{ToRam};
 
 use crate::calls::call_in_place;
-use crate::copies::{copy_harts, copy_tables};
+use crate::copies::{are_harts_as, are_tables_as, copy_harts, copy_tables};
 use crate::holds::make_held;
 use crate::parts::Parts;
 use crate::states::see;
@@ -411,7 +411,23 @@ impl Machine {
         ensures stays { (self.new ≡ self.old) × (other.new ≡ other.old) }
         ensures same { result ≡ true → other.old ≡ self.old }
     {
-        false
+        if other.shape != self.shape || !are_harts_as(&self.harts, &other.harts) {
+            return false;
+        }
+        let mut seats = self.seats.take().unwrap();
+        let mut others = other.seats.take().unwrap();
+        let tables = are_tables_as(
+            &self.tables,
+            &mut seats,
+            &self.bus.doze,
+            &other.tables,
+            &mut others,
+            &other.bus.doze,
+            &self.shape,
+        );
+        self.seats = Some(seats);
+        other.seats = Some(others);
+        tables && other.bus.ram.bytes() == self.bus.ram.bytes()
     }
 
     /// The parts of the machine, with the seat of all harts, by which `split` makes one for each.
