@@ -78,7 +78,7 @@ pub fn copy_tables(
 }
 
 /// Whether other tables show the same states and pairs, of a board that dozes as this one does. The seats of both stay as they were.
-#[tactic(auto, using(crate::proofs::Copying::stays_whole, crate::proofs::Copying::stays_shown))]
+#[tactic(auto, using(crate::proofs::Copying::stays_shown))]
 pub fn are_tables_as(
     tables: &Tables,
     seats: &mut Seats,
@@ -98,19 +98,13 @@ pub fn are_tables_as(
     ensures dozes { result ≡ true → other_doze.now ≡ doze.now }
     ensures shows { result ≡ true → shown_by shape.now.harts others.old ≡ shown_by shape.now.harts seats.old }
 {
-    if *other_doze != *doze
-        || !hsm::is_as(
-            &tables.harts,
-            &mut seats.harts,
-            &other.harts,
-            &mut others.harts,
-            shape,
-        )
-    {
+    if *other_doze != *doze {
         return false;
     }
-    let own = &mut seats.pending;
-    tables
-        .pending
-        .is_as(own, &other.pending, &mut others.pending, shape)
+    let own = &mut seats.harts;
+    if !hsm::is_as(&tables.harts, own, &other.harts, &mut others.harts, shape) {
+        return false;
+    }
+    let (pairs, own) = (&tables.pending, &mut seats.pending);
+    pairs.is_as(own, &other.pending, &mut others.pending, shape)
 }
