@@ -7,7 +7,7 @@ ghost use Rattle.board_model.specs.declared.refusal.Refusal.TheVariants.{Memory}
 ghost use Rattle.bench_report.specs.Agree.{Agrees, ArmedAlike, HasDisk, IsArmed, IsCopyOf, is_struck, OffIs, OnIs};
 ghost use Rattle.bench_report.specs.Bench.{Bench};
 ghost use Rattle.bench_report.specs.Happens.{armed_with};
-ghost use Rattle.bench_report.specs.Views.{arms, disk_in};
+ghost use Rattle.bench_report.specs.Views.{arms, disk_in, store_in, store_fault_state};
 ghost use Rattle.simdisk.specs.declared.SimDisk.{SimDisk};
 
 use crate::power::{OffDisk, Power};
@@ -57,6 +57,29 @@ pub fn copy_power(alloc: Global, power: &mut Power) -> Result<Power, Refusal>
     }
 }
 
+/// Whether a disk that no store holds stands as another.
+fn is_off_as(off: &OffDisk, other: &OffDisk) -> bool
+    ensures same { result ≡ true → (size : Size) (b c : Bench) → OffIs size b off.now.disk
+        → OffIs size c other.now.disk → ArmedAlike b c → OffIs size b other.now.disk }
+    ensures armed { result ≡ true → (fault : ArmedFault) → arms other.now.disk fault ↔ arms off.now.disk fault }
+{
+    kept_disks::<SimDisk>();
+    off.disk.is_as(&other.disk)
+}
+
+/// Whether a board that is on stands as another, with its disk.
+fn is_on_as(board: &mut Board<SimDisk>, other: &mut Board<SimDisk>) -> bool
+    ensures stays { (size : Size) (b : Bench) → OnIs size b board.old → OnIs size b board.new }
+    ensures other_stays { (size : Size) (b : Bench) → OnIs size b other.old → OnIs size b other.new }
+    ensures calm { (store_fault_state (store_in board.new) ≡ store_fault_state (store_in board.old))
+        × (store_fault_state (store_in other.new) ≡ store_fault_state (store_in other.old)) }
+    ensures same { result ≡ true → (size : Size) (b c : Bench) → OnIs size b board.old → OnIs size c other.old
+        → ArmedAlike b c → OnIs size b other.old }
+    ensures armed { result ≡ true → (fault : ArmedFault) → arms (disk_in other.old) fault ↔ arms (disk_in board.old) fault }
+{
+    board.is_as(other)
+}
+
 /// Whether another board stands as this one, off or on, as far as any later line can tell: then what bench this one stands for, that one
 /// stands for it too, where the same was ever armed on both. Both stay as they are. Where the answer is false they may stand alike all
 /// the same.
@@ -69,9 +92,16 @@ pub fn is_power_as(power: &mut Power, other: &mut Power) -> bool
     ensures armed { result ≡ true → (d e : SimDisk) → HasDisk power.old d → HasDisk other.old e
         → (fault : ArmedFault) → arms e fault ↔ arms d fault }
 {
-    let _power = power;
-    let _other = other;
-    false
+    match power {
+        Power::Off(off) => match other {
+            Power::Off(others) => is_off_as(off, others),
+            Power::On(_) => false,
+        },
+        Power::On(board) => match other {
+            Power::Off(_) => false,
+            Power::On(others) => is_on_as(board, others),
+        },
+    }
 }
 
 /// The board with a cut or a failure armed on its disk, or on one of its lanes, in the place of an older one.

@@ -1,5 +1,5 @@
 -- A store over a disk of the same content, with the same journal.
-use Rattle.std.proofs.Common.{◌≡◌, ◌∙◌, ℕ, Bool, List, Option, None, map, true, option_map, ap, subst, sym}
+use Rattle.std.proofs.Common.{◌≡◌, Bool, List, Option, None, map, true, option_map, refl, subst, sym}
 use Rattle.board_model.specs.Durable.{after, fold, refusal_of}
 use Rattle.board_model.specs.Shapes.{Size}
 use Rattle.board_model.specs.Views.{change_in}
@@ -20,12 +20,14 @@ life_from size opened current doubt over c entries = record {
   over = over;
 }
 
-module _ (size : Size) (opened current : Record) (c d : Content) (same : d ≡ c) (entries copies : List Entry) (items : copies ≡ entries) where
-  pub same_life : (doubt : Option Doubt) (over : Bool)
-      → life_from size opened current doubt over d copies ≡ life_from size opened current doubt over c entries
-  same_life doubt over = ap (λ m. life_from size opened current doubt over m copies) same
-      ∙ ap (λ es. life_from size opened current doubt over c es) items
+-- stores of the same fields over disks of the same content are in the same life
+pub same_life : (size z : Size) (opened o current n : Record) (doubt x : Option Doubt) (over v : Bool) (c d : Content) (entries es : List Entry)
+    → z ≡ size → o ≡ opened → n ≡ current → x ≡ doubt → v ≡ over → d ≡ c → es ≡ entries
+    → life_from z o n x v d es ≡ life_from size opened current doubt over c entries
+same_life size z opened o current n doubt x over v c d entries es shape found now in_doubt ended content items =
+    rw shape (rw found (rw now (rw in_doubt (rw ended (rw content (rw items refl))))))
 
+module _ (size : Size) (opened current : Record) (c d : Content) (same : d ≡ c) (entries copies : List Entry) (items : copies ≡ entries) where
   pub still_folded : fold (state_of size opened c) (map (λ e. change_in e (memory_in size current c)) entries) ≡ state_of size current c
       → fold (state_of size opened d) (map (λ e. change_in e (memory_in size current d)) copies) ≡ state_of size current d
   still_folded folded =

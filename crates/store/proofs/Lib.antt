@@ -16,6 +16,7 @@ pub mod Renewing
 pub mod Bridges
 pub mod Armed
 pub mod Copied
+pub mod Same
 pub mod Kept
 pub mod Inspecting
 pub mod Taken

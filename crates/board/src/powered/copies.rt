@@ -57,7 +57,7 @@ impl<D: CopyDisk + Drop> Board<D> {
         ensures memory { result ≡ true
             → was_refused_memory (store_of other.old) ≡ was_refused_memory (store_of self.old) }
     {
-        false
+        self.machine.is_as(&mut other.machine) && self.store.is_as(&other.store)
     }
 
     /// The disk below, as it stands.

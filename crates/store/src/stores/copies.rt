@@ -27,6 +27,7 @@ impl<D: CopyDisk + Drop> Store<D> {
 
     /// A store that stands as this one, over a disk of its own that stands as this one's. This one stays as it
     /// is. Refused `Memory` where memory is refused.
+    #[tactic(auto, using(crate::proofs::Copied::same_life))]
     pub fn copy(&self, alloc: Global) -> Result<Store<D>, Refusal>
         ensures life { IfOk result (λ copy. life_of copy ≡ life_of self.now) }
         ensures facts { IfOk result (λ copy. Unchanged (disk_of self.now) (disk_of copy)) }
@@ -67,7 +68,16 @@ impl<D: CopyDisk + Drop> Store<D> {
         ensures opened { result ≡ true → failures_at_open other.now ≡ failures_at_open self.now }
         ensures memory { result ≡ true → was_refused_memory other.now ≡ was_refused_memory self.now }
     {
-        false
+        self.over == other.over
+            && self.refused_memory == other.refused_memory
+            && self.failures_at_open == other.failures_at_open
+            && self.shape == other.shape
+            && self.side == other.side
+            && self.doubt == other.doubt
+            && self.current == other.current
+            && self.opened == other.opened
+            && self.journal.as_slice() == other.journal.as_slice()
+            && self.disk.is_as(&other.disk)
     }
 
     /// The disk below, as it stands.

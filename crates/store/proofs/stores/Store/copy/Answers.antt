@@ -2,7 +2,7 @@ use Rattle.std.proofs.Common.{◌≡◌, ◌∙◌, ◌≤◌, ℕ, List, length
 use Rattle.board_model.specs.declared.durable.Entry.{Entry}
 use Rattle.store.specs.Entries.{are_plain, drop_image}
 use Rattle.store.proofs.Armed.{still_keeps, still_failed}
-use Rattle.store.proofs.Copied.{same_life, still_folded, still_legal, still_doubted, still_allowed}
+use Rattle.store.proofs.Copied.{still_folded, still_legal, still_doubted, still_allowed}
 use Rattle.store.proofs.stores.Store.copy.Goals as goal
 
 pub invariant_of-result : goal.invariant_of-result
@@ -29,11 +29,3 @@ invariant_of-result g c =
       legal = still_legal s.shape s.opened s.current a.content b.content content entries copies items s.legal;
       allowed = λ x is. still_allowed s.shape s.opened s.current a.content b.content content entries copies items x (s.allowed x is);
     }
-
-pub returns-clause-life : goal.returns-clause-life
-returns-clause-life g c =
-    let s = c.args.self.now in
-    let a = g.D.Disk.facts s.disk in
-    let b = g.D.Disk.facts c.in_ok-disk.disk in
-    same_life s.shape s.opened s.current a.content b.content c.in_ok-disk.ensures.facts.content s.journal.items c.in_ok-journal.journal.items
-    (c.in_ok-journal.ensures.items ∙ c.deref.ensures.value) s.doubt s.over
