@@ -12,6 +12,7 @@ use Rattle.report_lines.specs.declared.printed.Answer.{Answer}
 use Rattle.script_lang.specs.declared.line.Line.{Line}
 use Rattle.simdisk.specs.declared.SimDisk.{SimDisk}
 use Rattle.simdisk.specs.declared.fill.Fill.{Fill}
+use Rattle.bench_report.specs.Steps.{Run}
 use Rattle.bench_report.specs.Turns.{GuestTurns}
 use Rattle.machine.specs.Shows.{HasHart}
 use Rattle.bench_live.specs.declared.live.LiveBench.{LiveBench}
@@ -37,6 +38,11 @@ IsSound live = IsReady live.power
 -- was ever armed on both.
 abbrev pub IsAlike : LiveBench → LiveBench → Type 0
 IsAlike live other = (size : Size) (b c : Bench) → Shows size b live → Shows size c other → ArmedAlike b c → Shows size b other
+
+-- These lines, answered so, may bring each bench that the first stands for to one that the other stands for.
+abbrev pub RanOn : Size → LiveBench → List Line → List Answer → LiveBench → Type 0
+RanOn size live lines answers other =
+    (c : Bench) → Shows size c live → (new : Bench) × Run size c lines answers new × Shows size new other
 
 -- the disk of a bench between two lines
 abbrev pub HasLiveDisk : LiveBench → SimDisk → Type 0
