@@ -9,7 +9,7 @@ use Rattle.script_lang.specs.declared.line.Line.TheVariants as lines
 use Rattle.simdisk.specs.declared.fill.Fill.{Fill}
 use Rattle.sbi.specs.declared.words.Word.{Word}
 use Rattle.sbi.specs.declared.words.Word.TheVariants as words
-use Rattle.bench_report.specs.Agree.{Agrees, ArmsIts, CutsIts, EndsBy, InspectsOrLost, IsBench, Matches, PokesIts}
+use Rattle.bench_report.specs.Agree.{Agrees, ArmsIts, CountsNone, CutsIts, EndsBy, InspectsOrLost, IsBench, Matches, PokesIts}
 use Rattle.bench_report.specs.Bench.{Bench}
 use Rattle.bench_report.specs.Happens.{shows, unpowered}
 use Rattle.bench_report.specs.Steps.{Moves}
@@ -47,14 +47,14 @@ stays size (words.Over end) x power e is = absurd (let no : ⊥ = cc in no)
 -- turns that were made in place, as a line, where no cut struck, and where one did
 module _ (size : Size) (h n made : ℕ) (word : Word) (b : Bench) (after left : Power) (old : List (List ℕ)) (went : WentInPlace size h n b made word after) (same : old ≡ b.payloads) where
   pub made_row : went.0.fault_state.struck ≡ false → Agrees size went.0 left
-      → (x : Bench) × RowMoves size h (rows.Made made word) b x × Moves size (lines.Turn h n) b (row_answer h (rows.Made made word)) x × IsBench size x left old
+      → (x : Bench) × RowMoves size h (rows.Made made word) b x × Moves size (lines.Turn h n) b (row_answer h (rows.Made made word)) x × IsBench size x left old × CountsNone after b x
   made_row calm agrees =
-      let m = row_of size h n b made word went.0 went.1 went.2 went.3 went.4 calm in (went.0, m.0, m.1, (agrees, same ∙ sym went.6, calm))
+      let m = row_of size h n b made word went.0 went.1 went.2 went.3 went.4 calm in (went.0, m.0, m.1, (agrees, same ∙ sym went.6, calm), went.7)
 
   pub lost_row : went.0.fault_state.struck ≡ true → Agrees size (unpowered went.0) left
-      → (x : Bench) × RowMoves size h (rows.Lost made) b x × Moves size (lines.Turn h n) b (row_answer h (rows.Lost made)) x × IsBench size x left old
+      → (x : Bench) × RowMoves size h (rows.Lost made) b x × Moves size (lines.Turn h n) b (row_answer h (rows.Lost made)) x × IsBench size x left old × CountsNone after b x
   lost_row hit agrees =
-      let m = lost_of size h n b made word went.0 went.1 went.2 went.3 went.4 hit in (unpowered went.0, m.0, m.1, (agrees, same ∙ sym went.6, refl))
+      let m = lost_of size h n b made word went.0 went.1 went.2 went.3 went.4 hit in (unpowered went.0, m.0, m.1, (agrees, same ∙ sym went.6, refl), went.7)
 
 -- and what it did beside
 pub did_from : (size : Size) (line : Line) (fill other : Fill) (b : Bench) (answer : Answer) (start end : Option Power) (before left : Power) → start ≡ Some before → end ≡ Some left → other ≡ fill → LineDid size line fill b answer (Some before) (Some left)

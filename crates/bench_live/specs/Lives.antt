@@ -6,7 +6,7 @@ use Rattle.sbi.specs.declared.words.Word.TheVariants as words
 use Rattle.bench_report.specs.declared.power.Power.{Power}
 use Rattle.bench_report.specs.declared.power.Power.TheVariants.{Off, On}
 use Rattle.bench_report.specs.Bench.{Bench, BenchLife}
-use Rattle.bench_report.specs.Agree.{Agrees, ArmedAlike, ArmsIts, BoardAfter, CutsIts, EndsBy, HasDisk, InspectsOrLost, IsBench, IsCutBy, IsUnstruck, PokesIts}
+use Rattle.bench_report.specs.Agree.{Agrees, ArmedAlike, ArmsIts, BoardAfter, CountsNone, CutsIts, EndsBy, HasDisk, InspectsOrLost, IsBench, IsCutBy, IsUnstruck, PokesIts}
 use Rattle.bench_report.specs.Happens.{unpowered}
 use Rattle.report_lines.specs.declared.printed.Answer.{Answer}
 use Rattle.script_lang.specs.declared.line.Line.{Line}
@@ -58,11 +58,12 @@ abbrev pub IsAfter : Size → Word → Bench → Power → Type 0
 IsAfter size word b (Off off) = ⊥
 IsAfter size word b (On board) = BoardAfter size word b board
 
--- A hart made so many turns, at most n. The last has this word, and the board is as the turns left it.
+-- A hart made so many turns, at most n. The last has this word, and the board is as the turns left it; where it was refused memory for
+-- no suspension, no refusal is counted.
 abbrev pub WentInPlace : Size → ℕ → ℕ → Bench → ℕ → Word → Power → Type 0
 WentInPlace size h n b made word after =
     (new : Bench) × (life : BenchLife) × (b.power ≡ Some life) × HasHart life.machine h × GuestTurns h n b made word new
-    × IsAfter size word new after × (new.payloads ≡ b.payloads)
+    × IsAfter size word new after × (new.payloads ≡ b.payloads) × CountsNone after b new
 
 -- the board is still on after a turn with this word
 abbrev pub stays_on : Word → Bool

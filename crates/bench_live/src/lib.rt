@@ -7,6 +7,7 @@ mod cuts;
 mod in_place;
 mod laws;
 mod live;
+mod memory;
 mod notes;
 mod past;
 mod places;
