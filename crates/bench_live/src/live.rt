@@ -23,8 +23,8 @@ use crate::in_place::{in_place, is_still_on};
 use crate::memory::was_refused;
 use crate::rows::Row;
 use bench_report::{
-    Answer, BenchBoard, OffDisk, Power, Setting, copy_power, disk_left, is_power_as, line_with_cuts,
-    refused_suspension,
+    Answer, BenchBoard, OffDisk, Power, Setting, copy_power, disk_left, is_power_as,
+    line_with_cuts, refused_suspension,
 };
 use board::Payloads;
 use board_model::{HartId, Refusal, Shape};
@@ -207,14 +207,24 @@ impl LiveBench {
         ensures armed { result ≡ true → (d e : SimDisk) → HasLiveDisk self.old d → HasLiveDisk other.old e
             → (fault : ArmedFault) → arms e fault ↔ arms d fault }
     {
-        let (Some(power), Some(theirs)) = (&mut self.power, &mut other.power) else {
+        let Some(power) = &mut self.power else {
+            return false;
+        };
+        let Some(theirs) = &mut other.power else {
             return false;
         };
         let boards = is_power_as(power, theirs);
-        boards
-            && are_same(&self.payloads, &other.payloads)
-            && self.fill == other.fill
+        boards && self.has_rest_of(other)
+    }
+
+    /// Whether that is left by an armed cut, was refused and is booted on the other bench which is on this one.
+    fn has_rest_of(&self, other: &LiveBench) -> bool
+        ensures payloads { result ≡ true → other.now.payloads ≡ self.now.payloads }
+        ensures rest { result ≡ true → (other.now.fill ≡ self.now.fill) × (other.now.refused ≡ self.now.refused) }
+    {
+        self.fill == other.fill
             && self.refused == other.refused
+            && are_same(&self.payloads, &other.payloads)
     }
 
     /// The disk of a bench that goes no further, of a board whose power is off.
