@@ -55,7 +55,7 @@ idle_row size b old new h count made (words.Goes dids.Idle) was has turned some 
     let went = (went_in size h 1 b 1 word did.0 moves).0 in
     let O : Bench → Type 0 = λ x. OnIs size x new in
     let S : Bench → Type 0 = λ x. x.fault_state.struck ≡ false in
-    (b, went.life, went.on, went.has, idle_guest h b did.0 word count same refl (subst S same still) some went.guest, subst O same did.2, refl)
+    (b, went.life, went.on, went.has, idle_guest h b did.0 word count same refl (subst S same still) some went.guest, subst O same did.2, refl, λ had. refl)
 idle_row size b old new h count made (words.Goes did) was has turned some least most idle calm stays = absurd (let no : ⊥ = cc in no)
 idle_row size b old new h count made (words.Over end) was has turned some least most idle calm stays = absurd (let no : ⊥ = cc in no)
 

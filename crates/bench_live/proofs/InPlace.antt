@@ -38,7 +38,7 @@ went_on size b old new h n made word was has turned = by b.power was.0 refl
         let P : Machine → Type 0 = λ m. HasHart m h in
         let running : Running size b (machine_in old) (store_in old) = (life, on, is.0, is.1, was.1) in
         let did = turns size h n b (machine_in old) (machine_in new) (store_in old) (store_in new) made word running turned in
-        (did.0, life, on, subst P is.1 has, did.1, stands_by size word did.0 new did.2, did.3)
+        (did.0, life, on, subst P is.1 has, did.1, stands_by size word did.0 new did.2, did.3, did.4)
 
 -- ---- the line of a row, and of as many turns as were made
 module _ (size : Size) (h n : ℕ) (b : Bench) (made : ℕ) (word : Word) (new : Bench) (life : BenchLife) (on : b.power ≡ Some life) (has : HasHart life.machine h) (guest : GuestTurns h n b made word new) where

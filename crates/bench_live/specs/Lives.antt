@@ -6,12 +6,13 @@ use Rattle.sbi.specs.declared.words.Word.TheVariants as words
 use Rattle.bench_report.specs.declared.power.Power.{Power}
 use Rattle.bench_report.specs.declared.power.Power.TheVariants.{Off, On}
 use Rattle.bench_report.specs.Bench.{Bench, BenchLife}
-use Rattle.bench_report.specs.Agree.{Agrees, ArmedAlike, ArmsIts, BoardAfter, CutsIts, EndsBy, HasDisk, InspectsOrLost, IsBench, IsCutBy, IsUnstruck, PokesIts}
+use Rattle.bench_report.specs.Agree.{Agrees, ArmedAlike, ArmsIts, BoardAfter, CountsNone, CutsIts, EndsBy, HasDisk, InspectsOrLost, IsBench, IsCutBy, IsUnstruck, PokesIts}
 use Rattle.bench_report.specs.Happens.{unpowered}
 use Rattle.report_lines.specs.declared.printed.Answer.{Answer}
 use Rattle.script_lang.specs.declared.line.Line.{Line}
 use Rattle.simdisk.specs.declared.SimDisk.{SimDisk}
 use Rattle.simdisk.specs.declared.fill.Fill.{Fill}
+use Rattle.bench_report.specs.Steps.{Run}
 use Rattle.bench_report.specs.Turns.{GuestTurns}
 use Rattle.machine.specs.Shows.{HasHart}
 use Rattle.bench_live.specs.declared.live.LiveBench.{LiveBench}
@@ -38,6 +39,11 @@ IsSound live = IsReady live.power
 abbrev pub IsAlike : LiveBench → LiveBench → Type 0
 IsAlike live other = (size : Size) (b c : Bench) → Shows size b live → Shows size c other → ArmedAlike b c → Shows size b other
 
+-- These lines, answered so, may bring each bench that the first stands for to one that the other stands for.
+abbrev pub RanOn : Size → LiveBench → List Line → List Answer → LiveBench → Type 0
+RanOn size live lines answers other =
+    (c : Bench) → Shows size c live → (new : Bench) × Run size c lines answers new × Shows size new other
+
 -- the disk of a bench between two lines
 abbrev pub HasLiveDisk : LiveBench → SimDisk → Type 0
 HasLiveDisk live d = (power : Power) × (live.power ≡ Some power) × HasDisk power d
@@ -52,11 +58,12 @@ abbrev pub IsAfter : Size → Word → Bench → Power → Type 0
 IsAfter size word b (Off off) = ⊥
 IsAfter size word b (On board) = BoardAfter size word b board
 
--- A hart made so many turns, at most n. The last has this word, and the board is as the turns left it.
+-- A hart made so many turns, at most n. The last has this word, and the board is as the turns left it; where it was refused memory for
+-- no suspension, no refusal is counted.
 abbrev pub WentInPlace : Size → ℕ → ℕ → Bench → ℕ → Word → Power → Type 0
 WentInPlace size h n b made word after =
     (new : Bench) × (life : BenchLife) × (b.power ≡ Some life) × HasHart life.machine h × GuestTurns h n b made word new
-    × IsAfter size word new after × (new.payloads ≡ b.payloads)
+    × IsAfter size word new after × (new.payloads ≡ b.payloads) × CountsNone after b new
 
 -- the board is still on after a turn with this word
 abbrev pub stays_on : Word → Bool

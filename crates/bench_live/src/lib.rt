@@ -7,12 +7,13 @@ mod cuts;
 mod in_place;
 mod laws;
 mod live;
+mod memory;
 mod notes;
 mod past;
 mod places;
 mod rows;
 
-pub use laws::{idle_turns_change_nothing, rows_join};
+pub use laws::{alike_benches_run_alike, idle_turns_change_nothing, rows_join, turns_arm_nothing};
 pub use live::LiveBench;
 pub use notes::note;
 pub use past::History;

@@ -20,8 +20,12 @@ ghost use Rattle.store.specs.Leaves.{IsIdle};
 
 use crate::cuts::settled;
 use crate::in_place::{in_place, is_still_on};
+use crate::memory::was_refused;
 use crate::rows::Row;
-use bench_report::{Answer, BenchBoard, OffDisk, Power, Setting, disk_left, line_with_cuts};
+use bench_report::{
+    Answer, BenchBoard, OffDisk, Power, Setting, copy_power, disk_left, is_power_as,
+    line_with_cuts, refused_suspension,
+};
 use board::Payloads;
 use board_model::{HartId, Refusal, Shape};
 use crew::Crew;
@@ -45,6 +49,15 @@ pub struct LiveBench {
     pub refused: bool,
 }
 
+/// Whether those are the same payloads.
+fn are_same(payloads: &Payloads, others: &Payloads) -> bool
+    ensures { result ≡ true → others.now ≡ payloads.now }
+{
+    let _others = others;
+    let _payloads = payloads;
+    false
+}
+
 impl LiveBench {
     /// The bench before its first line: a blank disk of the size that the board needs, and these payloads.
     pub fn blank(alloc: Global, shape: &Shape, begins: &Payloads) -> Result<LiveBench, Refusal>
@@ -65,7 +78,7 @@ impl LiveBench {
         })
     }
 
-    /// Runs a line, as `bench_report::line_with_cuts` does, with what that says of cuts, pokes and armed faults.
+    /// Runs a line, as `bench_report::line_with_cuts` does, with what that says of cuts, pokes and armed faults; a line of turns by `turns`.
     /// Refused `Memory` alone, where a payload or a poke found none; then the bench is of no use.
     pub fn run<C: Crew>(&mut self, setting: &Setting<'_, C>, line: &Line) -> Result<Answer, Refusal>
         requires range { IsLineInRange setting.now.shape.now line.now }
@@ -81,7 +94,10 @@ impl LiveBench {
         ensures fill { self.new.fill ≡ fill_after line.now self.old.fill }
         ensures refused { IfErr result (λ e. e ≡ Memory) }
     {
-        self.refused = true;
+        if let Line::Turn(hart, count) = line {
+            let row = self.turns(setting, *hart, *count);
+            return Ok(row.answer(*hart));
+        }
         let power = self.power.take().unwrap();
         let payloads = replace(&mut self.payloads, Payloads::new(setting.alloc));
         let bench = BenchBoard {
@@ -90,6 +106,7 @@ impl LiveBench {
             fill: self.fill,
         };
         let (after, answer) = line_with_cuts(setting, line, bench);
+        self.refused = was_refused(&after.power, &answer);
         self.power = Some(after.power);
         self.payloads = after.payloads;
         self.fill = after.fill;
@@ -113,13 +130,13 @@ impl LiveBench {
         ensures sound { IsSound self.new }
         ensures fill { self.new.fill ≡ self.old.fill }
     {
-        self.refused = true;
         let Some(power) = &mut self.power else {
             return Row::Off;
         };
         let Some((made, word)) = in_place(setting, power, hart, count) else {
             return Row::Off;
         };
+        self.refused = refused_suspension(power);
         if is_still_on(power, word) {
             return Row::Made(made, word);
         }
@@ -162,8 +179,17 @@ impl LiveBench {
             (λ copy. (d e : SimDisk) → HasLiveDisk self.old d → HasLiveDisk copy e → IsCopyOf d e) }
         ensures refused { IfErr result (λ e. e ≡ Memory) }
     {
-        let _alloc = alloc;
-        Err(Refusal::Memory)
+        let Some(power) = &mut self.power else {
+            return Err(Refusal::Memory);
+        };
+        let power = copy_power(alloc, power)?;
+        let payloads = self.payloads.copy()?;
+        Ok(LiveBench {
+            power: Some(power),
+            payloads,
+            fill: self.fill,
+            refused: self.refused,
+        })
     }
 
     /// Whether another bench stands as this one, off or on, as far as any later line can tell: its board with memory, harts, tables and doze,
@@ -181,8 +207,24 @@ impl LiveBench {
         ensures armed { result ≡ true → (d e : SimDisk) → HasLiveDisk self.old d → HasLiveDisk other.old e
             → (fault : ArmedFault) → arms e fault ↔ arms d fault }
     {
-        let _other = other;
-        false
+        let Some(power) = &mut self.power else {
+            return false;
+        };
+        let Some(theirs) = &mut other.power else {
+            return false;
+        };
+        let boards = is_power_as(power, theirs);
+        boards && self.has_rest_of(other)
+    }
+
+    /// Whether that is left by an armed cut, was refused and is booted on the other bench which is on this one.
+    fn has_rest_of(&self, other: &LiveBench) -> bool
+        ensures payloads { result ≡ true → other.now.payloads ≡ self.now.payloads }
+        ensures rest { result ≡ true → (other.now.fill ≡ self.now.fill) × (other.now.refused ≡ self.now.refused) }
+    {
+        self.fill == other.fill
+            && self.refused == other.refused
+            && are_same(&self.payloads, &other.payloads)
     }
 
     /// The disk of a bench that goes no further, of a board whose power is off.

@@ -1,7 +1,7 @@
 -- What comes of turns and calls of harts on a board, in the words of the bench.
 use Rattle.std.proofs.Common.{◌≡◌, ◌⊎◌, ℕ, zero, suc, inl, inr, List, true, false, Option, None, Some, Result, Ok, Err, length, slice_set, refl, sym, ◌∙◌, ap, subst, arith}
 use Rattle.std.proofs.lemmas.Bool.{cases_lt}
-use Rattle.board_model.specs.Durable.{Change, Reset, Suspend, refusal_of}
+use Rattle.board_model.specs.Durable.{Change, Reset, Suspend}
 use Rattle.board_model.specs.Shapes.{Size, IsValidAddress, ram_bytes_of}
 use Rattle.board_model.specs.Views.{number_of_refusal}
 use Rattle.board_model.specs.declared.durable.Reason.{Reason}
@@ -45,13 +45,15 @@ use Rattle.sbi.specs.declared.words.Word.TheVariants as words
 use Rattle.board.specs.Turns as boards
 use Rattle.bench_report.specs.Views.{SimStore, IsLife, IsAs, store_size, store_fault_state, store_facts}
 use Rattle.bench_report.specs.Bench.{BenchLife, Bench}
-use Rattle.bench_report.specs.Happens.{out_of_memory, failed, off, on_with, has_machine, acknowledged, in_doubt}
-use Rattle.bench_report.specs.Commands.{Writes, IssuedBy, Issued}
+use Rattle.bench_report.specs.Happens.{out_of_memory, off, on_with, has_machine, acknowledged}
+use Rattle.bench_report.specs.Commands.{Issued}
 use Rattle.bench_report.specs.Turns.{refused, AnswersError, HartCommand, Resets, SuspendIssued, IsAlone, dozes, BenchSleeps, BenchSleepsBy, BenchMakesCall, ComesTo, GuestTurn, IsLastTurn, GuestTurns}
 use Rattle.bench_report.specs.Sides.{SidesAre}
 use Rattle.bench_report.specs.Agree.{StoreIs, DeviceIs, IsOver}
 use Rattle.bench_report.proofs.Adapted.{calm as untouched}
 use Rattle.bench_report.proofs.Dozed.{turn_size}
+use Rattle.bench_report.proofs.Growths.{issued_keeps}
+use Rattle.bench_report.proofs.Remembered.{turns_before}
 use Rattle.bench_report.proofs.Commanded.{Running, follows_with, sized_for, reported_end, reported_err, reported_up, reported_down, again, calm_device, still_sides, unmoved}
 use Rattle.bench_report.proofs.Sides.{starved_sides}
 
@@ -73,24 +75,6 @@ pub has_other : (size : Size) (b : Bench) (life : BenchLife) (m : Machine) (stor
 has_other size b life m store same is = (follows_with size b.disk_state b.kept life m (store_size store) same is.0, is.1)
 
 -- ---- how often memory was refused
--- a command that is answered by the disk or by the table asks for no memory
-pub issued_grows : (d : Option Change) (c : Change) (life : BenchLife) (b : Bench) (o : Result ℕ ℕ) (x : Bench) → IssuedBy d c life b o x → x.growths ≡ b.growths
-issued_grows d c life b o x issued = by d issued
-  where
-    grows : (y z : Bench) → y ≡ z → z.growths ≡ b.growths → y.growths ≡ b.growths
-    grows y z e is = ap (λ (k : Bench). k.growths) e ∙ is
-
-    writes : (r : Option ℕ) → Writes r c life b o x → x.growths ≡ b.growths
-    writes (Some n) w = grows x b w.1 refl
-    writes None (inl w) = grows x (acknowledged c life b) w.1 refl
-    writes None (inr (inl (is, (m, cause, e)))) = grows x (failed m b) e refl
-    writes None (inr (inr (is, (m, cause, e)))) = grows x (failed m (in_doubt c life b)) e refl
-
-    by : (d : Option Change) → IssuedBy d c life b o x → x.growths ≡ b.growths
-    by (Some e) i = grows x b i.1 refl
-    by None (inl i) = grows x b i.2 refl
-    by None (inr i) = writes (refusal_of life.now c) i.1
-
 -- the store was refused memory, or the bench counts no more refusals of it
 abbrev pub CountsRefused : SimStore → Bench → Bench → Type 0
 CountsRefused store b x = was_refused_memory store ≡ false → x.growths ≡ b.growths
@@ -149,7 +133,7 @@ module _ (size : Size) (b : Bench) (life : BenchLife) (h : ℕ) (n : Machine) (o
   resets_err kind r e held still asked refused =
       let did = reported_err size b life (Reset r) old new (life_of old) on was device asked.stays.board asked.stays.length asked.stays.no_fewer calm_life life.doubt refl e
       (λ none. (asked.answered none).life) asked.down (λ none. (asked.answered none).cause) (λ none. (asked.answered none).counts) asked.untouched in
-      let grows = issued_grows life.doubt (Reset r) life b (Err (number_of_refusal e)) did.0 did.1 in
+      let grows = (issued_keeps life.doubt (Reset r) life b (Err (number_of_refusal e)) did.0 did.1).0 in
       let last = fails (number_of_refusal e) (life_ends.Reset kind) did.0 held still did.2 did.3 (λ _. grows) refused in
       (last.0, (Err (number_of_refusal e), did.0, did.1, last.1), last.2, last.3, last.4)
 
@@ -216,7 +200,7 @@ module _ (size : Size) (b : Bench) (life : BenchLife) (h : ℕ) (n : Machine) (o
 
       issued : Fits → (e : Refusal) → ((x : Bench) × Issued command life b (Err (number_of_refusal e)) x × Running size x life.machine new × (x.payloads ≡ b.payloads)) → (k : ℕ) × Suspending k
       issued fits e did =
-          let grows = issued_grows life.doubt command life b (Err (number_of_refusal e)) did.0 did.1 in
+          let grows = (issued_keeps life.doubt command life b (Err (number_of_refusal e)) did.0 did.1).0 in
           (number_of_refusal e, (did.0, inl (fits, did.1), did.2, did.3, λ _. grows))
 
       goes_up : life.doubt ≡ None → Fits → (e : Refusal) → Refused seen command e (life_of new) → CausedRefusal (store_fault_state old) e (store_fault_state new) → CountedRefusal (store_facts old).failures e (store_facts new).failures → Keeps_store e → (k : ℕ) × Suspending k
@@ -350,11 +334,7 @@ module _ (size : Size) (b : Bench) (life : BenchLife) (h : ℕ) (n : Machine) (o
   makes (calls.SystemSuspend kind address opaque) held x sized = suspends kind address opaque held x sized
   makes call held x sized = refuses NotSupported held x.0 (same_doze x.2) x.1
 
--- ---- what comes of what a hart did
-abbrev Comes_so : Size → (Word → Bench → Type 0) → Bench → Word → Machine → SimStore → Type 0
-Comes_so size step b word n new = (x : Bench) × step word x × Stands size word x n new × (x.payloads ≡ b.payloads)
-
--- and the bench counts what the store was refused
+-- ---- what comes of what a hart did, and the bench counts what the store was refused
 abbrev pub Comes_counting : Size → (Word → Bench → Type 0) → Bench → Word → Machine → SimStore → Type 0
 Comes_counting size step b word n new =
     (x : Bench) × step word x × Stands size word x n new × (x.payloads ≡ b.payloads) × CountsRefused new b x
@@ -379,11 +359,11 @@ module _ (size : Size) (b : Bench) (life : BenchLife) (h : ℕ) (n : Machine) (o
 
 -- ---- turns
 turn : (size : Size) (h : ℕ) (b : Bench) (life : BenchLife) (n : Machine) (old new : SimStore) (word : Word) → b.power ≡ Some life → StoreIs size b.disk_state b.kept life old → DeviceIs size b (store_fault_state old) (store_facts old)
-    → boards.TurnsHeld h life.machine n old new word → Comes_so size (λ word x. GuestTurn h life b word x) b word n new
+    → boards.TurnsHeld h life.machine n old new word → Comes_counting size (λ word x. GuestTurn h life b word x) b word n new
 turn size h b life n old new word on was device (m, did, turned, came) =
     let same : m.size ≡ life.machine.size = turn_size (doze_of h life.machine.doze) h life.machine m did turned in
     let rest = comes size (on_with (has_machine m life) b) (has_machine m life) h n old new refl (has_other size b life m old same was) device did word came in
-    (rest.0, (m, did, turned, rest.1), rest.2, rest.3)
+    (rest.0, (m, did, turned, rest.1), rest.2, rest.3, rest.4)
 
 struck_as : (size : Size) (word : Word) (b : Bench) (m : Machine) (store : SimStore) → Stands size word b m store → b.fault_state.struck ≡ (store_fault_state store).struck
 struck_as size (words.Goes did) b m store (life, on, is, same, device) = ap (λ x. x.struck) device.0
@@ -394,27 +374,27 @@ runs size (words.Goes did) b m store e is = is
 runs size (words.Over end) b m store e is = absurd (let no : ⊥ = cc in no)
 
 pub turns : (size : Size) (h count : ℕ) (b : Bench) (m n : Machine) (old new : SimStore) (made : ℕ) (word : Word) → Running size b m old → boards.TurnsManyHeld h count m n old new made word
-    → Comes_so size (λ word x. GuestTurns h count b made word x) b word n new
+    → Comes_counting size (λ word x. GuestTurns h count b made word x) b word n new
 turns size h zero b m n old new made word is x = absurd x
 turns size h (suc count) b m n old new made word (life, on, was, same, device) (mid, store, first, turned, more) =
     let P : Machine → Type 0 = λ k. boards.TurnsHeld h k mid old store first in
     let one = turn size h b life mid old store first on was device (subst P same turned) in
     go one more (λ x rest runs_on after. turns size h count x mid n store new rest word runs_on after)
   where
-    go : Comes_so size (λ word x. GuestTurn h life b word x) b first mid store
+    go : Comes_counting size (λ word x. GuestTurn h life b word x) b first mid store
         → ((boards.IsLastHeld first count store × (n ≡ mid) × (new ≡ store) × (made ≡ 1) × (word ≡ first)) ⊎ ((ends first ≡ false) × ((store_fault_state store).struck ≡ false) × (rest : ℕ) × (made ≡ suc rest) × boards.TurnsManyHeld h count mid n store new rest word))
-        → ((x : Bench) (rest : ℕ) → Running size x mid store → boards.TurnsManyHeld h count mid n store new rest word → Comes_so size (λ word y. GuestTurns h count x rest word y) x word n new)
-        → Comes_so size (λ word x. GuestTurns h (suc count) b made word x) b word n new
-    go (x, did, stands, payloads) (inl (last, e, f, k, w)) others =
+        → ((x : Bench) (rest : ℕ) → Running size x mid store → boards.TurnsManyHeld h count mid n store new rest word → Comes_counting size (λ word y. GuestTurns h count x rest word y) x word n new)
+        → Comes_counting size (λ word x. GuestTurns h (suc count) b made word x) b word n new
+    go (x, did, stands, payloads, counts) (inl (last, e, f, k, w)) others =
         let M : Machine → Type 0 = λ y. Stands size first x y new in
         let S : SimStore → Type 0 = λ y. Stands size first x mid y in
         let W : Word → Type 0 = λ y. Stands size y x n new in
-        (x, (life, on, first, x, did, inl (is_last last, k, w, refl)), subst W (sym w) (subst M (sym e) (subst S (sym f) stands)), payloads)
+        (x, (life, on, first, x, did, inl (is_last last, k, w, refl)), subst W (sym w) (subst M (sym e) (subst S (sym f) stands)), payloads, λ none. counts (sym (ap was_refused_memory f) ∙ none))
       where
         is_last : boards.IsLastHeld first count store → IsLastTurn first count x
         is_last (inl t) = inl t
         is_last (inr (inl z)) = inr (inl z)
         is_last (inr (inr s)) = inr (inr (struck_as size first x mid store stands ∙ s))
-    go (x, did, stands, payloads) (inr (still, calm, rest, k, more)) others =
+    go (x, did, stands, payloads, counts) (inr (still, calm, rest, k, more)) others =
         let last = others x rest (runs size first x mid store still stands) more in
-        (last.0, (life, on, first, x, did, inr (still, struck_as size first x mid store stands ∙ calm, rest, k, last.1)), last.2, last.3 ∙ payloads)
+        (last.0, (life, on, first, x, did, inr (still, struck_as size first x mid store stands ∙ calm, rest, k, last.1)), last.2, last.3 ∙ payloads, λ none. last.4 none ∙ counts (turns_before h count mid n store new rest word more none))

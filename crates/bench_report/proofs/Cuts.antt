@@ -4,16 +4,18 @@ use Rattle.board_model.specs.Shapes.{Size}
 use Rattle.board_model.specs.declared.refusal.Refusal.{Refusal}
 use Rattle.board_model.specs.declared.refusal.Refusal.TheVariants.{Memory}
 use Rattle.script_lang.specs.declared.line.Line.{Line}
+use Rattle.script_lang.specs.declared.line.Line.TheVariants as lines
 use Rattle.simdisk.specs.declared.SimDisk.{SimDisk}
 use Rattle.simdisk.specs.declared.fill.Fill.{Fill}
 use Rattle.bench_report.specs.Bench.{Bench}
 use Rattle.bench_report.specs.Happens.{says, unpowered}
 use Rattle.bench_report.specs.Steps.{Step, Moves}
-use Rattle.bench_report.specs.Agree.{Agrees, Matches, IsBench, HasDisk, IsCutBy, EndsBy, ArmsIts, CutsIts, PokesIts, InspectsIts, InspectsOrLost}
+use Rattle.bench_report.specs.Agree.{Agrees, Matches, IsBench, HasDisk, IsCutBy, EndsBy, ArmsIts, CutsIts, MovesEnough, PokesIts, InspectsIts, InspectsOrLost, StepsEnough}
 use Rattle.bench_report.specs.declared.power.Power.{Power}
 use Rattle.report_lines.specs.declared.printed.Answer.{Answer}
 use Rattle.report_lines.specs.declared.printed.Printed.TheVariants as printed
 use Rattle.bench_report.proofs.Armed.{unstruck_arming, unstruck_cut, unstruck_poke}
+use Rattle.bench_report.proofs.Growths.{call_grows, hit_counts}
 
 abbrev pub Ran : Size → Line → Bench → Result Answer Refusal → Power → List (List ℕ) → Type 0
 Ran size line b r after payloads =
@@ -60,3 +62,22 @@ module _ (size : Size) (line : Line) (b : Bench) (after left : Power) (payloads 
 pub whole_inspects : (line : Line) (before : Power) (r : Result Answer Refusal) → InspectsIts line before r → IfOk r (InspectsOrLost line before)
 whole_inspects line before (Ok answer) is = inr is
 whole_inspects line before (Err e) is = tt
+
+-- a line of a call
+pub cut_enough : (size : Size) (line : Line) (after left : Power) (now : List (List ℕ)) (before : Power) (r : Result Answer Refusal) (old : List (List ℕ)) (answer : Answer) → answer ≡ says printed.PowerLost → ((b : Bench) → IsBench size b before old → Ran size line b r after now)
+    → ((new : Bench) → Agrees size new after → new.fault_state.struck ≡ true) → ((new : Bench) → Agrees size new after → Agrees size (unpowered new) left) → MovesEnough size line before old (Ok answer) left now
+cut_enough size (lines.Call h asked) after left now before (Ok would) old answer is ran hit cuts = λ had b was.
+    let did = ran b was in
+    let struck = hit did.0 did.2.0 in
+    (unpowered did.0, inr (would, did.0, did.1, struck, is, refl), (cuts did.0 did.2.0, did.2.1, refl), hit_counts b did.0 was.2 struck (call_grows h b.power asked b would did.0 did.1))
+cut_enough size (lines.Call h asked) after left now before (Err e) old answer is ran hit cuts = λ had b was. absurd (let no : true ≡ false = sym (hit b (ran b was).1.0) ∙ was.2 in let never : ⊥ = cc in never)
+cut_enough size line after left now before r old answer is ran hit cuts = tt
+
+pub whole_enough : (size : Size) (line : Line) (before : Power) (old : List (List ℕ)) (r : Result Answer Refusal) (after : Power) (now : List (List ℕ)) → StepsEnough size line before old r after now → ((new : Bench) → Agrees size new after → new.fault_state.struck ≡ false)
+    → MovesEnough size line before old r after now
+whole_enough size (lines.Call h asked) before old (Ok answer) after now steps calm = λ had b was.
+    let did = steps had b was in
+    let quiet = calm did.0 did.2.0 in
+    (did.0, inl (did.1, quiet), (did.2.0, did.2.1, quiet), did.3)
+whole_enough size (lines.Call h asked) before old (Err e) after now steps calm = λ had b was. tt
+whole_enough size line before old r after now steps calm = tt

@@ -199,7 +199,7 @@ makes_free (calls.SystemReset kind reason) h life b word new x free = resets_fre
 makes_free (calls.SystemSuspend kind address opaque) h life b word new (asked, checked, x) free = by_free asked opaque h life b word new x free
 makes_free call h life b word new x free = refuses_free NotSupported h life b word new x free
 
-comes_free : (did : Turned) (h : ℕ) (life : BenchLife) (b : Bench) (word : Word) (new : Bench) → ComesTo did h life b word new → IsFree word → AsMany b new
+pub comes_free : (did : Turned) (h : ℕ) (life : BenchLife) (b : Bench) (word : Word) (new : Bench) → ComesTo did h life b word new → IsFree word → AsMany b new
 comes_free Durable h life b word new x free = makes_free (call_of (hart_at life.machine h)) h life b word new x free
 comes_free (Made did) h life b word new x free = as_many b b new refl refl x.1
 

@@ -33,6 +33,8 @@ pub mod Issues
 pub mod Allowed
 pub mod Started
 pub mod Opened
+pub mod Remembered
+pub mod Growths
 pub mod Came
 pub mod Lines
 pub mod RunLines

@@ -6,6 +6,7 @@ use Rattle.board_model.specs.Shapes.{Size}
 use Rattle.board_model.specs.declared.refusal.Refusal.{Refusal}
 use Rattle.board_model.specs.declared.refusal.Refusal.TheVariants.{Memory}
 use Rattle.script_lang.specs.declared.line.Line.{Line}
+use Rattle.script_lang.specs.declared.line.Line.TheVariants as lines
 use Rattle.simdisk.specs.declared.SimDisk.{SimDisk}
 use Rattle.machine.specs.Machine.{Machine, hart_at}
 use Rattle.machine.specs.Turns.{MakesOneCall, calling}
@@ -30,8 +31,10 @@ use Rattle.bench_report.specs.Examined.{InspectsOn, InspectStep}
 use Rattle.bench_report.specs.Steps.{Step, FormatStep, OnStep, CallReported, GuestCall, TurnStep, CallStep, ReadStep}
 use Rattle.bench_report.proofs.Commanded.{Running, running_on}
 use Rattle.bench_report.proofs.Dozed.{call_size}
-use Rattle.bench_report.proofs.Came.{Stands, has_other, comes, turns}
-use Rattle.bench_report.specs.Agree.{StoreIs, BoardIs, DeviceIs, OffIs, OnIs, BoardAfter, Agrees, IsBench, Matches, StepsTo}
+use Rattle.bench_report.proofs.Came.{CountsRefused, Stands, has_other, comes, turns}
+use Rattle.bench_report.proofs.FailureFree.{comes_free}
+use Rattle.bench_report.specs.Turns.{ComesTo}
+use Rattle.bench_report.specs.Agree.{StoreIs, BoardIs, CountsNone, DeviceIs, HadEnough, OffIs, OnIs, BoardAfter, Agrees, IsBench, Matches, StaysOn, StepsEnough, StepsTo}
 use Rattle.bench_report.specs.Asides.{AsideStep, affected, wakes}
 use Rattle.bench_report.specs.Deeds.{SetSlot, CallWake}
 
@@ -106,36 +109,42 @@ module _ (size : Size) (b : Bench) (old new : SimBoard) (h : ℕ) (asked : CallW
   -- what the board is, where a word was said and where none was
   abbrev pub Follows : Option Word → Type 0
   Follows None = (w : Bench) → OnIs size w new → Agrees size w after
-  Follows (Some word) = (w : Bench) → BoardAfter size word w new → Agrees size w after
+  Follows (Some word) = ((w : Bench) → BoardAfter size word w new → Agrees size w after) × StaysOn word new after
+
+  -- a call that ends the life was refused no memory
+  enough : (did : Turned) (life : BenchLife) (x : Bench) (word : Word) (w : Bench) → StaysOn word new after → ComesTo did h life x word w → CountsRefused (store_in new) x w → CountsNone after x w
+  enough did life x (words.Goes by) w is step counts = λ had. counts (subst HadEnough is had)
+  enough did life x (words.Over end) w is step counts = λ had. (comes_free did h life x (words.Over end) w step (λ e. (let no : ⊥ = cc in no))).0
 
   came : (life : BenchLife) (m : Machine) (called : Option Turned) → b.power ≡ Some life → BoardIs size b.disk_state b.kept (Some life) old → m.size ≡ life.machine.size
       → boards.ComesOf called h m (machine_in new) (store_in old) (store_in new) said → Follows said
-      → (w : Bench) × GuestCall called h (has_machine m life) (on_with (has_machine m life) b) (shows line) w × Agrees size w after × (w.payloads ≡ b.payloads)
+      → (w : Bench) × GuestCall called h (has_machine m life) (on_with (has_machine m life) b) (shows line) w × Agrees size w after × (w.payloads ≡ b.payloads) × CountsNone after b w
   came life m None on is sized (same, still, none) follows =
       let x : Bench = on_with (has_machine m life) b in
       let Q : SimStore → Type 0 = λ store. StoreIs size b.disk_state b.kept (has_machine m life) store in
       let S : SimStore → Type 0 = λ store. DeviceIs size b (store_fault_state store) (store_facts store) in
       let F : Option Word → Type 0 = Follows in
       let on_new : OnIs size x new = ((subst Q (sym still) (has_other size b life m (store_in old) sized is.0), same), subst S (sym still) was.1) in
-      (x, (ap shows (shows_it ∙ ap (called_line h (hart_at (machine_in new) h)) none), refl), subst F none follows x on_new, refl)
+      (x, (ap shows (shows_it ∙ ap (called_line h (hart_at (machine_in new) h)) none), refl), subst F none follows x on_new, refl, λ had. refl)
   came life m (Some did) on is sized (word, made, some) follows =
       let x : Bench = on_with (has_machine m life) b in
       let F : Option Word → Type 0 = Follows in
       let did_so = comes size x (has_machine m life) h (machine_in new) (store_in old) (store_in new) refl (has_other size b life m (store_in old) sized is.0) was.1 did word made in
       let reported = reported_as size h word did_so.0 (machine_in new) (store_in new) line did_so.2 (shows_it ∙ ap (called_line h (hart_at (machine_in new) h)) some) in
-      (did_so.0, (word, did_so.1, reported), subst F some follows did_so.0 (stands_by size word did_so.0 new did_so.2), did_so.3)
+      let goes = subst F some follows in
+      (did_so.0, (word, did_so.1, reported), goes.0 did_so.0 (stands_by size word did_so.0 new did_so.2), did_so.3, enough did (has_machine m life) x word did_so.0 goes.1 did_so.1 did_so.4)
 
-  pub on_calls : boards.CallsHeld h asked (machine_in old) (machine_in new) (store_in old) (store_in new) said → Follows said → StepsTo size b after (CallStep b.power h asked b (shows line))
+  pub on_calls : boards.CallsHeld h asked (machine_in old) (machine_in new) (store_in old) (store_in new) said → Follows said → StepsTo size b after (λ w. CallStep b.power h asked b (shows line) w × CountsNone after b w)
   on_calls (m, called, call, comes_of) follows = by b.power was.0 refl
     where
-      by : (p : Option BenchLife) → BoardIs size b.disk_state b.kept p old → b.power ≡ p → StepsTo size b after (CallStep p h asked b (shows line))
+      by : (p : Option BenchLife) → BoardIs size b.disk_state b.kept p old → b.power ≡ p → StepsTo size b after (λ w. CallStep p h asked b (shows line) w × CountsNone after b w)
       by None is on = absurd is
       by (Some life) is on =
           let P : Machine → Type 0 = λ k. HasHart k h in
           let C : Machine → Type 0 = λ k. MakesOneCall h asked k m called in
           let sized : m.size ≡ life.machine.size = call_size (doze_of h (machine_in old).doze) h (calling (hart_at (machine_in old) h) asked) (machine_in old) m called call ∙ ap (λ (k : Machine). k.size) is.1 in
           let did = came life m called on is sized comes_of follows in
-          (did.0, inl (subst P is.1 has, m, called, subst C is.1 call, did.1), did.2, did.3)
+          (did.0, (inl (subst P is.1 has, m, called, subst C is.1 call, did.1), did.4), did.2, did.3)
 
 -- a look that leaves the board as it was
 pub on_looks : (size : Size) (b : Bench) (old new : SimBoard) (says_so : Machine → MachineLine → Type 0) (line : MachineLine) → OnIs size b old → says_so (machine_in old) line → machine_in new ≡ machine_in old → store_in new ≡ store_in old
@@ -200,3 +209,9 @@ pub row_reported : (size : Size) (line said : Line) (b : Bench) (r : Result Answ
     → StepsTo size b made (Step size said b answer)
     → MatchResult r (λ a. (new : Bench) × Step size line b a new × Matches size new after payloads) (λ e. (e ≡ Memory) × Matches size b after payloads)
 row_reported size line said b r answer after made payloads is ok same kept did = rw ok (rw same (rw is (did.0, did.1, (did.2, kept ∙ sym did.3))))
+
+-- a line of a call
+pub call_reported : (size : Size) (line : Line) (h : ℕ) (asked : CallWords) (r : Result Answer Refusal) (answer : Answer) (before after made : Power) (old now : List (List ℕ)) → line ≡ lines.Call h asked → r ≡ Ok answer → after ≡ made → now ≡ old
+    → ((b : Bench) → Agrees size b before → StepsTo size b made (λ new. CallStep b.power h asked b answer new × CountsNone made b new)) → StepsEnough size line before old r after now
+call_reported size line h asked r answer before after made old now is ok same kept did =
+    rw ok (rw same (rw is (λ had b was. (let x = did b was.0 in (x.0, x.1.0, (x.2, kept ∙ was.1 ∙ sym x.3), x.1.1 had)))))

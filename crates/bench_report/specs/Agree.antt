@@ -16,6 +16,7 @@ use Rattle.simdisk.specs.Pokes.{PokeFits, StandsSo, poked}
 use Rattle.script_lang.specs.declared.line.Line.{Line}
 use Rattle.script_lang.specs.declared.line.Line.TheVariants as lines
 use Rattle.store.specs.Leaves.{Leaves, IsBlank, IsKept}
+use Rattle.store.specs.Views.{was_refused_memory}
 use Rattle.sbi.specs.declared.words.Word.{Word}
 use Rattle.sbi.specs.declared.words.Word.TheVariants as words
 use Rattle.bench_report.specs.declared.power.Power.{Power}
@@ -24,7 +25,7 @@ use Rattle.bench_report.specs.Views.{SimStore, SimBoard, store_in, machine_in, d
 use Rattle.bench_report.specs.Bench.{DiskState, Blank, Unknown, Formatted, BenchLife, Bench}
 use Rattle.bench_report.specs.Sides.{SidesAre}
 use Rattle.bench_report.specs.Armings.{fault_of, newest_fill}
-use Rattle.bench_report.specs.Steps.{Step}
+use Rattle.bench_report.specs.Steps.{Step, Moves}
 use Rattle.bench_report.specs.Examined.{AnswersOf, OpensOf}
 use Rattle.bench_report.specs.Happens.{says}
 use Rattle.report_lines.specs.declared.printed.Answer.{Answer}
@@ -86,6 +87,11 @@ OverIs size b board =
 abbrev pub BoardAfter : Size → Word → Bench → SimBoard → Type 0
 BoardAfter size (words.Goes did) b board = OnIs size b board
 BoardAfter size (words.Over end) b board = OverIs size b board
+
+-- where the life goes on, the board is on as it was
+abbrev pub StaysOn : Word → SimBoard → Power → Type 0
+StaysOn (words.Goes did) board left = left ≡ On board
+StaysOn (words.Over end) board left = ⊤
 
 abbrev pub Agrees : Size → Bench → Power → Type 0
 Agrees size b (Off off) = OffIs size b off.disk
@@ -196,6 +202,30 @@ is_struck (On board) = (store_fault_state (store_in board)).struck
 
 abbrev pub IsUnstruck : Power → Type 0
 IsUnstruck power = is_struck power ≡ false
+
+-- the board, where it is on, was refused memory for no suspension of its life
+abbrev pub HadEnough : Power → Type 0
+HadEnough (Off off) = ⊤
+HadEnough (On board) = was_refused_memory (store_in board) ≡ false
+
+-- then no more refusals of memory are counted
+abbrev pub CountsNone : Power → Bench → Bench → Type 0
+CountsNone left b new = HadEnough left → new.growths ≡ b.growths
+
+-- the same of a line of a call, as far as no armed cut strikes, and in a run
+abbrev pub StepsEnough : Size → Line → Power → List (List ℕ) → Result Answer Refusal → Power → List (List ℕ) → Type 0
+StepsEnough size (lines.Call h asked) before slots did left now =
+    HadEnough left → (b : Bench) → IsBench size b before slots → IfOk did
+    (λ answer. (new : Bench) × Step size (lines.Call h asked) b answer new × Matches size new left now
+    × (new.growths ≡ b.growths))
+StepsEnough size line before slots did left now = ⊤
+
+abbrev pub MovesEnough : Size → Line → Power → List (List ℕ) → Result Answer Refusal → Power → List (List ℕ) → Type 0
+MovesEnough size (lines.Call h asked) before slots did left now =
+    HadEnough left → (b : Bench) → IsBench size b before slots → IfOk did
+    (λ answer. (new : Bench) × Moves size (lines.Call h asked) b answer new × IsBench size new left now
+    × (new.growths ≡ b.growths))
+MovesEnough size line before slots did left now = ⊤
 
 -- what a function that neither keeps a payload nor speaks of one says of a line: there is a bench after it by
 -- this step

@@ -49,6 +49,11 @@ deed_of (lines.Poke sector offset bytes) = Beside WritePast
 deed_of lines.Inspect = Ask OfDisk
 deed_of lines.Wake = Beside CallWake
 
+-- it is no row of turns
+abbrev pub IsNoRow : Deed → Type 0
+IsNoRow (Turns h n) = ⊥
+IsNoRow deed = ⊤
+
 -- the disk is left to the firmware
 abbrev pub IsByFirmwareAlone : Deed → Type 0
 IsByFirmwareAlone (Beside WritePast) = ⊥

@@ -1,5 +1,5 @@
 -- What a line says, and the bench after one thing that happened.
-use Rattle.std.specs.Prelude.{◌≡◌, ◌+◌, true, List, [], ◌∷◌, ◌++◌, Some, None, length}
+use Rattle.std.specs.Prelude.{◌≡◌, ◌≢◌, ◌+◌, ⊤, true, List, [], ◌∷◌, ◌++◌, Some, None, length}
 use Rattle.board_model.specs.Durable.{Change, after, fold}
 use Rattle.board_model.specs.Kept.{nothing_kept}
 use Rattle.disk.specs.Facts.{counted}
@@ -21,6 +21,12 @@ says line = record { found = None; line = line }
 -- a line that shows memory or harts, or what the slots boot
 abbrev pub shows : MachineLine → Answer
 shows line = says (printed.Shown line)
+
+-- by what a line says, memory was refused neither to a power-on nor to an examination of the disk
+abbrev pub SaysEnough : Printed → Type 0
+SaysEnough (printed.OnRefused n) = n ≢ 11
+SaysEnough (printed.InspectRefused n) = n ≢ 11
+SaysEnough line = ⊤
 
 -- ---- the bench after one thing that happened
 

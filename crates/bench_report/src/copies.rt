@@ -34,8 +34,10 @@ fn copy_off(off: &OffDisk) -> Result<OffDisk, Refusal>
 fn copy_on(alloc: Global, board: &mut Board<SimDisk>) -> Result<Board<SimDisk>, Refusal>
     ensures stays { (size : Size) (b : Bench) → OnIs size b board.old → OnIs size b board.new }
     ensures same { disk_in board.new ≡ disk_in board.old }
+    ensures calm { is_struck (Power.On board.new) ≡ is_struck (Power.On board.old) }
     ensures copy { IfOk result (λ copy. (size : Size) (b : Bench) → OnIs size b board.old → OnIs size b copy) }
     ensures alike { IfOk result (λ copy. IsCopyOf (disk_in board.old) (disk_in copy)) }
+    ensures copy_calm { IfOk result (λ copy. is_struck (Power.On copy) ≡ is_struck (Power.On board.old)) }
     ensures refused { IfErr result (λ e. e ≡ Memory) }
 {
     kept_disks::<SimDisk>();
@@ -47,8 +49,10 @@ fn copy_on(alloc: Global, board: &mut Board<SimDisk>) -> Result<Board<SimDisk>, 
 pub fn copy_power(alloc: Global, power: &mut Power) -> Result<Power, Refusal>
     ensures stays { (size : Size) (b : Bench) → Agrees size b power.old → Agrees size b power.new }
     ensures same { (d : SimDisk) → HasDisk power.old d → HasDisk power.new d }
+    ensures calm { is_struck power.new ≡ is_struck power.old }
     ensures copy { IfOk result (λ copy. (size : Size) (b : Bench) → Agrees size b power.old → Agrees size b copy) }
     ensures alike { IfOk result (λ copy. (d e : SimDisk) → HasDisk power.old d → HasDisk copy e → IsCopyOf d e) }
+    ensures copy_calm { IfOk result (λ copy. is_struck copy ≡ is_struck power.old) }
     ensures refused { IfErr result (λ e. e ≡ Memory) }
 {
     match power {

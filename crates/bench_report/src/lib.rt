@@ -20,5 +20,6 @@ pub use report_lines::{Answer, Printed, Report};
 pub use runs::{Stopped, run, run_left, run_left_with, run_with};
 pub use setting::Setting;
 pub use steps::{
-    after, arm_disk, console, cut, disk_left, line_alone, line_with_cuts, power_on, struck,
+    after, arm_disk, console, cut, disk_left, line_alone, line_with_cuts, power_on,
+    refused_suspension, says_refused_memory, struck,
 };

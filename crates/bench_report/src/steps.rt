@@ -6,14 +6,14 @@ ghost use Rattle.script_lang.specs.Lines.{IsLineInRange};
 ghost use Rattle.store.specs.Leaves.{IsIdle};
 ghost use Rattle.bench_report.specs.Views.{arms, disk_in, store_in, machine_in, facts, store_fault_state};
 ghost use Rattle.bench_report.specs.Bench.{Bench, BenchLife};
-ghost use Rattle.bench_report.specs.Happens.{armed_with, off, unpowered, says, shows};
+ghost use Rattle.bench_report.specs.Happens.{armed_with, off, SaysEnough, unpowered, says, shows};
 ghost use Rattle.bench_report.specs.PowerOns.{FormatsOn, PowersOn, TellsNow};
 ghost use Rattle.bench_report.specs.Examined.{InspectsOn, InspectStep, AnswersOf, OpensOf};
 ghost use Rattle.bench_report.specs.Asides.{AsideStep};
 ghost use Rattle.bench_report.specs.Deeds.{SetSlot, CallWake, WritePast};
 ghost use Rattle.bench_report.specs.Steps.{FormatStep, OnStep, ConsoleStep, TurnStep, CallStep, ArmStep, Step, Moves};
 ghost use Rattle.simdisk.specs.declared.SimDisk.{SimDisk};
-ghost use Rattle.bench_report.specs.Agree.{HasDisk, IsCutBy, IsArmed, ArmsIts, CutsIts, Pokes, PokesIts, Inspects, OpensAt, InspectsIts, InspectsOrLost, fill_after, EndsBy, Agrees, OffIs, OnIs, BoardAfter, IsBench, IsUnstruck, Matches, StepsTo};
+ghost use Rattle.bench_report.specs.Agree.{CountsNone, HasDisk, IsCutBy, IsArmed, ArmsIts, CutsIts, MovesEnough, Pokes, PokesIts, StaysOn, StepsEnough, Inspects, OpensAt, InspectsIts, InspectsOrLost, fill_after, EndsBy, Agrees, HadEnough, OffIs, OnIs, BoardAfter, IsBench, IsUnstruck, Matches, StepsTo};
 ghost use Rattle.board_model.specs.declared.refusal.Refusal.TheVariants.{Memory};
 
 use crate::armings::{fault_of, newest_fill};
@@ -213,6 +213,27 @@ pub fn struck(power: &Power) -> bool
     }
 }
 
+/// Whether a line says that memory was refused, to a power-on or to an examination of the disk.
+pub fn says_refused_memory(said: Printed) -> bool
+    ensures { result ≡ false → SaysEnough said }
+{
+    match said {
+        Printed::OnRefused(number) => number == 11,
+        Printed::InspectRefused(number) => number == 11,
+        _ => false,
+    }
+}
+
+/// Whether memory was refused to a suspension in the life of a board that is on.
+pub fn refused_suspension(power: &Power) -> bool
+    ensures { result ≡ false → HadEnough power.now }
+{
+    match power {
+        Power::Off(_) => false,
+        Power::On(board) => board.was_refused_memory(),
+    }
+}
+
 fn format_line(shape: &Shape, power: Power) -> (Power, Answer)
     ensures { (b : Bench) → Agrees shape.now b power
         → StepsTo shape.now b result.0 (FormatStep b.power b result.1) }
@@ -313,6 +334,7 @@ fn payload_line(
 pub fn after(board: Board<SimDisk>, word: Word) -> Power
     ensures reported { (size : Size) (b : Bench) → BoardAfter size word b board → Agrees size b result }
     ensures disk { (d : SimDisk) → HasDisk result d → d ≡ disk_in board }
+    ensures on { StaysOn word board result }
 {
     match word {
         Word::Goes(_) => Power::On(board),
@@ -368,8 +390,8 @@ fn call<C: Crew>(
     hart: HartId,
     words: CallWords,
 ) -> (Power, MachineLine)
-    ensures { (size : Size) (b : Bench) → OnIs size b board
-        → StepsTo size b result.0 (CallStep b.power hart words b (shows result.1)) }
+    ensures { (size : Size) (b : Bench) → OnIs size b board → StepsTo size b result.0
+        (λ new. CallStep b.power hart words b (shows result.1) new × CountsNone result.0 b new) }
 {
     if !board.machine().has(hart) {
         return (Power::On(board), MachineLine::Off);
@@ -389,8 +411,8 @@ fn call_line<C: Crew>(
     words: CallWords,
     power: Power,
 ) -> (Power, MachineLine)
-    ensures { (size : Size) (b : Bench) → Agrees size b power
-        → StepsTo size b result.0 (CallStep b.power hart words b (shows result.1)) }
+    ensures { (size : Size) (b : Bench) → Agrees size b power → StepsTo size b result.0
+        (λ new. CallStep b.power hart words b (shows result.1) new × CountsNone result.0 b new) }
 {
     match power {
         Power::Off(disk) => (Power::Off(disk), MachineLine::Off),
@@ -460,6 +482,7 @@ pub fn line_alone<C: Crew>(
     ensures cuts { CutsIts line.now power result.0 }
     ensures pokes { PokesIts line.now power result.1 result.0 }
     ensures inspects { InspectsIts line.now power result.1 }
+    ensures enough { StepsEnough setting.now.shape.now line.now power payloads.old result.1 result.0 payloads.new }
     ensures slots { length payloads.new ≡ length payloads.old }
     ensures refused { OnErr result.1 (result.1 ≡ Err Memory) }
 {
@@ -508,6 +531,8 @@ pub fn line_with_cuts<C: Crew>(
     ensures pokes { (b : Bench) → IsBench setting.now.shape.now b bench.power bench.payloads
         → PokesIts line.now bench.power result.1 result.0.power }
     ensures inspects { IfOk result.1 (InspectsOrLost line.now bench.power) }
+    ensures enough { MovesEnough setting.now.shape.now line.now bench.power bench.payloads result.1 result.0.power
+        result.0.payloads }
     ensures slots { length result.0.payloads ≡ length bench.payloads }
     ensures refused { OnErr result.1 (result.1 ≡ Err Memory) }
 {

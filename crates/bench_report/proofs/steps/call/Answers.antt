@@ -27,4 +27,4 @@ returns-in-Some g c = λ size b h.
     let line : S (machine_in new) = subst S c.machine-2.ensures c.called-line.ensures in
     let F : Option Word → Type 0 = λ o. Follows size b c.args.board new c.args.hart c.args.words c.call-said.result c.called-line.result c.after.result h has line o in
     on_calls size b c.args.board new c.args.hart c.args.words c.call-said.result c.called-line.result c.after.result h has line c.call-said.ensures.calls
-    (subst F (sym c.in-Some.is) (λ x is. c.after.ensures.reported size x is))
+    (subst F (sym c.in-Some.is) (λ x is. c.after.ensures.reported size x is, c.after.ensures.on))

@@ -1,6 +1,6 @@
 use Rattle.std.proofs.Common.{refl}
 use Rattle.bench_report.specs.Happens.{unpowered}
-use Rattle.bench_report.proofs.Lines.{row_reported}
+use Rattle.bench_report.proofs.Lines.{call_reported, row_reported}
 use Rattle.bench_report.proofs.Pokes.{poke_matches}
 use Rattle.bench_report.proofs.steps.line_alone.Goals as goal
 
@@ -28,7 +28,12 @@ returns-in-Turn-clause-reported g c = λ b h.
 
 pub returns-in-Call-clause-reported : goal.returns-in-Call-clause-reported
 returns-in-Call-clause-reported g c = λ b h.
-    row_reported c.args.setting.now.shape.now _ _ b _ _ _ _ _ c.in-Call.is c.shown-in-Call.ensures.answer c.shown-in-Call.ensures.power h.1 (c.call_line.ensures c.args.setting.now.shape.now b h.0)
+    row_reported c.args.setting.now.shape.now _ _ b _ _ _ _ _ c.in-Call.is c.shown-in-Call.ensures.answer c.shown-in-Call.ensures.power h.1 (let did = c.call_line.ensures c.args.setting.now.shape.now b h.0 in (did.0, did.1.0, did.2, did.3))
+
+pub returns-in-Call-clause-enough : goal.returns-in-Call-clause-enough
+returns-in-Call-clause-enough g c =
+    call_reported c.args.setting.now.shape.now c.args.line.now c.in-Call.hart c.in-Call.words _ _ c.args.power _ _ _ _ c.in-Call.is c.shown-in-Call.ensures.answer c.shown-in-Call.ensures.power refl
+    (λ b h. c.call_line.ensures c.args.setting.now.shape.now b h)
 
 pub returns-in-Show-clause-reported : goal.returns-in-Show-clause-reported
 returns-in-Show-clause-reported g c = λ b h.

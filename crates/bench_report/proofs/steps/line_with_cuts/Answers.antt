@@ -1,5 +1,5 @@
 use Rattle.std.proofs.Common.{sym, ◌∙◌}
-use Rattle.bench_report.proofs.Cuts.{told_cut, told_whole, cut_arms, cut_cuts, cut_pokes, whole_inspects}
+use Rattle.bench_report.proofs.Cuts.{told_cut, told_whole, cut_arms, cut_cuts, cut_enough, cut_pokes, whole_enough, whole_inspects}
 use Rattle.bench_report.proofs.steps.line_with_cuts.Goals as goal
 
 pub returns-then-struck-clause-reported : goal.returns-then-struck-clause-reported
@@ -33,3 +33,13 @@ returns-then-struck-clause-pokes g c = λ b h.
 
 pub returns-else-struck-clause-inspects : goal.returns-else-struck-clause-inspects
 returns-else-struck-clause-inspects g c = whole_inspects _ _ c.line_alone-after.result.1 c.line_alone-after.ensures.inspects
+
+pub returns-then-struck-clause-enough : goal.returns-then-struck-clause-enough
+returns-then-struck-clause-enough g c =
+    cut_enough c.args.setting.now.shape.now c.args.line.now c.line_alone-after.result.0 _ _ _ c.line_alone-after.result.1 _ _ c.says.ensures (λ b h. c.line_alone-after.ensures.reported b h)
+    (λ new is. sym (c.struck.ensures.reported c.args.setting.now.shape.now new is) ∙ c.if-struck.true) (λ new is. c.cut-power.ensures.reported c.args.setting.now.shape.now new is)
+
+pub returns-else-struck-clause-enough : goal.returns-else-struck-clause-enough
+returns-else-struck-clause-enough g c =
+    whole_enough c.args.setting.now.shape.now c.args.line.now _ _ c.line_alone-after.result.1 c.line_alone-after.result.0 _ c.line_alone-after.ensures.enough
+    (λ new is. sym (c.struck.ensures.reported c.args.setting.now.shape.now new is) ∙ c.if-struck.false)

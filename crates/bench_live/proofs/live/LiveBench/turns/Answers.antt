@@ -7,41 +7,48 @@ use Rattle.bench_report.specs.Happens.{shows}
 use Rattle.machine.specs.declared.line.MachineLine.TheVariants as shown
 use Rattle.script_lang.specs.declared.line.Line.TheVariants as lines
 use Rattle.bench_live.specs.Lives.{IsAfter, PowerShows}
-use Rattle.bench_live.proofs.Lives.{did_from, lost_did, lost_row, made_did, made_row, stays}
+use Rattle.bench_live.proofs.Lives.{did_from, lost_did, lost_row, made_did, made_row, stays, still_row}
 use Rattle.bench_live.proofs.live.LiveBench.turns.Goals as goal
 
 pub returns-then-is_still_on-clause-reported : goal.returns-then-is_still_on-clause-reported
 returns-then-is_still_on-clause-reported g c = λ size b shows.
-    let P : Option Power → Type 0 = λ p. PowerShows size b p c.args.self.now.payloads in
-    let was : IsBench size b c.in-Some.power c.args.self.now.payloads = subst P c.in-Some.is shows in
-    let went = c.in-Some-in_place.ensures.reported size b was.0 in
-    let agrees = stays size c.in-Some-in_place.word went.0 c.in_place.new.power (c.is_still_on.ensures.on c.if-is_still_on.true) went.5 in
-    made_row size c.args.hart c.args.count c.in-Some-in_place.made c.in-Some-in_place.word b c.in_place.new.power c.in_place.new.power c.args.self.now.payloads went was.1
-    (c.is_still_on.ensures.reported c.if-is_still_on.true size went.0 agrees) agrees
+    let row = still_row size c.args.hart c.args.count c.in-Some-in_place.made c.in-Some-in_place.word b _ c.in-Some.power c.in_place.new.power _ c.in-Some.is (c.in-Some-in_place.ensures.reported size b) shows
+    (c.is_still_on.ensures.on c.if-is_still_on.true) (c.is_still_on.ensures.reported c.if-is_still_on.true size) in
+    (row.0, row.1, row.2, row.3)
+
+pub returns-then-is_still_on-clause-well : goal.returns-then-is_still_on-clause-well
+returns-then-is_still_on-clause-well g c = λ enough size b shows.
+    let row = still_row size c.args.hart c.args.count c.in-Some-in_place.made c.in-Some-in_place.word b _ c.in-Some.power c.in_place.new.power _ c.in-Some.is (c.in-Some-in_place.ensures.reported size b) shows
+    (c.is_still_on.ensures.on c.if-is_still_on.true) (c.is_still_on.ensures.reported c.if-is_still_on.true size) in
+    (row.0, row.1, row.2, row.3, row.4 (c.refused_suspension-self.ensures enough))
 
 pub returns-then-settle-clause-reported : goal.returns-then-settle-clause-reported
 returns-then-settle-clause-reported g c = λ size b shows.
-    let P : Option Power → Type 0 = λ p. PowerShows size b p c.args.self.now.payloads in
-    let was : IsBench size b c.in-Some.power c.args.self.now.payloads = subst P c.in-Some.is shows in
-    let went = c.in-Some-in_place.ensures.reported size b was.0 in
     let did = c.settle.ensures.settled c.in_place.new.power refl in
-    let told = did.2 size went.0 went.5 in
-    let row = lost_row size c.args.hart c.args.count c.in-Some-in_place.made c.in-Some-in_place.word b c.in_place.new.power did.0 c.args.self.now.payloads went was.1 (sym told.0 ∙ c.if-settle.true) (told.2 c.if-settle.true) in
-    let Q : Option Power → Type 0 = λ p. PowerShows size row.0 p c.args.self.now.payloads in
-    let R : List (List ℕ) → Type 0 = λ x. PowerShows size row.0 c.settle.new.self.power x in
-    (row.0, row.1, row.2, subst R (sym c.settle.ensures.payloads) (subst Q (sym did.1) row.3))
+    let row = lost_row size c.args.hart c.args.count c.in-Some-in_place.made c.in-Some-in_place.word b _ c.in-Some.power c.in_place.new.power _ c.in-Some.is (c.in-Some-in_place.ensures.reported size b) shows
+    c.args.self.now.fill c.settle.result did.0 _ _ did.1 c.settle.ensures.payloads did.2 c.if-settle.true in
+    (row.0, row.1, row.2, row.3)
+
+pub returns-then-settle-clause-well : goal.returns-then-settle-clause-well
+returns-then-settle-clause-well g c = λ enough size b shows.
+    let did = c.settle.ensures.settled c.in_place.new.power refl in
+    let row = lost_row size c.args.hart c.args.count c.in-Some-in_place.made c.in-Some-in_place.word b _ c.in-Some.power c.in_place.new.power _ c.in-Some.is (c.in-Some-in_place.ensures.reported size b) shows
+    c.args.self.now.fill c.settle.result did.0 _ _ did.1 c.settle.ensures.payloads did.2 c.if-settle.true in
+    (row.0, row.1, row.2, row.3, row.4 (c.refused_suspension-self.ensures (sym c.settle.ensures.memory ∙ enough)))
 
 pub returns-else-settle-clause-reported : goal.returns-else-settle-clause-reported
 returns-else-settle-clause-reported g c = λ size b shows.
-    let P : Option Power → Type 0 = λ p. PowerShows size b p c.args.self.now.payloads in
-    let was : IsBench size b c.in-Some.power c.args.self.now.payloads = subst P c.in-Some.is shows in
-    let went = c.in-Some-in_place.ensures.reported size b was.0 in
     let did = c.settle.ensures.settled c.in_place.new.power refl in
-    let told = did.2 size went.0 went.5 in
-    let row = made_row size c.args.hart c.args.count c.in-Some-in_place.made c.in-Some-in_place.word b c.in_place.new.power did.0 c.args.self.now.payloads went was.1 (sym told.0 ∙ c.if-settle.false) (told.1 c.if-settle.false) in
-    let Q : Option Power → Type 0 = λ p. PowerShows size row.0 p c.args.self.now.payloads in
-    let R : List (List ℕ) → Type 0 = λ x. PowerShows size row.0 c.settle.new.self.power x in
-    (row.0, row.1, row.2, subst R (sym c.settle.ensures.payloads) (subst Q (sym did.1) row.3))
+    let row = made_row size c.args.hart c.args.count c.in-Some-in_place.made c.in-Some-in_place.word b _ c.in-Some.power c.in_place.new.power _ c.in-Some.is (c.in-Some-in_place.ensures.reported size b) shows
+    c.args.self.now.fill c.settle.result did.0 _ _ did.1 c.settle.ensures.payloads did.2 c.if-settle.false in
+    (row.0, row.1, row.2, row.3)
+
+pub returns-else-settle-clause-well : goal.returns-else-settle-clause-well
+returns-else-settle-clause-well g c = λ enough size b shows.
+    let did = c.settle.ensures.settled c.in_place.new.power refl in
+    let row = made_row size c.args.hart c.args.count c.in-Some-in_place.made c.in-Some-in_place.word b _ c.in-Some.power c.in_place.new.power _ c.in-Some.is (c.in-Some-in_place.ensures.reported size b) shows
+    c.args.self.now.fill c.settle.result did.0 _ _ did.1 c.settle.ensures.payloads did.2 c.if-settle.false in
+    (row.0, row.1, row.2, row.3, row.4 (c.refused_suspension-self.ensures (sym c.settle.ensures.memory ∙ enough)))
 
 pub returns-in_default-in_place-clause-reported : goal.returns-in_default-in_place-clause-reported
 returns-in_default-in_place-clause-reported g c = λ size b shows.
@@ -49,6 +56,13 @@ returns-in_default-in_place-clause-reported g c = λ size b shows.
     let was : IsBench size b c.in-Some.power c.args.self.now.payloads = subst P c.in-Some.is shows in
     let A : Power → Type 0 = λ p. Agrees size b p in
     (b, refl, inl (c.in_default-in_place.ensures.reported size b was.0, was.2), (subst A (sym c.in_default-in_place.ensures.none) was.0, was.1, was.2))
+
+pub returns-in_default-in_place-clause-well : goal.returns-in_default-in_place-clause-well
+returns-in_default-in_place-clause-well g c = λ enough size b shows.
+    let P : Option Power → Type 0 = λ p. PowerShows size b p c.args.self.now.payloads in
+    let was : IsBench size b c.in-Some.power c.args.self.now.payloads = subst P c.in-Some.is shows in
+    let A : Power → Type 0 = λ p. Agrees size b p in
+    (b, refl, inl (c.in_default-in_place.ensures.reported size b was.0, was.2), (subst A (sym c.in_default-in_place.ensures.none) was.0, was.1, was.2), refl)
 
 pub returns-then-is_still_on-clause-does : goal.returns-then-is_still_on-clause-does
 returns-then-is_still_on-clause-does g c = λ size b shows.
