@@ -1,4 +1,6 @@
-use Rattle.std.proofs.Common.{◌≡◌, ◌∙◌, ◌+◌, ◌-◌, ◌≤◌, ◌∷◌, ◌++◌, [], List, length, ap, sym, subst, arith}
+use Rattle.std.specs.Bool.{if◌then◌else◌}
+use Rattle.std.specs.Result.{is_ok}
+use Rattle.std.proofs.Common.{◌≡◌, ◌∙◌, ◌+◌, ◌-◌, ◌≤◌, ◌∷◌, ◌++◌, [], Bool, true, List, length, ap, sym, subst, arith}
 use Rattle.std.proofs.lemmas.List.{length-append}
 use Rattle.bench_report.specs.Happens.{unpowered}
 use Rattle.jobs.specs.Handed.{AreRows}
@@ -32,10 +34,12 @@ loop-done-preserved g c =
     let runner = self.runner.now in
     let i = c.loop-done.invariant in
     let from = c.chunk-from.result.from in
-    let next = c.in_ok-next_rows in
+    let next = c.in-Ok in
     let is = IsOfCall runner.setting.shape.now runner.bench self.caller self.before runner.lines.now (compared runner.recovery) self.site.now in
     let long = length-append c.loop-done.rows.items (next.made ∷ []) in
-    let items : c.push.new.self.items ≡ c.loop-done.rows.items ++ next.made ∷ [] = ? in
+    let ok : is_ok c.push.result ≡ true = c.if-is_err.ensures.negation in
+    let items : c.push.new.self.items ≡ c.loop-done.rows.items ++ next.made ∷ [] =
+    c.push.ensures.items ∙ ap (λ (b : Bool). if b then (c.loop-done.rows.items ++ next.made ∷ []) else c.loop-done.rows.items) ok in
     let as_many : length c.push.new.self.items ≡ length (c.loop-done.rows.items ++ next.made ∷ []) = ap (λ (rows : List PointRows). length rows) items in
     let order : from ≤ c.loop-done.done = omega arith in
     let A : List PointRows → Type 0 = λ rows. AreRows is from rows in record {
