@@ -17,7 +17,7 @@ use crate::site::{Going, Site};
 use crate::sites::run_lines;
 use board_model::Refusal;
 use crew::Crew;
-use jobs::{Task, Window};
+use jobs::{Chunk, Task, Window};
 
 /// The most calls of a chunk.
 const MOST_CALLS: u64 = 64;
@@ -129,36 +129,65 @@ impl<'a, 'b, C: Crew> RunsAtCalls<'a, 'b, C> {
         };
         run_at_point(&behind, self.count - moment.count, going, point)
     }
+
+    /// Runs on to the line in which that call lies, and makes the runs at it. Refused `Memory` alone.
+    fn next_rows(&self, moment: Moment, done: u64) -> Result<(Moment, PointRows), Refusal>
+        requires few { self.now.count ≤ length self.now.runner.now.lines.now }
+        requires order { moment.count ≤ self.now.count }
+        requires lines { AreSwept self.now.runner.now.setting.shape.now self.now.runner.now.lines.now }
+        requires recovery { AreSwept self.now.runner.now.setting.shape.now self.now.runner.now.recovery.lines.now }
+        requires room { self.now.before + done + 1 < 2 ^ 64 }
+        requires sits { (b : ModelBench) × CameTold self.now.runner.now.setting.shape.now b self.now.runner.now.lines.now self.now.site.now.ledger moment }
+        ensures few { IfOk result (λ did. did.0.count ≤ self.now.count) }
+        ensures came { IfOk result (λ did. (b : ModelBench)
+            → CameTold self.now.runner.now.setting.shape.now b self.now.runner.now.lines.now self.now.site.now.ledger moment
+            → CameTold self.now.runner.now.setting.shape.now b self.now.runner.now.lines.now self.now.site.now.ledger did.0) }
+        ensures judged { IfOk result (λ did. (b : ModelBench)
+            → CameTold self.now.runner.now.setting.shape.now b self.now.runner.now.lines.now self.now.site.now.ledger moment
+            → Judged (RunsAlong self.now.runner.now.setting.shape.now self.now.runner.now.bench self.now.site.now self.now.before b
+            self.now.runner.now.lines.now (compared self.now.runner.now.recovery)) did.1
+            (runs_of self.now.runner.now.bench self.now.caller (self.now.before + done + 1))) }
+        ensures refused { IfErr result (λ e. e ≡ Memory) }
+    {
+        let next = line_of(self.marks, moment.count, self.count, done);
+        let mut moment = moment.run_to(&self.runner.setting, self.runner.lines, next)?;
+        let made = self.rows_at(&mut moment, done)?;
+        Ok((moment, made))
+    }
 }
 
 impl<'a, 'b, C: Crew + Sync> Task for RunsAtCalls<'a, 'b, C> {
+    ghost use Rattle.std.specs.Prelude.{◌≡◌, true};
     ghost use Rattle.std.specs.Thread.{IsSync};
     ghost use Rattle.jobs.specs.Handed.{IsChunk};
     ghost use Rattle.bench_sweep.specs.Reports.{HasChunk, IsOfCall};
 
-    type Row = Vec<PointRows>;
+    type Row = Chunk<PointRows>;
 
     ghost has = { λ task k. HasChunk task.runner.now.setting.shape.now task.runner.now.lines.now
         task.runner.now.recovery.lines.now task.count task.site.now task.before task.within.from task.within.to task.each k
         × IsSync C.Handle.row };
 
-    ghost is_row = { λ task k made. IsChunk (IsOfCall task.runner.now.setting.shape.now task.runner.now.bench task.caller task.before
+    ghost is_row = { λ task k made. made.whole ≡ true → IsChunk (IsOfCall task.runner.now.setting.shape.now task.runner.now.bench task.caller task.before
         task.runner.now.lines.now (compared task.runner.now.recovery) task.site.now)
-        task.within.from task.within.to task.each k made.items };
+        task.within.from task.within.to task.each k made.rows.items };
 
     /// Makes the runs at the calls of that chunk: the lines run on from the site as they are, and each call is armed on a copy of
     /// the board as it stands before the line in which the call lies.
-    fn row(&self, number: u64) -> Result<Vec<PointRows>, Refusal> {
+    fn row(&self, number: u64) -> Result<Chunk<PointRows>, Refusal> {
         let Window { from, to } = self.within.chunk(self.each, number);
         let alloc = self.runner.setting.alloc;
         let mut moment = Moment::at(alloc, self.site)?;
         let mut rows = Vec::new(alloc);
         for done in from..to {
-            let next = line_of(self.marks, moment.count, self.count, done);
-            moment = moment.run_to(&self.runner.setting, self.runner.lines, next)?;
-            let made = self.rows_at(&mut moment, done)?;
-            rows.push(made)?;
+            let Ok((next, made)) = self.next_rows(moment, done) else {
+                return Ok(Chunk { rows, whole: false });
+            };
+            moment = next;
+            if rows.push(made).is_err() {
+                return Ok(Chunk { rows, whole: false });
+            }
         }
-        Ok(rows)
+        Ok(Chunk { rows, whole: true })
     }
 }

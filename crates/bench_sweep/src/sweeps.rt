@@ -32,7 +32,7 @@ use bench_report::Setting;
 use board::Payloads;
 use board_model::Refusal;
 use crew::{Crew, Sequential};
-use jobs::{Jobs, Part, Progress, Sink, Window, hand_on_all};
+use jobs::{Chunk, Jobs, Part, Progress, Sink, Window, hand_on_all};
 use script_lang::{Line, Script, parse_script};
 use std::alloc::Global;
 use std::io::Write;
@@ -70,18 +70,25 @@ impl<'a, W: Write> Report<'a, W> {
     }
 }
 
-impl<'a, W: Write> Sink<Vec<PointRows>> for Report<'a, W> {
+impl<'a, W: Write> Sink<Chunk<PointRows>> for Report<'a, W> {
+    ghost use Rattle.std.specs.Prelude.{◌≡◌, true};
     ghost use Rattle.jobs.specs.Handed.{TakesAll};
     ghost use Rattle.bench_sweep.specs.Reports.{TakesPoint};
 
-    ghost takes = { λ old made new. TakesAll (TakesPoint W.contents) old made.items new };
+    ghost takes = { λ old made new. (made.whole ≡ true) × TakesAll (TakesPoint W.contents) old made.rows.items new };
 
-    /// Writes the lines of the points of a chunk, in order, and tells of each that it went.
-    fn take<P: Progress>(&mut self, made: Vec<PointRows>, progress: &P) -> Result<(), Refusal> {
-        for point in made.as_slice() {
+    /// Writes the lines of the points of a chunk, in order, and tells of each that it went. Refused `Memory` behind them where the
+    /// chunk lacks some.
+    fn take<P: Progress>(&mut self, made: Chunk<PointRows>, progress: &P) -> Result<(), Refusal> {
+        let Chunk { rows, whole } = made;
+        for point in rows.as_slice() {
             self.take_point(point, progress)?;
         }
-        Ok(())
+        if whole {
+            Ok(())
+        } else {
+            Err(Refusal::Memory)
+        }
     }
 }
 

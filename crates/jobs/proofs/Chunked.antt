@@ -1,5 +1,5 @@
 -- Chunks of a window, one behind another, are the window.
-use Rattle.std.proofs.Common.{◌≡◌, ◌≤◌, ◌<◌, ◌⊎◌, ◌+◌, ◌-◌, ◌*◌, ◌/◌, ◌%◌, ◌^◌, ℕ, zero, suc, List, [], ◌∷◌, ◌++◌, length, min, inl, inr, refl, sym, ◌∙◌, ap, subst, arith}
+use Rattle.std.proofs.Common.{◌≡◌, ◌≤◌, ◌<◌, ◌⊎◌, ◌+◌, ◌-◌, ◌*◌, ◌/◌, ◌%◌, ◌^◌, ℕ, zero, suc, Bool, true, List, [], ◌∷◌, ◌++◌, length, min, inl, inr, refl, sym, ◌∙◌, ap, subst, arith}
 use Rattle.std.proofs.lemmas.List.{length-append}
 use Rattle.std.proofs.lemmas.Bool.{cases_lt}
 use Rattle.std.proofs.lemmas.Grind.{div_ceil_times}
@@ -25,7 +25,8 @@ none_are : {Row : Type 0} (is : ℕ → Row → Type 0) (a b : ℕ) (rows : List
 none_are is a b [] none are = are
 none_are is a b (row ∷ rows) none are = absurd (let long : length (row ∷ rows) ≡ length rows + 1 = omega arith in omega (arith, none, long))
 
-module _ {Row Chunk S : Type 0} (items : Chunk → List Row) (is : ℕ → Row → Type 0) (takes : S → Row → S → Type 0) (from to each : ℕ) where
+-- A chunk may say that it is whole. What takes chunks takes whole ones.
+module _ {Row Chunk S : Type 0} (whole : Chunk → Bool) (items : Chunk → List Row) (is : ℕ → Row → Type 0) (takes : S → Row → S → Type 0) (from to each : ℕ) where
   -- the rows of chunks from number k on, one behind another
   pub record Joined (k m : ℕ) (old new : S) : Type 0 where
     pub rows : List Row
@@ -33,7 +34,14 @@ module _ {Row Chunk S : Type 0} (items : Chunk → List Row) (is : ℕ → Row �
     pub are : AreRows is (from + k * each) rows
     pub taken : TakesAll takes old rows new
 
-  join : (k : ℕ) (chunks : List Chunk) (old new : S) → AreRows (λ (i : ℕ) (c : Chunk). IsChunk is from to each i (items c)) k chunks → TakesAll (λ (s : S) (c : Chunk) (t : S). TakesAll takes s (items c) t) old chunks new → Joined k (length chunks) old new
+  -- it has its rows, where it is whole; and it is taken as a whole
+  abbrev IsMadeSo : ℕ → Chunk → Type 0
+  IsMadeSo i c = whole c ≡ true → IsChunk is from to each i (items c)
+
+  abbrev TakesWhole : S → Chunk → S → Type 0
+  TakesWhole s c t = (whole c ≡ true) × TakesAll takes s (items c) t
+
+  join : (k : ℕ) (chunks : List Chunk) (old new : S) → AreRows IsMadeSo k chunks → TakesAll TakesWhole old chunks new → Joined k (length chunks) old new
   join k [] old new are taken = record {
     rows = [];
     many = (let none : 0 ≡ min to (from + k * each) - (from + k * each) = omega arith in none) ∙ ap (λ (i : ℕ). min to (from + i * each) - (from + k * each)) (let same : k ≡ k + 0 = omega arith in same);
@@ -42,6 +50,7 @@ module _ {Row Chunk S : Type 0} (items : Chunk → List Row) (is : ℕ → Row �
   }
   join k (c ∷ cs) old new are taken =
       let later = join (k + 1) cs taken.0 new are.1 taken.2 in
+      let chunk = are.0 taken.1.0 in
       let one : (k + 1) * each ≡ k * each + each = grind arith in
       let ends : (k + 1 + length cs) * each ≡ k * each + each + length cs * each = grind arith in
       let long : length (c ∷ cs) ≡ length cs + 1 = omega arith in
@@ -49,17 +58,17 @@ module _ {Row Chunk S : Type 0} (items : Chunk → List Row) (is : ℕ → Row �
       let all' : (k + length (c ∷ cs)) * each ≡ k * each + each + length cs * each = ap (λ (i : ℕ). (k + i) * each) long ∙ all in
       record {
         rows = items c ++ later.rows;
-        many = omega (arith, length-append (items c) later.rows, are.0.many, later.many, one, ends, all');
-        are = rows_both is (from + k * each) (length (items c)) (items c) later.rows refl are.0.are (behind later (cases_lt to (from + k * each + each)) one ends);
-        taken = taken_both takes old taken.0 new (items c) later.rows taken.1 later.taken;
+        many = omega (arith, length-append (items c) later.rows, chunk.many, later.many, one, ends, all');
+        are = rows_both is (from + k * each) (length (items c)) (items c) later.rows refl chunk.are (behind later chunk.many (cases_lt to (from + k * each + each)) one ends);
+        taken = taken_both takes old taken.0 new (items c) later.rows taken.1.1 later.taken;
       }
     where
-      behind : (later : Joined (k + 1) (length cs) taken.0 new) → (to < from + k * each + each) ⊎ (from + k * each + each ≤ to) → (k + 1) * each ≡ k * each + each → (k + 1 + length cs) * each ≡ k * each + each + length cs * each → AreRows is (from + k * each + length (items c)) later.rows
-      behind later (inl last) one ends = none_are is (from + (k + 1) * each) (from + k * each + length (items c)) later.rows (omega (arith, later.many, last, one, ends)) later.are
-      behind later (inr more) one ends = subst (λ (i : ℕ). AreRows is i later.rows) (let same : from + (k + 1) * each ≡ from + k * each + length (items c) = omega (arith, one, more, are.0.many) in same) later.are
+      behind : (later : Joined (k + 1) (length cs) taken.0 new) → length (items c) ≡ min to (from + k * each + each) - (from + k * each) → (to < from + k * each + each) ⊎ (from + k * each + each ≤ to) → (k + 1) * each ≡ k * each + each → (k + 1 + length cs) * each ≡ k * each + each + length cs * each → AreRows is (from + k * each + length (items c)) later.rows
+      behind later many (inl last) one ends = none_are is (from + (k + 1) * each) (from + k * each + length (items c)) later.rows (omega (arith, later.many, last, one, ends)) later.are
+      behind later many (inr more) one ends = subst (λ (i : ℕ). AreRows is i later.rows) (let same : from + (k + 1) * each ≡ from + k * each + length (items c) = omega (arith, one, more, many) in same) later.are
 
   -- and so the rows of the window were handed on
-  pub chunks_handed : (count : ℕ) (old new : S) → from ≤ to → to - from ≤ count * each → Handed (λ (i : ℕ) (c : Chunk). IsChunk is from to each i (items c)) (λ (s : S) (c : Chunk) (t : S). TakesAll takes s (items c) t) 0 count old new → Handed is takes from (to - from) old new
+  pub chunks_handed : (count : ℕ) (old new : S) → from ≤ to → to - from ≤ count * each → Handed IsMadeSo TakesWhole 0 count old new → Handed is takes from (to - from) old new
   chunks_handed count old new order cover handed =
       let did = join 0 handed.rows old new handed.each handed.taken in
       let none : 0 * each ≡ 0 = grind arith in

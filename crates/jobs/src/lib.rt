@@ -2,11 +2,13 @@
 //! run, for several machines.
 #![tactic(auto)]
 
+mod chunk;
 mod part;
 mod progress;
 mod shares;
 mod windows;
 
+pub use chunk::Chunk;
 pub use part::{MOST_PARTS, Part};
 pub use progress::Progress;
 pub use shares::{PartText, Window, parts_make_all};

@@ -37,7 +37,7 @@ returns-clause-wrote g c = on_ok_weaker c.hand_on_all.result (λ chunks b r.
     let is : at c.min-from.result c.min-to.result ≡ window within.from within.to (points_from calls.caller (calls.made + 1) calls.count) =
     ap (λ (k : ℕ). at k c.min-to.result) c.min-from.ensures ∙ ap (at (min within.from calls.count)) c.min-to.ensures ∙ window_of_calls calls.caller calls.made calls.count within.from within.to within.order c.requires.numbers in
     let order : c.min-from.result ≤ c.min-to.result = omega (arith, c.min-from.ensures, c.min-to.ensures, within.order) in
-    let handed = chunks_handed (λ (made : _). made.items) (IsOfCall size runner.bench calls.caller calls.made runner.lines.now (compared runner.recovery) site) (TakesPoint contents) c.min-from.result c.min-to.result c.chunk_size-each.result c.chunks-chunks.result c.args.report.now _ order c.chunks-chunks.ensures.cover chunks in
+    let handed = chunks_handed (λ (made : _). made.whole) (λ (made : _). made.rows.items) (IsOfCall size runner.bench calls.caller calls.made runner.lines.now (compared runner.recovery) site) (TakesPoint contents) c.min-from.result c.min-to.result c.chunk_size-each.result c.chunks-chunks.result c.args.report.now _ order c.chunks-chunks.ensures.cover chunks in
     reports_as _ _ _ _ _ _ _ is
     (all_points contents size runner.bench calls.caller calls.made _ runner.lines.now (compared runner.recovery) site b r _ _ _ (omega (arith, c.requires.numbers, c.min-from.ensures, c.min-to.ensures, within.order)) handed)))
     c.hand_on_all.ensures.handed

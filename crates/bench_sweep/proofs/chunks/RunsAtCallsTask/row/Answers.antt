@@ -1,4 +1,6 @@
-use Rattle.std.proofs.Common.{◌≡◌, ◌∙◌, ◌+◌, ◌-◌, ◌≤◌, ◌∷◌, ◌++◌, [], List, length, ap, sym, subst, arith}
+use Rattle.std.specs.Bool.{if◌then◌else◌}
+use Rattle.std.specs.Result.{is_ok}
+use Rattle.std.proofs.Common.{◌≡◌, ◌∙◌, ◌+◌, ◌-◌, ◌≤◌, ◌∷◌, ◌++◌, [], Bool, true, List, length, ap, sym, subst, arith}
 use Rattle.std.proofs.lemmas.List.{length-append}
 use Rattle.bench_report.specs.Happens.{unpowered}
 use Rattle.jobs.specs.Handed.{AreRows}
@@ -23,13 +25,8 @@ loop-done-init g c =
       are = subst A (sym items) tt;
     }
 
-pub run_to-requires-clause-sits : goal.run_to-requires-clause-sits
-run_to-requires-clause-sits g c κs within = let sits = c.requires.has.0.sits in (unpowered sits.0, c.args.self.now.site.now.ledger, c.loop-done.invariant.came sits.0 sits.1)
-
-pub rows_at-requires-clause-sits : goal.rows_at-requires-clause-sits
-rows_at-requires-clause-sits g c κs within =
-    let sits = c.requires.has.0.sits in
-    (unpowered sits.0, c.in_ok-moment-2.ensures.came (unpowered sits.0) c.args.self.now.site.now.ledger (c.loop-done.invariant.came sits.0 sits.1))
+pub next_rows-requires-clause-sits : goal.next_rows-requires-clause-sits
+next_rows-requires-clause-sits g c κs within = let sits = c.requires.has.0.sits in (unpowered sits.0, c.loop-done.invariant.came sits.0 sits.1)
 
 pub loop-done-preserved : goal.loop-done-preserved
 loop-done-preserved g c =
@@ -37,15 +34,17 @@ loop-done-preserved g c =
     let runner = self.runner.now in
     let i = c.loop-done.invariant in
     let from = c.chunk-from.result.from in
-    let made = c.in_ok-made in
+    let next = c.in-Ok in
     let is = IsOfCall runner.setting.shape.now runner.bench self.caller self.before runner.lines.now (compared runner.recovery) self.site.now in
-    let long = length-append c.loop-done.rows.items (made.made ∷ []) in
-    let items : c.push.new.self.items ≡ c.loop-done.rows.items ++ made.made ∷ [] = c.in_ok-push.ensures.items in
-    let as_many : length c.push.new.self.items ≡ length (c.loop-done.rows.items ++ made.made ∷ []) = ap (λ (rows : List PointRows). length rows) items in
+    let long = length-append c.loop-done.rows.items (next.made ∷ []) in
+    let ok : is_ok c.push.result ≡ true = c.if-is_err.ensures.negation in
+    let items : c.push.new.self.items ≡ c.loop-done.rows.items ++ next.made ∷ [] =
+    c.push.ensures.items ∙ ap (λ (b : Bool). if b then (c.loop-done.rows.items ++ next.made ∷ []) else c.loop-done.rows.items) ok in
+    let as_many : length c.push.new.self.items ≡ length (c.loop-done.rows.items ++ next.made ∷ []) = ap (λ (rows : List PointRows). length rows) items in
     let order : from ≤ c.loop-done.done = omega arith in
     let A : List PointRows → Type 0 = λ rows. AreRows is from rows in record {
-      few = omega (arith, c.rows_at.ensures.count, c.in_ok-moment-2.ensures.few, c.line_of-next.ensures.few);
-      came = λ b r. c.rows_at.ensures.stays (unpowered b) (c.in_ok-moment-2.ensures.came (unpowered b) self.site.now.ledger (i.came b r));
+      few = next.ensures.few;
+      came = λ b r. next.ensures.came (unpowered b) (i.came b r);
       many = omega (arith, as_many, long, i.many, order);
-      are = subst A (sym items) (rows_more is from c.loop-done.done c.loop-done.rows.items made.made i.many order i.are (λ b r. made.ensures.judged (unpowered b) (c.in_ok-moment-2.ensures.came (unpowered b) self.site.now.ledger (i.came b r))));
+      are = subst A (sym items) (rows_more is from c.loop-done.done c.loop-done.rows.items next.made i.many order i.are (λ b r. next.ensures.judged (unpowered b) (i.came b r)));
     }

@@ -4,7 +4,7 @@ use Rattle.jobs.specs.Handed.{TakesAll}
 use Rattle.bench_sweep.specs.Reports.{TakesPoint}
 use Rattle.bench_sweep.specs.declared.judging.PointRows.{PointRows}
 use Rattle.bench_sweep.proofs.Along.{taken_more}
-use Rattle.bench_sweep.proofs.sweeps.ReportSinkVecPointRows.take.Goals as goal
+use Rattle.bench_sweep.proofs.sweeps.ReportSinkChunkPointRows.take.Goals as goal
 
 pub loop-point-init : goal.loop-point-init
 loop-point-init g c = refl
@@ -13,8 +13,8 @@ pub loop-point-preserved : goal.loop-point-preserved
 loop-point-preserved g c =
     taken_more (TakesPoint g.W.Write.contents) c.args.self.now c.loop-point.self _ c.as_slice-point-items.result.now c.loop-point.point-index c.point-item.result c.point-item.result c.loop-point-test.true c.point-item.is c.loop-point.invariant c.in_ok-take_point.ensures.took
 
-pub returns-clause-took : goal.returns-clause-took
-returns-clause-took g c =
+pub returns-then-whole-clause-took : goal.returns-then-whole-clause-took
+returns-then-whole-clause-took g c =
     let points = c.as_slice-point-items.result.now in
     let T : List PointRows → Type 0 = λ rows. TakesAll (TakesPoint g.W.Write.contents) c.args.self.now rows c.loop-point.self in
-    subst T (take_all c.loop-point.point-index points (omega (arith, c.loop-point-test.false)) ∙ c.as_slice-point-items.ensures.value) c.loop-point.invariant
+    (c.if-whole.true, subst T (take_all c.loop-point.point-index points (omega (arith, c.loop-point-test.false)) ∙ c.as_slice-point-items.ensures.value) c.loop-point.invariant)
