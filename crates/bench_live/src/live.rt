@@ -49,15 +49,6 @@ pub struct LiveBench {
     pub refused: bool,
 }
 
-/// Whether those are the same payloads.
-fn are_same(payloads: &Payloads, others: &Payloads) -> bool
-    ensures { result ≡ true → others.now ≡ payloads.now }
-{
-    let _others = others;
-    let _payloads = payloads;
-    false
-}
-
 impl LiveBench {
     /// The bench before its first line: a blank disk of the size that the board needs, and these payloads.
     pub fn blank(alloc: Global, shape: &Shape, begins: &Payloads) -> Result<LiveBench, Refusal>
@@ -179,11 +170,11 @@ impl LiveBench {
             (λ copy. (d e : SimDisk) → HasLiveDisk self.old d → HasLiveDisk copy e → IsCopyOf d e) }
         ensures refused { IfErr result (λ e. e ≡ Memory) }
     {
+        let payloads = self.payloads.copy()?;
         let Some(power) = &mut self.power else {
             return Err(Refusal::Memory);
         };
         let power = copy_power(alloc, power)?;
-        let payloads = self.payloads.copy()?;
         Ok(LiveBench {
             power: Some(power),
             payloads,
@@ -207,24 +198,26 @@ impl LiveBench {
         ensures armed { result ≡ true → (d e : SimDisk) → HasLiveDisk self.old d → HasLiveDisk other.old e
             → (fault : ArmedFault) → arms e fault ↔ arms d fault }
     {
+        if !self.has_rest_of(other) {
+            return false;
+        }
         let Some(power) = &mut self.power else {
             return false;
         };
         let Some(theirs) = &mut other.power else {
             return false;
         };
-        let boards = is_power_as(power, theirs);
-        boards && self.has_rest_of(other)
+        is_power_as(power, theirs)
     }
 
-    /// Whether that is left by an armed cut, was refused and is booted on the other bench which is on this one.
+    /// Whether the other bench boots the same, has an armed cut leave the same, and was refused memory as this one was.
     fn has_rest_of(&self, other: &LiveBench) -> bool
         ensures payloads { result ≡ true → other.now.payloads ≡ self.now.payloads }
         ensures rest { result ≡ true → (other.now.fill ≡ self.now.fill) × (other.now.refused ≡ self.now.refused) }
     {
         self.fill == other.fill
             && self.refused == other.refused
-            && are_same(&self.payloads, &other.payloads)
+            && self.payloads.is_as(&other.payloads)
     }
 
     /// The disk of a bench that goes no further, of a board whose power is off.

@@ -35,10 +35,10 @@ use Rattle.susp.specs.declared.sleeps.Sleep.TheVariants.{ToDisk, ToRam}
 use Rattle.bench_report.specs.Agree.{ArmedAlike}
 use Rattle.bench_report.specs.Asides.{Effect, Stays, SetsPayloads, Arms, CutsPower, WakesBoard, WritesPast, aside, affected}
 use Rattle.bench_report.specs.Bench.{DiskState, Blank, Unknown, Formatted, BenchLife, Bench}
-use Rattle.bench_report.specs.Commands.{Issued, IssuedBy, IssuesAll, Writes}
+use Rattle.bench_report.specs.Commands.{IssuedBy, IssuesAll, Writes}
 use Rattle.bench_report.specs.Deeds as deeds
 use Rattle.bench_report.specs.Deeds.{Deed, IsNoRow, deed_of}
-use Rattle.bench_report.specs.Happens.{FailsByFault, SaysEnough, acknowledged, failed, formatted_anew, has_machine, in_doubt, off, on_with, says, settled, unknown, unpowered}
+use Rattle.bench_report.specs.Happens.{FailsByFault, SaysEnough, acknowledged, failed, formatted_anew, has_machine, in_doubt, off, on_with, settled, unknown}
 use Rattle.bench_report.specs.PowerOns.{Begins, Boots, BootsFrom, FormatsOn, IsBooted, Opens, PowersOn, life_begun}
 use Rattle.bench_report.specs.Steps.{CallStep, ConsoleStep, DeedStep, FormatStep, GuestCall, Moves, OnStep, TurnStep}
 use Rattle.bench_report.specs.Turns.{AnswersError, BenchFallsAsleep, BenchMakesCall, BenchSleeps, BenchSleepsBy, ComesTo, GuestTurn, GuestTurns, HartCommand, Resets, SuspendIssued, dozes, refused}

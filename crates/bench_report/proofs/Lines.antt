@@ -1,13 +1,12 @@
 -- Lines that speak of memory and harts, or keep a payload, by what the code's board did.
 use Rattle.board_model.specs.declared.call_words.CallWords.{CallWords}
-use Rattle.std.proofs.Common.{◌≡◌, inl, inr, slice_set, ℕ, List, length, Bool, true, false, Option, None, Some, Result, Ok, MatchResult, refl, sym, ◌∙◌, ap, subst}
+use Rattle.std.proofs.Common.{◌≡◌, inl, slice_set, ℕ, List, length, Bool, true, false, Option, None, Some, Result, Ok, MatchResult, refl, sym, ◌∙◌, ap, subst}
 use Rattle.board_model.specs.declared.boot_mode.BootMode.{BootMode}
 use Rattle.board_model.specs.Shapes.{Size}
 use Rattle.board_model.specs.declared.refusal.Refusal.{Refusal}
 use Rattle.board_model.specs.declared.refusal.Refusal.TheVariants.{Memory}
 use Rattle.script_lang.specs.declared.line.Line.{Line}
 use Rattle.script_lang.specs.declared.line.Line.TheVariants as lines
-use Rattle.simdisk.specs.declared.SimDisk.{SimDisk}
 use Rattle.machine.specs.Machine.{Machine, hart_at}
 use Rattle.machine.specs.Turns.{MakesOneCall, calling}
 use Rattle.susp.specs.Dozes.{doze_of, can_wake, after_wake}

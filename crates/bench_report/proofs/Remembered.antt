@@ -1,9 +1,8 @@
 -- That a store was refused memory is remembered: where it was refused none by now, it was refused none before.
-use Rattle.std.proofs.Common.{◌≡◌, ◌∙◌, ℕ, zero, suc, inl, inr, List, true, false, Result, Ok, Err, sym, ap}
+use Rattle.std.proofs.Common.{◌≡◌, ◌∙◌, ℕ, zero, suc, inl, inr, true, false, Result, Ok, Err, sym, ap}
 use Rattle.board_model.specs.Durable.{Change}
 use Rattle.board_model.specs.declared.durable.Reason.{Reason}
 use Rattle.board_model.specs.declared.refusal.Refusal.{Refusal}
-use Rattle.board_model.specs.declared.refusal.Refusal.TheVariants.{Memory}
 use Rattle.hart.specs.State.{ArchState}
 use Rattle.hsm.specs.Views.{listed}
 use Rattle.machine.specs.Machine.{Machine}

@@ -15,6 +15,7 @@ use Rattle.sbi.specs.declared.words.Word.{Word}
 use Rattle.sbi.specs.declared.words.Word.TheVariants as words
 use Rattle.sbi.specs.declared.words.LifeEnd.TheVariants as life_ends
 use Rattle.sbi_calls.specs.Words.{is_answered}
+use Rattle.bench_report.specs.Happens.{SaysEnough}
 use Rattle.bench_report.specs.Prefix.{AskedLine, Boot, Command, Guest, asked_by}
 use Rattle.report_lines.specs.declared.printed.Printed.{Printed}
 use Rattle.report_lines.specs.declared.printed.Printed.TheVariants as printed
@@ -24,10 +25,8 @@ use Rattle.bench_sweep.specs.Ledgers.{more_kept, in_doubt, settled}
 -- By what a line says memory was refused neither to a power-on nor to an examination of the disk. Of a line that was
 -- lost with the power nothing is known.
 abbrev pub ShowsEnoughMemory : Printed → Type 0
-ShowsEnoughMemory (printed.OnRefused n) = n ≢ 11
-ShowsEnoughMemory (printed.InspectRefused n) = n ≢ 11
 ShowsEnoughMemory printed.PowerLost = ⊥
-ShowsEnoughMemory line = ⊤
+ShowsEnoughMemory line = SaysEnough line
 
 -- a line that harts move
 abbrev pub is_guest : AskedLine → Bool

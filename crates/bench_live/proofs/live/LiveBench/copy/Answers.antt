@@ -8,12 +8,6 @@ returns-in_err-power-clause-stays c = λ size b. shows_on size b _ c.in-Some.pow
 pub returns-in_err-power-clause-disk : goal.returns-in_err-power-clause-disk
 returns-in_err-power-clause-disk c = λ d has. (_, refl, c.copy_power.ensures.same d (disk_on _ c.in-Some.power d c.in-Some.is has))
 
-pub returns-in_err-payloads-clause-stays : goal.returns-in_err-payloads-clause-stays
-returns-in_err-payloads-clause-stays c = λ size b. shows_on size b _ c.in-Some.power _ _ _ c.in-Some.is (c.copy_power.ensures.stays size b) refl
-
-pub returns-in_err-payloads-clause-disk : goal.returns-in_err-payloads-clause-disk
-returns-in_err-payloads-clause-disk c = λ d has. (_, refl, c.copy_power.ensures.same d (disk_on _ c.in-Some.power d c.in-Some.is has))
-
 pub returns-clause-stays : goal.returns-clause-stays
 returns-clause-stays c = λ size b. shows_on size b _ c.in-Some.power _ _ _ c.in-Some.is (c.copy_power.ensures.stays size b) refl
 
