@@ -69,7 +69,8 @@ impl LiveBench {
         })
     }
 
-    /// Runs a line, as `bench_report::line_with_cuts` does, with what that says of cuts, pokes and armed faults; a line of turns by `turns`.
+    /// Runs a line, as `bench_report::line_with_cuts` does, with what that says of cuts, pokes and armed faults; a line of turns by
+    /// `turns`.
     /// Refused `Memory` alone, where a payload or a poke found none; then the bench is of no use.
     pub fn run<C: Crew>(&mut self, setting: &Setting<'_, C>, line: &Line) -> Result<Answer, Refusal>
         requires range { IsLineInRange setting.now.shape.now line.now }
