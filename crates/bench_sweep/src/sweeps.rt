@@ -84,11 +84,7 @@ impl<'a, W: Write> Sink<Chunk<PointRows>> for Report<'a, W> {
         for point in rows.as_slice() {
             self.take_point(point, progress)?;
         }
-        if whole {
-            Ok(())
-        } else {
-            Err(Refusal::Memory)
-        }
+        if whole { Ok(()) } else { Err(Refusal::Memory) }
     }
 }
 
