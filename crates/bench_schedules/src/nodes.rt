@@ -11,7 +11,7 @@ ghost use Rattle.bench_schedules.specs.SoFar.{IsMade, IsOpen};
 ghost use Rattle.bench_schedules.specs.Stepped.{RanByTurns};
 
 use crate::points::{Preemption, behind};
-use crate::runs::{Difference, run_confirmed};
+use crate::runs::{Difference, run_until};
 use bench_orders::{orders_keep_lines, parted, preemptions_add_one_line, preemptions_are_orders};
 use bench_report::{Answer, Setting};
 use board::Payloads;
@@ -111,7 +111,7 @@ pub fn run_node<C: Crew>(runner: &Runner<'_, C>, node: &Node) -> Result<Option<D
         (order_of runner.now.lines.now node.now.ones.items) runner.now.own.now differs) }
     ensures refused { IfErr result (λ e. e ≡ Memory) }
 {
-    run_confirmed(&runner.setting, runner.payloads, &node.lines, runner.own)
+    run_until(&runner.setting, runner.payloads, &node.lines, runner.own)
 }
 
 /// Whether no more orders are to be run.

@@ -8,7 +8,7 @@ ghost use Rattle.bench_schedules.specs.Preemptions.{basis};
 ghost use Rattle.bench_schedules.specs.SoFar.{IsMade, RanAll, RanDepths};
 ghost use Rattle.bench_schedules.specs.Stepped.{RanByTurns};
 
-use crate::counts::confirmed_counts;
+use crate::counts::run_by_turns;
 use crate::next_runs::{NextRuns, hand_on_points};
 use crate::nodes::{Node, Runner, Search, is_enough, parted_node};
 use crate::points::{point_at, points_before};
@@ -85,7 +85,7 @@ fn try_orders<R: Threads + Sync, P: Progress, C: Crew + Sync, W: Write>(
         done.orders done.differ done.kept.items now.orders now.differ now.kept.items) }
     ensures err { IfErr result (λ e. (e ≡ Memory) ⊎ (e ≡ Output)) }
 {
-    let counts = confirmed_counts(&runner.setting, runner.payloads, &node.lines)?;
+    let counts = run_by_turns(&runner.setting, runner.payloads, &node.lines)?;
     if more == 1 {
         let runs = NextRuns {
             runner,
