@@ -21,7 +21,7 @@ use Rattle.bench_schedules.specs.GoingOn.{CameTo, EndsSo, GoesAlike, GoesApart}
 use Rattle.bench_schedules.specs.RunSoFar.{LineRan, RunSoFar}
 use Rattle.bench_schedules.proofs.OrderRows.{here_is}
 
-told_snoc : (size : Size) (ls : List Line) (b : Bench) (answers : List Answer) (mid : Bench) (line : Line) (a : Answer)
+pub told_snoc : (size : Size) (ls : List Line) (b : Bench) (answers : List Answer) (mid : Bench) (line : Line) (a : Answer)
     → Run size b ls answers mid → other_answers (ls ++ line ∷ []) (answers ++ a ∷ []) ≡ other_answers ls answers ++ other_answer (is_other line) a
 told_snoc size [] b [] mid line a run = by_case (is_other line)
   where
@@ -45,7 +45,7 @@ told_length size (l ∷ ls) b [] end run = absurd run
 told_length size (lines.Turn h n ∷ ls) b (c ∷ answers) end run = told_length size ls run.0 answers end run.2
 told_length size (l ∷ ls) b (c ∷ answers) end run = ap suc (told_length size ls run.0 answers end run.2)
 
-count_append : (xs ys : List Line) → other_count (xs ++ ys) ≡ other_count xs + other_count ys
+pub count_append : (xs ys : List Line) → other_count (xs ++ ys) ≡ other_count xs + other_count ys
 count_append [] ys = omega arith
 count_append (lines.Turn h n ∷ xs) ys = count_append xs ys
 count_append (x ∷ xs) ys = omega (arith, count_append xs ys)
@@ -62,7 +62,7 @@ pub goes_begun : (size : Size) (start : List (List ℕ)) (live : LiveBench) → 
 goes_begun size start live shows = record { answers = []; bench = bench_with start; run = refl; shows = shows; memory = refl; told = refl }
 
 -- one line more
-goes_snoc : (size : Size) (from : Bench) (ls : List Line) (said : List Answer) (old new : LiveBench) (line : Line) (a : Answer) → RunSoFar size from ls said old → LineRan size line a old new
+abbrev pub goes_snoc : (size : Size) (from : Bench) (ls : List Line) (said : List Answer) (old new : LiveBench) (line : Line) (a : Answer) → RunSoFar size from ls said old → LineRan size line a old new
     → RunSoFar size from (ls ++ line ∷ []) (said ++ other_answer (is_other line) a) new
 goes_snoc size from ls said old new line a so_far ran =
     let did = ran so_far.bench so_far.shows in record {
@@ -74,15 +74,15 @@ goes_snoc size from ls said old new line a so_far ran =
       told = told_snoc size ls from so_far.answers so_far.bench line a so_far.run ∙ ap (λ x. x ++ other_answer (is_other line) a) so_far.told;
     }
 
-behind : (before ls : List Line) (k : ℕ) (line : Line) → k < length ls → line ≡ get_or ls k line → (before ++ take k ls) ++ line ∷ [] ≡ before ++ take (k + 1) ls
-behind before ls k line less is = append_assoc before (take k ls) (line ∷ []) ∙ ap (λ xs. before ++ xs) (ap (λ l. take k ls ++ l ∷ []) is ∙ sym (take_more ls k line less))
+pub line_behind : (before ls : List Line) (k : ℕ) (line : Line) → k < length ls → line ≡ get_or ls k line → (before ++ take k ls) ++ line ∷ [] ≡ before ++ take (k + 1) ls
+line_behind before ls k line less is = append_assoc before (take k ls) (line ∷ []) ∙ ap (λ xs. before ++ xs) (ap (λ l. take k ls ++ l ∷ []) is ∙ sym (take_more ls k line less))
 
 -- the same by places
 pub goes_more : (size : Size) (from : Bench) (before ls : List Line) (k : ℕ) (said : List Answer) (old new : LiveBench) (line : Line) (a : Answer) → k < length ls → line ≡ get_or ls k line
     → RunSoFar size from (before ++ take k ls) said old → LineRan size line a old new → RunSoFar size from (before ++ take (k + 1) ls) (said ++ other_answer (is_other line) a) new
 goes_more size from before ls k said old new line a less is so_far ran =
     let P : List Line → Type 0 = λ xs. RunSoFar size from xs (said ++ other_answer (is_other line) a) new in
-    subst P (behind before ls k line less is) (goes_snoc size from (before ++ take k ls) said old new line a so_far ran)
+    subst P (line_behind before ls k line less is) (goes_snoc size from (before ++ take k ls) said old new line a so_far ran)
 
 -- how many answers were compared is how many lines are no turns
 pub counted : (size : Size) (from : Bench) (ls : List Line) (own : List Answer) (going : Going) → going.place ≤ length own → CameTo size from ls own going → going.place ≡ other_count ls

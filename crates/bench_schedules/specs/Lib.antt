@@ -10,6 +10,7 @@ pub mod Told
 pub mod Compared
 pub mod RunSoFar
 pub mod GoingOn
+pub mod Aheads
 pub mod Numbers
 pub mod Schedules
 pub mod Drawn

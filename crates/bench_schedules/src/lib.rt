@@ -8,7 +8,10 @@
 //! tells where a run answers other than the script's own.
 #![tactic(auto)]
 
+mod aheads;
+mod bases;
 mod benches;
+mod chunk_runs;
 mod counts;
 mod line_runs;
 mod next_runs;
@@ -20,6 +23,7 @@ mod passes;
 mod points;
 mod preempted_benches;
 mod preempted_lines;
+mod reports;
 mod runs;
 mod script_points;
 mod search;
