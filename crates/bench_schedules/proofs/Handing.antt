@@ -1,18 +1,21 @@
 -- Orders that several threads run, told one after another.
-use Rattle.std.proofs.Common.{◌≡◌, ◌∙◌, ◌⊎◌, inl, inr, ℕ, zero, ◌+◌, ◌≤◌, List, [], ◌∷◌, ◌++◌, Option, Some, None, length, slice_index_or, refl, sym, ap, subst, arith, length-append}
+use Rattle.std.proofs.Common.{◌≡◌, ◌∙◌, ◌⊎◌, inl, inr, true, ℕ, zero, ◌+◌, ◌-◌, ◌*◌, ◌≤◌, Vec, Global, List, [], ◌∷◌, ◌++◌, Option, Some, None, length, slice_index_or, refl, sym, ap, subst, arith, length-append}
 use Rattle.std.specs.Io.KnownBytes.{Appends}
 use Rattle.bench_schedules.specs.Numbers.{place_of_other}
 use Rattle.bench_schedules.specs.Schedules.{differing}
 use Rattle.bench_schedules.specs.Told.{IsFirstApart, told_lines}
 use Rattle.bench_schedules.specs.declared.runs.Difference.{Difference}
 use Rattle.report_lines.proofs.Written.{unwritten}
-use Rattle.jobs.specs.Handed.{AreRows, TakesAll, Handed}
+use Rattle.jobs.proofs.Chunked.{chunks_handed}
+use Rattle.jobs.specs.declared.chunk.Chunk.{Chunk}
+use Rattle.jobs.specs.Handed.{AreRows, TakesAll, IsChunk, Handed}
+use Rattle.jobs.proofs.HandedOn.{rows_both}
 use Rattle.bench_schedules.specs.Handing.{IsNext, IsTold, TellsNext, TellsRun, ToldText, told_count}
 use Rattle.bench_schedules.specs.Points.{script_points}
 use Rattle.bench_schedules.specs.Preemptions.{Basis, OrderRun, OrderText, Tried, differs_text, points_text}
 use Rattle.bench_schedules.specs.SoFar.{IsOpen, RanPoints}
 use Rattle.bench_schedules.specs.declared.next_runs.NextRun.{NextRun}
-use Rattle.bench_schedules.specs.declared.next_runs.Report.{Report}
+use Rattle.bench_schedules.specs.declared.reports.Report.{Report}
 use Rattle.bench_schedules.specs.declared.next_runs.Told.{Told}
 use Rattle.bench_schedules.specs.declared.nodes.Search.{Search}
 use Rattle.bench_schedules.specs.declared.points.Preemption.{Preemption}
@@ -55,6 +58,16 @@ none_written numbers now = ([], refl, unwritten now, refl)
 point_skipped : (b : Basis) (enough k : ℕ) (ones : List Preemption) (counts : List ℕ) (number : ℕ) (old new : Option (List ℕ)) (o1 d1 : ℕ) (k1 : List Preemption) (o2 d2 : ℕ) (k2 : List Preemption) → (IsOpen enough d2 → ⊥)
     → RanPoints b enough k ones counts number old new o1 d1 k1 o2 d2 k2 → RanPoints b enough k ones counts (number + 1) old new o1 d1 k1 o2 d2 k2
 point_skipped b enough k ones counts number old new o1 d1 k1 o2 d2 k2 over so_far = record { runs = so_far.runs; ran = so_far.ran; all = λ whole. absurd (over whole) }
+
+-- one row more
+pub next_more : (is : ℕ → NextRun → Type 0) (from number : ℕ) (runs : List NextRun) (run : NextRun) → from ≤ number → length runs ≡ number - from
+    → (length (runs ++ run ∷ []) ≡ number + 1 - from) × (AreRows is from runs → is number run → AreRows is from (runs ++ run ∷ []))
+next_more is from number runs run order many =
+    let P : ℕ → Type 0 = λ n. is n run in
+    let here : number ≡ from + (number - from) = omega (arith, order) in (
+      omega (arith, length-append runs (run ∷ []), many, order),
+      λ are one. rows_both is from (number - from) runs (run ∷ []) many are (subst P here one, tt),
+    )
 
 module _ {C W : Type 0} (contents : W → Option (List ℕ)) (b : Basis) (enough : ℕ) (ones : List Preemption) (counts : List ℕ) (few : length ones + 1 ≤ b.most) (first : Report C W)
     (enough_is : first.runner.now.enough ≡ enough) (numbers_are : first.runner.now.numbers.now ≡ b.numbers) (old : Option (List ℕ)) (o d : ℕ) (k : List Preemption) where
@@ -112,6 +125,16 @@ module _ {C W : Type 0} (contents : W → Option (List ℕ)) (b : Basis) (enough
       let all = go number handed.rows first last handed.each handed.taken (record { script = refl; same = refl; points = so_far }) in
       let P : ℕ → Type 0 = λ n. RanPoints b enough 0 ones counts (number + n) old (contents last.out.now) o d k last.search.orders last.search.differ last.search.kept.items in
       subst P handed.many all.points
+
+-- chunks of orders, one behind another, are these orders
+pub runs_handed : {C W : Type 0} (contents : W → Option (List ℕ)) (b : Basis) (ones : List Preemption) (counts : List ℕ) (number points each chunks : ℕ) (first last : Report C W) → number + points - number ≤ chunks * each
+    → Handed (λ (i : ℕ) (made : Chunk NextRun). made.whole ≡ true → IsChunk (IsNext b ones counts) number (number + points) each i made.rows.items)
+    (λ (s : Report C W) (made : Chunk NextRun) (t : Report C W). (made.whole ≡ true) × TakesAll (TellsNext contents) s made.rows.items t) 0 chunks first last
+    → Handed (IsNext b ones counts) (TellsNext contents) number points first last
+runs_handed contents b ones counts number points each chunks first last cover handed =
+    let same : number + points - number ≡ points = omega arith in
+    let P : ℕ → Type 0 = λ n. Handed (IsNext b ones counts) (TellsNext contents) number n first last in
+    subst P same (chunks_handed (λ (made : Chunk NextRun). made.whole) (λ (made : Chunk NextRun). made.rows.items) (IsNext b ones counts) (TellsNext contents) number (number + points) each chunks first last (omega arith) cover handed)
 
 -- all of it stands in one writer
 pub same_writer : {C W : Type 0} (contents : W → Option (List ℕ)) (b : Basis) (ones : List Preemption) (counts : List ℕ) (runs : List NextRun) (from to : Report C W) → TakesAll (TellsNext contents) from runs to → to.out.ghost_name ≡ from.out.ghost_name

@@ -10,6 +10,7 @@ pub mod Alike
 pub mod Aparts
 pub mod Ledgers
 pub mod Lines
+pub mod CutOrders
 pub mod Places
 pub mod Texts
 pub mod DrawnRuns

@@ -1,24 +1,27 @@
 -- The lines of a run, one after another.
-use Rattle.std.proofs.Common.{◌≡◌, ◌≢◌, inl, inr, ◌∙◌, ℕ, suc, ◌+◌, ◌<◌, ◌≤◌, Bool, true, false, List, [], ◌∷◌, ◌++◌, length, take, drop, get_or, All, Option, Some, None, if◌then◌else◌, refl, sym, ap, subst, arith}
-use Rattle.std.proofs.lemmas.List.{take_all, take_more, length-take-le, append-nil, take-append-drop}
-use Rattle.std.proofs.lemmas.List.Elements.{All-append, All-cons, All-nil}
+use Rattle.std.proofs.Common.{◌≡◌, inl, inr, ◌∙◌, ℕ, suc, ◌+◌, ◌<◌, ◌≤◌, Bool, true, false, List, [], ◌∷◌, ◌++◌, length, take, drop, get_or, All, Option, Some, None, if◌then◌else◌, refl, sym, ap, subst, arith, append_assoc}
+use Rattle.std.proofs.Math.Seq.{take-append-add}
+use Rattle.std.proofs.lemmas.List.{take_all, take_more, drop_more, length-take-le, append-nil, take-append-drop}
 use Rattle.board_model.specs.Shapes.{Size, IsSize}
 use Rattle.script_lang.specs.Lines.{FitsLine, IsLineInRange}
 use Rattle.script_lang.specs.declared.line.Line.{Line}
 use Rattle.script_lang.specs.declared.line.Line.TheVariants as lines
 use Rattle.bench_report.specs.Bench.{Bench, bench_with}
-use Rattle.bench_report.specs.Steps.{Moves, Run}
+use Rattle.bench_report.specs.Steps.{Run}
 use Rattle.report_lines.specs.declared.printed.Answer.{Answer}
 use Rattle.bench_report.proofs.RunLines.{run_snoc}
 use Rattle.bench_orders.specs.Orders.{IsOrderFor, is_other, other_count}
 use Rattle.bench_live.specs.Lives.{Shows}
 use Rattle.bench_live.specs.declared.live.LiveBench.{LiveBench}
 use Rattle.bench_schedules.specs.declared.runs.Difference.{Difference}
-use Rattle.bench_schedules.specs.Schedules.{IsMemoryRefused, other_answer, other_answers, Ran, RanLike, RanOwn, IsNumbered, Source}
+use Rattle.bench_schedules.specs.declared.runs.Going.{Going}
+use Rattle.bench_schedules.specs.Schedules.{other_answer, other_answers, Ran, RanLike, RanOwn, IsNumbered, Source}
 use Rattle.bench_schedules.specs.Compared.{IsDifference, IsNextPlace}
-use Rattle.bench_schedules.specs.RunSoFar.{RunSoFar}
+use Rattle.bench_schedules.specs.GoingOn.{CameTo, EndsSo, GoesAlike, GoesApart}
+use Rattle.bench_schedules.specs.RunSoFar.{LineRan, RunSoFar}
+use Rattle.bench_schedules.proofs.OrderRows.{here_is}
 
-told_snoc : (size : Size) (ls : List Line) (b : Bench) (answers : List Answer) (mid : Bench) (line : Line) (a : Answer)
+pub told_snoc : (size : Size) (ls : List Line) (b : Bench) (answers : List Answer) (mid : Bench) (line : Line) (a : Answer)
     → Run size b ls answers mid → other_answers (ls ++ line ∷ []) (answers ++ a ∷ []) ≡ other_answers ls answers ++ other_answer (is_other line) a
 told_snoc size [] b [] mid line a run = by_case (is_other line)
   where
@@ -42,168 +45,141 @@ told_length size (l ∷ ls) b [] end run = absurd run
 told_length size (lines.Turn h n ∷ ls) b (c ∷ answers) end run = told_length size ls run.0 answers end run.2
 told_length size (l ∷ ls) b (c ∷ answers) end run = ap suc (told_length size ls run.0 answers end run.2)
 
-count_append : (xs ys : List Line) → other_count (xs ++ ys) ≡ other_count xs + other_count ys
+pub count_append : (xs ys : List Line) → other_count (xs ++ ys) ≡ other_count xs + other_count ys
 count_append [] ys = omega arith
 count_append (lines.Turn h n ∷ xs) ys = count_append xs ys
 count_append (x ∷ xs) ys = omega (arith, count_append xs ys)
-
--- before the first line
-pub goes_begun : (size : Size) (start : List (List ℕ)) (ls : List Line) (live : LiveBench) → Shows size (bench_with start) live → RunSoFar size start (take 0 ls) [] live
-goes_begun size start ls live shows = record {
-  answers = [];
-  bench = bench_with start;
-  run = refl;
-  shows = shows;
-  answered = All-nil (λ (x : Answer). IsMemoryRefused x → ⊥);
-  told = refl;
-}
-
--- one line more
-goes_snoc : (size : Size) (start : List (List ℕ)) (ls : List Line) (said : List Answer) (old new : LiveBench) (line : Line) (a : Answer) → RunSoFar size start ls said old
-    → ((b : Bench) → Shows size b old → (c : Bench) × Moves size line b a c × Shows size c new)
-    → (IsMemoryRefused a → ⊥) → RunSoFar size start (ls ++ line ∷ []) (said ++ other_answer (is_other line) a) new
-goes_snoc size start ls said old new line a so_far moves well =
-    let did = moves so_far.bench so_far.shows in record {
-      answers = so_far.answers ++ a ∷ [];
-      bench = did.0;
-      run = run_snoc size ls (bench_with start) so_far.answers so_far.bench line a did.0 so_far.run did.1;
-      shows = did.2;
-      answered = All-append (λ (x : Answer). IsMemoryRefused x → ⊥) so_far.answers (a ∷ []) so_far.answered (All-cons (λ (x : Answer). IsMemoryRefused x → ⊥) a [] well (All-nil (λ (x : Answer). IsMemoryRefused x → ⊥)));
-      told = told_snoc size ls (bench_with start) so_far.answers so_far.bench line a so_far.run ∙ ap (λ x. x ++ other_answer (is_other line) a) so_far.told;
-    }
-
--- the same by places
-pub goes_more : (size : Size) (start : List (List ℕ)) (ls : List Line) (i : ℕ) (said : List Answer) (old new : LiveBench) (line : Line) (a : Answer) → i < length ls → line ≡ get_or ls i line
-    → RunSoFar size start (take i ls) said old
-    → ((b : Bench) → Shows size b old → (c : Bench) × Moves size line b a c × Shows size c new)
-    → (IsMemoryRefused a → ⊥) → RunSoFar size start (take (i + 1) ls) (said ++ other_answer (is_other line) a) new
-goes_more size start ls i said old new line a less is so_far moves well =
-    let P : List Line → Type 0 = λ xs. RunSoFar size start xs (said ++ other_answer (is_other line) a) new in
-    let Q : Line → Type 0 = λ l. RunSoFar size start (take i ls ++ l ∷ []) (said ++ other_answer (is_other line) a) new in
-    subst P (sym (take_more ls i line less)) (subst Q is (goes_snoc size start (take i ls) said old new line a so_far moves well))
-
-pub goes_past : (size : Size) (start : List (List ℕ)) (ls : List Line) (i : ℕ) (said : List Answer) (old new : LiveBench) (line : Line) (a : Answer) → i < length ls → line ≡ get_or ls i line
-    → RunSoFar size start (take i ls) said old
-    → ((b : Bench) → Shows size b old → (c : Bench) × Moves size line b a c × Shows size c new)
-    → (IsMemoryRefused a → ⊥) → is_other line ≡ false → RunSoFar size start (take (i + 1) ls) said new
-goes_past size start ls i said old new line a less is so_far moves well turns =
-    let P : List Answer → Type 0 = λ x. RunSoFar size start (take (i + 1) ls) x new in
-    subst P (ap (λ o. said ++ other_answer o a) turns ∙ append-nil said) (goes_more size start ls i said old new line a less is so_far moves well)
-
-pub goes_told : (size : Size) (start : List (List ℕ)) (ls : List Line) (i : ℕ) (said : List Answer) (old new : LiveBench) (line : Line) (a : Answer) → i < length ls → line ≡ get_or ls i line
-    → RunSoFar size start (take i ls) said old
-    → ((b : Bench) → Shows size b old → (c : Bench) × Moves size line b a c × Shows size c new)
-    → (IsMemoryRefused a → ⊥) → is_other line ≡ true → RunSoFar size start (take (i + 1) ls) (said ++ a ∷ []) new
-goes_told size start ls i said old new line a less is so_far moves well other =
-    let P : List Answer → Type 0 = λ x. RunSoFar size start (take (i + 1) ls) x new in
-    subst P (ap (λ o. said ++ other_answer o a) other) (goes_more size start ls i said old new line a less is so_far moves well)
-
--- how many answers were compared is how many lines are no turns
-counted_so_far : (size : Size) (start : List (List ℕ)) (ls : List Line) (i : ℕ) (own : List Answer) (place : ℕ) (going : LiveBench) → place ≤ length own
-    → RunSoFar size start (take i ls) (take place own) going → place ≡ other_count (take i ls)
-counted_so_far size start ls i own place going few so_far =
-    sym (length-take-le place own few) ∙ ap length (sym so_far.told) ∙ told_length size (take i ls) (bench_with start) so_far.answers so_far.bench so_far.run
 
 count_other : (line : Line) → is_other line ≡ true → other_count (line ∷ []) ≡ 1
 count_other (lines.Turn h n) other = absurd (let never : ⊥ = cc in never)
 count_other line other = refl
 
-pub place_within : (size : Size) (start : List (List ℕ)) (ls : List Line) (i : ℕ) (own : List Answer) (place : ℕ) (going : LiveBench) (line : Line) → i < length ls → line ≡ get_or ls i line
-    → length own ≡ other_count ls → place ≤ length own → RunSoFar size start (take i ls) (take place own) going → is_other line ≡ true → place < length own
-place_within size start ls i own place going line less is all few so_far other =
-    let here = counted_so_far size start ls i own place going few so_far in
-    let next : other_count (take (i + 1) ls) ≡ other_count (take i ls) + other_count (line ∷ []) =
-    ap other_count (take_more ls i line less) ∙ ap (λ l. other_count (take i ls ++ l ∷ [])) (sym is) ∙ count_append (take i ls) (line ∷ []) in
-    let whole : other_count ls ≡ other_count (take (i + 1) ls) + other_count (drop (i + 1) ls) =
-    ap other_count (sym (take-append-drop (i + 1) ls)) ∙ count_append (take (i + 1) ls) (drop (i + 1) ls) in
-    omega (arith, here, next, whole, all, count_other line other)
+count_here : (ls : List Line) (k : ℕ) (line : Line) → k < length ls → line ≡ get_or ls k line → other_count (drop k ls) ≡ other_count (line ∷ []) + other_count (drop (k + 1) ls)
+count_here ls k line less is = ap other_count (here_is ls k line less is) ∙ count_append (line ∷ []) (drop (k + 1) ls)
 
--- the answer is the own one
-pub goes_alike : (size : Size) (start : List (List ℕ)) (ls : List Line) (i : ℕ) (own : List Answer) (place : ℕ) (old new : LiveBench) (line : Line) (a d : Answer) → i < length ls → line ≡ get_or ls i line
-    → RunSoFar size start (take i ls) (take place own) old
-    → ((b : Bench) → Shows size b old → (c : Bench) × Moves size line b a c × Shows size c new)
-    → (IsMemoryRefused a → ⊥) → is_other line ≡ true → place < length own → get_or own place d ≡ a → RunSoFar size start (take (i + 1) ls) (take (place + 1) own) new
-goes_alike size start ls i own place old new line a d less is so_far moves well other within same =
-    let P : List Answer → Type 0 = λ x. RunSoFar size start (take (i + 1) ls) x new in
-    subst P (ap (λ x. take place own ++ x ∷ []) (sym same) ∙ sym (take_more own place d within)) (goes_told size start ls i (take place own) old new line a less is so_far moves well other)
+-- before the first line
+pub goes_begun : (size : Size) (start : List (List ℕ)) (live : LiveBench) → Shows size (bench_with start) live → RunSoFar size (bench_with start) [] [] live
+goes_begun size start live shows = record { answers = []; bench = bench_with start; run = refl; shows = shows; memory = refl; told = refl }
 
--- the answer is another one
-pub ran_apart : (size : Size) (start : List (List ℕ)) (ls : List Line) (i : ℕ) (own : List Answer) (place : ℕ) (old new : LiveBench) (line : Line) (a said : Answer) → i < length ls → line ≡ get_or ls i line
-    → RunSoFar size start (take i ls) (take place own) old
-    → ((b : Bench) → Shows size b old → (c : Bench) × Moves size line b a c × Shows size c new)
-    → (IsMemoryRefused a → ⊥) → is_other line ≡ true → place < length own → said ≡ get_or own place said → said ≢ a
-    → ((b : Bench) → Shows size b new → b.fault_state.own ≡ 0)
-    → RanLike size start ls own (Some (record { place = place; own = said; answer = a }))
-ran_apart size start ls i own place old new line a said less is so_far moves well sort within at other disk =
-    let goes = goes_told size start ls i (take place own) old new line a less is so_far moves well sort in record {
-      n = i + 1;
-      answers = goes.answers;
-      end = goes.bench;
-      ran = record { run = goes.run; answered = goes.answered; disk = disk goes.bench goes.shows };
-      like = (
-        take place own,
-        drop (place + 1) own,
-        sym (take-append-drop (place + 1) own) ∙ ap (λ x. x ++ drop (place + 1) own) (take_more own place said within) ∙ joined (take place own) (get_or own place said) (drop (place + 1) own)
-            ∙ ap (λ x. take place own ++ x ∷ drop (place + 1) own) (sym at),
-        length-take-le place own (omega (arith, within)),
-        other,
-        goes.told,
-      );
+-- one line more
+abbrev pub goes_snoc : (size : Size) (from : Bench) (ls : List Line) (said : List Answer) (old new : LiveBench) (line : Line) (a : Answer) → RunSoFar size from ls said old → LineRan size line a old new
+    → RunSoFar size from (ls ++ line ∷ []) (said ++ other_answer (is_other line) a) new
+goes_snoc size from ls said old new line a so_far ran =
+    let did = ran so_far.bench so_far.shows in record {
+      answers = so_far.answers ++ a ∷ [];
+      bench = did.0;
+      run = run_snoc size ls from so_far.answers so_far.bench line a did.0 so_far.run did.1;
+      shows = did.2;
+      memory = did.3 ∙ so_far.memory;
+      told = told_snoc size ls from so_far.answers so_far.bench line a so_far.run ∙ ap (λ x. x ++ other_answer (is_other line) a) so_far.told;
     }
-  where
-    joined : (xs : List Answer) (x : Answer) (ys : List Answer) → (xs ++ x ∷ []) ++ ys ≡ xs ++ x ∷ ys
-    joined [] x ys = refl
-    joined (y ∷ xs) x ys = ap (λ z. y ∷ z) (joined xs x ys)
+
+pub line_behind : (before ls : List Line) (k : ℕ) (line : Line) → k < length ls → line ≡ get_or ls k line → (before ++ take k ls) ++ line ∷ [] ≡ before ++ take (k + 1) ls
+line_behind before ls k line less is = append_assoc before (take k ls) (line ∷ []) ∙ ap (λ xs. before ++ xs) (ap (λ l. take k ls ++ l ∷ []) is ∙ sym (take_more ls k line less))
+
+-- the same by places
+pub goes_more : (size : Size) (from : Bench) (before ls : List Line) (k : ℕ) (said : List Answer) (old new : LiveBench) (line : Line) (a : Answer) → k < length ls → line ≡ get_or ls k line
+    → RunSoFar size from (before ++ take k ls) said old → LineRan size line a old new → RunSoFar size from (before ++ take (k + 1) ls) (said ++ other_answer (is_other line) a) new
+goes_more size from before ls k said old new line a less is so_far ran =
+    let P : List Line → Type 0 = λ xs. RunSoFar size from xs (said ++ other_answer (is_other line) a) new in
+    subst P (line_behind before ls k line less is) (goes_snoc size from (before ++ take k ls) said old new line a so_far ran)
+
+-- how many answers were compared is how many lines are no turns
+pub counted : (size : Size) (from : Bench) (ls : List Line) (own : List Answer) (going : Going) → going.place ≤ length own → CameTo size from ls own going → going.place ≡ other_count ls
+counted size from ls own going few so_far =
+    sym (length-take-le going.place own few) ∙ ap length (sym so_far.told) ∙ told_length size ls from so_far.answers so_far.bench so_far.run
+
+-- ---- beside the script's own run
+pub place_within : (ls : List Line) (k : ℕ) (line : Line) (own : List Answer) (place : ℕ) → k < length ls → line ≡ get_or ls k line → place + other_count (drop k ls) ≤ length own → is_other line ≡ true
+    → place < length own
+place_within ls k line own place less is few other = omega (arith, few, count_here ls k line less is, count_other line other)
+
+pub few_next : (ls : List Line) (k : ℕ) (line : Line) (a : Answer) (own : List Answer) (place next : ℕ) → k < length ls → line ≡ get_or ls k line → place + other_count (drop k ls) ≤ length own
+    → IsNextPlace own place line a next → next + other_count (drop (k + 1) ls) ≤ length own
+few_next ls k line a own place next less is few (inl turn) = omega (arith, few, count_here ls k line less is, turn.1)
+few_next ls k line a own place next less is few (inr same) = omega (arith, few, count_here ls k line less is, count_other line same.0, same.2)
+
+told_next : (own : List Answer) (place next : ℕ) (line : Line) (a : Answer) → (is_other line ≡ true → place < length own) → IsNextPlace own place line a next
+    → take place own ++ other_answer (is_other line) a ≡ take next own
+told_next own place next line a within (inl turn) =
+    ap (λ o. take place own ++ other_answer o a) turn.0 ∙ append-nil (take place own) ∙ ap (λ k. take k own) (sym turn.1)
+told_next own place next line a within (inr same) =
+    ap (λ o. take place own ++ other_answer o a) same.0 ∙ ap (λ x. take place own ++ x ∷ []) (sym same.1) ∙ sym (take_more own place a (within same.0)) ∙ ap (λ k. take k own) (sym same.2)
+
+-- behind no lines
+pub goes_none : (size : Size) (own : List Answer) (going : Going) → GoesAlike size [] own going going
+goes_none size own going = λ from before so_far. let P : List Line → Type 0 = λ xs. CameTo size from xs own going in subst P (sym (append-nil before)) so_far
 
 -- a line behind which the run goes on
-pub goes_next : (size : Size) (start : List (List ℕ)) (ls : List Line) (i : ℕ) (own : List Answer) (place next : ℕ) (old new : LiveBench) (line : Line) (a : Answer) → i < length ls → line ≡ get_or ls i line
-    → length own ≡ other_count ls → place ≤ length own → RunSoFar size start (take i ls) (take place own) old
-    → ((b : Bench) → Shows size b old → (c : Bench) × Moves size line b a c × Shows size c new)
-    → (IsMemoryRefused a → ⊥) → IsNextPlace own place line a next → (next ≤ length own) × RunSoFar size start (take (i + 1) ls) (take next own) new
-goes_next size start ls i own place next old new line a less is all few so_far moves well (inl turn) =
-    let P : ℕ → Type 0 = λ k. (k ≤ length own) × RunSoFar size start (take (i + 1) ls) (take k own) new in
-    subst P (sym turn.1) (few, goes_past size start ls i (take place own) old new line a less is so_far moves well turn.0)
-goes_next size start ls i own place next old new line a less is all few so_far moves well (inr same) =
-    let P : ℕ → Type 0 = λ k. (k ≤ length own) × RunSoFar size start (take (i + 1) ls) (take k own) new in
-    let within = place_within size start ls i own place old line less is all few so_far same.0 in
-    subst P (sym same.2) (omega (arith, within), goes_alike size start ls i own place old new line a a less is so_far moves well same.0 within same.1)
+pub goes_next : (size : Size) (ls : List Line) (k : ℕ) (own : List Answer) (old mid new : Going) (line : Line) (a : Answer) → k < length ls → line ≡ get_or ls k line → (is_other line ≡ true → mid.place < length own)
+    → GoesAlike size (take k ls) own old mid → LineRan size line a mid.live new.live → IsNextPlace own mid.place line a new.place → GoesAlike size (take (k + 1) ls) own old new
+goes_next size ls k own old mid new line a less is within goes ran next = λ from before so_far.
+    let P : List Answer → Type 0 = λ x. RunSoFar size from (before ++ take (k + 1) ls) x new.live in
+    subst P (told_next own mid.place new.place line a within next) (goes_more size from before ls k (take mid.place own) mid.live new.live line a less is (goes from before so_far) ran)
 
 -- a line behind which it does not
-pub ran_to : (size : Size) (start : List (List ℕ)) (ls : List Line) (i : ℕ) (own : List Answer) (place : ℕ) (old new : LiveBench) (line : Line) (a : Answer) (d : Difference) → i < length ls → line ≡ get_or ls i line
-    → length own ≡ other_count ls → place ≤ length own → RunSoFar size start (take i ls) (take place own) old
-    → ((b : Bench) → Shows size b old → (c : Bench) × Moves size line b a c × Shows size c new)
-    → (IsMemoryRefused a → ⊥) → IsDifference own place line a d → ((b : Bench) → Shows size b new → b.fault_state.own ≡ 0)
-    → RanLike size start ls own (Some d)
-ran_to size start ls i own place old new line a d less is all few so_far moves well apart disk =
-    let within = place_within size start ls i own place old line less is all few so_far apart.0 in
-    let P : ℕ → Type 0 = λ k. RanLike size start ls own (Some (record { place = k; own = d.own; answer = d.answer })) in
-    let Q : Answer → Type 0 = λ x. RanLike size start ls own (Some (record { place = place; own = d.own; answer = x })) in
-    subst P (sym apart.1) (subst Q (sym apart.3) (ran_apart size start ls i own place old new line a d.own less is so_far moves well apart.0 within apart.2 apart.4 disk))
+pub goes_apart : (size : Size) (ls : List Line) (k : ℕ) (own : List Answer) (old mid : Going) (live : LiveBench) (line : Line) (a : Answer) (d : Difference) → k < length ls → line ≡ get_or ls k line
+    → (is_other line ≡ true → mid.place < length own) → GoesAlike size (take k ls) own old mid → LineRan size line a mid.live live → IsDifference own mid.place line a d → GoesApart size ls own old d live
+goes_apart size ls k own old mid live line a d less is within goes ran apart = record {
+  n = k + 1;
+  within = omega (arith, apart.1, within apart.0);
+  own_is = apart.2 ∙ ap (λ p. get_or own p d.own) (sym apart.1);
+  apart = λ e. apart.4 (e ∙ apart.3);
+  goes = λ from before so_far.
+      let P : List Answer → Type 0 = λ x. RunSoFar size from (before ++ take (k + 1) ls) x live in
+      let told : take mid.place own ++ other_answer (is_other line) a ≡ take d.place own ++ d.answer ∷ [] =
+      ap (λ o. take mid.place own ++ other_answer o a) apart.0 ∙ ap (λ p. take p own ++ a ∷ []) (sym apart.1) ∙ ap (λ x. take d.place own ++ x ∷ []) (sym apart.3) in
+      subst P told (goes_more size from before ls k (take mid.place own) mid.live live line a less is (goes from before so_far) ran);
+}
 
--- no answer is another one
-pub ran_alike : (size : Size) (start : List (List ℕ)) (ls : List Line) (i : ℕ) (own : List Answer) (place : ℕ) (going : LiveBench) → length ls ≤ i → length own ≡ other_count ls → place ≤ length own
-    → RunSoFar size start (take i ls) (take place own) going → ((b : Bench) → Shows size b going → b.fault_state.own ≡ 0) → RanLike size start ls own None
-ran_alike size start ls i own place going past all few so_far disk =
-    let whole : take i ls ≡ ls = take_all i ls past in
-    let here : place ≡ length own = counted_so_far size start ls i own place going few so_far ∙ ap other_count whole ∙ sym all in
+-- some answer is another one
+pub ends_apart : (size : Size) (ls : List Line) (own : List Answer) (old : Going) (d : Difference) (live : LiveBench) → GoesApart size ls own old d live → ((b : Bench) → Shows size b live → b.fault_state.own ≡ 0)
+    → EndsSo size ls own old (Some d)
+ends_apart size ls own old d live went disk = λ start before so_far all.
+    let P : List Line → Type 0 = λ xs. RunSoFar size (bench_with start) xs (take d.place own ++ d.answer ∷ []) live in
+    let ran = subst P (sym (take-append-add before ls went.n)) (went.goes (bench_with start) before so_far) in
+    let here : drop d.place own ≡ d.own ∷ drop (d.place + 1) own = drop_more own d.place d.own went.within ∙ ap (λ x. x ∷ drop (d.place + 1) own) (sym went.own_is) in
     record {
-      n = i;
-      answers = so_far.answers;
-      end = so_far.bench;
-      ran = record { run = so_far.run; answered = so_far.answered; disk = disk so_far.bench so_far.shows };
-      like = so_far.told ∙ take_all place own (omega (arith, here));
+      n = length before + went.n;
+      answers = ran.answers;
+      end = ran.bench;
+      ran = record { run = ran.run; memory = ran.memory; disk = disk ran.bench ran.shows };
+      like = (
+        take d.place own,
+        drop (d.place + 1) own,
+        sym (take-append-drop d.place own) ∙ ap (λ xs. take d.place own ++ xs) here,
+        length-take-le d.place own (omega (arith, went.within)),
+        went.apart,
+        ran.told,
+      );
     }
 
-pub ran_own : (size : Size) (start : List (List ℕ)) (ls : List Line) (i : ℕ) (own : List Answer) (going : LiveBench) → length ls ≤ i → RunSoFar size start (take i ls) own going
+-- none is
+pub ends_alike : (size : Size) (ls : List Line) (own : List Answer) (old new : Going) → new.place ≤ length own → GoesAlike size ls own old new → ((b : Bench) → Shows size b new.live → b.fault_state.own ≡ 0)
+    → EndsSo size ls own old None
+ends_alike size ls own old new few goes disk = λ start before so_far all.
+    let went = goes (bench_with start) before so_far in
+    let here = counted size (bench_with start) (before ++ ls) own new few went in
+    let P : List Line → Type 0 = λ xs. CameTo size (bench_with start) xs own new in
+    let ran = subst P (sym (take_all (length (before ++ ls)) (before ++ ls) (omega arith))) went in
+    record {
+      n = length (before ++ ls);
+      answers = ran.answers;
+      end = ran.bench;
+      ran = record { run = ran.run; memory = ran.memory; disk = disk ran.bench ran.shows };
+      like = ran.told ∙ take_all new.place own (omega (arith, here, all));
+    }
+
+-- ---- the own run, and what is drawn
+pub ran_own : (size : Size) (start : List (List ℕ)) (ls : List Line) (i : ℕ) (own : List Answer) (going : LiveBench) → length ls ≤ i → RunSoFar size (bench_with start) (take i ls) own going
     → ((b : Bench) → Shows size b going → b.fault_state.own ≡ 0) → RanOwn size start ls own × (length own ≡ other_count ls)
 ran_own size start ls i own going past so_far disk =
-    let whole : take i ls ≡ ls = take_all i ls past in
-    let P : List Line → Type 0 = λ xs. RunSoFar size start xs own going in
-    let goes = subst P whole so_far in (
+    let P : List Line → Type 0 = λ xs. RunSoFar size (bench_with start) xs own going in
+    let goes = subst P (take_all i ls past) so_far in (
       record {
         answers = goes.answers;
         end = goes.bench;
-        ran = record { run = goes.run; answered = goes.answered; disk = disk goes.bench goes.shows };
+        ran = record { run = goes.run; memory = goes.memory; disk = disk goes.bench goes.shows };
         told = sym goes.told;
       },
       ap length (sym goes.told) ∙ told_length size ls (bench_with start) goes.answers goes.bench goes.run,

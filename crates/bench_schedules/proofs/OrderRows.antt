@@ -6,7 +6,7 @@ use Rattle.script_lang.specs.declared.line.Line.TheVariants as lines
 use Rattle.bench_orders.specs.Preempted.{others_first}
 use Rattle.bench_schedules.specs.Points.{rows_passed}
 
-here_is : (ls : List Line) (i : ℕ) (line : Line) → i < length ls → line ≡ get_or ls i line → drop i ls ≡ line ∷ drop (i + 1) ls
+pub here_is : (ls : List Line) (i : ℕ) (line : Line) → i < length ls → line ≡ get_or ls i line → drop i ls ≡ line ∷ drop (i + 1) ls
 here_is ls i line less is = drop_more ls i line less ∙ ap (λ l. l ∷ drop (i + 1) ls) (sym is)
 
 pub passed_row : (ls : List Line) (i h n : ℕ) → i < length ls → lines.Turn h n ≡ get_or ls i (lines.Turn h n) → rows_passed (drop i ls) ≡ others_first h (drop (i + 1) ls)

@@ -8,7 +8,6 @@ use Rattle.report_lines.specs.declared.printed.Answer.{Answer}
 use Rattle.bench_report.specs.Bench.{Bench}
 use Rattle.bench_report.specs.Steps.{Moves}
 use Rattle.bench_live.specs.declared.rows.Row.{Row}
-use Rattle.bench_schedules.specs.Schedules.{IsMemoryRefused}
 use Rattle.bench_schedules.specs.Stepped.{BusyTurns, LineDid, Stepped, TurnMoves, is_busy}
 
 -- one turn more that does something
@@ -46,6 +45,6 @@ stepped_length size (l ∷ ls) (d ∷ counts) b new ran = ap suc (stepped_length
 
 -- a line that makes no turns
 pub other_did : (size : Size) (line : Line) (b new : Bench) (a : Answer) → ((h n : ℕ) → line ≡ lines.Turn h n → ⊥) → Moves size line b a new
-    → (IsMemoryRefused a → ⊥) → LineDid size line 0 b new
-other_did size (lines.Turn h n) b new a not moves well = absurd (not h n refl)
-other_did size line b new a not moves well = (refl, (a, moves, well))
+    → LineDid size line 0 b new
+other_did size (lines.Turn h n) b new a not moves = absurd (not h n refl)
+other_did size line b new a not moves = (refl, (a, moves))

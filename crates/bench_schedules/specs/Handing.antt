@@ -1,8 +1,12 @@
 -- The orders that one more preemption makes of an order: run by their numbers, and told in that order.
-use Rattle.std.specs.Prelude.{◌≡◌, ◌⊎◌, ◌≤◌, ◌<◌, ◌+◌, ◌++◌, ◌∷◌, [], ⊤, ℕ, List, Option, None, Some, length, slice_index_or}
+use Rattle.std.specs.Prelude.{IfSome, ◌≡◌, ◌⊎◌, ◌≤◌, ◌<◌, ◌+◌, ◌++◌, ◌∷◌, [], ⊤, ℕ, List, Option, None, Some, length, slice_index_or}
 use Rattle.std.specs.Io.KnownBytes.{Appends}
 use Rattle.script_lang.specs.declared.line.Line.{Line}
 use Rattle.bench_orders.specs.Orders.{other_count}
+use Rattle.jobs.specs.Parts.{chunk_from}
+use Rattle.bench_schedules.specs.Aheads.{IsBase, IsBeside, RestEnds, basis_of}
+use Rattle.bench_schedules.specs.declared.aheads.Beside.{Beside}
+use Rattle.bench_schedules.specs.declared.bases.Base.{Base}
 use Rattle.bench_schedules.specs.Numbers.{place_of_other}
 use Rattle.bench_schedules.specs.Schedules.{RanLike}
 use Rattle.bench_schedules.specs.Told.{IsFirstApart, told_lines}
@@ -13,19 +17,27 @@ use Rattle.bench_schedules.specs.Preemptions.{Basis, differs_text, points_text}
 use Rattle.bench_schedules.specs.SoFar.{IsMade, IsOpen, kept_behind}
 use Rattle.bench_schedules.specs.Stepped.{RanByTurns}
 use Rattle.bench_schedules.specs.declared.next_runs.NextRun.{NextRun}
-use Rattle.bench_schedules.specs.declared.next_runs.Report.{Report}
+use Rattle.bench_schedules.specs.declared.reports.Report.{Report}
+use Rattle.bench_schedules.specs.declared.next_runs.NextRuns.{NextRuns}
 use Rattle.bench_schedules.specs.declared.next_runs.Told.{Told}
 use Rattle.bench_schedules.specs.declared.points.Preemption.{Preemption}
 
--- The order has a point of that number, behind the preemptions that made it.
-pub record HasPoint (b : Basis) (order : List Line) (ones : List Preemption) (from : ℕ) (counts : List ℕ) (number : ℕ) : Type 0 where
+-- The order has the points from that number on up to another one, behind the preemptions that made it.
+pub record HasPoints (b : Basis) (order : List Line) (ones : List Preemption) (from : ℕ) (counts : List ℕ) (first last : ℕ) : Type 0 where
   pub few : length b.those ≤ 65535
   pub less : length ones + 1 ≤ 3
   pub count : length b.own ≡ other_count b.those
   pub made : IsMade b order ones from
   pub asked : RanByTurns b.size b.start order counts
-  pub begin : number_in counts from 0 ≤ number
-  pub end : number < number_in counts (length counts) 0
+  pub begin : number_in counts from 0 ≤ first
+  pub end : last ≤ number_in counts (length counts) 0
+
+abbrev pub HasPointsOf : {C : Type 0} → NextRuns C → ℕ → ℕ → Type 0
+HasPointsOf runs first last = HasPoints (basis_of runs.runner.now) runs.node.now.lines.items runs.node.now.ones.items runs.node.now.from runs.counts.now first last
+
+-- it has those of a chunk of a window, and that has some
+abbrev pub HasChunk : {C : Type 0} → NextRuns C → ℕ → ℕ → ℕ → ℕ → Type 0
+HasChunk runs first last each k = HasPointsOf runs first last × (chunk_from first each k < last)
 
 -- where the order of these preemptions differs, as it is told
 abbrev pub IsTold : Basis → List Preemption → Option Difference → Option Told → Type 0
@@ -47,6 +59,24 @@ pub record IsNext (b : Basis) (ones : List Preemption) (counts : List ℕ) (numb
   pub ran : RanLike b.size b.start (order_of b.those run.ones.items) b.own differs
   pub told : IsTold b run.ones.items differs run.told
 
+abbrev pub IsNextOf : {C : Type 0} → NextRuns C → ℕ → NextRun → Type 0
+IsNextOf runs number run = IsNext (basis_of runs.runner.now) runs.node.now.ones.items runs.counts.now number run
+
+-- ---- the boards of the order that is parted, where there are some
+abbrev pub IsBaseOf : {C : Type 0} → NextRuns C → Option Base → Type 0
+IsBaseOf runs base = IfSome base (IsBase (basis_of runs.runner.now) runs.node.now.lines.items)
+
+abbrev pub IsBesideOf : {C : Type 0} → NextRuns C → Option Beside → Type 0
+IsBesideOf runs two = IfSome two (IsBeside (basis_of runs.runner.now) runs.node.now.lines.items)
+
+abbrev pub RestEndsOf : {C : Type 0} → NextRuns C → Option Beside → Type 0
+RestEndsOf runs two = IfSome two (RestEnds (basis_of runs.runner.now) runs.node.now.lines.items)
+
+-- they stay as they are, as later lines can tell, and where there are none there are none
+abbrev pub StaysOf : {C : Type 0} → NextRuns C → Option Beside → Option Beside → Type 0
+StaysOf runs old new = (IsBesideOf runs old → IsBesideOf runs new) × (RestEndsOf runs new → RestEndsOf runs old) × (old ≡ None → new ≡ None)
+
+-- ---- how they are told
 -- how many orders differ of one
 abbrev pub told_count : Option Told → ℕ
 told_count None = 0

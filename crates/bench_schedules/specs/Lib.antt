@@ -9,6 +9,8 @@ pub mod Shrunk
 pub mod Told
 pub mod Compared
 pub mod RunSoFar
+pub mod GoingOn
+pub mod Aheads
 pub mod Numbers
 pub mod Schedules
 pub mod Drawn

@@ -1,19 +1,24 @@
 -- A run under way: which lines ran, and what those answered that are no turns.
-use Rattle.std.specs.Prelude.{◌≡◌, ℕ, List, All}
+use Rattle.std.specs.Prelude.{◌≡◌, List}
 use Rattle.board_model.specs.Shapes.{Size}
 use Rattle.script_lang.specs.declared.line.Line.{Line}
-use Rattle.bench_report.specs.Bench.{Bench, bench_with}
-use Rattle.bench_report.specs.Steps.{Run}
+use Rattle.bench_report.specs.Bench.{Bench}
+use Rattle.bench_report.specs.Steps.{Moves, Run}
 use Rattle.report_lines.specs.declared.printed.Answer.{Answer}
 use Rattle.bench_live.specs.Lives.{Shows}
 use Rattle.bench_live.specs.declared.live.LiveBench.{LiveBench}
-use Rattle.bench_schedules.specs.Schedules.{IsMemoryRefused, other_answers}
+use Rattle.bench_schedules.specs.Schedules.{other_answers}
 
--- from these payloads on these lines ran, and their answers, but for those of turns, were these
-pub record RunSoFar (size : Size) (start : List (List ℕ)) (those : List Line) (said : List Answer) (live : LiveBench) : Type 0 where
+-- a line ran on the one bench, which is the other then, and memory was not refused in it
+abbrev pub LineRan : Size → Line → Answer → LiveBench → LiveBench → Type 0
+LineRan size line a old new =
+    (b : Bench) → Shows size b old → (c : Bench) × Moves size line b a c × Shows size c new × (c.growths ≡ b.growths)
+
+-- from that bench of the model on these lines ran with no memory refused, and their answers, but for those of turns, were these
+pub record RunSoFar (size : Size) (from : Bench) (those : List Line) (said : List Answer) (live : LiveBench) : Type 0 where
   pub answers : List Answer
   pub bench : Bench
-  pub run : Run size (bench_with start) those answers bench
+  pub run : Run size from those answers bench
   pub shows : Shows size bench live
-  pub answered : All (λ a. IsMemoryRefused a → ⊥) answers
+  pub memory : bench.growths ≡ from.growths
   pub told : other_answers those answers ≡ said

@@ -1,5 +1,5 @@
 -- The runs of the schedule bench. Source: docs/SCRIPT.md, "Schedules".
-use Rattle.std.specs.Prelude.{Ok, Bool, true, ◌≡◌, ◌≢◌, ◌⊎◌, ◌+◌, ◌-◌, ◌==◌, ℕ, suc, List, [], ◌∷◌, ◌++◌, Option, None, Some, All, length, take, if◌then◌else◌}
+use Rattle.std.specs.Prelude.{Ok, Bool, true, ◌≡◌, ◌≢◌, ◌+◌, ◌-◌, ◌==◌, ℕ, suc, List, [], ◌∷◌, ◌++◌, Option, None, Some, length, take, if◌then◌else◌}
 use Rattle.std.specs.Fmt.{decimal}
 use Rattle.std.specs.List.{flat_map}
 use Rattle.std.specs.Io.KnownBytes.{Appends}
@@ -12,7 +12,6 @@ use Rattle.script_lang.specs.declared.line.Line.{Line}
 use Rattle.bench_report.specs.Bench.{Bench, bench_with}
 use Rattle.bench_report.specs.Steps.{Run}
 use Rattle.report_lines.specs.declared.printed.Answer.{Answer}
-use Rattle.report_lines.specs.declared.printed.Printed.TheVariants as printed
 use Rattle.jobs.specs.Handed.{AreRows}
 use Rattle.bench_orders.specs.Drawn.{answers_from, generator_of, IsDrawnFrom}
 use Rattle.bench_orders.specs.Orders.{IsScheduleOf, is_other}
@@ -31,15 +30,11 @@ other_answers (line ∷ more) (a ∷ answers) = if is_other line then (a ∷ oth
 abbrev pub other_answer : Bool → Answer → List Answer
 other_answer other a = if other then (a ∷ []) else []
 
--- a power-on, or an examination of the disk, was refused for want of memory
-abbrev pub IsMemoryRefused : Answer → Type 0
-IsMemoryRefused a = (a.line ≡ printed.OnRefused 11) ⊎ (a.line ≡ printed.InspectRefused 11)
-
--- With these payloads in the slots the lines ran, and no answer tells that memory was refused: no power-on and no examination
--- of the disk was refused for want of it, and the disk always had it for its record. Of suspensions nothing is said.
+-- With these payloads in the slots the lines ran, and memory was never refused: to no power-on, to no suspension and to no examination
+-- of the disk, and the disk always had it for its record.
 pub record RanWell (size : Size) (start : List (List ℕ)) (those : List Line) (answers : List Answer) (end : Bench) : Type 0 where
   pub run : Run size (bench_with start) those answers end
-  pub answered : All (λ a. IsMemoryRefused a → ⊥) answers
+  pub memory : end.growths ≡ 0
   pub disk : end.fault_state.own ≡ 0
 
 -- The run answered as the script's own run did; or it did so up to a place, and answered otherwise there.

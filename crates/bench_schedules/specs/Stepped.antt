@@ -9,7 +9,6 @@ use Rattle.bench_report.specs.Steps.{Moves}
 use Rattle.bench_live.specs.Rows.{is_idle, row_answer}
 use Rattle.bench_live.specs.declared.rows.Row.{Row}
 use Rattle.bench_live.specs.declared.rows.Row.TheVariants as rows
-use Rattle.bench_schedules.specs.Schedules.{IsMemoryRefused}
 
 -- a turn that was asked alone did something: it was made, and its word is not `idle`
 abbrev pub is_busy : Row → Bool
@@ -34,10 +33,10 @@ RowDid size h n c b new =
     ((c ≡ n) × BusyTurns size h c b new)
     ⊎ ((c < n) × ((mid : Bench) × (row : Row) × BusyTurns size h c b mid × TurnMoves size h row mid new × (is_busy row ≡ false)))
 
--- a line was run, and of its turns the first c did something; of another line none, and its answer tells of no refused memory
+-- a line was run, and of its turns the first c did something; of another line none
 abbrev pub LineDid : Size → Line → ℕ → Bench → Bench → Type 0
 LineDid size (lines.Turn h n) c b new = RowDid size h n c b new
-LineDid size line c b new = (c ≡ 0) × ((a : Answer) × Moves size line b a new × (IsMemoryRefused a → ⊥))
+LineDid size line c b new = (c ≡ 0) × ((a : Answer) × Moves size line b a new)
 
 -- these lines were run, and of the turns of each so many first ones did something
 abbrev pub Stepped : Size → Bench → List Line → List ℕ → Bench → Type 0
@@ -46,9 +45,10 @@ Stepped size b (line ∷ more) (c ∷ counts) new = (mid : Bench) × LineDid siz
 Stepped size b [] (c ∷ counts) new = ⊥
 Stepped size b (line ∷ more) [] new = ⊥
 
--- From these payloads on the order ran, its turns asked one by one, and the disk was never refused memory. Of each line so many first
--- turns did something.
+-- From these payloads on the order ran, its turns asked one by one, and memory was never refused, to the disk's record neither. Of each
+-- line so many first turns did something.
 pub record RanByTurns (size : Size) (start : List (List ℕ)) (order : List Line) (counts : List ℕ) : Type 0 where
   pub end : Bench
   pub ran : Stepped size (bench_with start) order counts end
+  pub memory : end.growths ≡ 0
   pub disk : end.fault_state.own ≡ 0

@@ -15,7 +15,7 @@ ghost use Rattle.std.specs.Prelude.{List, ◌∷◌, []};
 
 use crate::numbers::{line_numbers, number_at, number_of_other};
 use crate::own_runs::{OwnRun, run_own};
-use crate::runs::{Difference, run_confirmed, run_until};
+use crate::runs::{Difference, run_until};
 use crate::written::{write_count, write_difference, write_tight};
 use bench_orders::{fits, generator, orders_keep_lines, schedule, shape_in_range, write_script};
 use bench_report::{Answer, Setting};
@@ -85,7 +85,7 @@ fn run_schedule<C: Crew>(
         runner.lines,
         &own.stretches.fronts,
     )?;
-    run_confirmed(&runner.setting, runner.payloads, &lines, &own.answers)
+    run_until(&runner.setting, runner.payloads, &lines, &own.answers)
 }
 
 /// Writes the line of schedule k where its run differs. Answers how many schedules that are: 1, or 0.
@@ -260,25 +260,6 @@ fn write_all_tight<W: Write>(numbers: &[u64], tight: &[usize], out: &mut W) -> R
     Ok(())
 }
 
-/// The script's own run. It is made twice: where the second one answers otherwise, memory was refused in one of them, and so
-/// is the bench. Refused `Memory` alone.
-pub fn confirmed_own_run<C: Crew>(
-    setting: &Setting<'_, C>,
-    payloads: &Payloads,
-    lines: &[Line],
-) -> Result<OwnRun, Refusal>
-    requires ranges { All (IsLineInRange setting.now.shape.now) lines.now }
-    ensures ran { IfOk result (λ own. RanOwn setting.now.shape.now payloads.now lines.now own.answers.items) }
-    ensures count { IfOk result (λ own. length own.answers.items ≡ other_count lines.now) }
-    ensures refused { IfErr result (λ e. e ≡ Memory) }
-{
-    let own = run_own(setting, payloads, lines)?;
-    match run_until(setting, payloads, lines, &own.answers)? {
-        None => Ok(own),
-        Some(_) => Err(Refusal::Memory),
-    }
-}
-
 /// Runs the script as it stands, and then schedules of it, by that plan. Writes which of its stretches name few turns, which
 /// schedules differ, and how many. Answers how many were run, and how many differ.
 fn compare_all<R: Threads + Sync, P: Progress, C: Crew + Sync, W: Write>(
@@ -298,7 +279,7 @@ fn compare_all<R: Threads + Sync, P: Progress, C: Crew + Sync, W: Write>(
         plan.part plan.count (W.contents out.old) (W.contents out.new) count.differ) }
     ensures err { IfErr result (λ e. (e ≡ Memory) ⊎ (e ≡ Output)) }
 {
-    let own = confirmed_own_run(&runner.setting, runner.payloads, runner.lines)?;
+    let own = run_own(&runner.setting, runner.payloads, runner.lines)?;
     write_own_tight(runner.numbers, &own.stretches.tight, plan.part, out)?;
     let within = Window::of_part(plan.part, plan.count);
     let differ = run_schedules(jobs, runner, &own, within, out)?;
@@ -370,7 +351,7 @@ fn show_script<R: Threads + Sync, W: Write>(
         crew: &crew,
         shape: &script.shape,
     };
-    let own = confirmed_own_run(&setting, payloads, lines)?;
+    let own = run_own(&setting, payloads, lines)?;
     let mut rng = generator(seed, k);
     let drawn = schedule(alloc, &mut rng, lines, &own.stretches.fronts)?;
     write_script(out, &script.shape, &drawn)
@@ -384,9 +365,8 @@ fn show_script<R: Threads + Sync, W: Write>(
 /// those of the part alone are run, under their own numbers, and counted.
 ///
 /// Refused `BadShape` or `BadScript` where the script has a fault, and then nothing is written; `Memory` where memory was
-/// refused in any run, to a power-on, to an examination of the disk or to the disk's record, which is never a difference,
-/// or where a difference was not found again; `Output` where the writer failed. After the last two any part may stand in
-/// the writer.
+/// refused in any run, to a power-on, a suspension, an examination of the disk or the disk's record, which is never a difference;
+/// `Output` where the writer failed. After the last two any part may stand in the writer.
 pub fn schedules<R: Threads + Sync, P: Progress, W: Write>(
     jobs: &Jobs<'_, R, P>,
     alloc: Global,

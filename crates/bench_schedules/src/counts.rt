@@ -26,26 +26,31 @@ fn is_busy(row: Row) -> bool
     }
 }
 
-/// Asks the turns of a row one by one, as long as each does something. Answers how many did.
+/// Asks the turns of a row one by one, as long as each does something. Answers how many did. Refused `Memory` alone.
 fn step_row<C: Crew>(
     setting: &Setting<'_, C>,
     live: &mut LiveBench,
     hart: HartId,
     count: u32,
-) -> u32
+) -> Result<u32, Refusal>
     requires sound { IsSound live.old }
     ensures sound { IsSound live.new }
-    ensures few { result ≤ count }
-    ensures did { (b : Bench) → Shows setting.now.shape.now b live.old
-        → (new : Bench) × RowDid setting.now.shape.now hart count result b new × Shows setting.now.shape.now new live.new }
+    ensures few { IfOk result (λ busy. busy ≤ count) }
+    ensures did { IfOk result (λ busy. (b : Bench) → Shows setting.now.shape.now b live.old
+        → (new : Bench) × RowDid setting.now.shape.now hart count busy b new × Shows setting.now.shape.now new live.new
+        × (new.growths ≡ b.growths)) }
+    ensures refused { IfErr result (λ e. e ≡ Memory) }
 {
     for busy in 0..count {
         let row = live.turns(setting, hart, 1);
+        if live.refused {
+            return Err(Refusal::Memory);
+        }
         if !is_busy(row) {
-            return busy;
+            return Ok(busy);
         }
     }
-    count
+    Ok(count)
 }
 
 /// Runs a line, the turns of a row one by one. Answers how many first turns of the row did something; of another line 0. Refused
@@ -60,11 +65,12 @@ fn step_line<C: Crew>(
     ensures sound { OnOk result (IsSound live.new) }
     ensures few { IfOk result (λ count. count ≤ 1000000) }
     ensures did { IfOk result (λ count. (b : Bench) → Shows setting.now.shape.now b live.old
-        → (new : Bench) × LineDid setting.now.shape.now line.now count b new × Shows setting.now.shape.now new live.new) }
+        → (new : Bench) × LineDid setting.now.shape.now line.now count b new × Shows setting.now.shape.now new live.new
+        × (new.growths ≡ b.growths)) }
     ensures refused { IfErr result (λ e. e ≡ Memory) }
 {
     match line {
-        Line::Turn(hart, count) => Ok(step_row(setting, live, *hart, *count)),
+        Line::Turn(hart, count) => step_row(setting, live, *hart, *count),
         _ => {
             run_line(setting, line, live)?;
             Ok(0)
@@ -74,7 +80,7 @@ fn step_line<C: Crew>(
 
 /// Runs an order, with these payloads in the slots, its turns one by one, and answers of each line how many of its first turns did
 /// something. Refused `Memory` alone.
-fn run_by_turns<C: Crew>(
+pub fn run_by_turns<C: Crew>(
     setting: &Setting<'_, C>,
     payloads: &Payloads,
     lines: &[Line],
@@ -91,26 +97,6 @@ fn run_by_turns<C: Crew>(
         counts.push(count)?;
     }
     end_run(live, setting.shape)?;
-    Ok(counts)
-}
-
-/// As `run_by_turns`, twice: where the second run counts otherwise, a guest's suspension was refused memory, which no answer tells.
-/// Then this is refused `Memory`. No clause says it.
-pub fn confirmed_counts<C: Crew>(
-    setting: &Setting<'_, C>,
-    payloads: &Payloads,
-    lines: &[Line],
-) -> Result<Vec<u32>, Refusal>
-    requires ranges { All (IsLineInRange setting.now.shape.now) lines.now }
-    ensures ran { IfOk result (λ counts. RanByTurns setting.now.shape.now payloads.now lines.now counts.items) }
-    ensures few { IfOk result (λ counts. All (λ count. count ≤ 1000000) counts.items) }
-    ensures refused { IfErr result (λ e. e ≡ Memory) }
-{
-    let counts = run_by_turns(setting, payloads, lines)?;
-    let again = run_by_turns(setting, payloads, lines)?;
-    if again.as_slice() != counts.as_slice() {
-        return Err(Refusal::Memory);
-    }
     Ok(counts)
 }
 

@@ -8,7 +8,10 @@
 //! tells where a run answers other than the script's own.
 #![tactic(auto)]
 
+mod aheads;
+mod bases;
 mod benches;
+mod chunk_runs;
 mod counts;
 mod line_runs;
 mod next_runs;
@@ -20,6 +23,7 @@ mod passes;
 mod points;
 mod preempted_benches;
 mod preempted_lines;
+mod reports;
 mod runs;
 mod script_points;
 mod search;
@@ -30,14 +34,14 @@ mod stretches;
 mod told;
 mod written;
 
-pub use benches::{Compared, Plan, confirmed_own_run, schedules, show};
+pub use benches::{Compared, Plan, schedules, show};
 pub use line_runs::{end_run, run_line};
 pub use numbers::{line_numbers, number_at, number_of_other};
 pub use orders::Preempted;
-pub use own_runs::OwnRun;
+pub use own_runs::{OwnRun, run_own};
 pub use points::Preemption;
 pub use preempted_benches::{Within, preemptions};
-pub use runs::{Difference, run_confirmed, run_until};
+pub use runs::{Difference, run_until};
 pub use shown::{Wanted, show_order};
 pub use shrinks::shrink;
 pub use stretches::Stretches;

@@ -6,12 +6,12 @@ ghost use Rattle.bench_orders.specs.Orders.{other_count};
 ghost use Rattle.bench_schedules.specs.Schedules.{RanLike};
 ghost use Rattle.bench_schedules.specs.Orders.{order_of};
 ghost use Rattle.bench_schedules.specs.Points.{IsBusyAt, behind};
-ghost use Rattle.bench_schedules.specs.Preemptions.{basis};
+ghost use Rattle.bench_schedules.specs.Aheads.{IsCut, basis_of};
 ghost use Rattle.bench_schedules.specs.SoFar.{IsMade, IsOpen};
 ghost use Rattle.bench_schedules.specs.Stepped.{RanByTurns};
 
 use crate::points::{Preemption, behind};
-use crate::runs::{Difference, run_confirmed};
+use crate::runs::{Difference, run_until};
 use bench_orders::{orders_keep_lines, parted, preemptions_add_one_line, preemptions_are_orders};
 use bench_report::{Answer, Setting};
 use board::Payloads;
@@ -81,13 +81,12 @@ pub fn parted_node<C>(
     one: Preemption,
 ) -> Result<Node, Refusal>
     requires few { (length runner.now.lines.now ≤ 65535) × (length node.now.ones.items ≤ 3) }
-    requires made { IsMade (basis runner.now.setting.shape.now runner.now.payloads.now runner.now.lines.now runner.now.own.now
-        runner.now.numbers.now runner.now.most) node.now.lines.items node.now.ones.items node.now.from }
+    requires made { IsMade (basis_of runner.now) node.now.lines.items node.now.ones.items node.now.from }
     requires asked { RanByTurns runner.now.setting.shape.now runner.now.payloads.now node.now.lines.items counts.now }
     requires place { (node.now.from ≤ one.place) × IsBusyAt counts.now one }
-    ensures made { IfOk result (λ new. IsMade (basis runner.now.setting.shape.now runner.now.payloads.now runner.now.lines.now
-        runner.now.own.now runner.now.numbers.now runner.now.most) new.lines.items new.ones.items new.from) }
+    ensures made { IfOk result (λ new. IsMade (basis_of runner.now) new.lines.items new.ones.items new.from) }
     ensures ones { IfOk result (λ new. new.ones.items ≡ node.now.ones.items ++ one ∷ []) }
+    ensures cut { IfOk result (λ new. IsCut one.place node.now.lines.items new.lines.items) }
     ensures refused { IfErr result (λ e. e ≡ Memory) }
 {
     orders_keep_lines();
@@ -105,13 +104,12 @@ pub fn parted_node<C>(
 /// Runs an order. Refused `Memory` alone.
 pub fn run_node<C: Crew>(runner: &Runner<'_, C>, node: &Node) -> Result<Option<Difference>, Refusal>
     requires count { length runner.now.own.now ≡ other_count runner.now.lines.now }
-    requires made { IsMade (basis runner.now.setting.shape.now runner.now.payloads.now runner.now.lines.now runner.now.own.now
-        runner.now.numbers.now runner.now.most) node.now.lines.items node.now.ones.items node.now.from }
+    requires made { IsMade (basis_of runner.now) node.now.lines.items node.now.ones.items node.now.from }
     ensures ran { IfOk result (λ differs. RanLike runner.now.setting.shape.now runner.now.payloads.now
         (order_of runner.now.lines.now node.now.ones.items) runner.now.own.now differs) }
     ensures refused { IfErr result (λ e. e ≡ Memory) }
 {
-    run_confirmed(&runner.setting, runner.payloads, &node.lines, runner.own)
+    run_until(&runner.setting, runner.payloads, &node.lines, runner.own)
 }
 
 /// Whether no more orders are to be run.

@@ -4,14 +4,15 @@ ghost use Rattle.std.specs.Prelude.{◌≡◌, ◌⊎◌, ◌+◌, ◌≤◌, le
 ghost use Rattle.board_model.specs.declared.refusal.Refusal.TheVariants.{Memory, Output};
 ghost use Rattle.script_lang.specs.Lines.{IsLineInRange};
 ghost use Rattle.bench_orders.specs.Orders.{other_count};
-ghost use Rattle.bench_schedules.specs.Preemptions.{basis};
+ghost use Rattle.bench_schedules.specs.Aheads.{basis_of};
 ghost use Rattle.bench_schedules.specs.SoFar.{IsMade, RanAll, RanDepths};
 ghost use Rattle.bench_schedules.specs.Stepped.{RanByTurns};
 
-use crate::counts::confirmed_counts;
-use crate::next_runs::{NextRuns, hand_on_points};
+use crate::counts::run_by_turns;
+use crate::next_runs::NextRuns;
 use crate::nodes::{Node, Runner, Search, is_enough, parted_node};
 use crate::points::{point_at, points_before};
+use crate::reports::hand_on_points;
 use bench_orders::copied_row;
 use board_model::Refusal;
 use crew::Crew;
@@ -19,14 +20,28 @@ use jobs::{Jobs, Progress};
 use std::io::Write;
 use std::thread::Threads;
 
-/// How many orders are run at most before it is asked whether that is enough.
+/// How many orders are run at most before it is asked whether that is enough; and for each thread, where all are run.
 const AT_ONCE: u64 = 64;
+
+const AT_ONCE_EACH: u64 = 256;
 
 /// How many orders were run, and how many of them gave another report than the script's own run.
 #[derive(Clone, Copy, Drop)]
 pub struct Preempted {
     pub orders: u64,
     pub differ: u64,
+}
+
+/// How many orders are run at a time by so many threads, where so many that differ are enough; 0: all are run.
+fn at_once(enough: u64, threads: usize) -> u64
+    requires { 0 < threads }
+    ensures some { 0 < result }
+{
+    if 0 < enough {
+        AT_ONCE
+    } else {
+        (threads as u64).saturating_mul(AT_ONCE_EACH)
+    }
 }
 
 /// Runs all orders with one preemption more than an order has, and writes those that differ; or fewer, where that is enough.
@@ -40,25 +55,24 @@ fn try_points<R: Threads + Sync, P: Progress, C: Crew + Sync, W: Write>(
     requires counts { All (λ count. count ≤ 1000000) runs.now.counts.now }
     requires count { length runs.now.runner.now.own.now ≡ other_count runs.now.runner.now.lines.now }
     requires most { length runs.now.node.now.ones.items + 1 ≤ runs.now.runner.now.most }
-    requires made { IsMade (basis runs.now.runner.now.setting.shape.now runs.now.runner.now.payloads.now runs.now.runner.now.lines.now runs.now.runner.now.own.now
-        runs.now.runner.now.numbers.now runs.now.runner.now.most)
+    requires made { IsMade (basis_of runs.now.runner.now)
         runs.now.node.now.lines.items runs.now.node.now.ones.items runs.now.node.now.from }
     requires asked { RanByTurns runs.now.runner.now.setting.shape.now runs.now.runner.now.payloads.now runs.now.node.now.lines.items
         runs.now.counts.now }
-    ensures tried { IfOk result (λ now. RanAll (basis runs.now.runner.now.setting.shape.now runs.now.runner.now.payloads.now runs.now.runner.now.lines.now runs.now.runner.now.own.now
-        runs.now.runner.now.numbers.now runs.now.runner.now.most)
+    ensures tried { IfOk result (λ now. RanAll (basis_of runs.now.runner.now)
         runs.now.runner.now.enough 1 runs.now.node.now.ones.items (W.contents out.old) (W.contents out.new)
         done.orders done.differ done.kept.items now.orders now.differ now.kept.items) }
     ensures err { IfErr result (λ e. (e ≡ Memory) ⊎ (e ≡ Output)) }
 {
     let mut number = points_before(runs.counts, runs.node.from);
     let end = points_before(runs.counts, runs.counts.len());
+    let at_once = at_once(runs.runner.enough, jobs.count());
     let mut now = done;
     while number < end {
         if is_enough(runs.runner, &now) {
             return Ok(now);
         }
-        let points = (end - number).min(AT_ONCE);
+        let points = (end - number).min(at_once);
         now = hand_on_points(jobs, runs, number, points, now, out)?;
         number += points;
     }
@@ -77,15 +91,13 @@ fn try_orders<R: Threads + Sync, P: Progress, C: Crew + Sync, W: Write>(
     requires few { (length runner.now.lines.now ≤ 65535) × (runner.now.most ≤ 3) }
     requires count { length runner.now.own.now ≡ other_count runner.now.lines.now }
     requires most { (1 ≤ more) × (length node.now.ones.items + more ≤ runner.now.most) }
-    requires made { IsMade (basis runner.now.setting.shape.now runner.now.payloads.now runner.now.lines.now runner.now.own.now
-        runner.now.numbers.now runner.now.most) node.now.lines.items node.now.ones.items node.now.from }
-    ensures tried { IfOk result (λ now. RanAll (basis runner.now.setting.shape.now runner.now.payloads.now runner.now.lines.now
-        runner.now.own.now runner.now.numbers.now runner.now.most) runner.now.enough more node.now.ones.items
+    requires made { IsMade (basis_of runner.now) node.now.lines.items node.now.ones.items node.now.from }
+    ensures tried { IfOk result (λ now. RanAll (basis_of runner.now) runner.now.enough more node.now.ones.items
         (W.contents out.old) (W.contents out.new)
         done.orders done.differ done.kept.items now.orders now.differ now.kept.items) }
     ensures err { IfErr result (λ e. (e ≡ Memory) ⊎ (e ≡ Output)) }
 {
-    let counts = confirmed_counts(&runner.setting, runner.payloads, &node.lines)?;
+    let counts = run_by_turns(&runner.setting, runner.payloads, &node.lines)?;
     if more == 1 {
         let runs = NextRuns {
             runner,
@@ -118,8 +130,7 @@ pub fn try_depths<R: Threads + Sync, P: Progress, C: Crew + Sync, W: Write>(
     requires few { (length runner.now.lines.now ≤ 65535) × (runner.now.most ≤ 3) }
     requires ranges { All (IsLineInRange runner.now.setting.shape.now) runner.now.lines.now }
     requires count { length runner.now.own.now ≡ other_count runner.now.lines.now }
-    ensures tried { IfOk result (λ now. RanDepths (basis runner.now.setting.shape.now runner.now.payloads.now runner.now.lines.now
-        runner.now.own.now runner.now.numbers.now runner.now.most) runner.now.enough runner.now.most
+    ensures tried { IfOk result (λ now. RanDepths (basis_of runner.now) runner.now.enough runner.now.most
         (W.contents out.old) (W.contents out.new) now.orders now.differ now.kept.items) }
     ensures err { IfErr result (λ e. (e ≡ Memory) ⊎ (e ≡ Output)) }
 {

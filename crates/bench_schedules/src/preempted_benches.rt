@@ -9,10 +9,10 @@ ghost use Rattle.script_lang.specs.Views.{view};
 ghost use Rattle.bench_schedules.specs.Numbers.{numbers_of};
 ghost use Rattle.bench_schedules.specs.Preemptions.{WrotePreemptions};
 
-use crate::benches::confirmed_own_run;
 use crate::nodes::{Runner, Search};
 use crate::numbers::line_numbers;
 use crate::orders::{Preempted, try_depths};
+use crate::own_runs::run_own;
 use crate::preempted_lines::write_count;
 use bench_report::Setting;
 use board::Payloads;
@@ -56,7 +56,7 @@ fn try_lines<'a, R: Threads + Sync, P: Progress, C: Crew + Sync, W: Write>(
         (W.contents out.old) (W.contents out.new) done.orders done.differ) }
     ensures err { IfErr result (λ e. (e ≡ Memory) ⊎ (e ≡ Output)) }
 {
-    let own = confirmed_own_run(&setting, payloads, lines)?;
+    let own = run_own(&setting, payloads, lines)?;
     let runner = Runner {
         setting,
         lines,

@@ -1,10 +1,12 @@
 //! The run of one schedule.
 
-ghost use Rattle.std.specs.Prelude.{◌≡◌, ◌<◌, length, true, All, IfErr, IfOk};
+ghost use Rattle.std.specs.Prelude.{◌≡◌, ◌+◌, ◌<◌, ◌≤◌, length, true, All, IfErr, IfOk};
 ghost use Rattle.board_model.specs.declared.refusal.Refusal.TheVariants.{Memory};
 ghost use Rattle.script_lang.specs.Lines.{IsLineInRange};
 ghost use Rattle.bench_orders.specs.Orders.{is_other, other_count};
+ghost use Rattle.bench_live.specs.Lives.{IsSound};
 ghost use Rattle.bench_schedules.specs.Compared.{IsDifference, IsNextPlace};
+ghost use Rattle.bench_schedules.specs.GoingOn.{EndsSo, WentSo};
 ghost use Rattle.bench_schedules.specs.Schedules.{RanLike};
 
 use crate::line_runs::{end_run, is_other, run_line};
@@ -16,7 +18,7 @@ use crew::Crew;
 use script_lang::Line;
 
 /// Where the run of a schedule first answers other than the script's own run.
-#[derive(Clone, Copy, PartialEq, Eq, Drop)]
+#[derive(Clone, Copy, Drop)]
 pub struct Difference {
     /// The place of the line among those that are no `turn` lines, from 0 on.
     pub place: usize,
@@ -52,9 +54,76 @@ fn next_place(
     })
 }
 
+/// A run that answered as the script's own run so far.
+#[derive(Drop)]
+pub struct Going {
+    pub live: LiveBench,
+    /// How many answers of the own run it gave.
+    pub place: usize,
+}
+
+/// How a run went on.
+#[derive(Drop)]
+pub enum Went {
+    /// It answered as the script's own run.
+    Alike(Going),
+    /// It did so up to a line that answered otherwise, and ended there.
+    Apart(LiveBench, Difference),
+}
+
+/// Runs lines on, up to the first that answers other than in the script's own run; `turn` lines are not compared. Refused `Memory`
+/// alone.
+pub fn go_on<C: Crew>(
+    setting: &Setting<'_, C>,
+    lines: &[Line],
+    own: &[Answer],
+    going: Going,
+) -> Result<Went, Refusal>
+    requires ranges { All (IsLineInRange setting.now.shape.now) lines.now }
+    requires sound { IsSound going.live }
+    requires count { going.place + other_count lines.now ≤ length own.now }
+    ensures went { IfOk result (λ went. WentSo setting.now.shape.now lines.now own.now going went) }
+    ensures refused { IfErr result (λ e. e ≡ Memory) }
+{
+    let mut going = going;
+    for line in lines {
+        let answer = run_line(setting, line, &mut going.live)?;
+        match next_place(own, going.place, line, answer) {
+            Ok(next) => going.place = next,
+            Err(difference) => return Ok(Went::Apart(going.live, difference)),
+        }
+    }
+    Ok(Went::Alike(going))
+}
+
+/// Runs lines on to the end, or up to the first that answers other than in the script's own run. Refused `Memory` alone: where the run
+/// was refused memory, nothing of it is told.
+pub fn run_to_end<C: Crew>(
+    setting: &Setting<'_, C>,
+    lines: &[Line],
+    own: &[Answer],
+    going: Going,
+) -> Result<Option<Difference>, Refusal>
+    requires ranges { All (IsLineInRange setting.now.shape.now) lines.now }
+    requires sound { IsSound going.live }
+    requires count { going.place + other_count lines.now ≤ length own.now }
+    ensures ran { IfOk result (λ differs. EndsSo setting.now.shape.now lines.now own.now going differs) }
+    ensures refused { IfErr result (λ e. e ≡ Memory) }
+{
+    match go_on(setting, lines, own, going)? {
+        Went::Alike(end) => {
+            end_run(end.live, setting.shape)?;
+            Ok(None)
+        }
+        Went::Apart(live, difference) => {
+            end_run(live, setting.shape)?;
+            Ok(Some(difference))
+        }
+    }
+}
+
 /// Runs lines, with these payloads in the slots, up to the first that answers other than in the script's own run; `turn`
-/// lines are not compared. Refused `Memory` alone: where an answer or the disk tells that the run was refused memory, its
-/// answers are not compared.
+/// lines are not compared. Refused `Memory` alone: where the run was refused memory, nothing of it is told.
 pub fn run_until<C: Crew>(
     setting: &Setting<'_, C>,
     payloads: &Payloads,
@@ -66,44 +135,6 @@ pub fn run_until<C: Crew>(
     ensures ran { IfOk result (λ differs. RanLike setting.now.shape.now payloads.now lines.now own.now differs) }
     ensures refused { IfErr result (λ e. e ≡ Memory) }
 {
-    let mut live = LiveBench::blank(setting.alloc, setting.shape, payloads)?;
-    let mut place = 0;
-    for line in lines {
-        let answer = run_line(setting, line, &mut live)?;
-        let next = match next_place(own, place, line, answer) {
-            Ok(next) => next,
-            Err(difference) => {
-                end_run(live, setting.shape)?;
-                return Ok(Some(difference));
-            }
-        };
-        place = next;
-    }
-    end_run(live, setting.shape)?;
-    Ok(None)
-}
-
-/// As `run_until`, but where a difference was found, a second run of these lines has to find the same one. Where it does
-/// not, a guest's suspension was refused memory, which no answer tells: then the run is refused `Memory`. No clause says it,
-/// and a suspension that is refused memory in both runs may be a difference.
-pub fn run_confirmed<C: Crew>(
-    setting: &Setting<'_, C>,
-    payloads: &Payloads,
-    lines: &[Line],
-    own: &[Answer],
-) -> Result<Option<Difference>, Refusal>
-    requires ranges { All (IsLineInRange setting.now.shape.now) lines.now }
-    requires count { length own.now ≡ other_count lines.now }
-    ensures ran { IfOk result (λ differs. RanLike setting.now.shape.now payloads.now lines.now own.now differs) }
-    ensures refused { IfErr result (λ e. e ≡ Memory) }
-{
-    let differs = run_until(setting, payloads, lines, own)?;
-    if differs.is_none() {
-        return Ok(differs);
-    }
-    let again = run_until(setting, payloads, lines, own)?;
-    if again != differs {
-        return Err(Refusal::Memory);
-    }
-    Ok(differs)
+    let live = LiveBench::blank(setting.alloc, setting.shape, payloads)?;
+    run_to_end(setting, lines, own, Going { live, place: 0 })
 }

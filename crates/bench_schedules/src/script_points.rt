@@ -1,6 +1,6 @@
 //! Where the points of an order stand in the script.
 
-ghost use Rattle.std.specs.Prelude.{◌≡◌, ◌+◌, ◌≤◌, ◌∷◌, ℕ, List, drop, length, map, IfErr, IfOk, IfSome};
+ghost use Rattle.std.specs.Prelude.{◌≡◌, ◌+◌, ◌<◌, ◌≤◌, ◌∷◌, ℕ, List, drop, length, map, IfErr, IfOk, IfSome};
 ghost use Rattle.board_model.specs.Shapes.{Size};
 ghost use Rattle.board_model.specs.declared.refusal.Refusal.TheVariants.{Memory};
 ghost use Rattle.bench_schedules.specs.Orders.{ArePreemptions};
@@ -13,10 +13,11 @@ use script_lang::Line;
 use std::alloc::Global;
 
 /// How many rows of other harts follow the row of that place, up to its hart's next row or the end of the stretch.
-fn rows_passed(order: &[Line], place: usize) -> usize
+pub fn rows_passed(order: &[Line], place: usize) -> usize
     requires { place ≤ 100000 }
     ensures value { result ≡ rows_passed (drop place order.now) }
     ensures few { result ≤ length order.now }
+    ensures within { place < length order.now → place + 1 + result ≤ length order.now }
 {
     match order.get(place) {
         Some(Line::Turn(hart, _)) => others_length(&order[place + 1..], *hart),

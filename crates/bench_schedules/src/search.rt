@@ -7,7 +7,7 @@ ghost use Rattle.bench_orders.specs.Orders.{IsOrderFor, other_count};
 ghost use Rattle.bench_schedules.specs.Schedules.{RanLike};
 ghost use Rattle.bench_schedules.specs.Shrunk.{IsFound, IsSearchable};
 
-use crate::runs::{run_confirmed, run_until};
+use crate::runs::run_until;
 use bench_orders::{Slice, led, orders_keep_lines};
 use bench_report::{Answer, Setting};
 use board::Payloads;
@@ -18,7 +18,7 @@ use script_lang::Line;
 /// The lines of the longest script, without its board line.
 const MOST_LINES: usize = 65_535;
 
-/// How many runs a search makes at most, beside the first of the schedule and the last.
+/// How many runs a search makes at most, beside the first of the schedule.
 pub const MOST_RUNS: u64 = 490;
 
 /// What is searched: a schedule of the script whose run first differs at that place.
@@ -91,22 +91,4 @@ pub fn try_slices<C: Crew>(
     kept.slices = slices;
     kept.lines = lines;
     Ok(true)
-}
-
-/// Runs what was found twice more. Where both runs do not first differ at the place that is searched, a guest's suspension was
-/// refused memory in one of the runs, and then this is refused `Memory`. No clause says it.
-#[tactic(auto, using(crate::proofs::Shortened::found_at))]
-pub fn confirmed<C: Crew>(search: &Search<'_, C>, kept: Kept) -> Result<Vec<Line>, Refusal>
-    requires searchable { IsSearchable search.now.setting.shape.now search.now.lines.now search.now.own.now }
-    requires found { IsFound search.now.setting.shape.now search.now.payloads.now search.now.lines.now search.now.own.now
-        search.now.place kept.lines.items }
-    ensures found { IfOk result (λ lines. IsFound search.now.setting.shape.now search.now.payloads.now search.now.lines.now
-        search.now.own.now search.now.place lines.items) }
-    ensures refused { IfErr result (λ e. e ≡ Memory) }
-{
-    orders_keep_lines();
-    match run_confirmed(&search.setting, search.payloads, &kept.lines, search.own)? {
-        Some(difference) if difference.place == search.place => Ok(kept.lines),
-        _ => Err(Refusal::Memory),
-    }
 }

@@ -11,10 +11,10 @@ ghost use Rattle.bench_schedules.specs.Numbers.{numbers_of};
 ghost use Rattle.bench_schedules.specs.Orders.{ArePreemptions, order_of};
 ghost use Rattle.bench_schedules.specs.Shown.{FewerDiffer, HasNoOrder, IsNthThatDiffers, IsWritten, ShownOrder, order_script};
 
-use crate::benches::confirmed_own_run;
 use crate::nodes::{Runner, Search};
 use crate::numbers::line_numbers;
 use crate::orders::try_depths;
+use crate::own_runs::run_own;
 use crate::points::Preemption;
 use bench_orders::{
     copied_row, fits, parted, preemptions_are_orders, shape_in_range, write_script,
@@ -99,7 +99,7 @@ fn find_order<'a, R: Threads + Sync, P: Progress, C: Crew + Sync>(
     ensures refused { IfErr result (λ e. (e ≡ Memory) ⊎ (e ≡ Output) ⊎ ((e ≡ BadShape)
         × FewerDiffer (record { size = setting.entry.shape.now; lines = lines.now }) payloads.now numbers.now wanted.most wanted.number)) }
 {
-    let own = confirmed_own_run(&setting, payloads, lines)?;
+    let own = run_own(&setting, payloads, lines)?;
     let runner = Runner {
         setting,
         lines,

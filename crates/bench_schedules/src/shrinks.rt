@@ -10,10 +10,10 @@ ghost use Rattle.bench_orders.specs.Orders.{IsOrderFor};
 ghost use Rattle.bench_schedules.specs.Schedules.{RanLike};
 ghost use Rattle.bench_schedules.specs.Shrunk.{IsFound, IsSearchable, IsShortened, Shrunk};
 
-use crate::benches::confirmed_own_run;
+use crate::own_runs::run_own;
 use crate::passes::search_all;
-use crate::runs::{Difference, run_confirmed};
-use crate::search::{Kept, Search, confirmed};
+use crate::runs::{Difference, run_until};
+use crate::search::{Kept, Search};
 use crate::slices::slices_of;
 use bench_orders::{fits, generator, orders_keep_lines, schedule, shape_in_range, write_script};
 use bench_report::{Answer, Setting};
@@ -42,7 +42,7 @@ fn searched<C: Crew>(search: &Search<'_, C>, drawn: Vec<Line>) -> Result<Vec<Lin
         runs: 0,
     };
     search_all(search, &mut kept)?;
-    confirmed(search, kept)
+    Ok(kept.lines)
 }
 
 /// Runs a drawn schedule. Refused `Memory` alone.
@@ -60,7 +60,7 @@ fn run_drawn<C: Crew>(
 {
     orders_keep_lines();
     let _lines = lines;
-    run_confirmed(setting, payloads, drawn, own)
+    run_until(setting, payloads, drawn, own)
 }
 
 /// A drawn schedule whose run differs there, shrunk; or as it is, where its run differs nowhere. Refused `Memory` alone.
@@ -139,7 +139,7 @@ fn shrink_script<R: Threads + Sync, W: Write>(
         crew: &crew,
         shape: &script.shape,
     };
-    let own = confirmed_own_run(&setting, payloads, lines)?;
+    let own = run_own(&setting, payloads, lines)?;
     let mut rng = generator(seed, k);
     let drawn = schedule(alloc, &mut rng, lines, &own.stretches.fronts)?;
     let new = shortened(setting, payloads, lines, &own.answers, drawn)?;

@@ -8,8 +8,8 @@ use Rattle.bench_schedules.proofs.Lines.{ran_of}
 use Rattle.bench_schedules.proofs.Numbered.{numbered}
 use Rattle.bench_schedules.proofs.benches.run_schedule.Goals as goal
 
-pub run_confirmed-requires-clause-ranges : goal.run_confirmed-requires-clause-ranges
-run_confirmed-requires-clause-ranges g c = λ lives within.
+pub run_until-requires-clause-ranges : goal.run_until-requires-clause-ranges
+run_until-requires-clause-ranges g c = λ lives within.
     let size = c.args.runner.now.setting.shape.now in
     let P : List Line → Type 0 = λ ls. All (IsLineInRange size) ls in
     subst P (sym c.deref-2.ensures.value) (c.in_ok-lines.ensures.order.ranges size c.requires.ranges)
@@ -20,10 +20,10 @@ returns-clause-ran g c =
     let drawn : IsNumbered from c.args.k c.args.runner.now.lines.now c.in_ok-lines.lines.items = numbered from c.args.k c.generator-rng.result _ _ _ c.generator-rng.ensures c.deref.ensures.value c.in_ok-lines.ensures.drawn in
     let size = c.args.runner.now.setting.shape.now in
     let start = c.args.runner.now.payloads.now in
-    IfOk-weaker c.run_confirmed.result _ _
+    IfOk-weaker c.run_until.result _ _
     (λ differs ran.
     (let P : List Line → Type 0 = λ ls. RanLike size start ls c.args.own.now.answers.items differs in
     let Q : List Answer → Type 0 = λ own. RanLike size start c.deref-2.result.now own differs in
     ran_of size start from c.args.runner.now.lines.now c.in_ok-lines.lines.items c.args.own.now.answers.items c.args.k differs c.requires.size drawn c.in_ok-lines.ensures.order c.in_ok-lines.ensures.few c.requires.ranges c.requires.fits
     (subst P c.deref-2.ensures.value (subst Q c.deref-3.ensures.value ran))))
-    c.run_confirmed.ensures.ran
+    c.run_until.ensures.ran

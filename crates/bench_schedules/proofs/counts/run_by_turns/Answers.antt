@@ -1,4 +1,4 @@
-use Rattle.std.proofs.Common.{◌≤◌, ◌+◌, ◌∷◌, [], List, ℕ, All, take, refl, sym, subst, arith}
+use Rattle.std.proofs.Common.{◌≤◌, ◌∙◌, ◌+◌, ◌∷◌, [], List, ℕ, All, take, refl, sym, subst, arith}
 use Rattle.std.proofs.lemmas.List.{take_all}
 use Rattle.std.proofs.lemmas.List.Elements.{All-append, All-cons, All-nil}
 use Rattle.script_lang.specs.declared.line.Line.{Line}
@@ -15,7 +15,7 @@ loop-line-init g c =
     record {
       sound = c.in_ok-live.ensures.sound;
       few = subst few (sym c.new-counts.ensures.items) (All-nil (λ count. count ≤ 1000000));
-      ran = (bench_with c.args.payloads.now, subst ran (sym c.new-counts.ensures.items) refl, c.in_ok-live.ensures.shows);
+      ran = (bench_with c.args.payloads.now, subst ran (sym c.new-counts.ensures.items) refl, c.in_ok-live.ensures.shows, refl);
     }
 
 pub loop-line-preserved : goal.loop-line-preserved
@@ -34,6 +34,7 @@ loop-line-preserved g c =
         subst ran (sym c.in_ok-push.ensures.items)
             (stepped_more size c.args.lines.now c.loop-line.line-index c.loop-line.counts.items (bench_with c.args.payloads.now) i.ran.0 did.0 c.line-item.result c.in_ok-count.count c.loop-line-test.true c.line-item.is i.ran.1 did.1),
         did.2,
+        did.3 ∙ i.ran.3,
       );
     }
 
@@ -45,5 +46,6 @@ returns-clause-ran g c =
     record {
       end = i.ran.0;
       ran = subst P (take_all c.loop-line.line-index c.args.lines.now (omega (arith, c.loop-line-test.false))) i.ran.1;
+      memory = i.ran.3;
       disk = c.in_ok-end_run.ensures.well i.ran.0 i.ran.2;
     }

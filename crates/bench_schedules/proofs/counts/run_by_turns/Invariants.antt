@@ -1,4 +1,4 @@
-use Rattle.std.proofs.Common.{◌≤◌, All, take}
+use Rattle.std.proofs.Common.{◌≡◌, ◌≤◌, All, take}
 use Rattle.bench_report.specs.Bench.{Bench, bench_with}
 use Rattle.bench_live.specs.Lives.{IsSound, Shows}
 use Rattle.bench_schedules.specs.Stepped.{Stepped}
@@ -9,5 +9,5 @@ invariant-loop-line g l = record {
   sound : IsSound l.live;
   few : All (λ count. count ≤ 1000000) l.counts.items;
   ran : (b : Bench) × Stepped l.setting.shape.now (bench_with l.payloads) (take l.line-index l.lines) l.counts.items b
-      × Shows l.setting.shape.now b l.live;
+      × Shows l.setting.shape.now b l.live × (b.growths ≡ 0);
 }

@@ -10,6 +10,6 @@ returns-in_ok-run_line-in_default g c =
       few = omega arith;
       did = λ b shows.
           let did = ran.ensures.stepped b shows in
-          (did.0, other_did c.args.setting.now.shape.now c.args.line.now b did.0 ran.field-0 c.in_default.not-Turn did.1 ran.ensures.well, did.2);
+          (did.0, other_did c.args.setting.now.shape.now c.args.line.now b did.0 ran.field-0 c.in_default.not-Turn did.1, did.2, did.3);
       refused = tt;
     }

@@ -2,6 +2,7 @@ use Rattle.std.proofs.Common.{◌∙◌, ◌∷◌, ◌++◌, [], List, ap, leng
 use Rattle.script_lang.specs.declared.line.Line.{Line}
 use Rattle.bench_schedules.specs.Points.{order_by}
 use Rattle.bench_schedules.specs.Preemptions.{basis}
+use Rattle.bench_schedules.proofs.CutOrders.{parted_cut}
 use Rattle.bench_schedules.proofs.MadeOrders.{parted_more, place_within}
 use Rattle.bench_schedules.proofs.nodes.parted_node.Goals as goal
 
@@ -27,3 +28,11 @@ returns-clause-made g c =
     c.in_ok-lines.lines.items c.in_ok-ones.ones.items c.behind.result c.requires.made c.requires.asked c.requires.place.0 c.requires.place.1
     (c.in_ok-lines.ensures ∙ ap (order_by one) c.deref.ensures.value) (c.in_ok-ones.ensures.more ∙ ap (λ os. os ++ one ∷ []) c.deref-2.ensures.value) c.behind.ensures
     order (c.orders_keep_lines.ensures node.lines.items (order_by one node.lines.items) order.order) (c.preemptions_add_one_line.ensures one.place one.turns node.lines.items)
+
+pub returns-clause-cut : goal.returns-clause-cut
+returns-clause-cut g c =
+    let r = c.args.runner.now in
+    let node = c.args.node.now in
+    let one = c.args.one in
+    let cut = parted_cut one.place one.turns node.lines.items (place_within r.setting.shape.now r.payloads.now node.lines.items c.args.counts.now one c.requires.asked c.requires.place.1) in
+    (cut.0, c.in_ok-lines.ensures ∙ ap (order_by one) c.deref.ensures.value ∙ cut.1)

@@ -12,7 +12,7 @@ pub loop-line-preserved : goal.loop-line-preserved
 loop-line-preserved g c = record {
   sound = c.in_ok-run_line.ensures.sound;
   ran = ran_next c.args.setting.now.shape.now c.args.lines.now c.loop-line.line-index c.line-item.result c.in_ok-run_line.field-0 c.args.live.now c.loop-line.live c.run_line.new.live
-      c.loop-line-test.true c.line-item.is c.loop-line.invariant.ran c.in_ok-run_line.ensures.stepped;
+      c.loop-line-test.true c.line-item.is c.loop-line.invariant.ran (λ b shows. let did = c.in_ok-run_line.ensures.stepped b shows in (did.0, did.1, did.2));
 }
 
 pub returns-clause-ran : goal.returns-clause-ran
