@@ -67,9 +67,6 @@ preempted_on within start script a b c orders differ (said, is, w) keeps = (
   },
 )
 
-pub recovered_on : (plan : Plan) (start : List (List ℕ)) (script recovery numbers : List ℕ) (a b c : Option (List ℕ)) (done : Recovered) → IsRecoveredBenchOf plan start script recovery numbers a b done → Keeps b c → IsRecoveredBenchOf plan start script recovery numbers a c done
-recovered_on plan start script recovery numbers a b c done (said, after, is, says, plain, none, some, (mid, rows, last)) keeps = (said, after, is, says, plain, none, some, (mid, rows, handed_on mid b c _ last keeps))
-
 pub order_on : (wanted : Wanted) (start : List (List ℕ)) (script : List ℕ) (a b c : Option (List ℕ))
     → ((said : Said) × (script_of script ≡ Ok said) × ShownOrder said start (numbers_of script) wanted.most wanted.number a b) → Keeps b c → IsOrderShown wanted start script a c
 order_on wanted start script a b c (said, is, (ones, nth, w)) keeps = (

@@ -59,11 +59,6 @@ pub unread_script : (options : Options) {A : Type 0} (option : Option A) (value 
     → (IsSome option → IsSome options.script) → option ≡ Some value → IsUnread options fault ⊎ (fault ≡ Refused Memory)
 unread_script options {A} option value why kind fault e is same some = unread_by_cause options why fault e (file_fault why kind is) (same (is_some option value some))
 
--- the input was not read
-pub unread_input : (options : Options) (fault : BenchFault) → options.script ≡ None → (fault ≡ Input) ⊎ (fault ≡ Refused Memory) → IsUnread options fault ⊎ (fault ≡ Refused Memory)
-unread_input options fault none (inl is) = inl (inr (is, none))
-unread_input options fault none (inr is) = inr is
-
 -- a bench with a recovery was refused
 pub no_recovery : (plan : Plan) (payloads : List (List ℕ)) (script recovery : List ℕ) (e : Refusal) → (e ≡ Memory) ⊎ (e ≡ Output) ⊎ (script_of script ≡ Err e) ⊎ ((e ≡ NotPlain) × NoBenchRuns script) ⊎ NoRecoveryRuns script recovery e
     → IsRefusedWith (Recover plan) payloads recovery script e
@@ -113,15 +108,6 @@ none_of_file row payloads script recovery file e of (inr (inr (inl x))) = inr (i
 none_of_file row payloads script recovery file e of (inr (inr (inr (inl x)))) = inr (inr (inr (inl x)))
 none_of_file row payloads script recovery file e of (inr (inr (inr (inr (inl x))))) = inr (inr (inr (inr (file, of, inl x))))
 none_of_file row payloads script recovery file e of (inr (inr (inr (inr (inr x))))) = inr (inr (inr (inr (file, of, inr x))))
-
--- any work may be refused memory, and fail at its output
-pub of_any : (work : Work) (payloads : List (List ℕ)) (recovery script : List ℕ) (e : Refusal) → (e ≡ Memory) ⊎ (e ≡ Output) → IsRefusedWith work payloads recovery script e
-of_any (Recover plan) payloads recovery script e (inl x) = inl (inl x)
-of_any (Recover plan) payloads recovery script e (inr x) = inl (inr (inl x))
-of_any (ShowRecovered row) payloads recovery script e (inl x) = inl (inl x)
-of_any (ShowRecovered row) payloads recovery script e (inr x) = inl (inr (inl x))
-of_any work payloads recovery script e (inl x) = inl x
-of_any work payloads recovery script e (inr x) = inr (inl x)
 
 -- nor the file of a recovery
 unread_recovered : (options : Options) (why : ProgramFault) (fault : BenchFault) → fault ≡ unread_by why → (why ≡ causes.File) ⊎ (why ≡ causes.Refused Memory) → IsSome options.recovery

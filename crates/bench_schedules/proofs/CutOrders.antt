@@ -1,5 +1,5 @@
 -- Orders that run on from the board of another one, and stand as it does behind the turns that were put off.
-use Rattle.std.proofs.Common.{◌≡◌, ◌∙◌, ℕ, zero, suc, ◌+◌, ◌-◌, ◌<◌, ◌≤◌, nat_lt, Bool, true, false, if◌then◌else◌, List, [], ◌∷◌, ◌++◌, All, Option, Some, None, length, take, drop, get_or, refl, sym, ap, subst, arith, append_assoc, length-append}
+use Rattle.std.proofs.Common.{◌≡◌, ◌∙◌, ℕ, zero, suc, ◌+◌, ◌-◌, ◌<◌, ◌≤◌, nat_lt, Bool, true, false, if◌then◌else◌, List, [], ◌∷◌, ◌++◌, Option, None, length, take, drop, get_or, refl, sym, ap, subst, arith, append_assoc, length-append}
 use Rattle.std.proofs.Math.Seq.{take-add, take-append_seam, drop-append_seam}
 use Rattle.std.proofs.lemmas.List.{append-nil, length-drop, length-take-le, take-append-drop, take_all}
 use Rattle.board_model.specs.Shapes.{Size}
@@ -13,7 +13,7 @@ use Rattle.bench_orders.specs.Orders.{is_other, other_count}
 use Rattle.bench_orders.specs.Preempted.{is_of_another, kept_turns, others_first, part_row, parted, put_off}
 use Rattle.bench_live.specs.Lives.{IsAlike, IsSound, Shows}
 use Rattle.bench_live.specs.declared.live.LiveBench.{LiveBench}
-use Rattle.bench_schedules.specs.Aheads.{IsBase, IsBeside, IsCut, IsRunnable, RestEnds, StaysBeside, TurnsRan, rest_line}
+use Rattle.bench_schedules.specs.Aheads.{IsBase, IsBeside, IsCut, IsRunnable, StaysBeside, TurnsRan, rest_line}
 use Rattle.bench_schedules.specs.GoingOn.{CameTo, EndsSo, GoesAlike}
 use Rattle.bench_schedules.specs.Points.{rows_passed}
 use Rattle.bench_schedules.specs.Preemptions.{Basis}

@@ -1,6 +1,5 @@
 -- Schedules that were run and told, one after another, by several threads.
-use Rattle.std.proofs.Common.{◌≡◌, ◌∙◌, ◌≤◌, ◌+◌, ℕ, List, [], ◌∷◌, Option, length, refl, sym, ap, subst, slice_index_or, arith}
-use Rattle.disk.specs.Facts.{counted}
+use Rattle.std.proofs.Common.{◌≡◌, ◌∙◌, ◌≤◌, ◌+◌, ℕ, List, [], ◌∷◌, Option, length, refl, sym, subst, slice_index_or, arith}
 use Rattle.script_lang.specs.Scripts.{Script}
 use Rattle.report_lines.specs.declared.printed.Answer.{Answer}
 use Rattle.jobs.specs.Handed.{AreRows, TakesAll, Handed}

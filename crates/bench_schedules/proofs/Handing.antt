@@ -1,11 +1,8 @@
 -- Orders that several threads run, told one after another.
-use Rattle.std.proofs.Common.{◌≡◌, ◌∙◌, ◌⊎◌, inl, inr, true, ℕ, zero, ◌+◌, ◌-◌, ◌*◌, ◌≤◌, Vec, Global, List, [], ◌∷◌, ◌++◌, Option, Some, None, length, slice_index_or, refl, sym, ap, subst, arith, length-append}
-use Rattle.std.specs.Io.KnownBytes.{Appends}
-use Rattle.bench_schedules.specs.Numbers.{place_of_other}
+use Rattle.std.proofs.Common.{◌≡◌, ◌∙◌, inl, inr, true, ℕ, ◌+◌, ◌-◌, ◌*◌, ◌≤◌, List, [], ◌∷◌, ◌++◌, Option, Some, None, length, refl, sym, ap, subst, arith, length-append}
 use Rattle.bench_schedules.specs.Schedules.{differing}
 use Rattle.bench_schedules.specs.Told.{IsFirstApart, told_lines}
 use Rattle.bench_schedules.specs.declared.runs.Difference.{Difference}
-use Rattle.report_lines.proofs.Written.{unwritten}
 use Rattle.jobs.proofs.Chunked.{chunks_handed}
 use Rattle.jobs.specs.declared.chunk.Chunk.{Chunk}
 use Rattle.jobs.specs.Handed.{AreRows, TakesAll, IsChunk, Handed}
@@ -39,20 +36,6 @@ told_differs b ones None None is = refl
 told_differs b ones None (Some told) is = absurd is
 told_differs b ones (Some d) None is = absurd is
 told_differs b ones (Some d) (Some told) is = refl
-
--- the line of an order that differs
-pub told_written : (numbers : List ℕ) (told : Told) (old new : Option (List ℕ)) → (own said : List ℕ) × IsFirstApart (told_lines told.difference.own) (told_lines told.difference.answer) own said
-    × Appends old new (differs_text (points_text numbers told.points.items) told.number said own)
-    → (text : List ℕ) × ToldText numbers (Some told) text × Appends old new text × (1 ≡ told_count (Some told))
-told_written numbers told old new wrote = (
-  differs_text (points_text numbers told.points.items) told.number wrote.1 wrote.0,
-  (wrote.0, wrote.1, wrote.2, refl),
-  wrote.3,
-  refl,
-)
-
-pub none_written : (numbers : List ℕ) (now : Option (List ℕ)) → (text : List ℕ) × ToldText numbers None text × Appends now now text × (0 ≡ told_count None)
-none_written numbers now = ([], refl, unwritten now, refl)
 
 -- enough orders differ: that of the next point is left out
 point_skipped : (b : Basis) (enough k : ℕ) (ones : List Preemption) (counts : List ℕ) (number : ℕ) (old new : Option (List ℕ)) (o1 d1 : ℕ) (k1 : List Preemption) (o2 d2 : ℕ) (k2 : List Preemption) → (IsOpen enough d2 → ⊥)

@@ -1,11 +1,11 @@
 -- Orders that preemptions make, one after another.
-use Rattle.std.proofs.Common.{◌≡◌, ◌∙◌, ℕ, ◌+◌, ◌≤◌, ◌<◌, Bool, true, false, nat_lt, if◌then◌else◌, List, [], ◌∷◌, ◌++◌, All, length, drop, get_or, map, slice_index_or, refl, sym, ap, subst, arith, length-append}
+use Rattle.std.proofs.Common.{◌≡◌, ◌∙◌, ℕ, ◌+◌, ◌≤◌, ◌<◌, Bool, true, false, nat_lt, if◌then◌else◌, List, [], ◌∷◌, ◌++◌, All, length, slice_index_or, refl, sym, ap, subst, arith, length-append}
 use Rattle.board_model.specs.Shapes.{Size}
 use Rattle.script_lang.specs.Lines.{IsLineInRange}
 use Rattle.script_lang.specs.declared.line.Line.{Line}
 use Rattle.bench_orders.specs.Orders.{IsOrderFor, other_count}
 use Rattle.bench_schedules.specs.Orders.{ArePreemptions, order_of, place_behind}
-use Rattle.bench_schedules.specs.Points.{IsBusyAt, behind, order_by, point_before, script_points}
+use Rattle.bench_schedules.specs.Points.{IsBusyAt, behind, order_by}
 use Rattle.bench_schedules.specs.Preemptions.{Basis}
 use Rattle.bench_schedules.specs.SoFar.{IsMade}
 use Rattle.bench_schedules.specs.Stepped.{RanByTurns}
@@ -84,24 +84,6 @@ none_made b order ones is none ranges =
       few = omega (arith, same);
       near = omega arith;
     }
-
--- ---- the first of them, and those behind it
-pub first_made : (size : Size) (start : List (List ℕ)) (from : ℕ) (order : List Line) (ones : List Preemption) (one : Preemption) → 0 < length ones → one ≡ get_or ones 0 one
-    → ArePreemptions size start from order ones
-    → (from ≤ one.place) × ((counts : List ℕ) × RanByTurns size start order counts × IsBusyAt counts one) × ArePreemptions size start (behind one) (order_by one order) (drop 1 ones)
-first_made size start from order [] one some is are = absurd (let never : ⊥ = omega (arith, some) in never)
-first_made size start from order (first ∷ ones) one some is are =
-    let P : Preemption → Type 0 = λ o. (from ≤ o.place) × ((counts : List ℕ) × RanByTurns size start order counts × IsBusyAt counts o) × ArePreemptions size start (behind o) (order_by o order) ones in
-    subst P (sym is) are
-
-pub points_first : (order : List Line) (ones : List Preemption) (one : Preemption) → 0 < length ones → one ≡ get_or ones 0 one
-    → script_points order ones ≡ one ∷ map (point_before order one) (script_points (order_by one order) (drop 1 ones))
-points_first order [] one some is = absurd (let never : ⊥ = omega (arith, some) in never)
-points_first order (first ∷ ones) one some is = ap (λ o. o ∷ map (point_before order o) (script_points (order_by o order) ones)) (sym is)
-
-pub no_points_of : (order : List Line) (ones : List Preemption) → length ones ≡ 0 → script_points order ones ≡ []
-no_points_of order [] none = refl
-no_points_of order (one ∷ ones) none = absurd (let never : ⊥ = omega (arith, none) in never)
 
 pub first_place : (size : Size) (start : List (List ℕ)) (from : ℕ) (order : List Line) (ones : List Preemption) (none : Preemption) → 0 < length ones
     → ArePreemptions size start from order ones → (slice_index_or ones 0 none).place < length order

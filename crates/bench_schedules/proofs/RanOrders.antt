@@ -1,21 +1,18 @@
 -- Orders with few preemptions that were run and told, one after another.
-use Rattle.std.proofs.Common.{◌≡◌, ◌∙◌, ◌⊎◌, inl, inr, ℕ, zero, suc, ◌+◌, ◌<◌, ◌≤◌, Bool, true, false, if◌then◌else◌, List, [], ◌∷◌, ◌++◌, Option, Some, None, Result, Ok, Err, IfOk, All, length, take, slice_index_or, refl, sym, ap, subst, arith, append_assoc, length-append}
+use Rattle.std.proofs.Common.{◌≡◌, ◌∙◌, ◌⊎◌, inl, inr, ℕ, zero, suc, ◌+◌, ◌<◌, ◌≤◌, Bool, true, false, if◌then◌else◌, List, [], ◌∷◌, ◌++◌, Option, Some, None, All, length, take, refl, sym, ap, subst, arith, append_assoc, length-append}
 use Rattle.std.proofs.lemmas.Bool.{cases_lt}
 use Rattle.std.proofs.lemmas.List.{take_all}
 use Rattle.std.proofs.lemmas.List.Elements.{All-append, All-cons, All-head, All-nil, All-tail}
 use Rattle.std.specs.Io.KnownBytes.{Appends}
 use Rattle.board_model.specs.Shapes.{Size}
-use Rattle.board_model.specs.declared.refusal.Refusal.{Refusal}
 use Rattle.script_lang.specs.declared.line.Line.{Line}
 use Rattle.report_lines.proofs.Written.{appended, unwritten}
 use Rattle.report_lines.specs.declared.printed.Answer.{Answer}
-use Rattle.bench_schedules.specs.Numbers.{place_of_other}
-use Rattle.bench_schedules.specs.Told.{IsFirstApart, told_lines}
 use Rattle.bench_schedules.specs.declared.runs.Difference.{Difference}
 use Rattle.bench_schedules.specs.Schedules.{RanLike, RanOwn, RanWell, differing, other_answers}
 use Rattle.bench_schedules.specs.Orders.{AllAlike, OfAll, order_of, place_behind}
-use Rattle.bench_schedules.specs.Points.{IsBusyAt, number_in, script_points}
-use Rattle.bench_schedules.specs.Preemptions.{Basis, IsWhole, OrderRun, OrderText, OrdersText, Tried, WasRun, WrotePreemptions, basis, count_text, differences_of, differs_text, points_text}
+use Rattle.bench_schedules.specs.Points.{IsBusyAt, number_in}
+use Rattle.bench_schedules.specs.Preemptions.{Basis, IsWhole, OrderRun, OrderText, OrdersText, Tried, WasRun, WrotePreemptions, basis, count_text, differences_of}
 use Rattle.bench_schedules.specs.SoFar.{IsOpen, RanAll, RanDepths, RanMore, RanPoints, kept_after, kept_behind}
 use Rattle.bench_schedules.specs.Stepped.{RanByTurns}
 use Rattle.bench_schedules.specs.declared.points.Preemption.{Preemption}
@@ -183,15 +180,6 @@ points_done b enough more k order ones counts number old new o1 d1 k1 o2 d2 k2 i
       );
     }
 
--- enough orders differ
-pub points_left : (b : Basis) (enough : ℕ) (more : ℕ) (k : ℕ) (ones : List Preemption) (counts : List ℕ) (number : ℕ) (old new : Option (List ℕ)) (o1 d1 : ℕ) (k1 : List Preemption) (o2 d2 : ℕ) (k2 : List Preemption)
-    → (IsOpen enough d2 → ⊥) → RanPoints b enough k ones counts number old new o1 d1 k1 o2 d2 k2 → RanAll b enough more ones old new o1 d1 k1 o2 d2 k2
-points_left b enough more k ones counts number old new o1 d1 k1 o2 d2 k2 over so_far = record {
-  runs = so_far.runs;
-  ran = so_far.ran;
-  all = λ whole. absurd (over whole);
-}
-
 -- this order alone was run
 pub leaf : (b : Basis) (enough : ℕ) (more : ℕ) (ones : List Preemption) (old new : Option (List ℕ)) (o1 d1 : ℕ) (k1 : List Preemption) (o2 d2 : ℕ) (k2 : List Preemption) → more ≡ 0
     → (d : Option Difference) × RanMore b enough ((let run : OrderRun = record { ones = ones; differs = d } in run) ∷ []) old new o1 d1 k1 o2 d2 k2 → RanAll b enough more ones old new o1 d1 k1 o2 d2 k2
@@ -199,11 +187,6 @@ leaf b enough more ones old new o1 d1 k1 o2 d2 k2 none ran =
     let run : OrderRun = record { ones = ones; differs = ran.0 } in
     let P : ℕ → Type 0 = λ n. OfAll (WasRun (run ∷ [])) b.size b.start b.those n ones in
     record { runs = run ∷ []; ran = ran.1; all = λ whole. subst P (sym none) (inl refl) }
-
--- those with one more were run
-pub depth_one : (b : Basis) (enough : ℕ) (more : ℕ) (ones : List Preemption) (old new : Option (List ℕ)) (o1 d1 : ℕ) (k1 : List Preemption) (o2 d2 : ℕ) (k2 : List Preemption) → more ≡ 1
-    → RanAll b enough 1 ones old new o1 d1 k1 o2 d2 k2 → RanAll b enough more ones old new o1 d1 k1 o2 d2 k2
-depth_one b enough more ones old new o1 d1 k1 o2 d2 k2 is ran = let P : ℕ → Type 0 = λ n. RanAll b enough n ones old new o1 d1 k1 o2 d2 k2 in subst P (sym is) ran
 
 -- ---- with one, with two, with three
 pub no_depths : (b : Basis) (enough : ℕ) (now : Option (List ℕ)) → RanDepths b enough 0 now now 0 0 []
@@ -230,13 +213,6 @@ depth_more b enough fewer more ones old mid new o2 d2 k2 o3 d3 k3 none next so_f
         let Q : List Preemption → Type 0 = λ os. OfAll (WasRun (so_far.runs ++ done.runs)) b.size b.start b.those more os in
         subst P (next ∙ sym is)
         (subst Q none (of_weaker (WasRun done.runs) (WasRun (so_far.runs ++ done.runs)) b.size b.start b.those more ones (was_right so_far.runs done.runs) (done.all whole)))
-
-pub depths_left : (b : Basis) (enough : ℕ) (fewer most : ℕ) (old new : Option (List ℕ)) (o d : ℕ) (kept : List Preemption) → (IsOpen enough d → ⊥) → RanDepths b enough fewer old new o d kept → RanDepths b enough most old new o d kept
-depths_left b enough fewer most old new o d kept over so_far = record {
-  runs = so_far.runs;
-  ran = so_far.ran;
-  all = λ whole. absurd (over whole);
-}
 
 -- ---- the whole bench
 first_alike : (size : Size) (start : List (List ℕ)) (order : List Line) (own : List Answer) (d : Option Difference) (ds : List (Option Difference)) → differing (d ∷ ds) ≡ 0

@@ -1,5 +1,5 @@
 -- Schedules that were found, and what is written of the last.
-use Rattle.std.proofs.Common.{◌≡◌, ℕ, List, [], ◌∷◌, ◌++◌, ◌≤◌, length, All, Option, Some, None, Ok, refl, sym, ap, subst}
+use Rattle.std.proofs.Common.{◌≡◌, ℕ, List, [], ◌∷◌, ◌++◌, ◌≤◌, length, All, Option, Some, None, Ok, refl, ap, subst}
 use Rattle.std.specs.Io.KnownBytes.{Appends}
 use Rattle.board_model.specs.Shapes.{Size, IsSize}
 use Rattle.script_lang.specs.Lines.{FitsLine, IsLineInRange}

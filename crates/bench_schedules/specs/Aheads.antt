@@ -1,5 +1,5 @@
 -- Orders that run on from a board which the order before them has come to, and are cut short where they stand as it does.
-use Rattle.std.specs.Prelude.{◌≡◌, ◌≤◌, ◌<◌, ◌+◌, ◌++◌, ℕ, List, All, None, length, take, drop}
+use Rattle.std.specs.Prelude.{◌≡◌, ◌≤◌, ◌+◌, ◌++◌, ℕ, List, All, None, length, take, drop}
 use Rattle.board_model.specs.Shapes.{Size}
 use Rattle.script_lang.specs.Lines.{IsLineInRange}
 use Rattle.script_lang.specs.declared.line.Line.{Line}

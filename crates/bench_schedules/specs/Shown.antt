@@ -7,7 +7,7 @@ use Rattle.report_lines.specs.declared.printed.Answer.{Answer}
 use Rattle.bench_orders.specs.Orders.{IsScheduleOf}
 use Rattle.bench_schedules.specs.Schedules.{RanOwn, differing}
 use Rattle.bench_schedules.specs.declared.runs.Difference.{Difference}
-use Rattle.bench_schedules.specs.Orders.{ArePreemptions, OfAll, order_of}
+use Rattle.bench_schedules.specs.Orders.{OfAll, order_of}
 use Rattle.bench_schedules.specs.Preemptions.{OrderRun, Tried, WasRun, basis, differences_of}
 use Rattle.bench_schedules.specs.declared.points.Preemption.{Preemption}
 

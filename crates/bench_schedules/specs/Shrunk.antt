@@ -1,8 +1,8 @@
 -- A schedule that is shrunk. Source: docs/SCRIPT.md, "Schedules".
 use Rattle.std.specs.Prelude.{◌≡◌, ◌≤◌, ◌++◌, ◌∷◌, [], ℕ, List, Option, None, Some, Ok, All, length}
 use Rattle.std.specs.Io.KnownBytes.{Appends}
-use Rattle.board_model.specs.Shapes.{Size, IsSize}
-use Rattle.script_lang.specs.Lines.{FitsLine, IsLineInRange}
+use Rattle.board_model.specs.Shapes.{Size}
+use Rattle.script_lang.specs.Lines.{IsLineInRange}
 use Rattle.script_lang.specs.Scripts.{Script, script_of}
 use Rattle.script_lang.specs.Spellings.{script_text, IsWritable}
 use Rattle.script_lang.specs.declared.line.Line.{Line}

@@ -50,13 +50,6 @@ armed_of size start those first last disk armed shows ran left is =
     let P : FaultState → Type 0 = λ s. (armed ≡ false) ↔ (s.armed ≡ Unarmed) in
     (did.0, did.1, did.2, told_armed armed did.1.fault_state.armed (subst P (sym state) is))
 
--- ---- the line
-pub armed_as : (armed found : Bool) (size : Size) (start : List (List ℕ)) (those all : List Line) → found ≡ armed → all ≡ those → ArmedBehind found size start all → ArmedBehind armed size start those
-armed_as armed found size start those all same is told =
-    let P : Bool → Type 0 = λ x. ArmedBehind x size start those in
-    let Q : List Line → Type 0 = λ xs. ArmedBehind found size start xs in
-    subst P same (subst Q is told)
-
 pub row_is : (line : Line) (h n : ℕ) → hart_in line ≡ Some h → n ≡ count_in line → line ≡ lines.Turn h n
 row_is (lines.Turn g m) h n e many = let same : g ≡ h = cc in ap₂ (λ (x y : ℕ). lines.Turn x y) same (sym many)
 row_is line h n e many = absurd (let no : ⊥ = cc in no)
@@ -70,12 +63,6 @@ pub struck_next : (size : Size) (start : List (List ℕ)) (all : List Line) (p :
     → ArmedBehind false size start (take p all ++ next ∷ [])
 struck_next size start all p next within is struck =
     let P : List Line → Type 0 = λ xs. ArmedBehind false size start xs in subst P (rw add-one (take_here all p next within is)) struck
-
-pub struck_row : (size : Size) (start : List (List ℕ)) (all : List Line) (p : ℕ) (next : Line) (h n : ℕ) → p < length all → next ≡ get_or all p next → hart_in next ≡ Some h → n ≡ count_in next → ArmedBehind false size start (take (p + 1) all)
-    → ArmedBehind false size start (take p all ++ lines.Turn h n ∷ [])
-struck_row size start all p next h n within is row many struck =
-    let P : Line → Type 0 = λ l. ArmedBehind false size start (take p all ++ l ∷ []) in
-    subst P (row_is next h n row many) (struck_next size start all p next within is struck)
 
 stops_there : (size : Size) (start : List (List ℕ)) (all stop : List Line) (p : ℕ) (next : Line) → p < length all → next ≡ get_or all p next → StopsIn size start (take p all) next (hart_in next) stop
     → StopsBefore size start all stop
@@ -110,11 +97,6 @@ pub stop_ranged : (size : Size) (all stop : List Line) (p : ℕ) (next : Line) (
 stop_ranged size all stop p next h n k within is row many less stands ranges =
     subst (All (IsLineInRange size)) (sym stands)
     (All-append (IsLineInRange size) (take p all) (some_turns h k) (All-take (IsLineInRange size) p all ranges) (turns_ranged size h n k (row_ranged size all p next h n within is row many ranges) less))
-
--- ---- the turn
-pub turns_some : (h k : ℕ) → 0 < k → some_turns h k ≡ lines.Turn h k ∷ []
-turns_some h zero some = absurd (omega arith)
-turns_some h (suc k) some = refl
 
 pub turns_none : (h k : ℕ) → k ≡ 0 → some_turns h k ≡ []
 turns_none h zero none = refl

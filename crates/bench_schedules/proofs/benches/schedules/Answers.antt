@@ -1,4 +1,4 @@
-use Rattle.std.proofs.Common.{ℕ, List, ◌+◌, ◌∙◌, refl, slice_index_or, subst}
+use Rattle.std.proofs.Common.{ℕ, List, ◌+◌, ◌∙◌, slice_index_or, subst}
 use Rattle.std.proofs.lemmas.Result.{IfOk-weaker}
 use Rattle.script_lang.specs.Views.{view}
 use Rattle.bench_schedules.specs.Numbers.{place_of_other}

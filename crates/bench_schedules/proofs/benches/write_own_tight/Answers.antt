@@ -1,4 +1,4 @@
-use Rattle.std.proofs.Common.{◌≡◌, ◌∙◌, Bool, true, false, List, ℕ, [], if◌then◌else◌, sym, subst}
+use Rattle.std.proofs.Common.{◌∙◌, Bool, [], if◌then◌else◌, sym, subst}
 use Rattle.std.proofs.lemmas.Result.{on_ok_weaker}
 use Rattle.std.specs.Io.KnownBytes.{Appends}
 use Rattle.report_lines.proofs.Written.{unwritten}

@@ -1,4 +1,4 @@
-use Rattle.std.proofs.Common.{◌≡◌, ◌+◌, ◌≤◌, arith, length, refl}
+use Rattle.std.proofs.Common.{◌≡◌, arith, length, refl}
 use Rattle.bench_schedules.specs.Points.{number_in}
 use Rattle.bench_schedules.specs.Preemptions.{basis}
 use Rattle.bench_schedules.proofs.MadeOrders.{counts_length}

@@ -1,4 +1,4 @@
-use Rattle.std.proofs.Common.{List, take, subst, arith}
+use Rattle.std.proofs.Common.{List, subst, arith}
 use Rattle.std.proofs.lemmas.List.{take_all}
 use Rattle.script_lang.specs.declared.line.Line.{Line}
 use Rattle.bench_schedules.specs.GoingOn.{GoesAlike}

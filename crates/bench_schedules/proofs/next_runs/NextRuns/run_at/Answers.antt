@@ -1,5 +1,4 @@
-use Rattle.std.proofs.Common.{◌≤◌, arith}
-use Rattle.bench_schedules.specs.Points.{number_in}
+use Rattle.std.proofs.Common.{arith}
 use Rattle.bench_schedules.proofs.PointNumbers.{behind_row}
 use Rattle.bench_schedules.proofs.next_runs.NextRuns.run_at.Goals as goal
 

@@ -1,4 +1,4 @@
-use Rattle.std.proofs.Common.{List, Option, None, refl, sym, subst, arith}
+use Rattle.std.proofs.Common.{List, Option, refl, sym, subst, arith}
 use Rattle.script_lang.specs.declared.line.Line.{Line}
 use Rattle.bench_schedules.specs.Aheads.{RestEnds, basis_of}
 use Rattle.bench_schedules.specs.Handing.{RestEndsOf}
