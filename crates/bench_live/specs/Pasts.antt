@@ -8,17 +8,7 @@ use Rattle.script_lang.specs.declared.line.Line.TheVariants as lines
 -- the lines that a line stands for: N turns are N lines of one turn
 abbrev pub singles : Line → List Line
 singles (lines.Turn h n) = replicate n (lines.Turn h 1)
-singles (lines.Payload slot bytes) = lines.Payload slot bytes ∷ []
-singles lines.Format = lines.Format ∷ []
-singles (lines.On mode) = lines.On mode ∷ []
-singles (lines.Command c) = lines.Command c ∷ []
-singles (lines.Call h words) = lines.Call h words ∷ []
-singles (lines.Show look) = lines.Show look ∷ []
-singles (lines.Arm arming) = lines.Arm arming ∷ []
-singles (lines.Cut fill) = lines.Cut fill ∷ []
-singles (lines.Poke k offset bytes) = lines.Poke k offset bytes ∷ []
-singles lines.Inspect = lines.Inspect ∷ []
-singles lines.Wake = lines.Wake ∷ []
+singles line = line ∷ []
 
 abbrev pub moments : List Line → List Line
 moments past = flat_map singles past

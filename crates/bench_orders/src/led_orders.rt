@@ -5,7 +5,7 @@ ghost use Rattle.script_lang.specs.declared.line.Line.{Line as Said};
 ghost use Rattle.bench_orders.specs.Orders.{IsTurn, IsRowOf, IsOrderFor, TakesPlaceOf};
 ghost use Rattle.bench_orders.specs.Deals.{GoesOn};
 
-use crate::copies::{copied, copied_row};
+use crate::copies::copied_row;
 use crate::deal::Deal;
 use crate::rows::{is_turn, row_length, turns_named};
 use board_model::HartId;
@@ -115,7 +115,7 @@ fn add_led(
 {
     let count = row_length(rest);
     if count == 0 {
-        let line = copied(alloc, &rest[0])?;
+        let line = rest[0].copy(alloc)?;
         made.push(line)?;
         return Ok(1);
     }

@@ -14,7 +14,7 @@ mod rows;
 mod schedules;
 mod scripts;
 
-pub use copies::{copied, copied_row};
+pub use copies::copied_row;
 pub use laws::{
     orders_keep_lines, preemptions_add_one_line, preemptions_are_orders, rows_may_change,
 };

@@ -5,7 +5,6 @@ ghost use Rattle.script_lang.specs.declared.line.Line.{Line as Said};
 ghost use Rattle.bench_orders.specs.Drawn.{generator_of, IsDrawnFrom};
 ghost use Rattle.bench_orders.specs.Orders.{IsOrderFor, TakesPlaceOf};
 
-use crate::copies::copied;
 use crate::quotas::{Front, part_of, total};
 use crate::rows::{is_turn, order_of, row_length};
 use rand_core::{Rng, SeedableRng};
@@ -74,7 +73,7 @@ fn add_next<R: Rng>(
 {
     let count = row_length(rest);
     if count == 0 {
-        let line = copied(alloc, &rest[0])?;
+        let line = rest[0].copy(alloc)?;
         made.push(line)?;
         return Ok(1);
     }

@@ -6,7 +6,6 @@ pub mod MadeOrders
 pub mod Handing
 pub mod KeptOrders
 pub mod Shortened
-pub mod Alike
 pub mod Aparts
 pub mod Ledgers
 pub mod Lines

@@ -21,18 +21,9 @@ use Rattle.bench_sweep.specs.Told.{moves_harts, powers_on}
 -- ---- one line
 -- a look moves no hart, and powers no board on
 pub look_is_still : (line : Line) → is_look line ≡ true → IsPlainLine line × (moves_harts line ≡ false) × (powers_on line ≡ false)
-look_is_still (lines.Payload slot bytes) e = cc
-look_is_still lines.Format e = cc
-look_is_still (lines.On mode) e = cc
-look_is_still (lines.Command c) e = cc
-look_is_still (lines.Turn h n) e = cc
-look_is_still (lines.Call h asked) e = cc
 look_is_still (lines.Show look) e = (tt, refl, refl)
-look_is_still (lines.Arm arming) e = cc
-look_is_still (lines.Cut fill) e = cc
-look_is_still (lines.Poke sector offset bytes) e = cc
 look_is_still lines.Inspect e = (tt, refl, refl)
-look_is_still lines.Wake e = cc
+look_is_still line e = cc
 
 -- what it says is kept
 pub look_adds : (size : Size) (line : Line) (b : Bench) (said : Printed) (old new : List Printed) (power : Power) (slots : List (List ℕ)) (ledger : Ledger) → is_look line ≡ true → new ≡ old ++ said ∷ [] → LineSays size line b said power slots ledger → LineAdds size line b old new power slots ledger

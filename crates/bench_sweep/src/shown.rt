@@ -23,7 +23,7 @@ use crate::runner::Runner;
 use crate::site::{Going, Site};
 use crate::sites::{Went, run_lines};
 use crate::sweeps::{calls_between, check_plain, check_recovery, run_plain};
-use bench_orders::{copied, fits, shape_in_range, write_script};
+use bench_orders::{fits, shape_in_range, write_script};
 use bench_report::Setting;
 use board::Payloads;
 use board_model::{BootMode, Refusal, Shape};
@@ -235,7 +235,7 @@ fn add_lines(alloc: Global, all: &mut Vec<Line>, lines: &[Line]) -> Result<(), A
     ensures { OnOk result (all.new.items ≡ all.old.items ++ lines.now) }
 {
     for line in lines {
-        let line = copied(alloc, line)?;
+        let line = line.copy(alloc)?;
         all.push(line)?;
     }
     Ok(())

@@ -50,7 +50,7 @@ impl Bytes {
     }
 
     /// The same bytes again.
-    pub(crate) fn copy(&self, alloc: Global) -> Result<Bytes, AllocError>
+    pub fn copy(&self, alloc: Global) -> Result<Bytes, AllocError>
         ensures { IfOk result (λ copy. copy ≡ self.now) }
     {
         Ok(Bytes::new(Vec::from_slice(alloc, self.as_slice())?))

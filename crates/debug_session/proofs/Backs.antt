@@ -40,17 +40,7 @@ none_same (x ∷ xs) all = one x (All-head MakesNone x xs all) (none_same xs (Al
   where
     one : (line : Line) → MakesNone line → moments xs ≡ xs → moments (line ∷ xs) ≡ line ∷ xs
     one (lines.Turn h n) none same = absurd none
-    one (lines.Payload slot bytes) none same = ap (λ (ys : List Line). lines.Payload slot bytes ∷ ys) same
-    one lines.Format none same = ap (λ (ys : List Line). lines.Format ∷ ys) same
-    one (lines.On mode) none same = ap (λ (ys : List Line). lines.On mode ∷ ys) same
-    one (lines.Command c) none same = ap (λ (ys : List Line). lines.Command c ∷ ys) same
-    one (lines.Call h words) none same = ap (λ (ys : List Line). lines.Call h words ∷ ys) same
-    one (lines.Show look) none same = ap (λ (ys : List Line). lines.Show look ∷ ys) same
-    one (lines.Arm arming) none same = ap (λ (ys : List Line). lines.Arm arming ∷ ys) same
-    one (lines.Cut fill) none same = ap (λ (ys : List Line). lines.Cut fill ∷ ys) same
-    one (lines.Poke k offset bytes) none same = ap (λ (ys : List Line). lines.Poke k offset bytes ∷ ys) same
-    one lines.Inspect none same = ap (λ (ys : List Line). lines.Inspect ∷ ys) same
-    one lines.Wake none same = ap (λ (ys : List Line). lines.Wake ∷ ys) same
+    one line none same = ap (λ (ys : List Line). line ∷ ys) same
 
 -- the moments of one line more
 moments_more : (past : List Line) (i : ℕ) (d : Line) → i < length past → moments (take (i + 1) past) ≡ moments (take i past) ++ singles (get_or past i d)
@@ -97,17 +87,7 @@ module _ (size : Size) (stops : Stops) where
   -- a line that makes no turns is passed
   pub other_passed : (line : Line) (b new : Bench) → ((h n : ℕ) → line ≡ lines.Turn h n → ⊥) → MayMove size line b new → PassBack size stops (singles line) b new
   other_passed (lines.Turn h n) b new not move = absurd (not h n refl)
-  other_passed (lines.Payload slot bytes) b new not move = (new, (move, tt), refl)
-  other_passed lines.Format b new not move = (new, (move, tt), refl)
-  other_passed (lines.On mode) b new not move = (new, (move, tt), refl)
-  other_passed (lines.Command c) b new not move = (new, (move, tt), refl)
-  other_passed (lines.Call h words) b new not move = (new, (move, tt), refl)
-  other_passed (lines.Show look) b new not move = (new, (move, tt), refl)
-  other_passed (lines.Arm arming) b new not move = (new, (move, tt), refl)
-  other_passed (lines.Cut fill) b new not move = (new, (move, tt), refl)
-  other_passed (lines.Poke k offset bytes) b new not move = (new, (move, tt), refl)
-  other_passed lines.Inspect b new not move = (new, (move, tt), refl)
-  other_passed lines.Wake b new not move = (new, (move, tt), refl)
+  other_passed line b new not move = (new, (move, tt), refl)
 
   -- ---- a run with the last end of the way back
   ends_more : (Why : Bench → Bench → Type 0) (h : ℕ) (before all more : List Line) (b mid new : Bench) → EndsAt size stops Why h before all b mid → PassBack size stops more mid new → EndsAt size stops Why h before (all ++ more) b new

@@ -11,17 +11,7 @@ use Rattle.debug_session.specs.Steps.{AreNoted, MakesNone}
 
 pub makes_none : (line : Line) → ((h n : ℕ) → line ≡ lines.Turn h n → ⊥) → MakesNone line
 makes_none (lines.Turn h n) not = absurd (not h n refl)
-makes_none (lines.Payload slot bytes) not = tt
-makes_none lines.Format not = tt
-makes_none (lines.On mode) not = tt
-makes_none (lines.Command c) not = tt
-makes_none (lines.Call h words) not = tt
-makes_none (lines.Show look) not = tt
-makes_none (lines.Arm arming) not = tt
-makes_none (lines.Cut fill) not = tt
-makes_none (lines.Poke k offset bytes) not = tt
-makes_none lines.Inspect not = tt
-makes_none lines.Wake not = tt
+makes_none line not = tt
 
 pub more_none : (xs : List Line) (i : ℕ) (d : Line) → i < length xs → All MakesNone (take i xs) → MakesNone (get_or xs i d) → All MakesNone (take (i + 1) xs)
 more_none xs i d less all none =

@@ -36,17 +36,7 @@ went_none May size t at = record {
 -- by harts that may run
 may_turn : (A B : ℕ → Type 0) → ((h : ℕ) → A h → B h) → (line : Line) → IsTurnOf A line → IsTurnOf B line
 may_turn A B may (lines.Turn h n) is = (is.0, may h is.1)
-may_turn A B may (lines.Payload slot bytes) is = absurd is
-may_turn A B may lines.Format is = absurd is
-may_turn A B may (lines.On mode) is = absurd is
-may_turn A B may (lines.Command c) is = absurd is
-may_turn A B may (lines.Call h words) is = absurd is
-may_turn A B may (lines.Show look) is = absurd is
-may_turn A B may (lines.Arm arming) is = absurd is
-may_turn A B may (lines.Cut fill) is = absurd is
-may_turn A B may (lines.Poke k offset bytes) is = absurd is
-may_turn A B may lines.Inspect is = absurd is
-may_turn A B may lines.Wake is = absurd is
+may_turn A B may line is = absurd is
 
 may_all : (A B : ℕ → Type 0) → ((h : ℕ) → A h → B h) → (xs : List Line) → All (IsTurnOf A) xs → All (IsTurnOf B) xs
 may_all A B may [] all = All-nil (IsTurnOf B)

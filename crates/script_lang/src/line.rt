@@ -41,6 +41,30 @@ pub enum Line {
     Wake,
 }
 
+impl Line {
+    /// A line that says the same. Refused where memory is.
+    pub fn copy(&self, alloc: Global) -> Result<Line, AllocError>
+        ensures { IfOk result (λ copy. copy ≡ self.now) }
+    {
+        match self {
+            Line::Payload(slot, bytes) => Ok(Line::Payload(*slot, bytes.copy(alloc)?)),
+            Line::Format => Ok(Line::Format),
+            Line::On(mode) => Ok(Line::On(*mode)),
+            Line::Command(command) => Ok(Line::Command(*command)),
+            Line::Turn(hart, count) => Ok(Line::Turn(*hart, *count)),
+            Line::Call(hart, words) => Ok(Line::Call(*hart, *words)),
+            Line::Show(look) => Ok(Line::Show(*look)),
+            Line::Arm(arming) => Ok(Line::Arm(*arming)),
+            Line::Cut(fill) => Ok(Line::Cut(*fill)),
+            Line::Poke(sector, offset, bytes) => {
+                Ok(Line::Poke(*sector, *offset, bytes.copy(alloc)?))
+            }
+            Line::Inspect => Ok(Line::Inspect),
+            Line::Wake => Ok(Line::Wake),
+        }
+    }
+}
+
 /// The line of no class that a keyword and the words after it say.
 fn other_said(
     alloc: Global,
