@@ -19,6 +19,22 @@ pub enum ConsoleCommand {
     Good,
 }
 
+/// Hands the commands to the macro `$help` of a program: how a line names each, and then the lines that a help has for them.
+#[macro_export]
+macro_rules! command_lines {
+    ($help:ident) => {
+        $help! {
+            ["slot S, tries S N, good, discard"]
+            [
+                "  slot S     sets the boot slot: 'slot ok K' or 'slot refused K'\n"
+                "  discard    drops the image: 'discard ok K' or 'discard refused K'\n"
+                "  tries S N  sets the boot slot on trial for N boots, 1 to 7, after which it falls\n             back to the slot before: 'tries ok K' or 'tries refused K'\n"
+                "  good       keeps the slot on trial: 'good ok K' or 'good refused K'\n"
+            ]
+        }
+    };
+}
+
 impl ConsoleCommand {
     /// The durable command that it is.
     pub fn command(self) -> Command

@@ -5,7 +5,7 @@ ghost use Rattle.clap.specs.Words.{app_of, rule_of};
 ghost use Rattle.clap.specs.declared.builder.value_parser.ValueParser.{ValueParser as Parser};
 ghost use Rattle.board_options.specs.Lines.{TakesModes, mode_rule, board_line, with_shape, sbiboard};
 
-use board_model::refusal_lines;
+use board_model::{command_lines, refusal_lines};
 use clap::{Arg, Command};
 use command_line::{flag, number, option, path, program, with_payloads};
 use std::alloc::{AllocError, Global};
@@ -24,15 +24,13 @@ the end. So leave by 'quit' or the end of input: a session that is killed
 /// The console's lines, the statuses, the refusals, and a first session. This program has words of its own for what it
 /// is refused beside a disk, and never answers what a script is refused.
 macro_rules! numbers {
-    ([$($line:literal)*]) => {
+    ([$($command:literal)*] [$($line:literal)*]) => {
         concat!(
             "\
 Console, a line each:
-  slot S     sets the boot slot: 'slot ok K' or 'slot refused K'
-  discard    drops the image: 'discard ok K' or 'discard refused K'
-  tries S N  sets the boot slot on trial for N boots, 1 to 7, after which it falls
-             back to the slot before: 'tries ok K' or 'tries refused K'
-  good       keeps the slot on trial: 'good ok K' or 'good refused K'
+",
+            $($command,)*
+            "\
   state      'state slot S reason R image X next N', and where the slot is on
              trial ' trial F L': the slot to fall back to, and the boots left
   wake       wakes a board that sleeps in its RAM: 'wake ok' or 'wake refused 18'
@@ -57,27 +55,33 @@ A first session:
 docs/CONSOLE.md of the source has the rest.",
         )
     };
-    ([$($line:literal)*] [BadShape $next:literal] $($rest:tt)*) => {
-        numbers!([$($line)* "   3  the disk's file is not whole sectors or too small for its board, or a\n      payload is longer than RAM\n"] $($rest)*)
+    ([$($command:literal)*] [$($line:literal)*] [BadShape $next:literal] $($rest:tt)*) => {
+        numbers!([$($command)*] [$($line)* "   3  the disk's file is not whole sectors or too small for its board, or a\n      payload is longer than RAM\n"] $($rest)*)
     };
-    ([$($line:literal)*] [Memory $next:literal] $($rest:tt)*) => {
-        numbers!([$($line)* "  11  memory was refused, or a thread\n"] $($rest)*)
+    ([$($command:literal)*] [$($line:literal)*] [Memory $next:literal] $($rest:tt)*) => {
+        numbers!([$($command)*] [$($line)* "  11  memory was refused, or a thread\n"] $($rest)*)
     };
-    ([$($line:literal)*] [BadScript $next:literal] $($rest:tt)*) => {
-        numbers!([$($line)*] $($rest)*)
+    ([$($command:literal)*] [$($line:literal)*] [BadScript $next:literal] $($rest:tt)*) => {
+        numbers!([$($command)*] [$($line)*] $($rest)*)
     };
-    ([$($line:literal)*] [Output $next:literal] $($rest:tt)*) => {
-        numbers!([$($line)* "  16  an answer could not be written\n"] $($rest)*)
+    ([$($command:literal)*] [$($line:literal)*] [Output $next:literal] $($rest:tt)*) => {
+        numbers!([$($command)*] [$($line)* "  16  an answer could not be written\n"] $($rest)*)
     };
-    ([$($line:literal)*] [NotPlain $next:literal] $($rest:tt)*) => {
-        numbers!([$($line)*] $($rest)*)
+    ([$($command:literal)*] [$($line:literal)*] [NotPlain $next:literal] $($rest:tt)*) => {
+        numbers!([$($command)*] [$($line)*] $($rest)*)
     };
-    ([$($line:literal)*] [$name:ident $next:literal] $($rest:tt)*) => {
-        numbers!([$($line)* $next] $($rest)*)
+    ([$($command:literal)*] [$($line:literal)*] [$name:ident $next:literal] $($rest:tt)*) => {
+        numbers!([$($command)*] [$($line)* $next] $($rest)*)
     };
 }
 
-const NUMBERS: &str = refusal_lines!(numbers);
+macro_rules! with_commands {
+    ([$names:literal] [$($command:literal)*]) => {
+        refusal_lines!(numbers [$($command)*])
+    };
+}
+
+const NUMBERS: &str = command_lines!(with_commands);
 
 pub const DISK: &str = "disk";
 

@@ -4,16 +4,31 @@ ghost use Rattle.std.specs.Io.KnownBytes.{Keeps, WriteAppends};
 ghost use Rattle.std.specs.Io.{WritesAtMost};
 
 use arrayvec::ArrayVec;
+use board_model::command_lines;
 use std::io::{self, IsTerminal, Read, Write};
 
-const WELCOME: &str = "\
-slot S, tries S N, good, discard, state, wake, quit: a line each.
-'quit' or Ctrl-D ends the session.";
+macro_rules! welcome {
+    ([$names:literal] [$($line:literal)*]) => {
+        concat!(
+            $names,
+            ", state, wake, quit: a line each.
+'quit' or Ctrl-D ends the session.",
+        )
+    };
+}
+
+const WELCOME: &str = command_lines!(welcome);
 
 const UNSYNCED: &str = "\
 Ctrl-C would lose what was acknowledged: the disk's file is written at the end (--sync).";
 
-const UNKNOWN: &str = "? is no answer but to: slot S, tries S N, good, discard, state, wake, quit.";
+macro_rules! unknown {
+    ([$names:literal] [$($line:literal)*]) => {
+        concat!("? is no answer but to: ", $names, ", state, wake, quit.")
+    };
+}
+
+const UNKNOWN: &str = command_lines!(unknown);
 
 const OVER: &str = "\
 7: the guest has ended this life by a reset or a suspension. 'quit' ends the session.";

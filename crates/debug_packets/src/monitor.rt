@@ -13,7 +13,7 @@ ghost use Rattle.script_lang.specs.Lines.{IsLineInRange};
 use crate::answers::Payloads;
 use crate::talk::Talk;
 use crate::texts::{answer_text, board_text, harts_text, report_text, tell, when_text};
-use board_model::{HartId, Refusal, Shape};
+use board_model::{HartId, Refusal, Shape, command_lines};
 use crew::Crew;
 use debug_session::Session;
 use gdb_protocol::behind;
@@ -22,9 +22,14 @@ use script_lang::{Line, number, parse_script};
 use std::alloc::Global;
 use std::sync::atomic::AtomicBool;
 
-const HELP: &str = "\
+macro_rules! help {
+    ([$names:literal] [$($line:literal)*]) => {
+        concat!(
+            "\
 Any line of the script language is run, becomes part of the history, and says its report:
-  slot 1, tries 2 3, good, discard   durable commands of the console
+  ",
+            $names,
+            "   durable commands of the console
   cut 00, on resume, on fresh        power
   cutat 3 00, failat 3               faults of the disk
   wake, inspect, pending             and all others of docs/SCRIPT.md
@@ -35,7 +40,12 @@ Beside them:
   goto N    back to before the turn that came behind N others; or on, to N turns
   help      this text
 After a line that moves the board, `maintenance flush register-cache` (flushregs) shows it.
-";
+",
+        )
+    };
+}
+
+const HELP: &str = command_lines!(help);
 
 /// What is no line of the language is told, and a line whose number or place no board of this shape has.
 const NO_LINE: &str =
