@@ -63,7 +63,7 @@ on_reads size b board says_so line was so = by b.power was.0
     by (Some life) is = let P : Machine → Type 0 = λ m. says_so m line in (line, subst P is.1 so, refl, refl)
 
 -- a board of which nothing changed
-as_it_was : (size : Size) (b : Bench) (old new : SimBoard) → OnIs size b old → machine_in new ≡ machine_in old → store_in new ≡ store_in old → OnIs size b new
+pub as_it_was : (size : Size) (b : Bench) (old new : SimBoard) → OnIs size b old → machine_in new ≡ machine_in old → store_in new ≡ store_in old → OnIs size b new
 as_it_was size b old new was still same =
     let R : SimStore → Type 0 = λ store. DeviceIs size b (store_fault_state store) (store_facts store) in
     (by b.power was.0, subst R (sym same) was.1)
@@ -149,36 +149,6 @@ module _ (size : Size) (b : Bench) (old new : SimBoard) (h : ℕ) (asked : CallW
 pub on_looks : (size : Size) (b : Bench) (old new : SimBoard) (says_so : Machine → MachineLine → Type 0) (line : MachineLine) → OnIs size b old → says_so (machine_in old) line → machine_in new ≡ machine_in old → store_in new ≡ store_in old
     → StepsTo size b (On new) (ReadStep b.power says_so b (shows line))
 on_looks size b old new says_so line was so still same = (b, on_reads size b old says_so line was so, as_it_was size b old new was still same, refl)
-
--- the wake-up device of a board that is on
-module _ (size : Size) (b : Bench) (life : BenchLife) (old new : SimBoard) (on : b.power ≡ Some life) (was : OnIs size b old) (still : store_in new ≡ store_in old) where
-  -- it answers so, and the board is on
-  abbrev pub Woke : Answer → Type 0
-  Woke answer = (x : Bench) × AsideStep CallWake (Some life) b answer x × OnIs size x new × (x.payloads ≡ b.payloads)
-
-  here : BoardIs size b.disk_state b.kept (Some life) old
-  here = let P : Option BenchLife → Type 0 = λ p. BoardIs size b.disk_state b.kept p old in subst P on was.0
-
-  can : can_wake (machine_in old).doze ≡ can_wake life.machine.doze
-  can = ap (λ (m : Machine). can_wake m.doze) here.1
-
-  pub on_wakes : can_wake (machine_in old).doze ≡ true → machine_in new ≡ record (machine_in old) { doze = after_wake (machine_in old).doze } → Woke (says printed.Woken)
-  on_wakes dozes made =
-      let next : BenchLife = has_machine (record life.machine { doze = after_wake life.machine.doze }) life in
-      let F : Machine → Machine = λ m. record m { doze = after_wake m.doze } in
-      let W : Bool → Type 0 = λ k. (says printed.Woken ≡ says (wakes k life).0) × (on_with next b ≡ affected (wakes k life).1 b) in
-      let Q : SimStore → Type 0 = λ store. StoreIs size b.disk_state b.kept life store in
-      let S : SimStore → Type 0 = λ store. DeviceIs size b (store_fault_state store) (store_facts store) in
-      (on_with next b, subst W (sym dozes ∙ can) (refl, refl), ((has_other size b life next.machine (store_in new) refl (subst Q (sym still) here.0), made ∙ ap F here.1), subst S (sym still) was.1), refl)
-
-  pub on_sleeps_on : (can_wake (machine_in old).doze ≡ true → ⊥) → machine_in new ≡ machine_in old → Woke (says (printed.WakeRefused 18))
-  on_sleeps_on not same =
-      let W : Bool → Type 0 = λ k. (says (printed.WakeRefused 18) ≡ says (wakes k life).0) × (b ≡ affected (wakes k life).1 b) in
-      (b, subst W (sym (not_true (can_wake (machine_in old).doze) not) ∙ can) (refl, refl), as_it_was size b old new was same still, refl)
-    where
-      not_true : (k : Bool) → (k ≡ true → ⊥) → k ≡ false
-      not_true true never = absurd (never refl)
-      not_true false never = refl
 
 -- a payload
 abbrev pub Keeps : Size → Bench → Power → ℕ → List ℕ → MachineLine → List (List ℕ) → Type 0
