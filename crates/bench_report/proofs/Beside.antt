@@ -8,16 +8,16 @@ use Rattle.report_lines.specs.declared.printed.Printed.TheVariants as printed
 use Rattle.bench_report.specs.Bench.{BenchLife}
 use Rattle.bench_report.specs.Prefix.{Nothing, LineImplies, is_format_ok}
 use Rattle.bench_report.specs.Deeds.{Aside, CutPower, CallWake, WritePast, Beside, IsByFirmwareAlone}
-use Rattle.bench_report.specs.Asides.{Effect, Stays, CutsPower, WakesBoard, WritesPast, wakes, aside}
+use Rattle.bench_report.specs.Asides.{Effect, Stays, CutsPower, SetsDoze, WritesPast, wakes, aside}
 
 -- it leaves the disk to the firmware
 abbrev pub OfFirmware : Effect → Type 0
 OfFirmware WritesPast = ⊥
 OfFirmware e = ⊤
 
--- the board that is woken is the one that is on
+-- the board whose doze is set is the one that is on
 abbrev pub FitsPower : Option BenchLife → Effect → Type 0
-FitsPower p (WakesBoard life) = p ≡ Some life
+FitsPower p (SetsDoze doze life) = p ≡ Some life
 FitsPower p e = ⊤
 
 -- what is said tells of no command

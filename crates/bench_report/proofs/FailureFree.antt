@@ -45,7 +45,7 @@ use Rattle.bench_report.specs.Steps.{console_reported, FormatStep, OnStep, Conso
 use Rattle.bench_report.specs.Reports.{IsReportWith}
 use Rattle.bench_report.proofs.Unsaid.{none_made}
 use Rattle.bench_report.specs.FailureFree.{ShowsNoFailure, ShowNoFailure}
-use Rattle.bench_report.specs.Asides.{Effect, Stays, SetsPayloads, Arms, CutsPower, WakesBoard, WritesPast, aside, affected}
+use Rattle.bench_report.specs.Asides.{Effect, Stays, aside, affected}
 use Rattle.bench_report.proofs.Questions.{IsAsked, is_asked}
 
 -- as many growths were refused and failures answered as before
@@ -250,11 +250,7 @@ asked_at b a new (inr (inr x)) failure_free = absurd ((of_answer a (printed.Insp
 
 aside_many : (e : Effect) (b new : Bench) → new ≡ affected e b → AsMany b new
 aside_many Stays b new x = as_many b b new refl refl x
-aside_many (SetsPayloads payloads) b new x = as_many b _ new refl refl x
-aside_many (Arms fault) b new x = as_many b _ new refl refl x
-aside_many CutsPower b new x = as_many b _ new refl refl x
-aside_many (WakesBoard life) b new x = as_many b _ new refl refl x
-aside_many WritesPast b new x = as_many b _ new refl refl x
+aside_many e b new x = as_many b _ new refl refl x
 
 step_failure_free : (size : Size) (deed : Deed) (b : Bench) (a : Answer) (new : Bench) → DeedStep size deed b a new → ShowsNoFailure a.line → AsMany b new
 step_failure_free size deeds.Format b a new h failure_free = format_at b.power b a new h failure_free

@@ -33,7 +33,7 @@ use Rattle.script_lang.specs.declared.line.Line.TheVariants as lines
 use Rattle.susp.specs.declared.sleeps.Sleep.{Sleep}
 use Rattle.susp.specs.declared.sleeps.Sleep.TheVariants.{ToDisk, ToRam}
 use Rattle.bench_report.specs.Agree.{ArmedAlike}
-use Rattle.bench_report.specs.Asides.{Effect, Stays, SetsPayloads, Arms, CutsPower, WakesBoard, WritesPast, aside, affected}
+use Rattle.bench_report.specs.Asides.{Effect, Stays, aside, affected}
 use Rattle.bench_report.specs.Bench.{DiskState, Blank, Unknown, Formatted, BenchLife, Bench}
 use Rattle.bench_report.specs.Commands.{IssuedBy, IssuesAll, Writes}
 use Rattle.bench_report.specs.Deeds as deeds
@@ -252,11 +252,7 @@ asked_line b a new (inr (inr x)) = inl (fails b b new x.1 (refl, refl)).0
 
 aside_line : (e : Effect) (b new : Bench) → new ≡ affected e b → Counts b new
 aside_line Stays b new x = ap (λ (y : Bench). y.growths) x
-aside_line (SetsPayloads payloads) b new x = ap (λ (y : Bench). y.growths) x
-aside_line (Arms armed) b new x = ap (λ (y : Bench). y.growths) x
-aside_line CutsPower b new x = ap (λ (y : Bench). y.growths) x
-aside_line (WakesBoard life) b new x = ap (λ (y : Bench). y.growths) x
-aside_line WritesPast b new x = ap (λ (y : Bench). y.growths) x
+aside_line e b new x = ap (λ (y : Bench). y.growths) x
 
 -- why a refusal may be counted: a call's suspension was refused, or the line says so
 abbrev pub Starves : Deed → Answer → Type 0

@@ -47,7 +47,7 @@ use Rattle.bench_report.proofs.Wholes.{IsKeptWhole, LoadsWhole, BootsLoad, all_l
 use Rattle.bench_report.proofs.Asks.{line_asks-asked_by, firmware_alone}
 use Rattle.bench_report.proofs.Allowed.{all_issued}
 use Rattle.bench_report.proofs.Issues.{takes_more, is_up, GoesOn, IsSound, Back, joined, said, Went, Does, issued_back, AllWent, all_back}
-use Rattle.bench_report.specs.Asides.{Effect, Stays, SetsPayloads, Arms, CutsPower, WakesBoard, WritesPast, aside, affected}
+use Rattle.bench_report.specs.Asides.{Effect, Stays, SetsPayloads, Arms, CutsPower, SetsDoze, WritesPast, aside, affected}
 use Rattle.bench_report.proofs.Beside.{OfFirmware, FitsPower, TellsNothing, is_aside}
 use Rattle.bench_report.proofs.Questions.{IsAsked, is_asked}
 
@@ -286,7 +286,7 @@ aside_at said (SetsPayloads payloads) b a new by fits tells sound h x = same Not
 aside_at said (Arms fault) b a new by fits tells sound h x = same Nothing b a said new (armed_with fault b) h x refl refl refl sound.1 sound (λ s t e. tells s t (is_up b.power) e)
 aside_at said CutsPower b a new by fits tells sound h x =
     by_eqs Nothing b a (says printed.Cut) new (unpowered b) (h ∙ ap says tells) x ((sound.0, tt), λ t f. (t, f, (tt, (refl, refl))))
-aside_at said (WakesBoard life) b a new by fits tells sound h x =
+aside_at said (SetsDoze doze life) b a new by fits tells sound h x =
     let F : Option BenchLife → Type 0 = λ p. GoesOn b.kept p in
     same Nothing b a said new _ h x refl refl (sym (ap is_up fits)) (subst F fits sound.1) sound (λ s t e. tells s t (is_up b.power) e)
 aside_at said WritesPast b a new by fits tells sound h x = absurd by

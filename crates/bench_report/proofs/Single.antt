@@ -29,7 +29,7 @@ use Rattle.bench_report.proofs.Determined.{some_inj, HasFailed, DiskHasFailed, I
 use Rattle.script_lang.specs.declared.looks.Look.{Look}
 use Rattle.script_lang.specs.declared.looks.Look.TheVariants as looks
 use Rattle.bench_report.specs.Looks.{IsShown}
-use Rattle.bench_report.specs.Asides.{Effect, Stays, SetsPayloads, Arms, CutsPower, WakesBoard, WritesPast, aside, affected}
+use Rattle.bench_report.specs.Asides.{Effect, Stays, CutsPower, WritesPast, aside, affected}
 use Rattle.bench_report.proofs.Beside.{OfFirmware, is_aside}
 use Rattle.bench_report.proofs.Questions.{IsAsked, is_asked}
 
@@ -75,11 +75,9 @@ asked_fair b a new (inr (inr x)) = spoils b new (fails b new x.1)
 
 aside_fair : (e : Effect) (b new : Bench) → OfFirmware e → new ≡ affected e b → Fair b new
 aside_fair Stays b new by x = unmoved b new x
-aside_fair (SetsPayloads payloads) b new by x = fair_to b new _ x (λ s. s, λ c. inr c, λ s. s)
-aside_fair (Arms fault) b new by x = fair_to b new _ x (λ s. s, λ c. inr c, λ s. s)
 aside_fair CutsPower b new by x = fair_to b new (unpowered b) x (λ s. s, λ c. inr (c.0, refl, c.2), λ s. s)
-aside_fair (WakesBoard life) b new by x = fair_to b new _ x (λ s. s, λ c. inr c, λ s. s)
 aside_fair WritesPast b new by x = absurd by
+aside_fair e b new by x = fair_to b new _ x (λ s. s, λ c. inr c, λ s. s)
 
 step_fair : (size : Size) (deed : Deed) (b : Bench) (a : Answer) (new : Bench) → IsByFirmwareAlone deed → DeedStep size deed b a new → Fair b new
 step_fair size deeds.Format b a new by h = format_fair b.power b a new h

@@ -50,7 +50,7 @@ use Rattle.bench_report.specs.Steps.{FormatStep, OnStep, ConsoleStep, GuestCall,
 use Rattle.bench_report.proofs.Determined.{begun_size}
 use Rattle.bench_report.proofs.Table.{table_not_thirteen, mode_not_thirteen}
 use Rattle.board_model.proofs.Console.{CarriesWhole-console}
-use Rattle.bench_report.specs.Asides.{Effect, Stays, SetsPayloads, Arms, CutsPower, WakesBoard, WritesPast, aside, affected}
+use Rattle.bench_report.specs.Asides.{Effect, Stays, SetsPayloads, Arms, CutsPower, SetsDoze, WritesPast, aside, affected}
 use Rattle.board.proofs.Issued.{fold_more}
 use Rattle.bench_report.proofs.Beside.{OfFirmware, FitsPower, is_aside}
 use Rattle.bench_report.proofs.Questions.{IsAsked, is_asked}
@@ -271,7 +271,7 @@ module _ (size : Size) where
   aside_line (SetsPayloads payloads) b new by fits k x = same_as _ new x k
   aside_line (Arms fault) b new by fits k x = same_as (armed_with fault b) new x k
   aside_line CutsPower b new by fits k x = same_as (unpowered b) new x (k.0, k.1, k.2, tt)
-  aside_line (WakesBoard life) b new by fits k x = same_as _ new x (k.0, k.1, k.2, sized life b fits k)
+  aside_line (SetsDoze doze life) b new by fits k x = same_as _ new x (k.0, k.1, k.2, sized life b fits k)
   aside_line WritesPast b new by fits k x = absurd by
 
   step : (deed : Deed) (b : Bench) (a : Answer) (new : Bench) → IsByFirmwareAlone deed → IsKeptWhole size b → DeedStep size deed b a new → IsKeptWhole size new

@@ -2,6 +2,7 @@
 use Rattle.std.specs.Prelude.{◌≡◌, Bool, true, false, List, ℕ, Option, Some, None, length, slice_set}
 use Rattle.disk.specs.declared.device.ArmedFault.{ArmedFault}
 use Rattle.susp.specs.Dozes.{can_wake, after_wake}
+use Rattle.susp.specs.declared.buses.Doze.{Doze}
 use Rattle.machine.specs.declared.line.MachineLine.TheVariants as shown
 use Rattle.report_lines.specs.declared.printed.Printed.{Printed}
 use Rattle.report_lines.specs.declared.printed.Printed.TheVariants as printed
@@ -12,13 +13,13 @@ use Rattle.bench_report.specs.Happens.{says, on_with, unpowered, armed_with, wri
 use Rattle.bench_report.specs.Armings.{fault_of}
 
 -- it leaves the bench as it was; the slots boot these from now on; that fault is armed; power is cut; the board of that
--- life is woken; or the disk is written past the firmware
+-- life dozes so from now on; or the disk is written past the firmware
 pub data Effect : Type 0 where
   Stays : Effect
   SetsPayloads : List (List ℕ) → Effect
   Arms : ArmedFault → Effect
   CutsPower : Effect
-  WakesBoard : BenchLife → Effect
+  SetsDoze : Option Doze → BenchLife → Effect
   WritesPast : Effect
 
 abbrev pub affected : Effect → Bench → Bench
@@ -26,14 +27,13 @@ affected Stays b = b
 affected (SetsPayloads payloads) b = record b { payloads = payloads }
 affected (Arms fault) b = armed_with fault b
 affected CutsPower b = unpowered b
-affected (WakesBoard life) b =
-    on_with (has_machine (record life.machine { doze = after_wake life.machine.doze }) life) b
+affected (SetsDoze doze life) b = on_with (has_machine (record life.machine { doze = doze }) life) b
 affected WritesPast b = written_past b
 
 -- The wake-up device is called: a board that dozes and was not woken is woken, and of any other it is refused 18
 -- (NotDozing).
 abbrev pub wakes : Bool → BenchLife → Printed × Effect
-wakes true life = (printed.Woken, WakesBoard life)
+wakes true life = (printed.Woken, SetsDoze (after_wake life.machine.doze) life)
 wakes false life = (printed.WakeRefused 18, Stays)
 
 -- by the board, where it is on, and by what the slots boot

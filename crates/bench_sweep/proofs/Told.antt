@@ -28,7 +28,7 @@ use Rattle.bench_report.proofs.Issues.{GoesOn, IsSound, issued_back}
 use Rattle.bench_report.proofs.Table.{table_not_six, of_modes}
 use Rattle.bench_sweep.specs.Swept.{IsSweptDeed, IsPlainLine}
 use Rattle.bench_sweep.specs.Told.{is_guest, moves_harts, is_boot, powers_on, IssuedTold, CommandTold, AllTold, BootSaid, PowerTold, AskedTold, LineTold, commands_told}
-use Rattle.bench_report.specs.Asides.{Effect, Stays, SetsPayloads, Arms, CutsPower, WakesBoard, WritesPast, aside, affected}
+use Rattle.bench_report.specs.Asides.{Effect, Stays, WritesPast, aside, affected}
 use Rattle.bench_report.proofs.Beside.{OfFirmware, is_aside}
 use Rattle.bench_report.proofs.Questions.{IsAsked, is_asked}
 use Rattle.bench_sweep.proofs.Fed.{never}
@@ -215,11 +215,8 @@ asked_line b a new (inr (inr x)) = same_as b new (failed x.1.0 b) x.1.2 (refl, r
 -- a deed that asks nothing of the disk and of no hart
 aside_line : (e : Effect) (b : Bench) (new : Bench) → OfFirmware e → new ≡ affected e b → Same b new
 aside_line Stays b new by x = same_as b new b x (refl, refl)
-aside_line (SetsPayloads payloads) b new by x = same_as b new _ x (refl, refl)
-aside_line (Arms armed) b new by x = same_as b new _ x (refl, refl)
-aside_line CutsPower b new by x = same_as b new _ x (refl, refl)
-aside_line (WakesBoard life) b new by x = same_as b new _ x (refl, refl)
 aside_line WritesPast b new by x = absurd by
+aside_line e b new by x = same_as b new _ x (refl, refl)
 
 by_firmware : (deed : Deed) → IsSweptDeed deed → IsByFirmwareAlone deed
 by_firmware (Beside WritePast) plain = absurd plain

@@ -9,15 +9,13 @@ mod looks;
 mod pairs;
 mod rows;
 mod scripts;
-mod texts;
 mod words;
 
 pub use armings::Arming;
 pub use commands::command_said;
 pub use laws::{lines_read_as_spelled, lines_read_in_order, scripts_read_as_written};
-pub use line::Line;
+pub use line::{Line, LineText};
 pub use looks::Look;
 pub use rows::mode;
 pub use scripts::{Script, parse_script};
-pub use texts::LineText;
 pub use words::{in_range, number};
