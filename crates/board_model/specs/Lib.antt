@@ -5,3 +5,4 @@ pub mod Views
 pub mod ConsoleCommands
 pub mod Plains
 pub mod Trials
+pub mod HartSets

@@ -1,5 +1,5 @@
-//! The words of the board that every crate above speaks: numbers in their range, the shape of a board, the
-//! durable state with its commands, and the refusals. docs/DURABLE.md tells the rules in plain words.
+//! The words of the board that every crate above speaks: numbers in their range, sets of harts, the shape of a
+//! board, the durable state with its commands, and the refusals. docs/DURABLE.md tells the rules in plain words.
 #![tactic(auto)]
 
 mod boot_mode;
@@ -7,6 +7,7 @@ mod bytes;
 mod call_words;
 mod console_command;
 mod durable;
+mod hart_set;
 mod laws;
 mod limits;
 mod numbers;
@@ -19,6 +20,7 @@ pub use bytes::Bytes;
 pub use call_words::CallWords;
 pub use console_command::ConsoleCommand;
 pub use durable::{Command, Durable, Entry, ImageHead, Reason, Trial};
+pub use hart_set::HartSet;
 pub use laws::{
     a_trial_ends, image_never_again, images_stay_whole, longer_list, no_memory_is_read,
     other_commands_leave_the_trial, serials_rise, the_image_by_kind, the_table_keeps_its_ranges,
