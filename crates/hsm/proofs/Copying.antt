@@ -124,8 +124,8 @@ settled_is started other = tt
 settled_is suspended other = tt
 
 -- the name that is read in the first word is that of the state
-pub read_as : (found number h : ℕ) (x : HartState) (r : State) → r ≡ state_in_word number found → number ≡ h → Says found h x → r ≡ named x
-read_as found number h x r is same says = is ∙ (ap (λ (n : ℕ). state_in_word n found) same ∙ named_is found h x says)
+pub read_as : (found h : ℕ) (x : HartState) (r : State) → r ≡ state_in_word h found → Says found h x → r ≡ named x
+read_as found h x r is says = is ∙ named_is found h x says
 
 -- an answer that must be there
 pub some_of : (o : Option ℕ) (P : Type 0) → IfNone o (P → ⊥) → P → IsSome o

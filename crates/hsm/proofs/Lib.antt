@@ -5,4 +5,5 @@ pub mod Entering
 pub mod Starting
 pub mod Quieting
 pub mod Computed
+pub mod Bits
 pub mod Copying

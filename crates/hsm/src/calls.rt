@@ -11,8 +11,9 @@ ghost use Rattle.hsm_steps.specs.declared.view.Action.TheVariants.{Looked, Stopp
 ghost use Rattle.hsm.specs.Calls.{stage_of, Sits, KeepsAll, KeepsOthers, IsOwnStatus, StandsBy, state_in_word, named, Starts, EntersAs, FindsNone, ActsAlone};
 ghost use Rattle.tallies.specs.Notes.{HasNoted};
 
+use crate::marks::{armed_in, claimed_in, entered_in};
 use crate::state::{State, state_in};
-use board_model::{Addr, HartId};
+use board_model::{Addr, HartId, HartSet};
 use hsm_steps::{HartSeat, HartTable, SeatTable};
 use std::marker::Brand;
 
@@ -40,8 +41,7 @@ pub fn start(
     let mut seat = seat;
     let site = address.value();
     let found = hsm_steps::claim::<Brand>(table, &mut seat, by, target, site, opaque);
-    let bit = target.number();
-    if found >> bit & 1 != 0 {
+    if claimed_in(found).contains(target) {
         return (seat, false);
     }
     hsm_steps::put_address::<Brand>(table, &mut seat, by, target, site, opaque);
@@ -67,12 +67,11 @@ pub fn try_enter(table: &HartTable, seat: HartSeat, by: HartId) -> (HartSeat, Op
         (λ states. result.1 ≡ entry (states by)) (change_at by begin) }
 {
     let mut seat = seat;
-    let hart = by.number();
     let found = hsm_steps::poll::<Brand>(table, &mut seat, by);
-    if found >> (8 + hart) & 1 != 1 {
+    if !armed_in(found).contains(by) {
         return (seat, None);
     }
-    if found >> (16 + hart) & 1 != 0 {
+    if entered_in(found).contains(by) {
         return (seat, None);
     }
     let site = hsm_steps::read_address::<Brand>(table, &mut seat, by);
@@ -117,8 +116,7 @@ pub fn status(table: &HartTable, seat: HartSeat, by: HartId, hart: HartId) -> (H
 {
     let mut seat = seat;
     let found = hsm_steps::look::<Brand>(table, &mut seat, by);
-    let number = hart.number();
-    (seat, state_in(found, number))
+    (seat, state_in(found, hart))
 }
 
 /// Suspends the hart, in one step. The acting hart is STARTED and not quiet (SBI specification 2.0,
@@ -177,9 +175,8 @@ pub fn quiet(table: &HartTable, seat: HartSeat, by: HartId) -> (HartSeat, bool)
 {
     let mut seat = seat;
     let found = hsm_steps::quiet::<Brand>(table, &mut seat, by);
-    let hart = by.number();
     let harts = table.harts();
-    (seat, found % (1 << harts) == 1 << hart)
+    (seat, claimed_in(found).below(harts) == HartSet::only(by))
 }
 
 /// Ends the quiet of the hart, in one step.

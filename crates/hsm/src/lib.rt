@@ -6,6 +6,7 @@
 
 mod calls;
 mod copies;
+mod marks;
 mod seen;
 mod standings;
 mod state;

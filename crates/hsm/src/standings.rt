@@ -49,7 +49,7 @@ pub(crate) fn settled_hart(table: &HartTable, seat: &mut HartSeat, shape: &Shape
     let found = hsm_steps::peek::<Brand>(table, seat);
     for number in 0..u64::from(shape.harts()) {
         let hart = shape.hart(number).unwrap();
-        match state_in(found, hart.number()) {
+        match state_in(found, hart) {
             State::StartPending => {}
             _ => return hart,
         }
@@ -68,7 +68,7 @@ pub fn standing_of(table: &HartTable, seat: &mut HartSeat, hart: HartId) -> Stan
     ensures standing { state_told result ≡ state_in (hart_view_of_seat seat.old) hart }
 {
     let found = hsm_steps::peek::<Brand>(table, seat);
-    match state_in(found, hart.number()) {
+    match state_in(found, hart) {
         State::Started => Standing::Started,
         State::Stopped => Standing::Stopped,
         State::Suspended => Standing::Suspended,

@@ -1,7 +1,10 @@
 //! The state of a hart.
 
-ghost use Rattle.std.specs.Prelude.{◌≡◌, ◌<◌};
+ghost use Rattle.std.specs.Prelude.{◌≡◌};
 ghost use Rattle.hsm.specs.Calls.{code_of, state_in_word};
+
+use crate::marks::{claimed_in, entered_in, suspended_in};
+use board_model::HartId;
 
 /// The state of a hart (SBI specification 2.0, chapter HSM). The standard's STOP_PENDING, SUSPEND_PENDING and
 /// RESUME_PENDING are never answered, since those changes are one step each.
@@ -28,15 +31,14 @@ impl State {
 }
 
 /// The state of a hart, by the first word of the table.
-pub(crate) fn state_in(found: u64, hart: u32) -> State
-    requires { hart < 8 }
+pub(crate) fn state_in(found: u64, hart: HartId) -> State
     ensures { result ≡ state_in_word hart found }
 {
-    if found >> hart & 1 == 0 {
+    if !claimed_in(found).contains(hart) {
         State::Stopped
-    } else if found >> (16 + hart) & 1 == 0 {
+    } else if !entered_in(found).contains(hart) {
         State::StartPending
-    } else if found >> (24 + hart) & 1 == 0 {
+    } else if !suspended_in(found).contains(hart) {
         State::Started
     } else {
         State::Suspended

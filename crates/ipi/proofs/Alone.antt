@@ -1,7 +1,7 @@
 -- What the calls are with the one seat of all harts.
-use Rattle.std.proofs.Common.{◌≡◌, ◌≢◌, ◌⊎◌, ◌↔◌, ℕ, ◌+◌, ◌-◌, ◌%◌, ◌^◌, ◌<◌, ◌≤◌, Bool, true, false, not, true≢false, IsTrue, if◌then◌else◌, ◌==◌, eqb, refl, sym, ap, ◌∙◌, subst, ⊎_elim, inl, inr, arith, eq-eqb, ne_eqb, w64, ◌/◌, div-add-mod'}
+use Rattle.std.proofs.Common.{◌≡◌, ◌≢◌, ◌⊎◌, ◌↔◌, ℕ, ◌+◌, ◌-◌, ◌%◌, ◌^◌, ◌<◌, ◌≤◌, Bool, true, false, not, true≢false, IsTrue, if◌then◌else◌, ◌==◌, eqb, refl, sym, ap, ◌∙◌, subst, ⊎_elim, inl, inr, arith, eq-eqb, ne_eqb, ◌/◌, div-add-mod'}
 use Rattle.std.specs.Int.{bit_at}
-use Rattle.std.proofs.lemmas.Nat.Bits.{bit_at-lt, bit_at-zero, bit_at-trailing_zeros, bit_at_cat_low, bit_at_above, same_from_bits}
+use Rattle.std.proofs.lemmas.Nat.Bits.{bit_at-lt, bit_at_cat_low, bit_at_above, same_from_bits}
 use Rattle.std.proofs.Math.Nat.{mod-lt}
 use Rattle.std.proofs.Math.Pow.{pow_pos, pow-lt}
 use mathlib.Core.Logic.{dite}
@@ -12,7 +12,7 @@ use Rattle.ipi.specs.declared.view.Action.TheVariants.{Raised, Took, Looked}
 use Rattle.tallies.specs.Notes.{seat_notes, is_of, seats, noted}
 use Rattle.ipi.specs.Ledger.{raise_of, take_of, raised, taken, HasNoted, HasEveryHart, InRange, PendingSeatView}
 use Rattle.ipi.specs.Pairs.{IsPending, SameHarts, Shows, with_pair, without_target}
-use Rattle.ipi.specs.Senders.{HasSender}
+use Rattle.board_model.specs.HartSets.{Has}
 use Rattle.tallies.proofs.Noted.{numbered, seats_noted}
 use Rattle.ipi.proofs.Keeps.{weigh_noted}
 
@@ -41,11 +41,15 @@ whole_still : (harts : ℕ) (c c' : PendingSeatView) → SameHarts c c' → HasE
 whole_still harts c c' same whole h lt = same.each h ∙ whole h lt
 
 -- ---- tests
-pub not_zero_of : (n : ℕ) → IsTrue (not (eqb n 0)) → n ≢ 0
-not_zero_of n t z = true≢false (sym t ∙ ap not (eq-eqb n 0 z))
+-- the bit of a hart that a set lacks is 0
+pub is_clear : (b : Bool) (bit : ℕ) → bit < 2 → (IsTrue b ↔ (bit ≡ 1)) → IsTrue (not b) ↔ (bit ≡ 0)
+is_clear true bit small is = ((λ t. absurd (true≢false (sym t))), (λ z. let one = is.0 refl in absurd (omega arith)))
+is_clear false bit small is = ((λ _. dite (ℕ_discrete bit 1) (λ one. absurd (true≢false (sym (is.1 one)))) (λ ne. omega arith)), (λ _. refl))
 
-pub of_not_zero : (n : ℕ) → n ≢ 0 → IsTrue (not (eqb n 0))
-of_not_zero n ne = ap not (ne_eqb n 0 ne)
+-- a set that is not empty has a hart
+pub has_some : (b : Bool) (set : ℕ) → (IsTrue b ↔ ((h : ℕ) → Has h set → ⊥)) → (b ≡ false → (h : ℕ) × Has h set) → IsTrue (not b) ↔ ((h : ℕ) × Has h set)
+has_some true set none some = ((λ t. absurd (true≢false (sym t))), (λ w. absurd (none.0 refl w.0 w.1)))
+has_some false set none some = ((λ _. some refl), (λ _. refl))
 
 -- a test that is not true
 is_not : (b c : Bool) → (IsTrue b ↔ (IsTrue c → ⊥)) → b ≡ not c
@@ -113,7 +117,7 @@ module _ (harts by target found : ℕ) (c c' : PendingSeatView) (whole : HasEver
 
 -- ---- take
 module _ (harts by found : ℕ) (c c' : PendingSeatView) (whole : HasEveryHart harts c) (lt : by < harts) (is : HasNoted by (Took found) c.harts c'.harts) (tells : (sender : ℕ) → raised sender by c ≡ taken sender by c + bit_at found sender) where
-  found_pairs : (s : ℕ) → HasSender s found ↔ IsPending c s by
+  found_pairs : (s : ℕ) → Has s found ↔ IsPending c s by
   found_pairs s = let e = tells s in let bit = bit_at-lt found s in ((λ one. omega arith), (λ p. omega arith))
 
   taken_pairs : (s t : ℕ) → IsPending c' s t ↔ (IsPending c s t × (t ≢ by))
@@ -133,7 +137,7 @@ module _ (harts by found : ℕ) (c c' : PendingSeatView) (whole : HasEveryHart h
           let h : (if by == t then bit_at found s else 0) ≡ 0 = rw (ne_eqb by t (λ x. n (sym x))) refl in
           ((λ p. ((let w = p in omega arith), n)), (λ q. let w = q.0 in omega arith)))
 
-  pub take_alone : (pairs : ℕ → ℕ → Bool) → Shows harts c pairs → ((s : ℕ) → HasSender s found ↔ IsTrue (pairs s by)) × Shows harts c' (without_target by pairs)
+  pub take_alone : (pairs : ℕ → ℕ → Bool) → Shows harts c pairs → ((s : ℕ) → Has s found ↔ IsTrue (pairs s by)) × Shows harts c' (without_target by pairs)
   take_alone pairs shown = (
     (λ s. ((λ one. (shown.1 s by).1 ((found_pairs s).0 one)), (λ p. (found_pairs s).1 ((shown.1 s by).0 p)))),
     (whole_still harts c c' (same_harts by (Took found) c c' is) whole, pair),
@@ -148,13 +152,6 @@ module _ (harts by found : ℕ) (c c' : PendingSeatView) (whole : HasEveryHart h
           (λ n. let it : without_target by pairs s t ≡ pairs s t = rw (ne_eqb t by n) refl in ((λ p. r.1 (old.0 (sym it ∙ p), n)), (λ q. it ∙ old.1 (r.0 q).0)))
 
 -- ---- pending
--- a word with something in it has a sender
-pub some_sender : (found : ℕ) → found < 2 ^ 64 → found ≢ 0 → (s : ℕ) × (bit_at found s ≡ 1)
-some_sender found small ne = let b = bit_at-trailing_zeros w64 found (omega arith) small in (_, b.1)
-
-pub no_sender : (found s : ℕ) → bit_at found s ≡ 1 → found ≢ 0
-no_sender found s one z = let e = ap (λ (n : ℕ). bit_at n s) z in let n = bit_at-zero s in omega arith
-
 module _ (harts by found : ℕ) (c c' : PendingSeatView) (whole : HasEveryHart harts c) (lt : by < harts) (is : HasNoted by (Looked found) c.harts c'.harts) (tells : (sender : ℕ) → raised sender by c ≡ taken sender by c + bit_at found sender) where
   looked_pairs : (s t : ℕ) → IsPending c' s t ↔ IsPending c s t
   looked_pairs s t = subst (λ (d : PendingSeatView). IsPending d s t ↔ IsPending c s t) (sym (ap seat_notes is.1))

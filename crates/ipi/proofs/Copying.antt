@@ -9,13 +9,13 @@ use Rattle.tallies.specs.Seats.{numbers_from}
 use Rattle.tallies.specs.Notes.{numbers}
 use Rattle.tallies.proofs.Seatings.{at_all, length_from, map_all}
 use Rattle.ipi.specs.Ledger.{PendingSeatView, raised, taken}
-use Rattle.ipi.specs.Senders.{HasSender}
+use Rattle.board_model.specs.HartSets.{Has}
 use Rattle.ipi.specs.Views.{pair_in, pairs_in, pair_at, ArePairs}
 use Rattle.ipi.specs.Copies.{IsMade}
 use Rattle.ipi.proofs.Computed.{lt_told, one_set, same_bool, in_range, shows_as, shows_seen, whole_of}
 
 -- the senders in the word of a target are those of its pairs
-pub senders_are : (target found : ℕ) (c : PendingSeatView) → ((sender : ℕ) → raised sender target c ≡ taken sender target c + bit_at found sender) → (sender : ℕ) → HasSender sender found ↔ IsTrue (pair_in c sender target)
+pub senders_are : (target found : ℕ) (c : PendingSeatView) → ((sender : ℕ) → raised sender target c ≡ taken sender target c + bit_at found sender) → (sender : ℕ) → Has sender found ↔ IsTrue (pair_in c sender target)
 senders_are target found c tells sender =
     let e = tells sender in
     let bit = bit_at-lt found sender in
@@ -23,7 +23,7 @@ senders_are target found c tells sender =
     ((λ one. told.1 (omega arith)), (λ p. let lt = told.0 p in omega arith))
 
 -- a target has the same pairs in two views by whose words the same senders raised for it
-pub same_row : (target found : ℕ) (c d : PendingSeatView) → ((sender : ℕ) → HasSender sender found ↔ IsTrue (pair_in c sender target)) → ((sender : ℕ) → HasSender sender found ↔ IsTrue (pair_in d sender target))
+pub same_row : (target found : ℕ) (c d : PendingSeatView) → ((sender : ℕ) → Has sender found ↔ IsTrue (pair_in c sender target)) → ((sender : ℕ) → Has sender found ↔ IsTrue (pair_in d sender target))
     → (sender : ℕ) → pair_in c sender target ≡ pair_in d sender target
 same_row target found c d in_c in_d s = same_bool (pair_in c s target) (pair_in d s target) (λ p. (in_d s).0 ((in_c s).1 p)) (λ p. (in_c s).0 ((in_d s).1 p))
 

@@ -1,5 +1,4 @@
 pub mod Ledger
-pub mod Senders
 pub mod Pairs
 pub mod Seating
 pub mod Views

@@ -2,18 +2,17 @@
 
 ghost use Rattle.std.specs.Prelude.{◌≡◌, ◌≢◌, ◌↔◌, ℕ, ◌<◌, ◌≤◌, true, not, IsTrue};
 ghost use Rattle.std.specs.Int.{bit_at};
+ghost use Rattle.board_model.specs.HartSets.{Has};
 ghost use Rattle.ipi.specs.Ledger.{Raises, Takes, Looks, HasNoted, Tells, OwnsUp, InRange, IsOwing};
 ghost use Rattle.ipi.specs.Pairs.{Sits, SameHarts, ActsAlone, with_pair, without_target};
-ghost use Rattle.ipi.specs.Senders.{HasSender};
 ghost use Rattle.ipi.specs.Seating.{IsSeatOf, harts_of, pending_view_of_seat, pending_views_in};
 ghost use Rattle.ipi.specs.declared.view.Action.TheVariants.{Raised, Took, Looked};
 ghost use Rattle.tallies.specs.Notes.{seats};
 
-use crate::senders::SenderSet;
 use crate::table::{Acting, IpiSeat, PendingTable};
 use crate::view::PendingSeatView;
 use atomic_table::Play;
-use board_model::HartId;
+use board_model::{HartId, HartSet};
 use std::marker::{Brand, PhantomData};
 
 struct RaiseStep<J> {
@@ -105,26 +104,25 @@ impl PendingTable {
     {
         let mut seat = seat;
         let found = raise_by::<Brand>(self, &mut seat, by, target);
-        let bit = by.number();
-        (seat, found >> bit & 1 == 0)
+        (seat, !HartSet::in_byte(found, 0).contains(by))
     }
 
     /// Takes all that is pending for the acting hart, and answers the senders.
-    pub fn take(&self, seat: IpiSeat, by: HartId) -> (IpiSeat, SenderSet)
+    pub fn take(&self, seat: IpiSeat, by: HartId) -> (IpiSeat, HartSet)
         requires seat { IsSeatOf self.now seat }
         requires acts { Sits by (pending_view_of_seat seat) }
         requires by { by < harts_of self.now }
         ensures seat { IsSeatOf self.entry.now result.0 }
         ensures harts { SameHarts (pending_view_of_seat seat) (pending_view_of_seat result.0) }
         ensures steps { HasNoted by (Took result.1) (pending_views_in seat) (pending_views_in result.0) }
-        ensures own { IsOwing by (pending_view_of_seat seat) → HasSender by result.1 }
-        ensures range { (sender : ℕ) → HasSender sender result.1 → sender < harts_of self.entry.now }
+        ensures own { IsOwing by (pending_view_of_seat seat) → Has by result.1 }
+        ensures range { (sender : ℕ) → Has sender result.1 → sender < harts_of self.entry.now }
         ensures alone { ActsAlone (harts_of self.entry.now) (pending_view_of_seat seat) (pending_view_of_seat result.0)
-            (λ pairs. (sender : ℕ) → HasSender sender result.1 ↔ IsTrue (pairs sender by)) (without_target by) }
+            (λ pairs. (sender : ℕ) → Has sender result.1 ↔ IsTrue (pairs sender by)) (without_target by) }
     {
         let mut seat = seat;
         let found = take_by::<Brand>(self, &mut seat, by);
-        (seat, SenderSet::of(found))
+        (seat, HartSet::of(found))
     }
 
     /// Whether anything is pending for the acting hart, by one look.
@@ -142,6 +140,6 @@ impl PendingTable {
     {
         let mut seat = seat;
         let found = look_by::<Brand>(self, &mut seat, by);
-        (seat, found != 0)
+        (seat, !HartSet::of(found).is_empty())
     }
 }

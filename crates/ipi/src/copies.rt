@@ -1,16 +1,15 @@
 //! A table of the same pairs, which is made by the raises of its own harts. And two tables are compared.
 
 ghost use Rattle.std.specs.Prelude.{◌≡◌, ◌+◌, ◌<◌, ℕ, true, IfOk, IfErr};
+ghost use Rattle.board_model.specs.HartSets.{Has};
 ghost use Rattle.board_model.specs.declared.refusal.Refusal.TheVariants.{Memory};
 ghost use Rattle.ipi.specs.Copies.{IsMade};
 ghost use Rattle.ipi.specs.Pairs.{with_pair};
-ghost use Rattle.ipi.specs.Senders.{HasSender};
 ghost use Rattle.ipi.specs.Seating.{IsSeatOf, harts_of, pending_view_of_seat, IsOfAll};
 ghost use Rattle.ipi.specs.Views.{ArePairs, pair_in, pairs_in};
 
-use crate::senders::SenderSet;
 use crate::table::{IpiSeat, PendingTable};
-use board_model::{HartId, Refusal, Shape};
+use board_model::{HartId, HartSet, Refusal, Shape};
 use std::alloc::Global;
 
 impl PendingTable {
@@ -20,7 +19,7 @@ impl PendingTable {
         seat: IpiSeat,
         sender: HartId,
         target: HartId,
-        senders: SenderSet,
+        senders: HartSet,
     ) -> IpiSeat
         requires seat { IsSeatOf self.now seat }
         requires all { IsOfAll self.now seat }
@@ -28,9 +27,9 @@ impl PendingTable {
         requires target { target < harts_of self.now }
         ensures seat { IsSeatOf self.entry.now result }
         ensures all { IsOfAll self.entry.now result }
-        ensures raised { HasSender sender senders → (s t : ℕ) → pair_in (pending_view_of_seat result) s t
+        ensures raised { Has sender senders → (s t : ℕ) → pair_in (pending_view_of_seat result) s t
             ≡ with_pair sender target (pair_in (pending_view_of_seat seat)) s t }
-        ensures stays { (HasSender sender senders → ⊥) → pending_view_of_seat result ≡ pending_view_of_seat seat }
+        ensures stays { (Has sender senders → ⊥) → pending_view_of_seat result ≡ pending_view_of_seat seat }
     {
         if !senders.contains(sender) {
             return seat;

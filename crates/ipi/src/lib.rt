@@ -10,13 +10,11 @@ mod pairs;
 mod peeks;
 mod seats;
 mod seen;
-mod senders;
 mod table;
 mod view;
 
 pub use pairs::laws;
 pub use seen::one_set;
-pub use senders::SenderSet;
 pub use table::{IpiSeat, Ledger, PendingTable, Seats};
 pub use tallies::SeatTable;
 pub use view::{Action, PendingSeatView, PendingView};

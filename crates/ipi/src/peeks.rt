@@ -1,17 +1,16 @@
 //! A look that a seat does not note, so that it stays as it was.
 
 ghost use Rattle.std.specs.Prelude.{◌≡◌, ◌<◌, ◌↔◌, ℕ, IsTrue};
+ghost use Rattle.board_model.specs.HartSets.{Has};
 ghost use Rattle.ipi.specs.Ledger.{HasEveryHart, InRange, Peeks, Tells};
 ghost use Rattle.ipi.specs.Pairs.{Sits};
-ghost use Rattle.ipi.specs.Senders.{HasSender};
 ghost use Rattle.ipi.specs.Seating.{IsSeatOf, harts_of, pending_view_of_seat};
 ghost use Rattle.ipi.specs.Views.{pair_in};
 
-use crate::senders::SenderSet;
 use crate::table::{Acting, IpiSeat, PendingTable};
 use crate::view::PendingSeatView;
 use atomic_table::Play;
-use board_model::HartId;
+use board_model::{HartId, HartSet};
 use std::marker::{Brand, PhantomData};
 
 struct PeekStep<J> {
@@ -39,16 +38,16 @@ fn peek_at<J: Acting>(table: &PendingTable, seat: &mut IpiSeat, target: HartId) 
 impl PendingTable {
     /// The senders of whom an interrupt is pending for a hart, as the seat of all harts has it: they stay so,
     /// and the seat stays as it was.
-    pub fn senders(&self, seat: &mut IpiSeat, target: HartId) -> SenderSet
+    pub fn senders(&self, seat: &mut IpiSeat, target: HartId) -> HartSet
         requires seat { IsSeatOf self.now seat.old }
         requires whole { HasEveryHart (harts_of self.now) (pending_view_of_seat seat.old) }
         requires target { target < harts_of self.now }
         ensures seat { IsSeatOf self.now seat.new }
         ensures same { pending_view_of_seat seat.new ≡ pending_view_of_seat seat.old }
-        ensures senders { (sender : ℕ) → HasSender sender result
+        ensures senders { (sender : ℕ) → Has sender result
             ↔ IsTrue (pair_in (pending_view_of_seat seat.old) sender target) }
     {
         let found = peek_at::<Brand>(self, seat, target);
-        SenderSet::of(found)
+        HartSet::of(found)
     }
 }

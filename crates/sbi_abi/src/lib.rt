@@ -9,5 +9,5 @@ mod ret;
 
 pub use call::{Call, Extension};
 pub use laws::one_call;
-pub use masks::{HartSet, targets};
+pub use masks::targets;
 pub use ret::{SbiError, SbiRet, put};

@@ -1,39 +1,12 @@
 //! Which harts a hart mask names.
 
-ghost use Rattle.std.specs.Prelude.{◌≡◌, ◌↔◌, ℕ, ◌+◌, ◌*◌, ◌-◌, ◌/◌, ◌%◌, ◌^◌, ◌<◌, ◌≤◌, IsTrue, IfOk, IfErr};
-ghost use Rattle.std.specs.Int.{bit_at};
-ghost use Rattle.sbi_abi.specs.Masks.{Has, IsNamed, IsBadMask, targets_of};
+ghost use Rattle.std.specs.Prelude.{◌≡◌, ◌↔◌, ℕ, ◌+◌, ◌*◌, ◌-◌, ◌/◌, ◌%◌, ◌^◌, ◌<◌, ◌≤◌, IfOk, IfErr};
+ghost use Rattle.board_model.specs.HartSets.{Has};
+ghost use Rattle.sbi_abi.specs.Masks.{IsNamed, IsBadMask, targets_of};
 ghost use Rattle.sbi_abi.specs.declared.ret.SbiError.TheVariants.{InvalidParam};
 
 use crate::ret::SbiError;
-use board_model::HartId;
-use std::marker::Model;
-
-/// A set of harts. Contracts see it as a number whose bit `h` tells whether the hart `h` is in it (`Has`).
-#[derive(Clone, Copy, PartialEq, Eq, Drop)]
-pub struct HartSet {
-    bits: u64,
-}
-
-impl Model for HartSet {
-    ghost Value = { ℕ };
-
-    ghost view = { λ s. s.bits };
-
-    ghost invariant = { λ s. s.bits < 256 };
-
-    ghost inverse = { λ n. record { bits = n } };
-}
-
-impl HartSet {
-    /// Whether the hart is in the set.
-    pub fn contains(self, hart: HartId) -> bool
-        ensures { IsTrue result ↔ Has hart self }
-    {
-        let number = hart.number();
-        self.bits >> number & 1 == 1
-    }
-}
+use board_model::HartSet;
 
 /// The harts that a mask and its base name on a board of so many harts (SBI specification 2.0, chapter 3,
 /// hart list parameter): all of them, where every bit of the base is set, whatever the mask is; else bit `i`
@@ -48,9 +21,7 @@ pub fn targets(mask: u64, base: u64, harts: u32) -> Result<HartSet, SbiError>
 {
     let count = u64::from(harts);
     if base == u64::MAX {
-        return Ok(HartSet {
-            bits: (1u64 << harts) - 1,
-        });
+        return Ok(HartSet::of((1 << harts) - 1));
     }
     if count <= base {
         return Err(SbiError::InvalidParam);
@@ -59,5 +30,5 @@ pub fn targets(mask: u64, base: u64, harts: u32) -> Result<HartSet, SbiError>
     if past != 0 {
         return Err(SbiError::InvalidParam);
     }
-    Ok(HartSet { bits: mask << base })
+    Ok(HartSet::of(mask << base))
 }

@@ -12,7 +12,7 @@ use Rattle.hsm.specs.Calls.{code_of, state_in_word, stage_of, Starts}
 use Rattle.ipi.specs.Ledger.{HasNoted, PendingView}
 use Rattle.ipi.specs.declared.view.Action.TheVariants.{Raised}
 use Rattle.sbi_abi.specs.Calls.{call_of}
-use Rattle.sbi_abi.specs.Masks.{Has}
+use Rattle.board_model.specs.HartSets.{Has}
 use Rattle.sbi_calls.specs.declared.requests.Request.TheVariants.{Value, Start, Stop, Status, Suspend, SuspendAfresh, Send, Command}
 use Rattle.sbi_calls.specs.declared.endings.Ending.{Ending}
 use Rattle.sbi_calls.specs.declared.endings.Ending.TheVariants.{Answers, Stops, Suspends, SuspendsAfresh, Defers}

@@ -5,8 +5,8 @@ ghost use Rattle.sbi_abi.specs.Masks.{targets_of};
 ghost use Rattle.sbi_abi.specs.declared.call.Call.TheVariants.{HartStart, HartStatus, HartSuspend, SendIpi};
 ghost use Rattle.sbi_calls.specs.Requests.{request_of, hart_in, address_in, probed, suspend_of, IsWithin};
 
-use board_model::{Addr, HartId, Shape};
-use sbi_abi::{Call, Extension, HartSet, SbiError, targets};
+use board_model::{Addr, HartId, HartSet, Shape};
+use sbi_abi::{Call, Extension, SbiError, targets};
 
 /// What a call asks of the board.
 #[derive(Clone, Copy, PartialEq, Eq, Drop)]

@@ -12,9 +12,8 @@ ghost use Rattle.sbi_calls.specs.Steps.{Does, Sends, SendsTo};
 
 use crate::endings::Ending;
 use crate::tables::{Seats, Tables};
-use board_model::HartId;
+use board_model::{HartId, HartSet};
 use ipi::{IpiSeat, SeatTable};
-use sbi_abi::HartSet;
 
 /// Raises an interrupt of the acting hart for the target, where it is of the set.
 fn send_one(

@@ -6,8 +6,8 @@ ghost use Rattle.ipi.specs.Pairs.{Sits, SameHarts};
 ghost use Rattle.ipi.specs.Seating.{IsSeatOf, harts_of, pending_view_of_seat, pending_views_in};
 ghost use Rattle.unit_tests.specs.Crowd.{AreFrom};
 
-use board_model::HartId;
-use ipi::{IpiSeat, PendingTable, SeatTable, SenderSet};
+use board_model::{HartId, HartSet};
+use ipi::{IpiSeat, PendingTable, SeatTable};
 use std::thread::{Threads, join};
 
 /// How many pairs were newly set, and how many senders were taken.
@@ -27,7 +27,7 @@ impl Sums {
 }
 
 /// How many harts are in the set.
-pub fn count(senders: SenderSet) -> u64 {
+pub fn count(senders: HartSet) -> u64 {
     let mut found = 0u64;
     for number in 0..8 {
         let sender = HartId::new(number).unwrap();

@@ -9,13 +9,13 @@ ghost use Rattle.ipi.specs.Ledger.{opening_pending_view as opening_pairs};
 ghost use Rattle.ipi.specs.Pairs.{Sits};
 ghost use Rattle.ipi.specs.Seating.{IsSeatOf as IsPairSeatOf, harts_of as targets_of, pending_view_of_seat as pairs_of};
 
-use board_model::{Addr, HartId};
+use board_model::{Addr, HartId, HartSet};
 use hsm::{HartSeat, HartTable, SeatTable, State, start, status, try_enter};
-use ipi::{IpiSeat, PendingTable, SenderSet};
+use ipi::{IpiSeat, PendingTable};
 use std::thread::{Threads, join};
 
 /// What hart 0 sees of hart 1, what hart 1 begins with, and who has interrupted it.
-pub type Seen = (State, (Option<(Addr, u64)>, SenderSet));
+pub type Seen = (State, (Option<(Addr, u64)>, HartSet));
 
 /// ----
 fn hart(number: u64) -> HartId
@@ -46,7 +46,7 @@ pub fn first_use<R: Threads + Sync>(
         move || -> State
             requires { IsSeatOf harts.now seat × stands 0 Running (harts_in seat) × (1 < harts_of harts.now) }
         { status(harts, seat, hart(0), hart(1)).1 },
-        move || -> (Option<(Addr, u64)>, SenderSet)
+        move || -> (Option<(Addr, u64)>, HartSet)
             requires harts { IsSeatOf harts.now seat_of_one × stands 1 Out (harts_in seat_of_one) × (1 < harts_of harts.now) }
             requires pending { IsPairSeatOf pending.now pair_of_one × Sits 1 (pairs_of pair_of_one) × (1 < targets_of pending.now) }
         {

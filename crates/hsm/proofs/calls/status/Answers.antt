@@ -1,10 +1,10 @@
-use Rattle.std.proofs.Common.{ℕ, rules, refl, sym, ap, ◌∙◌, subst}
+use Rattle.std.proofs.Common.{ℕ, rules, refl, sym, ◌∙◌, subst}
 use mathlib.Core.Logic.{dite}
 use native.Mathlib.Decide.{ℕ_discrete}
 use Rattle.hsm_steps.specs.declared.view.Stage.{Stage}
 use Rattle.hsm_steps.specs.declared.view.Action.TheVariants.{Looked}
 use Rattle.hsm_steps.specs.Rule.{stands}
-use Rattle.hsm.specs.Calls.{stage_of, state_in_word, IsOwnStatus}
+use Rattle.hsm.specs.Calls.{stage_of, IsOwnStatus}
 use Rattle.hsm.proofs.Stand.{stands_after, stands_own, stands_stage, stands_by}
 use Rattle.tallies.proofs.Noted.{numbered}
 use Rattle.hsm.proofs.Alone.{others, shows_same}
@@ -39,6 +39,6 @@ returns-clause-alone c = λ states shown.
     let st = stage_of c.args.by c.args.seat.me.0.harts in
     let own = stands_own c.args.by c.requires.acts.0 c.args.seat.me.0.harts c.requires.acts.1 in
     let found = c.look-found.result in (
-      c.state_in.ensures ∙ (ap (λ h. state_in_word h found) c.number-number.ensures.value ∙ named_is found c.args.hart (states c.args.hart) (c.look-found.ensures.tells states shown c.args.hart c.requires.hart).0),
+      c.state_in.ensures ∙ named_is found c.args.hart (states c.args.hart) (c.look-found.ensures.tells states shown c.args.hart c.requires.hart).0,
       shows_same c.args.table.now.table.shared.key.harts c.args.by st st (Looked found) c.args.seat.me.0 c.look-found.new.seat.me.0 c.look-found.ensures.told own (λ y at. at) (λ k a o. refl) (λ k a o. refl) states shown,
     )

@@ -1,26 +1,33 @@
-use Rattle.std.proofs.Common.{◌≡◌, ℕ, ◌+◌, ◌*◌, false, None, sym, ap, ◌∙◌}
-use Rattle.std.specs.Int.{bit_at}
-use Rattle.std.proofs.lemmas.Nat.Bits.{shr_and_one}
+use Rattle.std.proofs.Common.{◌≡◌, ℕ, ◌+◌, ◌*◌, ◌<◌, false, None, arith}
 use Rattle.hsm_steps.specs.declared.view.Stage.TheVariants.{Out, Ready, Addressed, Loaded, Running}
 use Rattle.hsm_steps.specs.declared.view.Action.TheVariants.{Looked, Read, Entered}
 use Rattle.tallies.specs.Notes.{HasNoted}
 use Rattle.hsm_steps.specs.States.{HartState, Shows, change_at, entry, begin}
 use Rattle.hsm.specs.Calls.{is_ready}
 use Rattle.hsm.proofs.Alone.{Goes, goes, goes_on}
+use Rattle.hsm.proofs.Bits.{set_bit, clear_bit}
 use Rattle.hsm.proofs.Entering.{unarmed, gone_in, stays_out, gets_ready, enters_none, enters_some}
-use Rattle.hsm.proofs.calls.try_enter.Goals.{After-poll-found, Then-found-hart-ne1, Then-found-hart-ne0, Else-found-hart-ne0, After-read_address-site, After-read_opaque-opaque, After-enter}
+use Rattle.hsm.proofs.calls.try_enter.Goals.{After-poll-found, Then-not-contains, Then-contains, Else-contains, After-read_address-site, After-read_opaque-opaque, After-enter}
 use Rattle.hsm.proofs.calls.try_enter.Goals as goal
 
 -- ---- the look did not find the hart ready
-not_armed : (c : Then-found-hart-ne1) → is_ready c.args.by c.poll-found.result ≡ false
+not_armed : (c : Then-not-contains) → is_ready c.args.by c.poll-found.result ≡ false
 not_armed c =
+    let h = c.args.by in
+    let few = c.args.table.now.few in
+    let lt : h < 8 = let own = c.requires.by in omega arith in
     let found = c.poll-found.result in
-    unarmed c.args.by found (λ e. c.if-found-hart-ne1.true (shr_and_one found (8 + c.number-hart.result) ∙ (ap (λ n. bit_at found (8 + n)) c.number-hart.ensures.value ∙ e)))
+    let zero = clear_bit c.contains.result c.armed_in.result h found (8 + h) c.contains.ensures (c.armed_in.ensures h lt) c.if-not-contains.true in
+    unarmed h found (λ e. omega arith)
 
-entered : (c : Then-found-hart-ne0) → is_ready c.args.by c.poll-found.result ≡ false
+entered : (c : Then-contains) → is_ready c.args.by c.poll-found.result ≡ false
 entered c =
+    let h = c.args.by in
+    let few = c.args.table.now.few in
+    let lt : h < 8 = let own = c.requires.by in omega arith in
     let found = c.poll-found.result in
-    gone_in c.args.by found (λ e. c.if-found-hart-ne0.true (shr_and_one found (16 + c.number-hart.result) ∙ (ap (λ n. bit_at found (16 + n)) c.number-hart.ensures.value ∙ e)))
+    let one = set_bit c.contains-2.result c.entered_in.result h found (16 + h) c.contains-2.ensures (c.entered_in.ensures h lt) c.if-contains.true in
+    gone_in h found (λ e. omega arith)
 
 waits : (c : After-poll-found) → is_ready c.args.by c.poll-found.result ≡ false → Goes c.args.by Out c.args.seat.me.0 c.poll-found.new.seat.me.0
 waits c z =
@@ -36,34 +43,36 @@ waits_alone : (c : After-poll-found) → is_ready c.args.by c.poll-found.result 
 waits_alone c z states shown =
     enters_none c.args.table.now.table.shared.key.harts c.args.by c.poll-found.result c.args.seat.me.0 c.poll-found.new.seat.me.0 c.poll-found.ensures.told z c.requires.acts c.requires.by c.poll-found.ensures.tells states shown
 
-pub returns-then-found-hart-ne1-clause-stands : goal.returns-then-found-hart-ne1-clause-stands
-returns-then-found-hart-ne1-clause-stands c = let at = goal.at.returns-then-found-hart-ne1-clause-stands c in (waits at.After-poll-found (not_armed at.Then-found-hart-ne1)).own
+pub returns-then-not-contains-clause-stands : goal.returns-then-not-contains-clause-stands
+returns-then-not-contains-clause-stands c = let at = goal.at.returns-then-not-contains-clause-stands c in (waits at.After-poll-found (not_armed at.Then-not-contains)).own
 
-pub returns-then-found-hart-ne1-clause-others : goal.returns-then-found-hart-ne1-clause-others
-returns-then-found-hart-ne1-clause-others c = let at = goal.at.returns-then-found-hart-ne1-clause-others c in (waits at.After-poll-found (not_armed at.Then-found-hart-ne1)).others
+pub returns-then-not-contains-clause-others : goal.returns-then-not-contains-clause-others
+returns-then-not-contains-clause-others c = let at = goal.at.returns-then-not-contains-clause-others c in (waits at.After-poll-found (not_armed at.Then-not-contains)).others
 
-pub returns-then-found-hart-ne1-clause-alone : goal.returns-then-found-hart-ne1-clause-alone
-returns-then-found-hart-ne1-clause-alone c = let at = goal.at.returns-then-found-hart-ne1-clause-alone c in waits_alone at.After-poll-found (not_armed at.Then-found-hart-ne1)
+pub returns-then-not-contains-clause-alone : goal.returns-then-not-contains-clause-alone
+returns-then-not-contains-clause-alone c = let at = goal.at.returns-then-not-contains-clause-alone c in waits_alone at.After-poll-found (not_armed at.Then-not-contains)
 
-pub returns-then-found-hart-ne0-clause-stands : goal.returns-then-found-hart-ne0-clause-stands
-returns-then-found-hart-ne0-clause-stands c = let at = goal.at.returns-then-found-hart-ne0-clause-stands c in (waits at.After-poll-found (entered at.Then-found-hart-ne0)).own
+pub returns-then-contains-clause-stands : goal.returns-then-contains-clause-stands
+returns-then-contains-clause-stands c = let at = goal.at.returns-then-contains-clause-stands c in (waits at.After-poll-found (entered at.Then-contains)).own
 
-pub returns-then-found-hart-ne0-clause-others : goal.returns-then-found-hart-ne0-clause-others
-returns-then-found-hart-ne0-clause-others c = let at = goal.at.returns-then-found-hart-ne0-clause-others c in (waits at.After-poll-found (entered at.Then-found-hart-ne0)).others
+pub returns-then-contains-clause-others : goal.returns-then-contains-clause-others
+returns-then-contains-clause-others c = let at = goal.at.returns-then-contains-clause-others c in (waits at.After-poll-found (entered at.Then-contains)).others
 
-pub returns-then-found-hart-ne0-clause-alone : goal.returns-then-found-hart-ne0-clause-alone
-returns-then-found-hart-ne0-clause-alone c = let at = goal.at.returns-then-found-hart-ne0-clause-alone c in waits_alone at.After-poll-found (entered at.Then-found-hart-ne0)
+pub returns-then-contains-clause-alone : goal.returns-then-contains-clause-alone
+returns-then-contains-clause-alone c = let at = goal.at.returns-then-contains-clause-alone c in waits_alone at.After-poll-found (entered at.Then-contains)
 
 -- ---- it did: two loads and the entry
-looked : (c : Else-found-hart-ne0) → HasNoted c.args.by Ready (Looked c.poll-found.result) c.args.seat.me.0.harts c.poll-found.new.seat.me.0.harts
+looked : (c : Else-contains) → HasNoted c.args.by Ready (Looked c.poll-found.result) c.args.seat.me.0.harts c.poll-found.new.seat.me.0.harts
 looked c =
     let h = c.args.by in
     let found = c.poll-found.result in
-    let armed : bit_at found (8 + h) ≡ 1 = sym (ap (λ n. bit_at found (8 + n)) c.number-hart.ensures.value) ∙ (sym (shr_and_one found (8 + c.number-hart.result)) ∙ c.if-found-hart-ne1.false) in
-    let out : bit_at found (16 + h) ≡ 0 = sym (ap (λ n. bit_at found (16 + n)) c.number-hart.ensures.value) ∙ (sym (shr_and_one found (16 + c.number-hart.result)) ∙ c.if-found-hart-ne0.false) in
+    let few = c.args.table.now.few in
+    let lt : h < 8 = let own = c.requires.by in omega arith in
+    let armed = set_bit c.contains.result c.armed_in.result h found (8 + h) c.contains.ensures (c.armed_in.ensures h lt) c.if-not-contains.false in
+    let out = clear_bit c.contains-2.result c.entered_in.result h found (16 + h) c.contains-2.ensures (c.entered_in.ensures h lt) c.if-contains.false in
     gets_ready h found c.args.seat.me.0 c.poll-found.new.seat.me.0 c.poll-found.ensures.told armed out
 
-ready : (c : Else-found-hart-ne0) → Goes c.args.by Ready c.args.seat.me.0 c.poll-found.new.seat.me.0
+ready : (c : Else-contains) → Goes c.args.by Ready c.args.seat.me.0 c.poll-found.new.seat.me.0
 ready c = goes c.args.table.now.table.shared.key.harts c.args.by Out Ready (Looked c.poll-found.result) c.args.seat.me.0 c.poll-found.new.seat.me.0 (looked c) c.requires.acts
 
 addressed : (c : After-read_address-site) → Goes c.args.by Ready c.args.seat.me.0 c.poll-found.new.seat.me.0 → Goes c.args.by (Addressed c.read_address-site.result) c.args.seat.me.0 c.read_address-site.new.seat.me.0
@@ -85,23 +94,23 @@ enters c gone =
     goes_on c.args.table.now.table.shared.key.harts c.args.by (Loaded a o) Running (Entered c.args.by a o) c.args.seat.me.0 c.read_opaque-opaque.new.seat.me.0 c.enter.new.seat.me.0 gone c.enter.ensures.told
 
 pub read_address-site-requires-clause-acts : goal.read_address-site-requires-clause-acts
-read_address-site-requires-clause-acts c = (ready (goal.at.read_address-site-requires-clause-acts c).Else-found-hart-ne0).own
+read_address-site-requires-clause-acts c = (ready (goal.at.read_address-site-requires-clause-acts c).Else-contains).own
 
 pub read_opaque-opaque-requires-clause-acts : goal.read_opaque-opaque-requires-clause-acts
 read_opaque-opaque-requires-clause-acts c =
-    let at = goal.at.read_opaque-opaque-requires-clause-acts c in (addressed at.After-read_address-site (ready at.Else-found-hart-ne0)).own
+    let at = goal.at.read_opaque-opaque-requires-clause-acts c in (addressed at.After-read_address-site (ready at.Else-contains)).own
 
 pub enter-requires-clause-acts : goal.enter-requires-clause-acts
 enter-requires-clause-acts c =
-    let at = goal.at.enter-requires-clause-acts c in (loaded at.After-read_opaque-opaque (addressed at.After-read_address-site (ready at.Else-found-hart-ne0))).own
+    let at = goal.at.enter-requires-clause-acts c in (loaded at.After-read_opaque-opaque (addressed at.After-read_address-site (ready at.Else-contains))).own
 
 pub returns-clause-stands : goal.returns-clause-stands
 returns-clause-stands c =
-    let at = goal.at.returns-clause-stands c in (enters at.After-enter (loaded at.After-read_opaque-opaque (addressed at.After-read_address-site (ready at.Else-found-hart-ne0)))).own
+    let at = goal.at.returns-clause-stands c in (enters at.After-enter (loaded at.After-read_opaque-opaque (addressed at.After-read_address-site (ready at.Else-contains)))).own
 
 pub returns-clause-others : goal.returns-clause-others
 returns-clause-others c =
-    let at = goal.at.returns-clause-others c in (enters at.After-enter (loaded at.After-read_opaque-opaque (addressed at.After-read_address-site (ready at.Else-found-hart-ne0)))).others
+    let at = goal.at.returns-clause-others c in (enters at.After-enter (loaded at.After-read_opaque-opaque (addressed at.After-read_address-site (ready at.Else-contains)))).others
 
 pub returns-clause-alone : goal.returns-clause-alone
 returns-clause-alone c = λ states shown.
@@ -110,4 +119,4 @@ returns-clause-alone c = λ states shown.
     let same : c.unwrap-address.result ≡ a = (rw c.unwrap-address.ensures at c.new.ensures.some).0 in
     rw same
     (enters_some c.args.table.now.table.shared.key.harts c.args.by c.poll-found.result a c.read_opaque-opaque.result c.args.seat.me.0 c.poll-found.new.seat.me.0 c.read_address-site.new.seat.me.0 c.read_opaque-opaque.new.seat.me.0 c.enter.new.seat.me.0
-    (looked at.Else-found-hart-ne0) c.read_address-site.ensures.told c.read_opaque-opaque.ensures.told c.enter.ensures.told c.requires.acts c.enter.ensures.open states shown)
+    (looked at.Else-contains) c.read_address-site.ensures.told c.read_opaque-opaque.ensures.told c.enter.ensures.told c.requires.acts c.enter.ensures.open states shown)

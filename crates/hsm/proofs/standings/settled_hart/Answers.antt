@@ -15,7 +15,7 @@ returns-in_default c =
     let lt : hart < harts = omega arith in
     let x = state_in view hart in
     let says = (c.peek-found.ensures.tells (state_in view) c.requires.shown hart lt).0 in
-    let named_so = read_as c.peek-found.result c.number.result hart x c.state_in.result c.state_in.ensures c.number.ensures.value says in
+    let named_so = read_as c.peek-found.result hart x c.state_in.result c.state_in.ensures says in
     record {
       seat = c.peek-found.ensures.seat;
       same = c.peek-found.ensures.same;
