@@ -29,7 +29,7 @@ pub fn chunk_size(calls: u64, threads: usize) -> u64
     ensures some { 0 < result }
     ensures most { result ≤ 64 }
 {
-    let chunks = (threads as u64).saturating_mul(128);
+    let chunks = (threads as u64).saturating_mul(32);
     (calls / chunks).clamp(1, MOST_CALLS)
 }
 

@@ -27,8 +27,8 @@ take_newest-requires-clause-torn c =
     rw (← c.deref-3.ensures.value, ← c.deref-2.ensures.value) (c.join.ensures.joined c.lay_row.new.content.items (rw (c.deref-3.ensures.value, c.deref-2.ensures.value) read)) in
     rw (s.newest, c.over-last.ensures, c.deref-6.ensures.value) last.elsewhere
 
-pub invariant_of-self : goal.invariant_of-self
-invariant_of-self c =
+pub invariant_of-self-2 : goal.invariant_of-self-2
+invariant_of-self-2 c =
     let s = c.args.self.now in
     let all = c.take_newest.ensures in
     let apart = c.part.ensures in
@@ -44,6 +44,11 @@ invariant_of-self c =
       within = search rules;
       noted = λ lt. absurd (omega (arith, lt, ap (λ (l : Lent). l.lanes) c.nothing-self.ensures));
     }
+
+pub returns-clause-content : goal.returns-clause-content
+returns-clause-content c =
+    let s = c.args.self.now in
+    subst (λ (ls : List SimLane). Joined (lent_of s.loan) (map lane_view ls) s.content.items c.lay_row.new.content.items) c.deref-5.ensures.value c.lay_row.ensures
 
 pub returns-clause-crash : goal.returns-clause-crash
 returns-clause-crash c =

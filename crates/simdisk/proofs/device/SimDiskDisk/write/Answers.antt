@@ -42,8 +42,8 @@ invariant_of-self-then-strikes c =
     let s = c.args.self.now in
     record {
       stands = c.in-Ok.ensures.apart s.content.items (ap (λ (k : Content). length k) (sym c.deref.ensures.value));
-      newest = newest_with noted (latest_of c.write_failed.new.self s.content.items) (rw (← c.deref-2.ensures.value) c.write_failed.ensures.written);
-      room = rw (← c.deref-2.ensures.value) c.write_failed.ensures.as_long;
+      newest = newest_with noted (latest_of c.write_failed.new.self s.content.items) (rw (← c.deref-then-strikes.ensures.value) c.write_failed.ensures.written);
+      room = rw (← c.deref-then-strikes.ensures.value) c.write_failed.ensures.as_long;
       agrees = rw (c.in-Ok.ensures.synced, more noted) (agrees_push (synced (log_of s.history)) (ranges (pieces s.history.written.items)) (c.args.first, length c.args.sectors.now) s.content.items s.agrees);
       few = search rules;
       few_calls = search rules;

@@ -10,4 +10,4 @@ pub invariant_of-self-2 : goal.invariant_of-self-2
 invariant_of-self-2 c =
     let s = c.args.self.now in
     let pushed : pieces c.push_reserved.new.self.items ≡ pieces s.written.items ++ (c.args.first, c.args.sectors.now) ∷ [] = search (rules, map-append) in
-    rw pushed (fits_push (length (synced (log_of s))) (pieces s.written.items) (c.args.first, c.args.sectors.now) s.fits c.requires.within)
+    record { fits = rw pushed (fits_push (length (synced (log_of s))) (pieces s.written.items) (c.args.first, c.args.sectors.now) s.fits c.requires.within) }
