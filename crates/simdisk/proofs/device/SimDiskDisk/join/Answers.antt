@@ -35,7 +35,7 @@ invariant_of-self-2 c =
     let stood : c.part.new.self.sectors.items ≡ synced (log_of s.history) = apart.same ∙ ap (λ (k : Content). latest_of s.history.stood k) c.deref-4.ensures.value ∙ s.stands.is in
     record {
       stands = all.stands c.lay_row.new.content.items
-          (stands_apart (record s.history { stood = c.part.new.self }) _ c.lay_row.new.content.items apart.apart stood apart.place (c.lay_row.ensures.elsewhere.as_long ∙ ap (λ (k : Content). length k) (sym c.deref-4.ensures.value)));
+          (stands_apart _ _ c.lay_row.new.content.items apart.apart stood apart.place (c.lay_row.ensures.elsewhere.as_long ∙ ap (λ (k : Content). length k) (sym c.deref-4.ensures.value)));
       newest = all.newest ∙ c.over-last.ensures ∙ ap (λ (k : Content). latest_of c.join.new.self k) c.deref-6.ensures.value;
       room = search rules;
       agrees = rw (all.ranges, all.synced) (agrees_join (lent_of s.loan) (synced (log_of s.history)) (ranges (pieces s.history.written.items)) s.loan.patch s.content.items c.lay_row.new.content.items (λ lt. (s.noted lt).noted) s.agrees c.lay_row.ensures.elsewhere);
