@@ -1,3 +1,3 @@
 pub mod Handed
 pub mod Parts
-pub mod Slots
+pub mod Dealing

@@ -1,11 +1,11 @@
 //! Rows that are dealt to threads in turn.
 
 ghost use Rattle.std.specs.Prelude.{◌≡◌, ◌*◌, ◌<◌, ◌^◌};
-ghost use Rattle.jobs.specs.Slots.{dealt};
+ghost use Rattle.jobs.specs.Dealing.{dealt};
 
 /// The slot of the row of that place, where rows are dealt in turn to so many hands, each of which has so many slots in a row. With the
 /// two numbers in each other's place it is the row of a slot.
-#[tactic(auto, using(crate::proofs::Slots::dealt_within, crate::proofs::Slots::dealt_few, crate::proofs::Slots::some_hands))]
+#[tactic(auto, using(crate::proofs::Dealing::dealt_within, crate::proofs::Dealing::dealt_few, crate::proofs::Dealing::some_hands))]
 pub(crate) fn dealt(place: usize, hands: usize, each: usize) -> usize
     requires within { place < hands * each }
     requires room { hands * each < 2 ^ 64 }

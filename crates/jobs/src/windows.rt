@@ -3,7 +3,7 @@
 ghost use Rattle.std.specs.Prelude.{◌≡◌, ◌⊎◌, ◌+◌, ◌*◌, ◌<◌, ◌≤◌, ◌^◌, ℕ, length, IfOk, IfErr, OnOk, slice_index_or};
 ghost use Rattle.board_model.specs.declared.refusal.Refusal.TheVariants.{Memory, Output};
 ghost use Rattle.jobs.specs.Handed.{IsMade, Handed};
-ghost use Rattle.jobs.specs.Slots.{dealt};
+ghost use Rattle.jobs.specs.Dealing.{dealt};
 
 use crate::progress::Progress;
 use crate::slots::{dealt, hands_of};

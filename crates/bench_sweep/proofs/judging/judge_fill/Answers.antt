@@ -1,4 +1,4 @@
-use Rattle.std.proofs.Common.{All, List, Some, refl, subst}
+use Rattle.std.proofs.Common.{All, List, Some, refl, subst, rules}
 use Rattle.std.proofs.lemmas.List.Elements.{All-head}
 use Rattle.bench_sweep.specs.Recovers.{compared}
 use Rattle.bench_sweep.specs.Reports.{IsLeftBy}
@@ -10,14 +10,14 @@ pub returns-clause-kept : goal.returns-clause-kept
 returns-clause-kept g c = λ b r.
     let disk = c.args.site.now.off.disk in
     let rest = compared c.args.runner.now.recovery in
-    let first = c.alike-first.ensures.first in
+    let first = c.in-Some.ensures.first in
     let Is : Row → Type 0 = IsLeftBy c.args.runner.now.setting.shape.now b disk rest in
-    let judged : Is c.alike-first.first = All-head Is _ first.0 (subst (λ (rows : List Row). All Is rows) first.1 (c.requires.judged b r)) in
+    let judged : Is c.in-Some.first = All-head Is _ first.0 (subst (λ (rows : List Row). All Is rows) first.1 (c.requires.judged b r)) in
     record {
-      row = record { caller = c.args.point.caller; number = c.args.point.number; fill = Some c.args.fill; left = c.alike-first.first.left; recovered = c.alike-first.first.recovered };
-      is = left_alike c.args.runner.now.setting.shape.now b disk rest c.alike-first.first c.args.point.caller c.args.point.number c.args.fill c.alike-first.ensures.same judged;
+      row = record { caller = c.args.point.caller; number = c.args.point.number; fill = Some c.args.fill; left = c.in-Some.first.left; recovered = c.in-Some.first.recovered };
+      is = left_alike c.args.runner.now.setting.shape.now b disk rest c.in-Some.first c.args.point.caller c.args.point.number c.args.fill c.in-Some.ensures.same judged;
       cell = refl;
       rows = c.in_ok-push.ensures.items;
-      runs = c.saturating_add.ensures;
+      runs = search rules;
       right = refl;
     }

@@ -3,7 +3,7 @@ use Rattle.std.proofs.Common.{◌≡◌, ◌≢◌, ◌∙◌, inl, inr, ◌+◌
 use Rattle.std.proofs.Math.Nat.{mul_comm, zero-mul, div-lt_iff_lt-mul}
 use Rattle.std.proofs.lemmas.Bool.{cases_lt}
 use Rattle.std.proofs.lemmas.Nat.{mod-mul-add, div-mul-add, div-add-mod', mod_below, mul-le}
-use Rattle.jobs.specs.Slots.{dealt}
+use Rattle.jobs.specs.Dealing.{dealt}
 
 -- the same place among as many, the other way round
 pub swapped : (place hands each : ℕ) → place < hands * each → place < each * hands
