@@ -1,4 +1,5 @@
 pub mod KnownLedgers
+pub mod Alike
 pub mod AlikeLines
 pub mod Written
 pub mod Told

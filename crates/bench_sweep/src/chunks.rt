@@ -22,14 +22,14 @@ use jobs::{Chunk, Task, Window};
 /// The most calls of a chunk.
 const MOST_CALLS: u64 = 64;
 
-/// How many calls each chunk of so many has, for so many threads: each has 128 chunks or more to make, where there are as many calls. So
-/// what is written, and how far the run is, is told often.
+/// How many calls each chunk of so many has, for so many threads: each has 32 chunks or more to make, where there are as many calls. So
+/// what is written, and how far the run is, is told often, and still few of them begin within the same line.
 pub fn chunk_size(calls: u64, threads: usize) -> u64
     requires { 0 < threads }
     ensures some { 0 < result }
     ensures most { result ≤ 64 }
 {
-    let chunks = (threads as u64).saturating_mul(128);
+    let chunks = (threads as u64).saturating_mul(32);
     (calls / chunks).clamp(1, MOST_CALLS)
 }
 

@@ -1,7 +1,12 @@
 //! The runs at a point: they are made, judged and counted.
 
-ghost use Rattle.std.specs.Prelude.{◌≡◌, ◌⊎◌, ◌≤◌, ◌<◌, ◌+◌, ◌++◌, ◌^◌, ◌∷◌, [], ℕ, List, None, false, length, Ok, IfOk, IfErr, OnOk};
+ghost use Rattle.std.specs.Prelude.{◌≡◌, ◌⊎◌, ◌≤◌, ◌<◌, ◌+◌, ◌++◌, ◌^◌, ◌∷◌, [], ℕ, List, None, Some, false, length, All, Ok, IfOk, IfErr, IfSome, OnOk};
+ghost use Rattle.disk.specs.Facts.{counted};
 ghost use Rattle.disk.specs.FaultState.{Unarmed};
+ghost use Rattle.disk.specs.WriteLog.{synced};
+ghost use Rattle.simdisk.specs.declared.fill.Fill.{Fill as FillOf};
+ghost use Rattle.bench_report.specs.Views.{sim_log_of};
+ghost use Rattle.bench_sweep.specs.declared.rows.Row.{Row as RowOf};
 ghost use Rattle.board_model.specs.Shapes.{Size};
 ghost use Rattle.board_model.specs.declared.refusal.Refusal.TheVariants.{Memory};
 ghost use Rattle.bench_report.specs.Bench.{Bench as ModelBench};
@@ -119,6 +124,50 @@ fn judge_run<C: Crew>(
     Ok(())
 }
 
+/// The run that was judged first, where a cut leaves the same by each fill: nothing was written since the last sync.
+fn alike(site: &Site, made: &PointRows) -> Option<Row>
+    ensures same { IfSome result (λ first. (fill : FillOf) → cut_content site.now.off.disk fill ≡ synced (sim_log_of site.now.off.disk)) }
+    ensures first { IfSome result (λ first. (rest : List RowOf) × (made.now.rows.items ≡ first ∷ rest)) }
+{
+    if !site.off.disk.is_settled() {
+        return None;
+    }
+    made.rows.first().copied()
+}
+
+/// Judges what a run that a cut ended leaves by that fill. Where that is what it leaves by each fill, it is judged once: the
+/// run that was judged first is kept once more.
+fn judge_fill<C: Crew>(
+    runner: &Runner<'_, C>,
+    site: &Site,
+    point: Point,
+    fill: Fill,
+    made: &mut PointRows,
+) -> Result<(), Refusal>
+    requires lines { AreSwept runner.now.setting.shape.now runner.now.recovery.lines.now }
+    requires sits { Sits runner.now.setting.shape.now site.now }
+    requires judged { (b : ModelBench)
+        → RunsAt runner.now.setting.shape.now b site.now
+        → All (IsLeftBy runner.now.setting.shape.now b site.now.off.disk (compared runner.now.recovery)) made.old.rows.items }
+    ensures kept { OnOk result ((b : ModelBench)
+        → RunsAt runner.now.setting.shape.now b site.now
+        → Keeps (IsLeftBy runner.now.setting.shape.now b site.now.off.disk (compared runner.now.recovery)) made.old made.new (cell point.caller point.number (Some fill))) }
+    ensures refused { IfErr result (λ e. e ≡ Memory) }
+{
+    let Some(first) = alike(site, made) else {
+        return judge_run(runner, site, point, Some(fill), made);
+    };
+    made.rows.push(Row {
+        caller: point.caller,
+        number: point.number,
+        fill: Some(fill),
+        left: first.left,
+        recovered: first.recovered,
+    })?;
+    made.sweep.runs = made.sweep.runs.saturating_add(1);
+    Ok(())
+}
+
 /// Judges what a run that a cut ended leaves by each fill.
 fn judge_each_fill<C: Crew>(
     runner: &Runner<'_, C>,
@@ -134,7 +183,7 @@ fn judge_each_fill<C: Crew>(
 {
     let mut made = PointRows::none(runner.setting.alloc);
     for fill in FILLS {
-        judge_run(runner, site, point, Some(fill), &mut made)?;
+        judge_fill(runner, site, point, fill, &mut made)?;
     }
     Ok(made)
 }

@@ -1,11 +1,14 @@
 -- Disks on which nothing was written since their last syncs, and which stand alike.
-use Rattle.std.proofs.Common.{◌≡◌, ◌∙◌, inl, inr, ℕ, List, [], ◌∷◌, All, sym, arith}
+use Rattle.std.proofs.Common.{◌≡◌, ◌∙◌, inl, inr, ℕ, List, [], ◌∷◌, All, length, sym, arith}
 use Rattle.std.proofs.lemmas.List.Elements.{All-head, All-tail}
 use Rattle.std.proofs.lemmas.Bool.{cases_lt}
 use Rattle.disk.specs.Facts.{Content}
-use Rattle.disk.specs.WriteLog.{ranges, Untouched, AgreesOutside}
-use Rattle.simdisk.specs.Views.{pieces}
+use Rattle.disk.specs.WriteLog.{ranges, Untouched, AgreesOutside, AreWithin}
+use Rattle.disk.proofs.Ranges.{agrees_all}
+use Rattle.simdisk.specs.Views.{left_by_fill, pieces}
+use Rattle.simdisk.specs.declared.fill.Fill.{Fill}
 use Rattle.simdisk.specs.declared.patch.Patch.{Patch}
+use Rattle.simdisk.proofs.Notes.{left_agrees}
 
 abbrev is_empty : Patch → Type 0
 is_empty p = p.count ≡ 0
@@ -23,3 +26,9 @@ pub leaves_alike : (stood stood' now c : Content) (ps : List Patch) (rs : List (
 leaves_alike stood stood' now c ps rs none was is a =
     let same : (k : ℕ) → Untouched (ranges (pieces ps)) k = λ k. untouched_none ps k none in
     record { as_long = a.as_long ∙ sym was.as_long ∙ is.as_long; same = λ k u. a.same k (same k) ∙ sym (was.same k (same k)) ∙ is.same k u }
+
+-- and by each fill a crash leaves what stood
+pub left_settled : (fill : Fill) (stood : Content) (ps : List Patch) → All is_empty ps → AreWithin (length stood) (ranges (pieces ps)) → left_by_fill fill stood (pieces ps) ≡ stood
+left_settled fill stood ps none fits =
+    let a = left_agrees fill stood (pieces ps) fits in
+    agrees_all stood (left_by_fill fill stood (pieces ps)) (record { as_long = a.as_long; same = λ k u. a.same k (untouched_none ps k none) })

@@ -20,11 +20,11 @@ remembered = search (log, crosses, sendable) depth 20
 patch : IsSend (Patch.the_field).row
 patch = search (remembered, crosses, sendable) depth 20
 
-history : IsSend (History.the_field).row
-history = search (remembered, patch, crosses, sendable) depth 20
-
 latest : IsSend (Latest.the_field).row
 latest = search (crosses, sendable) depth 20
+
+history : IsSend (History.the_field).row
+history = search (remembered, patch, latest, crosses, sendable) depth 20
 
 loan : IsSend (Loan.the_field).row
 loan = search (crosses, sendable) depth 20

@@ -1,7 +1,7 @@
 //! A disk in memory is copied, with what it keeps of its writes and syncs and what is armed, and compared.
-ghost use Rattle.std.specs.Prelude.{◌≡◌, ◌↔◌, true, All, IsTrue, IfOk};
+ghost use Rattle.std.specs.Prelude.{◌≡◌, ◌↔◌, true, length, All, IsTrue, IfOk};
 ghost use Rattle.disk.specs.Alike.{FailsAlike, StandsAs};
-ghost use Rattle.disk.specs.Facts.{Unchanged};
+ghost use Rattle.disk.specs.Facts.{Content, Unchanged};
 ghost use Rattle.disk.specs.declared.device.ArmedFault.{ArmedFault};
 ghost use Rattle.simdisk.specs.Views.{piece, pieces};
 
@@ -50,22 +50,25 @@ fn patches_again(alloc: Global, patches: &[Patch]) -> Result<Vec<Patch>, AllocEr
 }
 
 /// Whether none of these patches has a sector.
-fn are_empty(patches: &[Patch]) -> bool
+pub(crate) fn are_empty(patches: &[Patch]) -> bool
     ensures { IsTrue result ↔ All (λ p. p.count ≡ 0) patches.now }
 {
     patches.iter().all(|patch| patch.count == 0)
 }
 
 impl History {
-    ghost use Rattle.simdisk.specs.History.{log_of};
+    ghost use Rattle.simdisk.specs.History.{log_of, Stands};
+    ghost use Rattle.simdisk.specs.Latest.{HasPlace};
 
-    /// The history of a disk of its own with the same writes and syncs.
-    fn copy(&self, alloc: Global) -> Result<History, AllocError>
+    /// The history of a disk of its own with the same writes and syncs, and of so many sectors.
+    fn copy(&self, alloc: Global, count: usize) -> Result<History, AllocError>
+        requires place { HasPlace count self.now.stood }
         ensures log { IfOk result (λ copy. log_of copy ≡ log_of self.now) }
         ensures pieces { IfOk result (λ copy. pieces copy.written.items ≡ pieces self.now.written.items) }
+        ensures stands { IfOk result (λ copy. (c : Content) → length c ≡ count → Stands c self.now → Stands c copy) }
     {
         Ok(History {
-            stood: copy_of(alloc, &self.stood)?,
+            stood: self.stood.copy(alloc, count)?,
             written: patches_again(alloc, &self.written)?,
             past: self.past.again(),
         })
@@ -112,7 +115,7 @@ impl CopyDisk for SimDisk {
     {
         let alloc = self.alloc;
         let content = copy_of(alloc, &self.content)?;
-        let history = self.history.copy(alloc)?;
+        let history = self.history.copy(alloc, self.content.len())?;
         let latest = self.latest.copy(alloc, self.content.len())?;
         let lane_calls = self.lane_calls;
         Ok(SimDisk {

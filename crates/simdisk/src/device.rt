@@ -99,7 +99,7 @@ impl Disk for SimDisk {
             → ⟦<SimDisk as Logged>⟧.armed self.new ≡ ⟦<SimDisk as Logged>⟧.armed self.old) }
     {
         self.calls = self.calls.saturating_add(1);
-        let Ok(()) = self.history.note(first, sectors) else {
+        let Ok(()) = self.history.note(&self.content, first, sectors) else {
             self.faults.pass();
             self.refused = self.refused.saturating_add(1);
             return Err(failed(&mut self.failures));
@@ -224,6 +224,7 @@ impl Disk for SimDisk {
         let loan = self.loan;
         let failures = failures_of(&lanes);
         self.latest.join(&self.content, loan, &lanes);
+        self.history.stood.part(&self.content);
         lay_row(
             &mut self.content,
             loan.first,

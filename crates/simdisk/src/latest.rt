@@ -2,12 +2,14 @@
 ghost use Rattle.std.specs.Prelude.{◌≡◌, ◌≤◌, ◌<◌, ◌+◌, ◌*◌, ℕ, length, map, true, false, IfOk};
 ghost use Rattle.disk.specs.Facts.{Content, Joined, lane_at};
 ghost use Rattle.simdisk.specs.Lanes.{lane_view, newest_view};
-ghost use Rattle.disk.specs.WriteLog.{laid_over};
+ghost use Rattle.disk.specs.WriteLog.{laid_over, ranges, AgreesOutside, AreWithin};
+ghost use Rattle.simdisk.specs.Views.{pieces};
 
-use crate::laid::overwrite;
+use crate::laid::{copy_patches, overwrite};
 use crate::lane::{Bytes, SimLane};
 use crate::lending::{lay_row, stays_in_step};
 use crate::loan::Loan;
+use crate::patch::Patch;
 use disk::Sector;
 use std::alloc::{AllocError, Global};
 
@@ -46,11 +48,25 @@ impl Latest {
         ensures apart { self.new.as_read ≡ false }
         ensures same { self.new.sectors.items ≡ latest_of self.old content.now }
         ensures as_long { length self.new.sectors.items ≡ length content.now }
+        ensures place { HasPlace (length content.now) self.new }
     {
         if self.as_read {
             self.sectors.clear();
             let _ = self.sectors.extend_from_slice(content);
             self.as_read = false;
+        }
+    }
+
+    /// It is what a read gives once more, where it differs in the sectors of these patches alone.
+    pub(crate) fn catch_up(&mut self, patches: &[Patch], content: &[Sector])
+        requires place { HasPlace (length content.now) self.old }
+        requires fits { AreWithin (length content.now) (ranges (pieces patches.now)) }
+        requires agrees { AgreesOutside (latest_of self.old content.now) (ranges (pieces patches.now)) content.now }
+        ensures same { latest_of self.new content.now ≡ content.now }
+        ensures place { HasPlace (length content.now) self.new }
+    {
+        if !self.as_read {
+            copy_patches(&mut self.sectors, patches, content);
         }
     }
 

@@ -1,11 +1,13 @@
 //! How a disk in memory is made, and what a crash leaves of it.
-ghost use Rattle.std.specs.Prelude.{◌≡◌, ◌≢◌, ◌⊎◌, ◌↔◌, ◌/◌, ◌%◌, ℕ, false, get_or, length, replicate, OnOk, IfOk, IfErr};
+ghost use Rattle.std.specs.Prelude.{◌≡◌, ◌≢◌, ◌⊎◌, ◌↔◌, ◌/◌, ◌%◌, ℕ, false, get_or, length, replicate, true, OnOk, IfOk, IfErr};
 ghost use Rattle.std.specs.Simd.{first_chunks};
 ghost use Rattle.disk.specs.Facts.{IsFresh, IsLeft, Unchanged};
 ghost use Rattle.disk.specs.FaultState.{Unarmed, no_fault, fault_state_armed, fault_state_left};
 ghost use Rattle.disk.specs.WriteLog.{synced, new_log};
 ghost use Rattle.simdisk.specs.Views.{left_by_fill};
+ghost use Rattle.simdisk.specs.declared.fill.Fill.{Fill as FillOf};
 
+use crate::copies::are_empty;
 use crate::faults::Faults;
 use crate::fill::Fill;
 use crate::history::History;
@@ -96,9 +98,9 @@ impl SimDisk {
         let mut content = self.content;
         let mut latest = self.latest;
         let last = latest.over(&content);
-        let history = self.history.left(self.alloc, fill, last);
+        let history = self.history.left(self.alloc, fill, &content, last);
         latest.as_read = true;
-        content.copy_from_slice(&history.stood);
+        content.copy_from_slice(&history.stood.sectors);
         let lane_calls = self.lane_calls;
         SimDisk {
             alloc: self.alloc,
@@ -146,7 +148,8 @@ impl SimDisk {
             (⟦<SimDisk as Logged>⟧.log self.now).written) }
     {
         let last = self.latest.over(&self.content);
-        self.history.content_left(self.alloc, fill, last)
+        self.history
+            .content_left(self.alloc, fill, &self.content, last)
     }
 
     /// The n-th call of this disk from now on fails. It replaces what was armed.
@@ -202,6 +205,15 @@ impl SimDisk {
         ensures { result.now ≡ (⟦<SimDisk as Disk>⟧.facts self.now).content }
     {
         &self.content
+    }
+
+    /// Whether nothing was written since the last sync: then a crash leaves the same by each fill.
+    pub fn is_settled(&self) -> bool
+        ensures { result ≡ true → (fill : FillOf)
+            → left_by_fill fill (synced (⟦<SimDisk as Logged>⟧.log self.now)) (⟦<SimDisk as Logged>⟧.log self.now).written
+            ≡ synced (⟦<SimDisk as Logged>⟧.log self.now) }
+    {
+        are_empty(&self.history.written)
     }
 
     /// Whether a cut or a failure is armed that has not struck yet.

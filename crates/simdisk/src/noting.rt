@@ -1,14 +1,15 @@
 //! How the log of writes and syncs grows.
 ghost use Rattle.std.specs.Prelude.{◌≡◌, ◌≤◌, ◌<◌, ◌+◌, ◌*◌, ℕ, [], ◌∷◌, length, map, true, OnOk, OnErr, IfOk};
-ghost use Rattle.disk.specs.Facts.{Handed, Torn};
+ghost use Rattle.disk.specs.Facts.{Content, Handed, Torn};
 ghost use Rattle.simdisk.specs.Views.{IsLatest, left_by_fill, pieces};
 ghost use Rattle.disk.specs.WriteLog.{new_log, more_written, more_synced, lent_piece, newest, replay, synced, ranges, AgreesOutside, AreWithin};
 
 use crate::faults::Faults;
 use crate::fill::Fill;
 use crate::history::History;
-use crate::laid::{alternating, copy_patches, fill_patches};
+use crate::laid::{alternating, fill_patches};
 use crate::lane::SimLane;
+use crate::latest::Latest;
 use crate::lending::lend;
 use crate::loan::Loan;
 use crate::patch::{Patch, copy_of};
@@ -33,30 +34,41 @@ fn leave(content: &mut Vec<Sector>, written: &[Patch], fill: Fill, last: &[Secto
 }
 
 impl History {
-    ghost use Rattle.simdisk.specs.History.{log_of};
+    ghost use Rattle.simdisk.specs.History.{log_of, Stands};
     ghost use Rattle.simdisk.specs.Views.{lent_of};
     ghost use Rattle.simdisk.specs.Lanes.{lane_view, lane_state};
     ghost use Rattle.simdisk.specs.LaneStates.{AreLent};
 
     /// The log of a disk that begins with these sectors.
     pub(crate) fn begun(alloc: Global, sectors: &[Sector]) -> Result<History, AllocError>
-        ensures { IfOk result (λ h. log_of h ≡ new_log sectors.now) }
+        ensures log { IfOk result (λ h. log_of h ≡ new_log sectors.now) }
+        ensures stands { IfOk result (λ h. Stands sectors.now h) }
     {
         Ok(History {
-            stood: copy_of(alloc, sectors)?,
+            stood: Latest::begun(alloc, sectors.len())?,
             written: Vec::new(alloc),
             past: Remembered::of(sectors),
         })
     }
 
-    /// Notes a write of these sectors. At `Err` nothing has changed.
-    pub(crate) fn note(&mut self, first: usize, sectors: &[Sector]) -> Result<(), AllocError>
-        requires { first + length sectors.now ≤ length (synced (log_of self.old)) }
+    /// Notes a write of these sectors, on a disk of that content, and keeps what stood apart from it. At `Err`
+    /// nothing has changed.
+    pub(crate) fn note(
+        &mut self,
+        content: &[Sector],
+        first: usize,
+        sectors: &[Sector],
+    ) -> Result<(), AllocError>
+        requires within { first + length sectors.now ≤ length (synced (log_of self.old)) }
+        requires stands { Stands content.now self.old }
         ensures noted { OnOk result (log_of self.new ≡ more_written (first, sectors.now) (log_of self.old)) }
         ensures refused { OnErr result (log_of self.new ≡ log_of self.old) }
         ensures synced { synced (log_of self.new) ≡ synced (log_of self.old) }
+        ensures apart { OnOk result ((c : Content) → length c ≡ length content.now → Stands c self.new) }
+        ensures stays { OnErr result (Stands content.now self.new) }
     {
         self.written.reserve(1)?;
+        self.stood.part(content);
         self.written.push_reserved(Patch::of(first, sectors));
         Ok(())
     }
@@ -66,11 +78,13 @@ impl History {
         requires agrees { AgreesOutside (synced (log_of self.old)) (ranges (pieces self.old.written.items))
             content.now }
         requires fits { AreWithin (length (synced (log_of self.old))) (ranges (pieces next.items)) }
+        requires stands { Stands content.now self.old }
         ensures noted { log_of self.new ≡ more_synced content.now (pieces next.items) (log_of self.old) }
         ensures synced { synced (log_of self.new) ≡ content.now }
+        ensures stands { Stands content.now self.new }
     {
         self.past.sync(&self.written, content);
-        copy_patches(&mut self.stood, &self.written, content);
+        self.stood.catch_up(&self.written, content);
         self.written = next;
     }
 
@@ -84,12 +98,14 @@ impl History {
         requires agrees { AgreesOutside (synced (log_of self.old)) (ranges (pieces self.old.written.items))
             content.now.items }
         requires within { loan.first + loan.lanes * loan.each ≤ length content.now.items }
+        requires stands { Stands content.now.items self.old }
         ensures noted { OnOk result
             (log_of self.new
             ≡ more_synced content.now.items (lent_piece (lent_of loan) content.now.items ∷ []) (log_of self.old)) }
         ensures synced { OnOk result (synced (log_of self.new) ≡ content.now.items) }
         ensures refused { OnErr result
             ((log_of self.new ≡ log_of self.old) × (synced (log_of self.new) ≡ synced (log_of self.old))) }
+        ensures stands { Stands content.now.items self.new }
     {
         let end = loan.first + loan.lanes * loan.each;
         let lent = Patch::of(loan.first, &content[loan.first..end]);
@@ -115,6 +131,7 @@ impl History {
         requires as_long { length last.now ≡ length content.now }
         requires in_step { in_step ≡ true → last.now ≡ content.now }
         requires long { length content.now ≡ length (synced (log_of self.old)) }
+        requires stands { Stands content.now self.old }
         ensures handed { IfOk result (λ out. Handed (lent_of loan) content.now (map lane_view out.items)) }
         ensures lent { IfOk result (λ out. AreLent (lent_of loan) last.now faults.armed faults.cut
             (map lane_state out.items)) }
@@ -122,12 +139,14 @@ impl History {
             (log_of self.new ≡ more_written (lent_piece (lent_of loan) last.now) (log_of self.old)) }
         ensures refused { OnErr result (log_of self.new ≡ log_of self.old) }
         ensures synced { synced (log_of self.new) ≡ synced (log_of self.old) }
+        ensures apart { OnOk result ((c : Content) → length c ≡ length content.now → Stands c self.new) }
+        ensures stays { OnErr result (Stands content.now self.new) }
     {
         let out = lend(
             alloc, content, last, in_step, faults, loan.first, loan.lanes, loan.each,
         )?;
         let end = loan.first + loan.lanes * loan.each;
-        self.note(loan.first, &last[loan.first..end])?;
+        self.note(content, loan.first, &last[loan.first..end])?;
         Ok(out)
     }
 
@@ -142,6 +161,7 @@ impl History {
         ensures began { (log_of self.new).began ≡ (log_of self.old).began }
         ensures synced { synced (log_of self.new) ≡ synced (log_of self.old) }
         ensures newest { newest (log_of self.new) ≡ last.now }
+        ensures stands { (c : Content) → Stands c self.old → Stands c self.new }
     {
         if loan.lanes == 0 {
             return;
@@ -149,37 +169,52 @@ impl History {
         self.written[loan.patch].retake(last);
     }
 
-    /// What a crash leaves by that fill, where those sectors would stand had each write gone through.
+    /// What a crash leaves by that fill of a disk of that content, where those sectors would stand had each write
+    /// gone through.
     pub(crate) fn content_left(
         &self,
         alloc: Global,
         fill: Fill,
+        content: &[Sector],
         last: &[Sector],
     ) -> Result<Vec<Sector>, AllocError>
-        requires { last.now ≡ newest (log_of self.now) }
+        requires last { last.now ≡ newest (log_of self.now) }
+        requires stands { Stands content.now self.now }
         ensures { IfOk result (λ content. content.items
             ≡ left_by_fill fill (synced (log_of self.now)) (pieces self.now.written.items)) }
     {
-        let mut content = copy_of(alloc, &self.stood)?;
-        leave(&mut content, &self.written, fill, last);
-        Ok(content)
+        if matches!(fill, Fill::New) {
+            return copy_of(alloc, last);
+        }
+        let mut left = copy_of(alloc, self.stood.over(content))?;
+        leave(&mut left, &self.written, fill, last);
+        Ok(left)
     }
 
-    /// The log of the disk that a crash leaves by that fill, where those sectors would stand had each
-    /// write gone through.
-    pub(crate) fn left(self, alloc: Global, fill: Fill, last: &[Sector]) -> History
-        requires { last.now ≡ newest (log_of self) }
+    /// The log of the disk that a crash leaves by that fill of one of that content, where those sectors would stand
+    /// had each write gone through. What the crash leaves is kept apart in it.
+    pub(crate) fn left(
+        self,
+        alloc: Global,
+        fill: Fill,
+        content: &[Sector],
+        last: &[Sector],
+    ) -> History
+        requires last { last.now ≡ newest (log_of self) }
+        requires stands { Stands content.now self }
         ensures log { log_of result
             ≡ new_log (left_by_fill fill (synced (log_of self)) (pieces self.written.items)) }
-        ensures content { result.stood.items
+        ensures content { result.stood.sectors.items
             ≡ left_by_fill fill (synced (log_of self)) (pieces self.written.items) }
-        ensures as_long { length result.stood.items ≡ length (synced (log_of self)) }
+        ensures as_long { length result.stood.sectors.items ≡ length content.now }
+        ensures stands { (c : Content) → length c ≡ length content.now → Stands c result }
     {
-        let mut content = self.stood;
-        leave(&mut content, &self.written, fill, last);
-        let past = Remembered::of(&content);
+        let mut stood = self.stood;
+        stood.part(content);
+        leave(&mut stood.sectors, &self.written, fill, last);
+        let past = Remembered::of(&stood.sectors);
         History {
-            stood: content,
+            stood,
             written: Vec::new(alloc),
             past,
         }

@@ -2,7 +2,7 @@
 ghost use Rattle.std.specs.Prelude.{◌≡◌, ◌≤◌, ◌<◌, ◌+◌, ◌-◌, ◌^◌, ◌++◌, [], ◌∷◌, length, IsOk, OnOk, OnErr, IfOk};
 ghost use Rattle.std.specs.List.{flat_map};
 ghost use Rattle.disk.specs.Calls.{NoCall};
-ghost use Rattle.disk.specs.Facts.{Unchanged};
+ghost use Rattle.disk.specs.Facts.{Content, Unchanged};
 ghost use Rattle.simdisk.specs.Pokes.{bytes_put, poked, parted, poked_log, PokeFits, StandsSo, StandsByEach};
 ghost use Rattle.disk.specs.WriteLog.{synced};
 ghost use Rattle.simdisk.specs.Views.{piece, pieces};
@@ -60,19 +60,29 @@ fn parts_of(alloc: Global, patches: &[Patch], sector: usize) -> Result<Vec<Patch
 }
 
 impl History {
-    ghost use Rattle.simdisk.specs.History.{log_of};
+    ghost use Rattle.simdisk.specs.History.{log_of, Stands};
 
-    /// The write log begins anew, with these bytes in that sector, and without what was written to it
-    /// since the last sync. At `Err` nothing has changed.
-    fn set_sector(&mut self, alloc: Global, sector: usize, bytes: Sector) -> Result<(), AllocError>
-        requires { sector < length (synced (log_of self.old)) }
+    /// The write log of a disk of that content begins anew, with these bytes in that sector, and without what was
+    /// written to it since the last sync. At `Err` nothing has changed.
+    fn set_sector(
+        &mut self,
+        alloc: Global,
+        content: &[Sector],
+        sector: usize,
+        bytes: Sector,
+    ) -> Result<(), AllocError>
+        requires within { sector < length (synced (log_of self.old)) }
+        requires stands { Stands content.now self.old }
         ensures log { OnOk result (log_of self.new ≡ poked_log sector bytes (log_of self.old)) }
         ensures refused { OnErr result (log_of self.new ≡ log_of self.old) }
+        ensures apart { OnOk result ((c : Content) → length c ≡ length content.now → Stands c self.new) }
+        ensures stays { OnErr result (Stands content.now self.new) }
     {
         let written = parts_of(alloc, &self.written, sector)?;
-        overwrite(&mut self.stood, sector, &[bytes]);
+        self.stood.part(content);
+        overwrite(&mut self.stood.sectors, sector, &[bytes]);
         self.written = written;
-        self.past = Remembered::of(&self.stood);
+        self.past = Remembered::of(&self.stood.sectors);
         Ok(())
     }
 }
@@ -114,7 +124,8 @@ impl SimDisk {
         }
         let mut stands = self.content[sector];
         put_bytes(&mut stands, offset, bytes);
-        self.history.set_sector(self.alloc, sector, stands)?;
+        self.history
+            .set_sector(self.alloc, &self.content, sector, stands)?;
         overwrite(&mut self.content, sector, &[stands]);
         self.latest.write(sector, &[stands]);
         Ok(())

@@ -1,7 +1,7 @@
 //! The disk in memory.
 ghost use Rattle.std.specs.Prelude.{◌≡◌, ◌≤◌, ◌<◌, ◌+◌, ◌*◌, ◌^◌, length};
 ghost use Rattle.disk.specs.WriteLog.{ranges, synced, newest, AgreesOutside};
-ghost use Rattle.simdisk.specs.History.{log_of};
+ghost use Rattle.simdisk.specs.History.{log_of, Stands};
 ghost use Rattle.simdisk.specs.Latest.{latest_of, HasPlace};
 ghost use Rattle.simdisk.specs.Views.{pieces, IsLatest};
 
@@ -28,6 +28,7 @@ pub struct SimDisk {
     pub(crate) faults: Faults,
     pub(crate) past: Remembered,
     ghost agrees: { AgreesOutside (synced (log_of history)) (ranges (pieces history.written.items)) content.items },
+    ghost stands: { Stands content.items history },
     ghost newest: { newest (log_of history) ≡ latest_of latest content.items },
     ghost room: { HasPlace (length content.items) latest },
     ghost few: { failures < 2 ^ 64 },

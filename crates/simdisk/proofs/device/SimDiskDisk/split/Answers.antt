@@ -26,6 +26,7 @@ invariant_of-self-2 c =
     let same : (k : Content) → k ≡ latest_of s.latest s.content.items → latest_of s.latest s.content.items ≡ laid_over (lent_piece l k) (latest_of s.latest s.content.items) =
     λ k is. sym (ap (λ (k : Content). laid_over (lent_piece l k) (latest_of s.latest s.content.items)) is ∙ put_same c.args.first (c.args.lanes * c.args.each) (latest_of s.latest s.content.items) (rw (← s.newest, long) c.requires.within)) in
     record {
+      stands = c.in_ok-out.ensures.apart s.content.items (ap (λ (k : Content). length k) (sym c.deref-2.ensures.value));
       newest = newest_more (log_of s.history) (log_of c.lend.new.self) (lent_piece l last) (latest_of s.latest s.content.items) (latest_of s.latest s.content.items) noted s.newest (same last s.newest);
       room = s.room;
       agrees = rw (c.in_ok-out.ensures.synced, more) (agrees_push (synced (log_of s.history)) rs r s.content.items s.agrees);

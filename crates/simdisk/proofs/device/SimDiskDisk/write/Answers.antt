@@ -41,8 +41,9 @@ invariant_of-self-then-strikes c =
     let noted = (goal.at.invariant_of-self-then-strikes c).In-Ok in
     let s = c.args.self.now in
     record {
-      newest = newest_with noted (latest_of c.write_failed.new.self s.content.items) (rw (← c.deref.ensures.value) c.write_failed.ensures.written);
-      room = rw (← c.deref.ensures.value) c.write_failed.ensures.as_long;
+      stands = c.in-Ok.ensures.apart s.content.items (ap (λ (k : Content). length k) (sym c.deref.ensures.value));
+      newest = newest_with noted (latest_of c.write_failed.new.self s.content.items) (rw (← c.deref-then-strikes.ensures.value) c.write_failed.ensures.written);
+      room = rw (← c.deref-then-strikes.ensures.value) c.write_failed.ensures.as_long;
       agrees = rw (c.in-Ok.ensures.synced, more noted) (agrees_push (synced (log_of s.history)) (ranges (pieces s.history.written.items)) (c.args.first, length c.args.sectors.now) s.content.items s.agrees);
       few = search rules;
       few_calls = search rules;
@@ -61,6 +62,7 @@ invariant_of-self-2 c =
     let s = c.args.self.now in
     let elsewhere = c.overwrite.ensures.written.elsewhere in
     record {
+      stands = c.in-Ok.ensures.apart c.overwrite.new.content.items (elsewhere.as_long ∙ ap (λ (k : Content). length k) (sym c.deref.ensures.value));
       newest = newest_with noted (latest_of c.write.new.self c.overwrite.new.content.items) (ap (λ (k : Content). latest_of c.write.new.self k) c.overwrite.ensures.put ∙ c.write.ensures.written s.content.items);
       room = rw elsewhere.as_long (c.write.ensures.as_long (length s.content.items) s.room);
       agrees = rw (c.in-Ok.ensures.synced, more noted) (agrees_write (synced (log_of s.history)) (ranges (pieces s.history.written.items)) c.args.first (length c.args.sectors.now) s.content.items c.overwrite.new.content.items s.agrees elsewhere);

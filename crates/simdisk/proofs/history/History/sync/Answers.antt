@@ -1,7 +1,8 @@
-use Rattle.std.proofs.Common.{◌≡◌, ◌∙◌, ◌++◌, ◌∷◌, [], List, length, map, refl, sym, ap}
+use Rattle.std.proofs.Common.{◌≡◌, ◌∙◌, ◌++◌, ◌∷◌, [], List, map, refl, sym, ap}
 use Rattle.disk.specs.Facts.{Content}
+use Rattle.simdisk.specs.declared.history.History.{History}
 use Rattle.simdisk.specs.History.{log_of}
-use Rattle.disk.specs.WriteLog.{Piece, piece_in, replay, synced, synced_after}
+use Rattle.disk.specs.WriteLog.{AgreesOutside, Piece, piece_in, ranges, replay, synced, synced_after}
 use Rattle.simdisk.specs.Views.{pieces}
 use Rattle.simdisk.proofs.Epochs.{fits_synced}
 use Rattle.disk.proofs.Pieces.{synced_push, replay_copied}
@@ -12,32 +13,34 @@ epoch_more : (past past' : List (List Piece)) (began began' stood : Content) (ep
 epoch_more past past' began began' stood epoch same more is =
     ap (λ (c : Content). synced_after past' c) same ∙ ap (λ (es : List (List Piece)). synced_after es began) more ∙ synced_push past epoch began ∙ ap (λ (c : Content). replay epoch c) is
 
-pub copy_patches-requires-clause-as_long : goal.copy_patches-requires-clause-as_long
-copy_patches-requires-clause-as_long c =
-    c.requires.agrees.as_long ∙ ap (λ (k : Content). length k) c.args.self.now.stood_so
+-- it is the content
+now_synced : (s : History) (began' : Content) (past' : List (List Piece)) (now : Content) → began' ≡ s.past.kept.log.began → past' ≡ s.past.kept.log.past ++ map (piece_in now) (pieces s.written.items) ∷ []
+    → AgreesOutside (synced (log_of s)) (ranges (pieces s.written.items)) now → synced_after past' began' ≡ now
+now_synced s began' past' now same more agrees =
+    epoch_more s.past.kept.log.past past' s.past.kept.log.began began' (synced (log_of s)) (map (piece_in now) (pieces s.written.items)) same more refl
+    ∙ replay_copied (synced (log_of s)) now (pieces s.written.items) agrees (fits_synced s)
 
-pub copy_patches-requires-clause-fits : goal.copy_patches-requires-clause-fits
-copy_patches-requires-clause-fits c =
-    rw c.deref-2.ensures.value c.args.self.now.fits
+pub catch_up-requires : goal.catch_up-requires
+catch_up-requires c =
+    record {
+      place = c.requires.stands.place;
+      fits = rw (c.deref-2.ensures.value, c.requires.agrees.as_long) (fits_synced c.args.self.now);
+      agrees = rw (c.deref-2.ensures.value, c.requires.stands.is) c.requires.agrees;
+    }
 
 pub invariant_of-self : goal.invariant_of-self
 invariant_of-self c =
-    let s = c.args.self.now in
-    let now = c.args.content.now in
-    let past = c.sync.ensures in
-    let epoch = map (piece_in now) (pieces s.written.items) in
-    let laid : c.copy_patches.new.stood.items ≡ replay epoch s.stood.items = rw (← c.deref-2.ensures.value) c.copy_patches.ensures in
-    let all : replay epoch s.stood.items ≡ now = ap (λ (k : Content). replay epoch k) (sym s.stood_so) ∙ replay_copied (synced (log_of s)) now (pieces s.written.items) c.requires.agrees (fits_synced s) in
-    record {
-      stood_so = epoch_more s.past.kept.log.past c.sync.new.self.kept.log.past s.past.kept.log.began c.sync.new.self.kept.log.began s.stood.items epoch past.0 (rw (← c.deref.ensures.value) past.1) s.stood_so ∙ sym laid;
-      fits = rw (laid ∙ all, c.requires.agrees.as_long) c.requires.fits;
-    }
+    let past = c.sync.new.self.kept.log in
+    let is : synced_after past.past past.began ≡ c.args.content.now = now_synced c.args.self.now past.began past.past c.args.content.now c.sync.ensures.0 (rw (← c.deref.ensures.value) c.sync.ensures.1) c.requires.agrees in
+    record { fits = rw (is, c.requires.agrees.as_long) c.requires.fits }
 
 pub returns-clause-synced : goal.returns-clause-synced
 returns-clause-synced c =
-    let s = c.args.self.now in
-    let now = c.args.content.now in
-    let past = c.sync.ensures in
-    let epoch = map (piece_in now) (pieces s.written.items) in
-    epoch_more s.past.kept.log.past c.sync.new.self.kept.log.past s.past.kept.log.began c.sync.new.self.kept.log.began (synced (log_of s)) epoch past.0 (rw (← c.deref.ensures.value) past.1) refl
-    ∙ replay_copied (synced (log_of s)) now (pieces s.written.items) c.requires.agrees (fits_synced s)
+    let past = c.sync.new.self.kept.log in
+    now_synced c.args.self.now past.began past.past c.args.content.now c.sync.ensures.0 (rw (← c.deref.ensures.value) c.sync.ensures.1) c.requires.agrees
+
+pub returns-clause-stands : goal.returns-clause-stands
+returns-clause-stands c =
+    let past = c.sync.new.self.kept.log in
+    let is : synced_after past.past past.began ≡ c.args.content.now = now_synced c.args.self.now past.began past.past c.args.content.now c.sync.ensures.0 (rw (← c.deref.ensures.value) c.sync.ensures.1) c.requires.agrees in
+    record { is = c.catch_up.ensures.same ∙ sym is; place = c.catch_up.ensures.place }

@@ -28,7 +28,7 @@ invariant_of-self c =
     omega (arith, c.requires.torn.as_long, length_newest s, fits_read (length (synced (log_of s))) s.written.items c.args.loan.patch x less c.index_mut.ensures.value (fits_synced s)) in
     let same : ranges (pieces (set s.written.items c.args.loan.patch new)) ≡ ranges (pieces s.written.items) =
     ranges_set s.written.items c.args.loan.patch x new less c.index_mut.ensures.value (range_copied c.args.last.now x new c.retake.ensures within) in
-    record { stood_so = s.stood_so; fits = rw same s.fits }
+    record { fits = rw same s.fits }
 
 pub returns-clause-ranges : goal.returns-clause-ranges
 returns-clause-ranges c =

@@ -11,7 +11,7 @@ returns-clause-left c =
     let s = c.args.self.history in
     let now = c.copy_from_slice.new.self.items in
     let history = c.left-history.result in
-    let is : now ≡ left_by_fill c.args.fill (synced (log_of s)) (pieces s.written.items) = c.copy_from_slice.ensures.items ∙ c.deref-2.ensures.value ∙ c.left-history.ensures.content in
+    let is : now ≡ left_by_fill c.args.fill (synced (log_of s)) (pieces s.written.items) = c.copy_from_slice.ensures.items ∙ c.deref-3.ensures.value ∙ c.left-history.ensures.content in
     let begun : log_of history ≡ new_log now = c.left-history.ensures.log ∙ ap new_log (sym is) in
     record {
       left = rw is (left_agrees c.args.fill (synced (log_of s)) (pieces s.written.items) (fits_synced s));

@@ -26,6 +26,7 @@ invariant_of-self-2 c =
     let old : k < length (synced r) = rw (← s.agrees.as_long) lt in
     let laid : c.overwrite.new.content.items ≡ laid_over (k, v ∷ []) s.content.items = c.overwrite.ensures.put in
     record {
+      stands = c.in_ok-set_sector.ensures.apart c.overwrite.new.content.items (c.overwrite.ensures.written.elsewhere.as_long ∙ ap (λ (x : Content). length x) (sym c.deref.ensures.value));
       agrees = agrees_poked k v r r' anew old s.content.items c.overwrite.new.content.items s.agrees laid;
       newest = fills_poked k v r r' anew old (fits_synced s.history) New ∙ ap (λ (x : Content). laid_over (k, v ∷ []) x) s.newest
           ∙ sym (c.write.ensures.written s.content.items) ∙ ap (λ (x : Content). latest_of c.write.new.self x) (sym laid);
