@@ -84,7 +84,7 @@ reports_point contents kind Is old new rows caller number j t = record {
 -- the points of calls in a row, of which so many are passed over
 module _ {W : Type 0} (contents : W → Option (List ℕ)) (size : Size) (kind : Kind) (caller : Caller) (before from : ℕ) (lines : List Line) (rest : Compared) (site : Site) (b : Bench) (r : RunsAt size b site) (first : Report W) where
   abbrev Is : Row → Type 0
-  Is = RunsAlong size kind site before (unpowered b) lines rest
+  Is = RunsAlong size kind caller site before (unpowered b) lines rest
 
   abbrev Wrote : Report W → ℕ → Type 0
   Wrote now done = Reports contents kind Is first now (points_from caller (before + from + 1) done)

@@ -5,6 +5,7 @@ use Rattle.std.specs.Io.KnownBytes.{Appends}
 use Rattle.board_model.specs.Shapes.{Size, IsSize}
 use Rattle.board_model.specs.declared.refusal.Refusal.{Refusal}
 use Rattle.board_model.specs.declared.refusal.Refusal.TheVariants.{BadShape, Memory, Output}
+use Rattle.simdisk.specs.declared.SimDisk.{SimDisk}
 use Rattle.simdisk.specs.declared.fill.Fill.{Fill}
 use Rattle.script_lang.specs.Armings.{IsArmingInRange}
 use Rattle.script_lang.specs.Lines.{FitsLine, IsLineInRange}
@@ -110,15 +111,15 @@ refused_row F G H (Err e) then (inr (inl output)) = inr (inl output)
 refused_row F G H (Err e) then (inr (inr none)) = inr (inr (inr (inr (inr (none.0, then none.1)))))
 
 -- the row of a run that is found and written
-pub shows_from : {K : Kind} (size : Size) (b : Bench) (front those behind : List Line) (number count : ℕ) (run : Cell) (arms : Arming) (old now : Option (List ℕ)) → HasRun K size b those number run → RunsArmed size K run b those count → arms ≡ arming K run
-    → WroteScript (record { size = size; lines = row_lines K front arms (take count those) behind }) old now → ShowsFrom K size b front those behind number old now
-shows_from {K = K} size b front those behind number count run arms old now has armed is wrote =
+pub shows_from : {K : Kind} (size : Size) (origin : SimDisk) (b : Bench) (front those behind : List Line) (number count : ℕ) (run : Cell) (arms : Arming) (old now : Option (List ℕ)) → HasRun K size origin b those number run → RunsArmed size K run b those count → arms ≡ arming K run
+    → WroteScript (record { size = size; lines = row_lines K front arms (take count those) behind }) old now → ShowsFrom K size origin b front those behind number old now
+shows_from {K = K} size origin b front those behind number count run arms old now has armed is wrote =
     let W : Arming → Type 0 = λ a. WroteScript (record { size = size; lines = row_lines K front a (take count those) behind }) old now in
     record { run = run; has = has; count = count; armed = armed; written = subst W is wrote }
 
 -- or it is not
-pub shows_none : {K : Kind} (size : Size) (b : Bench) (front those behind : List Line) (number count : ℕ) (run : Cell) (arms : Arming) → HasRun K size b those number run → RunsArmed size K run b those count → arms ≡ arming K run
-    → 65535 < length (row_lines K front arms (take count those) behind) → ShowsNone K size b front those behind number
-shows_none {K = K} size b front those behind number count run arms has armed is long =
+pub shows_none : {K : Kind} (size : Size) (origin : SimDisk) (b : Bench) (front those behind : List Line) (number count : ℕ) (run : Cell) (arms : Arming) → HasRun K size origin b those number run → RunsArmed size K run b those count → arms ≡ arming K run
+    → 65535 < length (row_lines K front arms (take count those) behind) → ShowsNone K size origin b front those behind number
+shows_none {K = K} size origin b front those behind number count run arms has armed is long =
     let L : Arming → Type 0 = λ a. 65535 < length (row_lines K front a (take count those) behind) in
     inr (record { run = run; has = has; why = inr (record { count = count; armed = armed; long = subst L is long }) })

@@ -5,7 +5,7 @@ use Rattle.std.proofs.lemmas.Grind.{flat_map-append}
 use Rattle.std.proofs.lemmas.Bool.{cases_lt}
 use Rattle.std.proofs.lemmas.List.Sums.{sum_by-append, count_by_more_yes, count_by_more_no}
 use Rattle.std.proofs.lemmas.List.Elements.{All-nil, All-cons, All-head, All-tail, All-append, All-weaker}
-use Rattle.std.specs.List.{flat_map, All}
+use Rattle.std.specs.List.{flat_map, All, AllZip}
 use Rattle.std.specs.Option.{is_some, is_none}
 use Rattle.std.proofs.Math.Seq.{drop-append_seam, take-append_seam}
 use Rattle.jobs.specs.Parts.{window, piece, own_of, joined}
@@ -18,14 +18,18 @@ use Rattle.bench_sweep.specs.declared.judges.Sweep.{Sweep}
 use Rattle.bench_sweep.specs.declared.points.Bench.{Bench}
 use Rattle.bench_sweep.specs.declared.points.Bench.TheVariants.{Cuts, Fails}
 use Rattle.bench_sweep.specs.declared.points.Caller.{Caller}
+use Rattle.simdisk.specs.declared.SimDisk.{SimDisk}
 use Rattle.simdisk.specs.declared.fill.Fill.{Fill}
 use Rattle.simdisk.specs.declared.fill.Fill.TheVariants.{Byte, Alternating, Old, New}
 use Rattle.board_model.specs.Shapes.{Size}
 use Rattle.script_lang.specs.declared.line.Line.{Line}
 use Rattle.bench_report.specs.Bench.{Bench as ModelBench}
-use Rattle.bench_report.specs.Happens.{unpowered}
+use Rattle.bench_report.specs.Happens.{off, unpowered}
 use Rattle.report_lines.proofs.Written.{appended, unwritten}
 use Rattle.bench_sweep.specs.Made.{IsFormatted, IsPlainRun, IsUncut, IsRunOf}
+use Rattle.bench_sweep.specs.Points.{MadeCalls}
+use Rattle.bench_sweep.specs.Took.{RunTook, StandsOn}
+use Rattle.bench_sweep.proofs.Made.{zip_long}
 use Rattle.bench_sweep.specs.declared.rows.Row.{Row}
 use Rattle.bench_sweep.specs.Recovers.{Compared, nothing_compared}
 use Rattle.bench_sweep.specs.Rows.{row_text, row_lines, differs_text, differing_lines, shown_lines, told_part, differing_rows, sweep_text}
@@ -309,25 +313,30 @@ pub parts_join : (bench : Bench) (of : ℕ) (counts : List ℕ) → 0 < of → j
 parts_join bench of counts some = joined_part bench of of counts ∙ ap (runs_at bench) (joined_all of (all_points callers counts) some) ∙ runs_of_all bench callers counts
 
 -- all rows
-pub wrote_rows : (plan : Plan) (size : Size) (start : List (List ℕ)) (lines after : List Line) (numbers : List ℕ) (a b : Option (List ℕ)) (s t : Recovered) (begin : ℕ) (first : ModelBench) (counts : List ℕ) (own : List Printed) → s.sweep.points ≡ 0 → s.sweep.runs ≡ 0 → s.sweep.wrong ≡ 0
-    → s.differ ≡ 0 → IsFormatted size start (take begin lines) first → IsPlainRun size (unpowered first) (drop begin lines) → IsUncut size (unpowered first) (drop begin lines) after own → length counts ≡ 5
-    → Writes plan.quiet (λ row. IsRunOf size plan.bench row.caller row.number (unpowered first) (drop begin lines) (record { lines = after; numbers = numbers; own = own }) row.left row.recovered) a b s t
+pub wrote_rows : (plan : Plan) (size : Size) (start : List (List ℕ)) (lines after : List Line) (numbers : List ℕ) (a b : Option (List ℕ)) (s t : Recovered) (begin : ℕ) (first : ModelBench) (origin ended : SimDisk) (counts : List ℕ) (own : List Printed) → s.sweep.points ≡ 0 → s.sweep.runs ≡ 0 → s.sweep.wrong ≡ 0
+    → s.differ ≡ 0 → IsFormatted size start (take begin lines) first → StandsOn size (off first) origin → IsPlainRun size (unpowered first) (drop begin lines) → IsUncut size (unpowered first) (drop begin lines) after own → RunTook size (drop begin lines) origin ended
+    → AllZip (MadeCalls origin ended) callers counts
+    → Writes plan.quiet (λ row. IsRunOf size plan.bench origin row.caller row.number (unpowered first) (drop begin lines) (record { lines = after; numbers = numbers; own = own }) row.left row.recovered) a b s t
     (runs_at plan.bench (own_of plan.part (all_points callers counts))) (length (own_of plan.part (all_points callers counts)))
     → WroteRows plan size start lines after numbers a b t
-wrote_rows plan size start lines after numbers a b s t begin first counts own no_point no_run no_wrong no_differ format plain uncut five wrote = record {
+wrote_rows plan size start lines after numbers a b s t begin first origin ended counts own no_point no_run no_wrong no_differ format stands plain uncut took counted wrote = record {
   begin = begin;
   first = first;
   format = format;
   plain = plain;
   own = own;
   uncut = uncut;
+  origin = origin;
+  stands = stands;
+  ended = ended;
+  took = took;
   counts = counts;
-  five = five;
+  counted = counted;
   rows = wrote.rows;
   each = wrote.each;
   cells = wrote.cells ∙ runs_of_own plan.bench plan.part counts;
   text = wrote.text;
-  points = wrote.points 0 no_point ∙ ap (λ k. counted 0 k) (zero-add (length (own_of plan.part (all_points callers counts))) ∙ own_long plan.part counts five);
+  points = wrote.points 0 no_point ∙ ap (λ k. counted 0 k) (zero-add (length (own_of plan.part (all_points callers counts))) ∙ own_long plan.part counts (zip_long (MadeCalls origin ended) callers counts counted));
   runs = wrote.runs 0 no_run ∙ ap (λ k. counted 0 k) (zero-add (length wrote.rows));
   right = wrote.right ∙ no_wrong;
   differ = wrote.differ 0 no_differ ∙ ap (λ k. counted 0 k) (zero-add (differing_rows wrote.rows));
@@ -341,13 +350,17 @@ nothing_said size first lines own uncut = uncut.recovers.says
 pub wrote_all : (plan : Plan) (size : Size) (start : List (List ℕ)) (lines : List Line) (a b c : Option (List ℕ)) (t : Recovered) → WroteRows plan size start lines [] [] a b t → Appends b c (sweep_text plan.part t.sweep ++ 10 ∷ []) → WroteAll plan size start lines a c t.sweep
 wrote_all plan size start lines a b c t wrote last =
     let none = nothing_said size (unpowered wrote.first) (drop wrote.begin lines) wrote.own wrote.uncut in
-    let E : List Printed → Type 0 = λ own. All (λ (row : Row). IsRunOf size plan.bench row.caller row.number (unpowered wrote.first) (drop wrote.begin lines) (record { lines = []; numbers = []; own = own }) row.left row.recovered) wrote.rows in record {
+    let E : List Printed → Type 0 = λ own. All (λ (row : Row). IsRunOf size plan.bench wrote.origin row.caller row.number (unpowered wrote.first) (drop wrote.begin lines) (record { lines = []; numbers = []; own = own }) row.left row.recovered) wrote.rows in record {
       begin = wrote.begin;
       first = wrote.first;
       format = wrote.format;
       plain = wrote.plain;
+      origin = wrote.origin;
+      stands = wrote.stands;
+      ended = wrote.ended;
+      took = wrote.took;
       counts = wrote.counts;
-      five = wrote.five;
+      counted = wrote.counted;
       rows = wrote.rows;
       each = subst E none wrote.each;
       cells = wrote.cells;

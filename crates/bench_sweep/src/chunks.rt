@@ -98,13 +98,13 @@ impl<'a, 'b, C: Crew> RunsAtCalls<'a, 'b, C> {
         requires lines { AreSwept self.now.runner.now.setting.shape.now self.now.runner.now.lines.now }
         requires recovery { AreSwept self.now.runner.now.setting.shape.now self.now.runner.now.recovery.lines.now }
         requires room { self.now.before + done + 1 < 2 ^ 64 }
-        requires sits { (b : ModelBench) × CameTold self.now.runner.now.setting.shape.now b self.now.runner.now.lines.now self.now.site.now.ledger moment.old }
-        ensures stays { (b : ModelBench) → CameTold self.now.runner.now.setting.shape.now b self.now.runner.now.lines.now self.now.site.now.ledger moment.old
-            → CameTold self.now.runner.now.setting.shape.now b self.now.runner.now.lines.now self.now.site.now.ledger moment.new }
+        requires sits { (b : ModelBench) × CameTold self.now.runner.now.setting.shape.now b self.now.runner.now.lines.now self.now.site.now moment.old }
+        ensures stays { (b : ModelBench) → CameTold self.now.runner.now.setting.shape.now b self.now.runner.now.lines.now self.now.site.now moment.old
+            → CameTold self.now.runner.now.setting.shape.now b self.now.runner.now.lines.now self.now.site.now moment.new }
         ensures count { moment.new.count ≡ moment.old.count }
         ensures judged { IfOk result (λ made. (b : ModelBench)
-            → CameTold self.now.runner.now.setting.shape.now b self.now.runner.now.lines.now self.now.site.now.ledger moment.old
-            → Judged (RunsAlong self.now.runner.now.setting.shape.now self.now.runner.now.bench self.now.site.now self.now.before b
+            → CameTold self.now.runner.now.setting.shape.now b self.now.runner.now.lines.now self.now.site.now moment.old
+            → Judged (RunsAlong self.now.runner.now.setting.shape.now self.now.runner.now.bench self.now.caller self.now.site.now self.now.before b
             self.now.runner.now.lines.now (compared self.now.runner.now.recovery)) made
             (runs_of self.now.runner.now.bench self.now.caller (self.now.before + done + 1))) }
         ensures refused { IfErr result (λ e. e ≡ Memory) }
@@ -137,14 +137,14 @@ impl<'a, 'b, C: Crew> RunsAtCalls<'a, 'b, C> {
         requires lines { AreSwept self.now.runner.now.setting.shape.now self.now.runner.now.lines.now }
         requires recovery { AreSwept self.now.runner.now.setting.shape.now self.now.runner.now.recovery.lines.now }
         requires room { self.now.before + done + 1 < 2 ^ 64 }
-        requires sits { (b : ModelBench) × CameTold self.now.runner.now.setting.shape.now b self.now.runner.now.lines.now self.now.site.now.ledger moment }
+        requires sits { (b : ModelBench) × CameTold self.now.runner.now.setting.shape.now b self.now.runner.now.lines.now self.now.site.now moment }
         ensures few { IfOk result (λ did. did.0.count ≤ self.now.count) }
         ensures came { IfOk result (λ did. (b : ModelBench)
-            → CameTold self.now.runner.now.setting.shape.now b self.now.runner.now.lines.now self.now.site.now.ledger moment
-            → CameTold self.now.runner.now.setting.shape.now b self.now.runner.now.lines.now self.now.site.now.ledger did.0) }
+            → CameTold self.now.runner.now.setting.shape.now b self.now.runner.now.lines.now self.now.site.now moment
+            → CameTold self.now.runner.now.setting.shape.now b self.now.runner.now.lines.now self.now.site.now did.0) }
         ensures judged { IfOk result (λ did. (b : ModelBench)
-            → CameTold self.now.runner.now.setting.shape.now b self.now.runner.now.lines.now self.now.site.now.ledger moment
-            → Judged (RunsAlong self.now.runner.now.setting.shape.now self.now.runner.now.bench self.now.site.now self.now.before b
+            → CameTold self.now.runner.now.setting.shape.now b self.now.runner.now.lines.now self.now.site.now moment
+            → Judged (RunsAlong self.now.runner.now.setting.shape.now self.now.runner.now.bench self.now.caller self.now.site.now self.now.before b
             self.now.runner.now.lines.now (compared self.now.runner.now.recovery)) did.1
             (runs_of self.now.runner.now.bench self.now.caller (self.now.before + done + 1))) }
         ensures refused { IfErr result (λ e. e ≡ Memory) }
