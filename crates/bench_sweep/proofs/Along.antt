@@ -1,6 +1,6 @@
 -- A run that goes on behind some lines, and moments of it.
 use Rattle.std.proofs.Common.{◌≡◌, ◌≤◌, ◌<◌, ◌+◌, ◌-◌, ◌++◌, ◌∷◌, [], ℕ, List, false, length, take, drop, get_or, refl, sym, ◌∙◌, ap, subst, append_assoc, arith}
-use Rattle.std.proofs.lemmas.List.{length-take, length-drop, take-take, take_more, take_all}
+use Rattle.std.proofs.lemmas.List.{length-take, length-drop, take-take, take_more}
 use Rattle.board_model.specs.Shapes.{Size}
 use Rattle.jobs.specs.Handed.{AreRows, TakesAll}
 use Rattle.jobs.proofs.HandedOn.{rows_both, taken_both}
@@ -10,7 +10,6 @@ use Rattle.report_lines.specs.declared.printed.Answer.{Answer}
 use Rattle.bench_report.specs.Agree.{HasDisk}
 use Rattle.bench_report.specs.Bench.{Bench}
 use Rattle.bench_report.specs.Steps.{Run}
-use Rattle.bench_report.specs.declared.power.Power.{Power}
 use Rattle.bench_sweep.specs.declared.ledgers.Ledger.{Ledger}
 use Rattle.bench_sweep.specs.declared.moments.Moment.{Moment}
 use Rattle.bench_sweep.specs.declared.points.Bench.{Bench as Kind}

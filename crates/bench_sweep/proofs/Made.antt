@@ -1,5 +1,5 @@
 -- Rows of runs that were made.
-use Rattle.std.proofs.Common.{◌≡◌, ◌≤◌, ◌<◌, ◌+◌, ◌-◌, ◌⊎◌, ◌++◌, ◌∷◌, [], ℕ, suc, List, Option, None, true, false, inl, inr, length, take, drop, refl, sym, ◌∙◌, ap, subst, arith}
+use Rattle.std.proofs.Common.{◌≡◌, ◌≤◌, ◌<◌, ◌+◌, ◌-◌, ◌⊎◌, ◌++◌, ◌∷◌, [], ℕ, suc, List, None, true, false, inl, inr, length, take, drop, refl, sym, ◌∙◌, ap, subst, arith}
 use Rattle.std.proofs.lemmas.List.{take-append-drop, take-take, take_all, drop_all, drop-drop, drop-take, length-drop, length-take-le, append-nil}
 use Rattle.std.proofs.lemmas.Bool.{cases_lt}
 use Rattle.std.proofs.lemmas.Grind.{flat_map-append}
@@ -23,7 +23,7 @@ use Rattle.bench_sweep.specs.declared.site.Site.{Site}
 use Rattle.bench_sweep.specs.Made.{LooksAt, Lives, ComesTo, IsPlainRun, Recovers, IsUncut, IsToldOf, EndsAs, RunsWith}
 use Rattle.bench_sweep.specs.Recovers.{Compared}
 use Rattle.report_lines.specs.declared.printed.Printed.{Printed}
-use Rattle.bench_sweep.specs.Points.{calls_of, fault_at, MadeCalls}
+use Rattle.bench_sweep.specs.Points.{fault_at, MadeCalls}
 use Rattle.simdisk.specs.declared.SimDisk.{SimDisk}
 use Rattle.bench_sweep.specs.Reports.{IsLeft, RunsAlong, RunsRow, IsRow}
 use Rattle.bench_sweep.specs.Runs.{RunsAt, RanTo, IsEnd, IsLife}

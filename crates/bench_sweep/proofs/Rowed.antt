@@ -1,8 +1,7 @@
 -- The rows of a point, and how they are written one point after another.
-use Rattle.std.proofs.Common.{◌≡◌, ◌≤◌, ◌<◌, ◌+◌, ◌^◌, ◌++◌, ◌∷◌, [], ℕ, List, Option, length, map, refl, sym, ◌∙◌, ap, subst, length-append, arith}
+use Rattle.std.proofs.Common.{◌≡◌, ◌<◌, ◌+◌, ◌^◌, ◌++◌, ◌∷◌, [], ℕ, List, Option, length, map, sym, ◌∙◌, ap, subst, length-append, arith}
 use Rattle.std.proofs.lemmas.List.Elements.{All-nil, All-cons, All-append, All-weaker}
 use Rattle.std.specs.List.{All}
-use Rattle.std.specs.Io.KnownBytes.{Appends}
 use Rattle.disk.specs.Facts.{counted}
 use Rattle.board_model.specs.Shapes.{Size}
 use Rattle.script_lang.specs.declared.line.Line.{Line}
@@ -19,7 +18,7 @@ use Rattle.bench_sweep.specs.Reports.{Keeps, Judged, IsOfCall, TakesPoint, Repor
 use Rattle.bench_sweep.specs.Recovers.{Compared}
 use Rattle.bench_sweep.specs.Rows.{differing_rows}
 use Rattle.bench_sweep.specs.Runs.{RunsAt}
-use Rattle.bench_sweep.specs.Swept.{Cell, spot, cell_of, runs_of, points_from, rows_text, GoesOn}
+use Rattle.bench_sweep.specs.Swept.{Cell, spot, cell_of, runs_of, points_from, GoesOn}
 use Rattle.std.proofs.lemmas.List.{append-nil}
 use Rattle.bench_sweep.proofs.Written.{cells_more, each_at, next_point, one_more}
 use Rattle.bench_sweep.proofs.Reported.{reports_none, reports_more, reports_as}

@@ -5,8 +5,8 @@ use Rattle.std.proofs.lemmas.Grind.{flat_map-append}
 use Rattle.std.proofs.lemmas.Bool.{cases_lt}
 use Rattle.std.proofs.lemmas.List.Sums.{sum_by-append, count_by_more_yes, count_by_more_no}
 use Rattle.std.proofs.lemmas.List.Elements.{All-nil, All-cons, All-head, All-tail, All-append, All-weaker}
-use Rattle.std.specs.List.{flat_map, All, AllZip}
-use Rattle.std.specs.Option.{is_some, is_none}
+use Rattle.std.specs.List.{All, AllZip}
+use Rattle.std.specs.Option.{is_some}
 use Rattle.std.proofs.Math.Seq.{drop-append_seam, take-append_seam}
 use Rattle.jobs.specs.Parts.{window, piece, own_of, joined}
 use Rattle.jobs.specs.declared.part.Part.{Part}
@@ -14,7 +14,6 @@ use Rattle.jobs.proofs.Pieces.{window_at, window_cut, window_more, joined_all}
 use Rattle.bench_sweep.specs.declared.plan.Plan.{Plan}
 use Rattle.std.specs.Io.KnownBytes.{Appends, Keeps}
 use Rattle.disk.specs.Facts.{counted}
-use Rattle.bench_sweep.specs.declared.judges.Sweep.{Sweep}
 use Rattle.bench_sweep.specs.declared.points.Bench.{Bench}
 use Rattle.bench_sweep.specs.declared.points.Bench.TheVariants.{Cuts, Fails}
 use Rattle.bench_sweep.specs.declared.points.Caller.{Caller}
@@ -31,8 +30,7 @@ use Rattle.bench_sweep.specs.Points.{MadeCalls}
 use Rattle.bench_sweep.specs.Took.{RunTook, StandsOn}
 use Rattle.bench_sweep.proofs.Made.{zip_long}
 use Rattle.bench_sweep.specs.declared.rows.Row.{Row}
-use Rattle.bench_sweep.specs.Recovers.{Compared, nothing_compared}
-use Rattle.bench_sweep.specs.Rows.{row_text, row_lines, differs_text, differing_lines, shown_lines, told_part, differing_rows, sweep_text}
+use Rattle.bench_sweep.specs.Rows.{row_text, row_lines, differs_text, shown_lines, told_part, differing_rows, sweep_text}
 use Rattle.bench_sweep.specs.declared.recovery.Differs.{Differs}
 use Rattle.bench_sweep.specs.declared.sweeps.Recovered.{Recovered}
 use Rattle.bench_sweep.specs.Swept.{Cell, Spot, spot, cell, cell_of, runs_of, runs_from, runs_at, callers, all_points, all_runs, joined_runs, own_runs, own_total, points_from, rows_text, GoesOn, Writes, total, WroteAll, WroteRows}
@@ -61,26 +59,6 @@ pub row_handed : (a b c d : Option (List ℕ)) (row : Row) → Appends a b (row_
 row_handed a b c d row first second keeps =
     let A : List ℕ → Type 0 = λ text. Appends a d text in
     subst A (row_told row _ refl) (handed_on a c d _ (appended a b c (row_text row ++ 10 ∷ []) (told_part row row.recovered) first second) keeps)
-
--- by a quiet bench only where a look differs
-pub shown_quiet : (a : Option (List ℕ)) (quiet : Bool) (row : Row) → quiet ≡ true → is_none row.recovered ≡ true → Appends a a (shown_lines quiet row)
-shown_quiet a quiet row is none =
-    let P : Bool → Type 0 = λ q. Appends a a (shown_lines q row) in
-    let Q : Option Differs → Type 0 = λ d. is_none d ≡ true → Appends a a (differing_lines row d) in
-    subst P (sym is) (by row.recovered none)
-  where
-    by : (d : Option Differs) → is_none d ≡ true → Appends a a (differing_lines row d)
-    by None e = unwritten a
-    by (Some d) e = cc
-
-pub shown_all : (quiet : Bool) (row : Row) → (quiet ≡ false) ⊎ (is_none row.recovered ≡ false) → shown_lines quiet row ≡ row_lines row
-shown_all false row why = refl
-shown_all true row (inl never) = cc
-shown_all true row (inr some) = by row.recovered some
-  where
-    by : (d : Option Differs) → is_none d ≡ false → differing_lines row d ≡ row_lines row
-    by None e = cc
-    by (Some d) e = refl
 
 text_more : (quiet : Bool) (rows more : List Row) → rows_text quiet (rows ++ more) ≡ rows_text quiet rows ++ rows_text quiet more
 text_more quiet rows more = flat_map-append (λ (row : Row). shown_lines quiet row) rows more

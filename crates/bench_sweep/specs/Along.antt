@@ -1,5 +1,5 @@
 -- A moment of a run, and the images that were resumed up to it.
-use Rattle.std.specs.Prelude.{◌≡◌, List, take}
+use Rattle.std.specs.Prelude.{List, take}
 use Rattle.board_model.specs.Shapes.{Size}
 use Rattle.script_lang.specs.declared.line.Line.{Line}
 use Rattle.bench_report.specs.Bench.{Bench}

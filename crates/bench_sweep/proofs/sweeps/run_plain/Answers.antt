@@ -1,4 +1,4 @@
-use Rattle.std.proofs.Common.{◌≡◌, ◌∙◌, List, arith, subst, sym}
+use Rattle.std.proofs.Common.{◌∙◌, List, arith, subst, sym}
 use Rattle.std.proofs.lemmas.List.{take_all}
 use Rattle.script_lang.specs.declared.line.Line.{Line}
 use Rattle.bench_report.specs.Happens.{unpowered}

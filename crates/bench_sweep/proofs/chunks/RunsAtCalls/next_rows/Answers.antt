@@ -1,4 +1,3 @@
-use Rattle.std.proofs.Common.{arith}
 use Rattle.bench_sweep.proofs.chunks.RunsAtCalls.next_rows.Goals as goal
 
 pub run_to-requires-clause-sits : goal.run_to-requires-clause-sits
