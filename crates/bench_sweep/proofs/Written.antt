@@ -309,7 +309,7 @@ wrote_rows plan size start lines after numbers a b s t begin first origin ended 
   ended = ended;
   took = took;
   counts = counts;
-  counted = counted;
+  calls = counted;
   rows = wrote.rows;
   each = wrote.each;
   cells = wrote.cells ∙ runs_of_own plan.bench plan.part counts;
@@ -338,7 +338,7 @@ wrote_all plan size start lines a b c t wrote last =
       ended = wrote.ended;
       took = wrote.took;
       counts = wrote.counts;
-      counted = wrote.counted;
+      calls = wrote.calls;
       rows = wrote.rows;
       each = subst E none wrote.each;
       cells = wrote.cells;

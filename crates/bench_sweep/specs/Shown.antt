@@ -120,7 +120,7 @@ pub record HasRun (kind : Kind) (size : Size) (origin : SimDisk) (b : Bench) (th
   pub ended : SimDisk
   pub took : RunTook size those origin ended
   pub counts : List ℕ
-  pub counted : AllZip (MadeCalls origin ended) callers counts
+  pub calls : AllZip (MadeCalls origin ended) callers counts
   pub nth : IsNthRun kind counts number run
 
 -- there is none of that number
@@ -129,7 +129,7 @@ pub record HasNoRun (kind : Kind) (size : Size) (origin : SimDisk) (b : Bench) (
   pub ended : SimDisk
   pub took : RunTook size those origin ended
   pub counts : List ℕ
-  pub counted : AllZip (MadeCalls origin ended) callers counts
+  pub calls : AllZip (MadeCalls origin ended) callers counts
   pub fewer : HasFewer kind counts number
 
 -- The row of that number was written: its lines in front of it, those from that bench on that then run, and those behind its end.

@@ -176,7 +176,7 @@ pub record WroteAll (plan : Plan) (size : Size) (start : List (List ℕ)) (lines
   pub ended : SimDisk
   pub took : RunTook size (drop begin lines) origin ended
   pub counts : List ℕ
-  pub counted : AllZip (MadeCalls origin ended) callers counts
+  pub calls : AllZip (MadeCalls origin ended) callers counts
   pub rows : List Row
   pub each : All (λ (row : Row). IsRunOf size plan.bench origin row.caller row.number (unpowered first) (drop begin lines) nothing_compared row.left row.recovered) rows
   pub cells : map cell_of rows ≡ own_runs plan.bench plan.part counts
@@ -201,7 +201,7 @@ pub record WroteRows (plan : Plan) (size : Size) (start : List (List ℕ)) (line
   pub ended : SimDisk
   pub took : RunTook size (drop begin lines) origin ended
   pub counts : List ℕ
-  pub counted : AllZip (MadeCalls origin ended) callers counts
+  pub calls : AllZip (MadeCalls origin ended) callers counts
   pub rows : List Row
   pub each : All (λ (row : Row). IsRunOf size plan.bench origin row.caller row.number (unpowered first) (drop begin lines)
       (record { lines = after; numbers = numbers; own = own }) row.left row.recovered) rows
