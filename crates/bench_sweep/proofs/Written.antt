@@ -297,7 +297,7 @@ pub wrote_rows : (plan : Plan) (size : Size) (start : List (List ℕ)) (lines af
     → Writes plan.quiet (λ row. IsRunOf size plan.bench origin row.caller row.number (unpowered first) (drop begin lines) (record { lines = after; numbers = numbers; own = own }) row.left row.recovered) a b s t
     (runs_at plan.bench (own_of plan.part (all_points callers counts))) (length (own_of plan.part (all_points callers counts)))
     → WroteRows plan size start lines after numbers a b t
-wrote_rows plan size start lines after numbers a b s t begin first origin ended counts own no_point no_run no_wrong no_differ format stands plain uncut took counted wrote = record {
+wrote_rows plan size start lines after numbers a b s t begin first origin ended counts own no_point no_run no_wrong no_differ format stands plain uncut took zip wrote = record {
   begin = begin;
   first = first;
   format = format;
@@ -309,12 +309,12 @@ wrote_rows plan size start lines after numbers a b s t begin first origin ended 
   ended = ended;
   took = took;
   counts = counts;
-  calls = counted;
+  calls = zip;
   rows = wrote.rows;
   each = wrote.each;
   cells = wrote.cells ∙ runs_of_own plan.bench plan.part counts;
   text = wrote.text;
-  points = wrote.points 0 no_point ∙ ap (λ k. counted 0 k) (zero-add (length (own_of plan.part (all_points callers counts))) ∙ own_long plan.part counts (zip_long (MadeCalls origin ended) callers counts counted));
+  points = wrote.points 0 no_point ∙ ap (λ k. counted 0 k) (zero-add (length (own_of plan.part (all_points callers counts))) ∙ own_long plan.part counts (zip_long (MadeCalls origin ended) callers counts zip));
   runs = wrote.runs 0 no_run ∙ ap (λ k. counted 0 k) (zero-add (length wrote.rows));
   right = wrote.right ∙ no_wrong;
   differ = wrote.differ 0 no_differ ∙ ap (λ k. counted 0 k) (zero-add (differing_rows wrote.rows));
