@@ -1,6 +1,6 @@
 -- A run that goes on behind some lines, and moments of it.
 use Rattle.std.proofs.Common.{◌≡◌, ◌≤◌, ◌<◌, ◌+◌, ◌-◌, ◌++◌, ◌∷◌, [], ℕ, List, false, length, take, drop, get_or, refl, sym, ◌∙◌, ap, subst, append_assoc, arith}
-use Rattle.std.proofs.lemmas.List.{length-take, length-drop, take-take, take_more, take_all}
+use Rattle.std.proofs.lemmas.List.{length-take, length-drop, take-take, take_more}
 use Rattle.board_model.specs.Shapes.{Size}
 use Rattle.jobs.specs.Handed.{AreRows, TakesAll}
 use Rattle.jobs.proofs.HandedOn.{rows_both, taken_both}
@@ -10,7 +10,6 @@ use Rattle.report_lines.specs.declared.printed.Answer.{Answer}
 use Rattle.bench_report.specs.Agree.{HasDisk}
 use Rattle.bench_report.specs.Bench.{Bench}
 use Rattle.bench_report.specs.Steps.{Run}
-use Rattle.bench_report.specs.declared.power.Power.{Power}
 use Rattle.bench_sweep.specs.declared.ledgers.Ledger.{Ledger}
 use Rattle.bench_sweep.specs.declared.moments.Moment.{Moment}
 use Rattle.bench_sweep.specs.declared.points.Bench.{Bench as Kind}
@@ -22,8 +21,10 @@ use Rattle.bench_sweep.specs.Points.{MadeCalls}
 use Rattle.bench_sweep.specs.Recovers.{Compared}
 use Rattle.bench_sweep.specs.Reports.{RunsAlong, RunsRow}
 use Rattle.bench_sweep.specs.Resumes.{line_resumes, lines_resume, Resumes}
-use Rattle.bench_sweep.specs.Runs.{CameAlong, RanTo, RunsCalm}
+use Rattle.bench_sweep.specs.Runs.{RanTo, RunsCalm}
+use Rattle.bench_sweep.specs.Took.{RunTook, disk_at}
 use Rattle.bench_sweep.proofs.Made.{take_plus}
+use Rattle.bench_sweep.proofs.Took.{disk_is, has_disk, took_both}
 
 -- ---- moments
 run_both : (size : Size) (xs ys : List Line) (b : Bench) (said also : List Answer) (mid new : Bench) → Run size b xs said mid → Run size mid ys also new → Run size b (xs ++ ys) (said ++ also) new
@@ -46,10 +47,10 @@ lines_on k n to lines few =
     ap (λ (ls : List Line). take k lines ++ ls) (take-take n (to - k) (drop k lines) (omega (arith, long, few))) ∙ take_plus k n lines
 
 -- the lines were run on
-pub came_on : (size : Size) (b : Bench) (lines : List Line) (first : Ledger) (old new : Moment) (to n : ℕ) (told : CameTold size b lines first old)
-    → (r : RanTo size told.came.at (take n (take (to - old.count) (drop old.count lines))) new.going.power new.going.payloads old.going.ledger new.going.ledger) → r.bench.fault_state.struck ≡ false
+pub came_on : (size : Size) (b : Bench) (lines : List Line) (first : Site) (old new : Moment) (to n : ℕ) (told : CameTold size b lines first old)
+    → (r : RanTo size told.came.at (take n (take (to - old.count) (drop old.count lines))) new.going.power new.going.payloads old.going.ledger new.going.ledger) → RunTook size (take n (take (to - old.count) (drop old.count lines))) (disk_at old.going.power) (disk_at new.going.power) → r.bench.fault_state.struck ≡ false
     → n ≤ length (take (to - old.count) (drop old.count lines)) → new.count ≡ old.count + n → CameTold size b lines first new
-came_on size b lines first old new to n told r calm few count =
+came_on size b lines first old new to n told r took calm few count =
     let c = told.came in
     let front = take old.count lines in
     let slice = take n (take (to - old.count) (drop old.count lines)) in
@@ -58,11 +59,12 @@ came_on size b lines first old new to n told r calm few count =
     let all : front ++ slice ≡ take new.count lines = lines_on old.count n to lines few ∙ ap (λ (k : ℕ). take k lines) (sym count) in
     let A : Bench → Type 0 = λ x. Run size c.at slice r.answers x in
     let L : List Line → Type 0 = λ ls. Run size b ls (c.answers ++ r.answers) r.bench in
-    let S : List Line → Type 0 = λ ls. Resumes first new.going.ledger (lines_resume ls (c.answers ++ r.answers)) in
+    let S : List Line → Type 0 = λ ls. Resumes first.ledger new.going.ledger (lines_resume ls (c.answers ++ r.answers)) in
+    let T : List Line → Type 0 = λ ls. RunTook size ls first.off.disk (disk_at new.going.power) in
     let serials : S (front ++ slice) =
     r.resumed ∙ ap (λ (xs : List Answer). old.going.ledger.resumed.items ++ lines_resume slice xs) (r.told calm) ∙ ap (λ (xs : List ℕ). xs ++ lines_resume slice r.answers) told.resumed
-    ∙ append_assoc first.resumed.items (lines_resume front c.answers) (lines_resume slice r.answers)
-    ∙ ap (λ (xs : List ℕ). first.resumed.items ++ xs) (sym (resumed_both size front slice b c.answers r.answers c.at c.run)) in record {
+    ∙ append_assoc first.ledger.resumed.items (lines_resume front c.answers) (lines_resume slice r.answers)
+    ∙ ap (λ (xs : List ℕ). first.ledger.resumed.items ++ xs) (sym (resumed_both size front slice b c.answers r.answers c.at c.run)) in record {
       came = record {
         few = omega (arith, count, few, long, rest, c.few);
         answers = c.answers ++ r.answers;
@@ -71,36 +73,41 @@ came_on size b lines first old new to n told r calm few count =
         runs = record { agrees = r.runs.agrees; same = r.runs.same; follows = r.runs.follows; calm = calm };
       };
       resumed = subst S all serials;
+      took = subst T all (took_both size front slice first.off.disk (disk_at old.going.power) (disk_at new.going.power) told.took took);
     }
 
 -- the moment's board is another that stands as it
-pub came_again : (size : Size) (b : Bench) (lines : List Line) (first : Ledger) (old new : Moment) (told : CameTold size b lines first old) → new.count ≡ old.count → new.going.ledger ≡ old.going.ledger
-    → RunsCalm size told.came.at new.going.power new.going.payloads new.going.ledger → CameTold size b lines first new
-came_again size b lines first old new told count ledger runs =
+pub came_again : (size : Size) (b : Bench) (lines : List Line) (first : Site) (old new : Moment) (told : CameTold size b lines first old) → new.count ≡ old.count → new.going.ledger ≡ old.going.ledger
+    → RunsCalm size told.came.at new.going.power new.going.payloads new.going.ledger → ((d : SimDisk) → HasDisk old.going.power d → HasDisk new.going.power d) → CameTold size b lines first new
+came_again size b lines first old new told count ledger runs same =
     let c = told.came in
     let N : ℕ → Type 0 = λ k. Run size b (take k lines) c.answers c.at in
-    let S : ℕ → Type 0 = λ k. Resumes first old.going.ledger (lines_resume (take k lines) c.answers) in
-    let L : Ledger → Type 0 = λ l. Resumes first l (lines_resume (take new.count lines) c.answers) in record {
+    let S : ℕ → Type 0 = λ k. Resumes first.ledger old.going.ledger (lines_resume (take k lines) c.answers) in
+    let L : Ledger → Type 0 = λ l. Resumes first.ledger l (lines_resume (take new.count lines) c.answers) in
+    let K : ℕ → Type 0 = λ k. RunTook size (take k lines) first.off.disk (disk_at old.going.power) in
+    let D : SimDisk → Type 0 = λ d. RunTook size (take new.count lines) first.off.disk d in record {
       came = record { few = omega (arith, count, c.few); answers = c.answers; at = c.at; run = subst N (sym count) c.run; runs = runs };
       resumed = subst L (sym ledger) (subst S (sym count) told.resumed);
+      took = subst D (disk_is new.going.power (disk_at old.going.power) (same (disk_at old.going.power) (has_disk old.going.power))) (subst K (sym count) told.took);
     }
 
 -- ---- a row from there
-pub along : (size : Size) (kind : Kind) (site : Site) (before : ℕ) (b : Bench) (lines ls : List Line) (rest : Compared) (moment : Moment) (c : CameAlong size b lines moment) (d : SimDisk) (caller : Caller) (made : ℕ)
-    → HasDisk moment.going.power d → MadeCalls site.off.disk d caller made → ls ≡ drop moment.count lines → (row : Row) → row.caller ≡ caller → RunsRow size kind (before + made) c.at ls rest row → RunsAlong size kind site before b lines rest row
-along size kind site before b lines ls rest moment c d caller made has counts is row who runs =
-    let M : Caller → Type 0 = λ x. MadeCalls site.off.disk d x made in
+pub along : (size : Size) (kind : Kind) (site : Site) (before : ℕ) (b : Bench) (lines ls : List Line) (rest : Compared) (moment : Moment) (told : CameTold size b lines site moment) (d : SimDisk) (caller : Caller) (made : ℕ)
+    → HasDisk moment.going.power d → MadeCalls site.off.disk d caller made → ls ≡ drop moment.count lines → (row : Row) → row.caller ≡ caller → RunsRow size kind (before + made) told.came.at ls rest row → RunsAlong size kind caller site before b lines rest row
+along size kind site before b lines ls rest moment told d caller made has counts is row who runs =
+    let c = told.came in
+    let D : SimDisk → Type 0 = λ x. RunTook size (take moment.count lines) site.off.disk x in
     let R : List Line → Type 0 = λ xs. RunsRow size kind (before + made) c.at xs rest row in record {
+      who = who;
       more = moment.count;
       answers = c.answers;
       at = c.at;
       along = c.run;
-      power = moment.going.power;
-      stands = c.runs.agrees;
       disk = d;
-      has = has;
+      stands = (moment.going.power, c.runs.agrees, has);
+      took = subst D (sym (disk_is moment.going.power d has)) told.took;
       made = made;
-      counts = subst M (sym who) counts;
+      counts = counts;
       runs = subst R is runs;
     }
 

@@ -1,6 +1,6 @@
 -- Where a bench begins.
-use Rattle.std.proofs.Common.{◌≡◌, ◌⊎◌, ◌<◌, ◌+◌, ◌++◌, ◌∷◌, ℕ, Bool, true, false, Result, Ok, Err, length, take, get_or, inl, inr, List, [], Option, None, Some, refl, sym, ◌∙◌, ap, subst}
-use Rattle.board_model.specs.Durable.{DurableState, Change, CarriesWhole}
+use Rattle.std.proofs.Common.{◌≡◌, ◌<◌, ◌+◌, ◌++◌, ◌∷◌, ℕ, Bool, true, Result, Ok, Err, length, take, get_or, inl, inr, List, [], Option, None, Some, sym, ◌∙◌, ap, subst}
+use Rattle.board_model.specs.Durable.{Change, CarriesWhole}
 use Rattle.board_model.specs.Kept.{Kept, nothing_kept}
 use Rattle.board_model.specs.Shapes.{Size}
 use Rattle.board_model.specs.declared.refusal.Refusal.{Refusal}

@@ -1,6 +1,6 @@
 -- What is told of a recovery that was run.
-use Rattle.std.proofs.Common.{◌≡◌, ◌<◌, ◌≤◌, ◌⊎◌, ◌+◌, ◌++◌, ◌∷◌, [], ℕ, zero, suc, inl, inr, ⊎_elim, Bool, true, false, if◌then◌else◌, List, Option, None, Some, length, map, min, take, drop, get_or, refl, sym, ◌∙◌, ap, subst, add-one, arith}
-use Rattle.std.specs.Prelude.{IfSome, IsTrue, ◌≢◌}
+use Rattle.std.proofs.Common.{◌≡◌, ◌<◌, ◌≤◌, ◌⊎◌, ◌+◌, ◌++◌, ◌∷◌, [], ℕ, zero, suc, inl, inr, ⊎_elim, Bool, true, false, if◌then◌else◌, List, Option, None, Some, length, map, min, take, drop, get_or, refl, sym, ◌∙◌, ap, subst, arith}
+use Rattle.std.specs.Prelude.{IfSome, IsTrue}
 use Rattle.std.proofs.Math.Seq.{drop-cons}
 use Rattle.std.proofs.lemmas.Bool.{cases_lt}
 use Rattle.std.proofs.lemmas.List.{append-nil, take-append-drop, take_all, take_more, length-take-le}
@@ -20,7 +20,6 @@ use Rattle.bench_sweep.specs.Made.{RecoversFrom, IsToldOf}
 use Rattle.bench_sweep.specs.Recovers.{Compared, is_look, look_numbers, TellsFirst}
 use Rattle.bench_sweep.specs.Reports.{RunsOver, ToldOver}
 use Rattle.bench_sweep.specs.declared.recovery.Differs.{Differs}
-use Rattle.bench_sweep.proofs.Written.{map_more}
 
 -- a power-on found what the content stands for
 pub opened_as : (content : Content) (left : Answer) (d : Durable) → left.found ≡ Some d → OpensOf content left → (size : Size) × (s : DurableState) × StandsFor content size s × (d ≡ durable_of s)
@@ -79,17 +78,6 @@ tells_first numbers own said i line mine other d e less long same mine_is other_
 pub unsaid : (said : Bool) → said ≡ false → IsTrue said → ⊥
 unsaid true e t = let no : ⊥ = cc in no
 unsaid false e t = let no : ⊥ = cc in no
-
--- one more that is the same
-pub same_more : (own said : List Printed) (i : ℕ) (mine other d : Printed) → i < length own → length said ≡ length own → map line_text (take i said) ≡ map line_text (take i own) → mine ≡ get_or own i d → other ≡ get_or said i d → line_text other ≡ line_text mine
-    → map line_text (take (i + 1) said) ≡ map line_text (take (i + 1) own)
-same_more own said i mine other d less long same mine_is other_is alike =
-    map_more line_text said i other d (omega (arith, less, long)) other_is ∙ ap (λ (front : List (List ℕ)). front ++ line_text other ∷ []) same
-    ∙ ap (λ (x : List ℕ). map line_text (take i own) ++ x ∷ []) alike ∙ sym (map_more line_text own i mine d less mine_is)
-
-pub same_all : (own said : List Printed) (i : ℕ) → length own ≤ i → length said ≡ length own → map line_text (take i said) ≡ map line_text (take i own) → map line_text said ≡ map line_text own
-same_all own said i all long same =
-    ap (λ (xs : List Printed). map line_text xs) (sym (take_all i said (omega (arith, all, long)))) ∙ same ∙ ap (λ (xs : List Printed). map line_text xs) (take_all i own all)
 
 -- ---- numbers of looks
 -- a line before the others

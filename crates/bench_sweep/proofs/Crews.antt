@@ -1,5 +1,5 @@
 -- The order in which a bench saves its lanes.
-use Rattle.std.proofs.Common.{ℕ, List, [], ◌∷◌, zero, suc, refl, arith}
+use Rattle.std.proofs.Common.{[], ◌∷◌, zero, suc, refl, arith}
 use Rattle.crew.specs.Orders.{IsOrder}
 
 pub rising : IsOrder (0 ∷ 1 ∷ 2 ∷ 3 ∷ [])

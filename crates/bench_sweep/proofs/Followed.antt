@@ -1,5 +1,5 @@
 -- Ledgers that follow what is told of the commands kept.
-use Rattle.std.proofs.Common.{◌≡◌, ◌≢◌, ◌⊎◌, ℕ, inl, inr, Bool, true, false, List, [], ◌∷◌, ◌++◌, Option, None, Some, Result, Ok, Err, OnOk, length, refl, sym, ◌∙◌, ap, subst, if◌then◌else◌, ◌==◌, is_some}
+use Rattle.std.proofs.Common.{◌≡◌, ◌⊎◌, ℕ, inl, inr, Bool, true, false, List, [], ◌∷◌, ◌++◌, Option, None, Some, Result, Ok, Err, OnOk, length, refl, sym, ◌∙◌, ap, subst, if◌then◌else◌, ◌==◌, is_some}
 use Rattle.std.proofs.lemmas.Bool.Decides.{Decides-eqb}
 use Rattle.board_model.specs.Durable.{DurableState, Change, Slot, Reset, Suspend, Consume, Discard, Tries, Good, Attempt, refusal_of, after, IsWhole, CarriesWhole}
 use Rattle.board_model.specs.Kept.{Kept, MayKeep, TakesIn, found_of}
@@ -11,7 +11,6 @@ use Rattle.board_model.specs.declared.durable.Entry.TheVariants as entries
 use Rattle.board_model.specs.declared.durable.ImageHead.{ImageHead}
 use Rattle.board_model.specs.declared.durable.Reason.{Reason}
 use Rattle.board_model.specs.declared.plain.Plain.{Plain}
-use Rattle.board_model.specs.declared.durable.Durable.{Durable}
 use Rattle.board_model.specs.declared.refusal.Refusal.{Refusal}
 use Rattle.board_model.specs.declared.refusal.Refusal.TheVariants.{Memory, NoImage}
 use Rattle.report_lines.specs.declared.printed.Printed.{Printed}
@@ -21,7 +20,7 @@ use Rattle.sbi.specs.declared.resets.ResetType.{ResetType}
 use Rattle.sbi.specs.declared.words.Word.{Word}
 use Rattle.sbi.specs.declared.words.Word.TheVariants as words
 use Rattle.sbi.specs.declared.words.LifeEnd.TheVariants as life_ends
-use Rattle.bench_report.specs.Views.{SimStore, SimBoard, store_in, machine_in, store_now, store_doubt}
+use Rattle.bench_report.specs.Views.{SimBoard, store_in, machine_in, store_now, store_doubt}
 use Rattle.bench_report.specs.Bench.{DiskState, Formatted, BenchLife, Bench}
 use Rattle.bench_report.specs.Agree.{BoardIs, OnIs, IsOver}
 use Rattle.bench_sweep.specs.declared.ledgers.Ledger.{Ledger}

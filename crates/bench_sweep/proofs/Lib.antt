@@ -15,6 +15,7 @@ pub mod Reported
 pub mod Calls
 pub mod Fed
 pub mod Ran
+pub mod Took
 pub mod Made
 pub mod Scripts
 pub mod Rowed

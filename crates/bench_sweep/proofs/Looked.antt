@@ -1,5 +1,5 @@
 -- Lines that are run one after another, and what the looks among them say.
-use Rattle.std.proofs.Common.{◌≡◌, ◌<◌, ◌+◌, ◌∷◌, ◌++◌, [], ℕ, Bool, true, false, List, inl, length, take, get_or, refl, sym, ◌∙◌, ap, subst, length-append, if◌then◌else◌, arith}
+use Rattle.std.proofs.Common.{◌≡◌, ◌<◌, ◌+◌, ◌∷◌, ◌++◌, [], ℕ, true, false, List, inl, length, take, get_or, refl, sym, ◌∙◌, ap, subst, length-append, arith}
 use Rattle.std.proofs.lemmas.List.{append_assoc, append-nil, take_more}
 use Rattle.board_model.specs.Shapes.{Size}
 use Rattle.bench_report.proofs.RunLines.{run_more}
@@ -11,7 +11,7 @@ use Rattle.report_lines.specs.declared.printed.Printed.{Printed}
 use Rattle.script_lang.specs.declared.line.Line.{Line}
 use Rattle.script_lang.specs.declared.line.Line.TheVariants as lines
 use Rattle.bench_sweep.specs.declared.ledgers.Ledger.{Ledger}
-use Rattle.bench_sweep.specs.Lines.{LineAdds, LineMoves, LineSays}
+use Rattle.bench_sweep.specs.Lines.{LineAdds}
 use Rattle.bench_sweep.specs.Made.{Recovers}
 use Rattle.bench_sweep.specs.Recovers.{is_look, look_said, looks_of}
 use Rattle.bench_sweep.specs.Runs.{RunsCalm}
@@ -24,28 +24,6 @@ pub look_is_still : (line : Line) → is_look line ≡ true → IsPlainLine line
 look_is_still (lines.Show look) e = (tt, refl, refl)
 look_is_still lines.Inspect e = (tt, refl, refl)
 look_is_still line e = cc
-
--- what it says is kept
-pub look_adds : (size : Size) (line : Line) (b : Bench) (said : Printed) (old new : List Printed) (power : Power) (slots : List (List ℕ)) (ledger : Ledger) → is_look line ≡ true → new ≡ old ++ said ∷ [] → LineSays size line b said power slots ledger → LineAdds size line b old new power slots ledger
-look_adds size line b said old new power slots ledger look kept s =
-    let P : Bool → Type 0 = λ x. new ≡ old ++ (if x then (s.answer.line ∷ []) else []) in record {
-      bench = s.bench;
-      answer = s.answer;
-      does = s.does;
-      adds = subst P (sym look) (kept ∙ ap (λ p. old ++ p ∷ []) (sym s.says));
-      runs = s.runs;
-    }
-
--- and of another line nothing
-pub other_adds : (size : Size) (line : Line) (b : Bench) (said : List Printed) (power : Power) (slots : List (List ℕ)) (was ledger : Ledger) → is_look line ≡ false → LineMoves size line b power slots was ledger → LineAdds size line b said said power slots ledger
-other_adds size line b said power slots was ledger other m =
-    let P : Bool → Type 0 = λ x. said ≡ said ++ (if x then (m.does.0.line ∷ []) else []) in record {
-      bench = m.bench;
-      answer = m.does.0;
-      does = m.does.1;
-      adds = subst P (sym other) (sym (append-nil said));
-      runs = m.runs;
-    }
 
 -- ---- lines one after another
 looks_more : (ls : List Line) (ys : List Answer) (l : Line) (a : Answer) → length ys ≡ length ls → looks_of (ls ++ l ∷ []) (ys ++ a ∷ []) ≡ looks_of ls ys ++ look_said l a

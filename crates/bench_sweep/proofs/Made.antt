@@ -1,5 +1,5 @@
 -- Rows of runs that were made.
-use Rattle.std.proofs.Common.{◌≡◌, ◌≤◌, ◌<◌, ◌+◌, ◌-◌, ◌⊎◌, ◌++◌, ◌∷◌, [], ℕ, suc, List, Option, None, true, false, inl, inr, length, take, drop, refl, sym, ◌∙◌, ap, subst, arith}
+use Rattle.std.proofs.Common.{◌≡◌, ◌≤◌, ◌<◌, ◌+◌, ◌-◌, ◌⊎◌, ◌++◌, ◌∷◌, [], ℕ, suc, List, None, true, false, inl, inr, length, take, drop, refl, sym, ◌∙◌, ap, subst, arith}
 use Rattle.std.proofs.lemmas.List.{take-append-drop, take-take, take_all, drop_all, drop-drop, drop-take, length-drop, length-take-le, append-nil}
 use Rattle.std.proofs.lemmas.Bool.{cases_lt}
 use Rattle.std.proofs.lemmas.Grind.{flat_map-append}
@@ -27,6 +27,8 @@ use Rattle.bench_sweep.specs.Points.{fault_at, MadeCalls}
 use Rattle.simdisk.specs.declared.SimDisk.{SimDisk}
 use Rattle.bench_sweep.specs.Reports.{IsLeft, RunsAlong, RunsRow, IsRow}
 use Rattle.bench_sweep.specs.Runs.{RunsAt, RanTo, IsEnd, IsLife}
+use Rattle.bench_sweep.specs.Took.{RunTook}
+use Rattle.bench_sweep.proofs.Took.{took_both}
 
 -- ---- a run with a fault armed
 module _ (size : Size) (kind : Kind) (at : Point) (b : Bench) (lines : List Line) (count : ℕ) (power : Power) (slots : List (List ℕ)) (first ledger : Ledger) (few : count ≤ length lines) (ran : RanTo size (armed_with (fault_at kind at.caller at.call) b) (take count lines) power slots first ledger) where
@@ -205,10 +207,18 @@ uncut_run size first lines rest own site e recovers =
     let P : Bench → Type 0 = λ x. Recovers size x rest own in
     record { before = e.before; bench = e.bench; lives = e.lives; answers = e.answers; end = e.end; run = e.run; recovers = subst P e.same recovers }
 
+-- the disks of some lines more
+pub took_on : (size : Size) (lines rest : List Line) (n m : ℕ) (old mid new : SimDisk) → rest ≡ drop n lines → RunTook size (take n lines) old mid → RunTook size (take m rest) mid new → RunTook size (take (n + m) lines) old new
+took_on size lines rest n m old mid new is first second =
+    let R : List Line → Type 0 = λ ls. RunTook size (take m ls) mid new in
+    let L : List Line → Type 0 = λ ls. RunTook size ls old new in
+    subst L (take_plus n m lines) (took_both size (take n lines) (take m (drop n lines)) old mid new first (subst R is second))
+
 -- a row behind so many lines, and behind some of the life under way
-pub row_of : (size : Size) (kind : Kind) (before : ℕ) (first : Bench) (lines rest : List Line) (n : ℕ) (at : Site) → rest ≡ drop n lines → (f : SoFar size first (take n lines) at) → (then : Compared) (row : Row) → RunsAlong size kind at before (unpowered f.bench) rest then row
-    → IsRow size kind first lines then row
-row_of size kind before first lines rest n at is f then row r =
+pub row_of : (size : Size) (kind : Kind) (caller : Caller) (before : ℕ) (origin : SimDisk) (first : Bench) (lines rest : List Line) (n : ℕ) (at : Site) → rest ≡ drop n lines → (f : SoFar size first (take n lines) at) → RunTook size (take n lines) origin at.off.disk
+    → MadeCalls origin at.off.disk caller before → (then : Compared) (row : Row) → RunsAlong size kind caller at before (unpowered f.bench) rest then row → IsRow size kind origin first lines then row
+row_of size kind caller before origin first lines rest n at is f took counts then row r =
+    let M : Caller → Type 0 = λ x. MadeCalls origin r.disk x (before + r.made) in
     let P : List Line → Type 0 = λ ls. Run size (unpowered f.bench) (take r.more ls) r.answers r.at in
     let Q : List Line → Type 0 = λ ls. RunsWith size kind row.caller (before + r.made) row.number r.at ls then row.left row.recovered in record {
       before = n;
@@ -218,7 +228,11 @@ row_of size kind before first lines rest n at is f then row r =
       answers = r.answers;
       at = r.at;
       along = subst P is r.along;
+      disk = r.disk;
+      stands = r.stands;
+      took = took_on size lines rest n r.more origin at.off.disk r.disk is took r.took;
       made = before + r.made;
+      counted = subst M (sym r.who) (omega (arith, counts, r.counts));
       run = subst Q (ap (λ (ls : List Line). drop r.more ls) is ∙ drop-drop r.more n lines) r.runs;
     }
 

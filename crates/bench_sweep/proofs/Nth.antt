@@ -1,7 +1,7 @@
 -- The run of a number among all runs of a bench.
 use Rattle.std.proofs.Common.{◌≡◌, ◌≤◌, ◌<◌, ◌+◌, ◌*◌, ◌⊎◌, ◌^◌, ◌++◌, ◌∷◌, [], ℕ, zero, suc, List, Option, inl, inr, length, take, get_or, refl, sym, ◌∙◌, ap, subst, append_assoc, length-append, arith}
 use Rattle.std.proofs.lemmas.Bool.{cases_lt}
-use Rattle.std.proofs.lemmas.List.{take_all, take_more}
+use Rattle.std.proofs.lemmas.List.{take_all}
 use Rattle.disk.specs.Facts.{counted}
 use Rattle.bench_sweep.specs.declared.points.Bench.{Bench}
 use Rattle.bench_sweep.specs.declared.points.Bench.TheVariants.{Cuts, Fails}
@@ -9,7 +9,6 @@ use Rattle.bench_sweep.specs.declared.points.Caller.{Caller}
 use Rattle.simdisk.specs.declared.fill.Fill.{Fill}
 use Rattle.bench_sweep.specs.Shown.{fill_at, runs_each, HasFewer, IsNthRun}
 use Rattle.bench_sweep.specs.Swept.{Cell, all_runs, callers, cell, runs_from, runs_of, total}
-use Rattle.bench_sweep.proofs.Written.{total_more}
 
 -- a run stands at that place, from 0
 record At (cells : List Cell) (place : ℕ) (run : Cell) : Type 0 where
@@ -105,10 +104,6 @@ nth_run kind counts number place i at caller d fill five less is is_fill nth wit
     let F : Option Fill → Type 0 = λ f. At (all_runs kind callers counts) ((total (take i counts) + at) * runs_each kind + place) (cell caller (at + 1) f) in
     let a = subst F (sym is_fill) (subst C (sym is) (subst N call found)) in
     record { before = a.before; later = a.later; all = a.all; nth = nth ∙ ap (λ k. k + 1) (sym a.at) }
-
--- so many points stand before one more caller
-pub points_more : (counts : List ℕ) (i : ℕ) → i < length counts → total (take (i + 1) counts) ≡ total (take i counts) + get_or counts i 0
-points_more counts i less = ap total (take_more counts i 0 less) ∙ total_more (take i counts) (get_or counts i 0)
 
 -- there are fewer
 pub fewer_runs : (kind : Bench) (counts : List ℕ) (number all rest place i : ℕ) → length counts ≡ 5 → 5 ≤ i → all ≡ total (take i counts) + rest → number ≡ all * runs_each kind + place + 1 → HasFewer kind counts number

@@ -1,5 +1,5 @@
 -- Lines that are run one after another, and the bench then.
-use Rattle.std.proofs.Common.{◌≡◌, ◌<◌, ◌+◌, ◌∷◌, ◌++◌, [], ℕ, true, false, Bool, List, inl, inr, length, take, drop, get_or, refl, sym, ◌∙◌, ap, subst, append_assoc, length-append, arith}
+use Rattle.std.proofs.Common.{◌≡◌, ◌<◌, ◌+◌, ◌∷◌, ◌++◌, [], ℕ, true, false, Bool, List, inl, inr, length, take, get_or, refl, sym, ◌∙◌, ap, subst, append_assoc, length-append, arith}
 use Rattle.std.proofs.lemmas.List.{append-nil, take_more}
 use Rattle.board_model.specs.Shapes.{Size}
 use Rattle.bench_report.proofs.RunLines.{run_more}

@@ -1,8 +1,7 @@
 -- The rows of a point, and how they are written one point after another.
-use Rattle.std.proofs.Common.{◌≡◌, ◌≤◌, ◌<◌, ◌+◌, ◌^◌, ◌++◌, ◌∷◌, [], ℕ, List, Option, length, map, refl, sym, ◌∙◌, ap, subst, length-append, arith}
+use Rattle.std.proofs.Common.{◌≡◌, ◌<◌, ◌+◌, ◌^◌, ◌++◌, ◌∷◌, [], ℕ, List, Option, length, map, sym, ◌∙◌, ap, subst, length-append, arith}
 use Rattle.std.proofs.lemmas.List.Elements.{All-nil, All-cons, All-append, All-weaker}
 use Rattle.std.specs.List.{All}
-use Rattle.std.specs.Io.KnownBytes.{Appends}
 use Rattle.disk.specs.Facts.{counted}
 use Rattle.board_model.specs.Shapes.{Size}
 use Rattle.script_lang.specs.declared.line.Line.{Line}
@@ -19,7 +18,7 @@ use Rattle.bench_sweep.specs.Reports.{Keeps, Judged, IsOfCall, TakesPoint, Repor
 use Rattle.bench_sweep.specs.Recovers.{Compared}
 use Rattle.bench_sweep.specs.Rows.{differing_rows}
 use Rattle.bench_sweep.specs.Runs.{RunsAt}
-use Rattle.bench_sweep.specs.Swept.{Cell, spot, cell_of, runs_of, points_from, rows_text, GoesOn}
+use Rattle.bench_sweep.specs.Swept.{Cell, spot, cell_of, runs_of, points_from, GoesOn}
 use Rattle.std.proofs.lemmas.List.{append-nil}
 use Rattle.bench_sweep.proofs.Written.{cells_more, each_at, next_point, one_more}
 use Rattle.bench_sweep.proofs.Reported.{reports_none, reports_more, reports_as}
@@ -84,7 +83,7 @@ reports_point contents kind Is old new rows caller number j t = record {
 -- the points of calls in a row, of which so many are passed over
 module _ {W : Type 0} (contents : W → Option (List ℕ)) (size : Size) (kind : Kind) (caller : Caller) (before from : ℕ) (lines : List Line) (rest : Compared) (site : Site) (b : Bench) (r : RunsAt size b site) (first : Report W) where
   abbrev Is : Row → Type 0
-  Is = RunsAlong size kind site before (unpowered b) lines rest
+  Is = RunsAlong size kind caller site before (unpowered b) lines rest
 
   abbrev Wrote : Report W → ℕ → Type 0
   Wrote now done = Reports contents kind Is first now (points_from caller (before + from + 1) done)

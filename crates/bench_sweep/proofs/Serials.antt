@@ -14,7 +14,6 @@ use Rattle.board_model.specs.declared.plain.PlainImage.{PlainImage}
 use Rattle.board_model.specs.declared.refusal.Refusal.{Refusal}
 use Rattle.board_model.specs.declared.refusal.Refusal.TheVariants.{Memory, NoImage}
 use Rattle.report_lines.specs.declared.printed.Printed.{Printed}
-use Rattle.report_lines.specs.declared.printed.Printed.TheVariants as printed
 use Rattle.bench_sweep.specs.declared.ledgers.Ledger.{Ledger}
 use Rattle.bench_sweep.specs.Ledgers.{Tells, settled}
 use Rattle.bench_sweep.specs.Runs.{TellsWhole}

@@ -1,11 +1,11 @@
 -- Rows that are written as scripts.
-use Rattle.std.proofs.Common.{◌≡◌, ◌≤◌, ◌<◌, ◌⊎◌, ◌++◌, ◌∷◌, [], ℕ, List, Option, None, Some, Result, Ok, Err, IfErr, All, inl, inr, length, take, drop, refl, sym, ◌∙◌, ap, subst}
-use Rattle.std.proofs.lemmas.List.Elements.{All-append, All-cons, All-nil, All-take, All-drop}
+use Rattle.std.proofs.Common.{◌≡◌, ◌≤◌, ◌<◌, ◌⊎◌, ◌++◌, ◌∷◌, [], ℕ, List, Option, None, Result, Ok, Err, IfErr, All, inl, inr, length, take, sym, ◌∙◌, ap, subst}
+use Rattle.std.proofs.lemmas.List.Elements.{All-append, All-cons, All-nil}
 use Rattle.std.specs.Io.KnownBytes.{Appends}
 use Rattle.board_model.specs.Shapes.{Size, IsSize}
 use Rattle.board_model.specs.declared.refusal.Refusal.{Refusal}
 use Rattle.board_model.specs.declared.refusal.Refusal.TheVariants.{BadShape, Memory, Output}
-use Rattle.simdisk.specs.declared.fill.Fill.{Fill}
+use Rattle.simdisk.specs.declared.SimDisk.{SimDisk}
 use Rattle.script_lang.specs.Armings.{IsArmingInRange}
 use Rattle.script_lang.specs.Lines.{FitsLine, IsLineInRange}
 use Rattle.script_lang.specs.Scripts.{Script, script_of}
@@ -14,16 +14,14 @@ use Rattle.script_lang.specs.declared.armings.Arming.{Arming}
 use Rattle.script_lang.specs.declared.line.Line.{Line}
 use Rattle.script_lang.specs.declared.line.Line.TheVariants as lines
 use Rattle.bench_report.specs.Bench.{Bench}
-use Rattle.bench_report.specs.Happens.{armed_with, unpowered}
+use Rattle.bench_report.specs.Happens.{armed_with}
 use Rattle.bench_report.specs.declared.power.Power.{Power}
 use Rattle.bench_sweep.specs.declared.ledgers.Ledger.{Ledger}
 use Rattle.bench_sweep.specs.declared.points.Bench.{Bench as Kind}
 use Rattle.bench_sweep.specs.declared.points.Bench.TheVariants.{Cuts, Fails}
-use Rattle.bench_sweep.specs.declared.points.Caller.{Caller}
-use Rattle.bench_sweep.specs.declared.points.Caller.TheVariants.{Disk, Lane}
 use Rattle.bench_sweep.specs.Points.{cut_fill, fault_at}
 use Rattle.bench_sweep.specs.Runs.{RanTo}
-use Rattle.bench_sweep.specs.Shown.{arming, arming_of, cut_part, row_lines, HasCaller, HasRun, IsEnded, IsNamed, RunsArmed, ShowsFrom, ShowsNone, WroteScript}
+use Rattle.bench_sweep.specs.Shown.{arming, cut_part, row_lines, HasRun, IsEnded, RunsArmed, ShowsFrom, ShowsNone, WroteScript}
 use Rattle.bench_sweep.specs.Swept.{Cell}
 
 -- a run with that armed, by how it ended
@@ -86,20 +84,6 @@ no_shape (Err e) (inl memory) is = let never : ⊥ = cc (is, memory) in never
 no_shape (Err e) (inr output) is = let never : ⊥ = cc (is, output) in never
 
 -- ---- what a line arms
-pub named_arms : (size : Size) (kind : Kind) (caller : Caller) (call : ℕ) (fill : Option Fill) → 1 ≤ call → IsNamed size caller call → IsArmingInRange size (arming_of kind caller call fill)
-named_arms size Cuts Disk call fill some (has, few) = (some, few)
-named_arms size Cuts (Lane lane) call fill some (has, few) = (has, (some, few))
-named_arms size Fails Disk call fill some (has, few) = (some, few)
-named_arms size Fails (Lane lane) call fill some (has, few) = (has, (some, few))
-
-pub arms_named : (size : Size) (kind : Kind) (caller : Caller) (call : ℕ) (fill : Option Fill) → IsArmingInRange size (arming_of kind caller call fill) → IsNamed size caller call
-arms_named size Cuts Disk call fill arms = (tt, arms.1)
-arms_named size Cuts (Lane lane) call fill arms = (arms.0, arms.1.1)
-arms_named size Fails Disk call fill arms = (tt, arms.1)
-arms_named size Fails (Lane lane) call fill arms = (arms.0, arms.1.1)
-
-pub named_lane : (size : Size) (caller : Caller) (call lane : ℕ) → caller ≡ Lane lane → IsNamed size caller call → lane < size.lanes
-named_lane size caller call lane is named = let H : Caller → Type 0 = λ c. HasCaller size c in subst H is named.0
 
 -- of a script with no fault
 pub refused_row : {P Q : Type 0} (F G H : Refusal → Type 0) (result : Result (Unit {0}) Refusal) → (P → Q) → IfErr result (λ e. (e ≡ Memory) ⊎ (e ≡ Output) ⊎ ((e ≡ BadShape) × P))
@@ -110,15 +94,15 @@ refused_row F G H (Err e) then (inr (inl output)) = inr (inl output)
 refused_row F G H (Err e) then (inr (inr none)) = inr (inr (inr (inr (inr (none.0, then none.1)))))
 
 -- the row of a run that is found and written
-pub shows_from : {K : Kind} (size : Size) (b : Bench) (front those behind : List Line) (number count : ℕ) (run : Cell) (arms : Arming) (old now : Option (List ℕ)) → HasRun K size b those number run → RunsArmed size K run b those count → arms ≡ arming K run
-    → WroteScript (record { size = size; lines = row_lines K front arms (take count those) behind }) old now → ShowsFrom K size b front those behind number old now
-shows_from {K = K} size b front those behind number count run arms old now has armed is wrote =
+pub shows_from : {K : Kind} (size : Size) (origin : SimDisk) (b : Bench) (front those behind : List Line) (number count : ℕ) (run : Cell) (arms : Arming) (old now : Option (List ℕ)) → HasRun K size origin b those number run → RunsArmed size K run b those count → arms ≡ arming K run
+    → WroteScript (record { size = size; lines = row_lines K front arms (take count those) behind }) old now → ShowsFrom K size origin b front those behind number old now
+shows_from {K = K} size origin b front those behind number count run arms old now has armed is wrote =
     let W : Arming → Type 0 = λ a. WroteScript (record { size = size; lines = row_lines K front a (take count those) behind }) old now in
     record { run = run; has = has; count = count; armed = armed; written = subst W is wrote }
 
 -- or it is not
-pub shows_none : {K : Kind} (size : Size) (b : Bench) (front those behind : List Line) (number count : ℕ) (run : Cell) (arms : Arming) → HasRun K size b those number run → RunsArmed size K run b those count → arms ≡ arming K run
-    → 65535 < length (row_lines K front arms (take count those) behind) → ShowsNone K size b front those behind number
-shows_none {K = K} size b front those behind number count run arms has armed is long =
+pub shows_none : {K : Kind} (size : Size) (origin : SimDisk) (b : Bench) (front those behind : List Line) (number count : ℕ) (run : Cell) (arms : Arming) → HasRun K size origin b those number run → RunsArmed size K run b those count → arms ≡ arming K run
+    → 65535 < length (row_lines K front arms (take count those) behind) → ShowsNone K size origin b front those behind number
+shows_none {K = K} size origin b front those behind number count run arms has armed is long =
     let L : Arming → Type 0 = λ a. 65535 < length (row_lines K front a (take count those) behind) in
     inr (record { run = run; has = has; why = inr (record { count = count; armed = armed; long = subst L is long }) })

@@ -1,8 +1,8 @@
 -- What a turn of a hart, or its call, tells of the commands kept.
 use Rattle.board_model.specs.declared.call_words.CallWords.{CallWords}
-use Rattle.std.proofs.Common.{◌≡◌, ◌≢◌, ◌⊎◌, ◌-◌, ◌<◌, ◌≤◌, ℕ, suc, inl, inr, true, false, List, Option, None, Some, Result, Ok, Err, length, refl, sym, ◌∙◌, ap, subst, arith}
+use Rattle.std.proofs.Common.{◌≡◌, ◌⊎◌, ◌-◌, ◌<◌, ◌≤◌, ℕ, suc, inl, inr, true, false, List, Option, None, Some, Result, Ok, Err, length, refl, sym, ◌∙◌, ap, subst, arith}
 use Rattle.board_model.specs.Durable.{Change, Reset, Suspend}
-use Rattle.board_model.specs.Kept.{Kept, found_of}
+use Rattle.board_model.specs.Kept.{Kept}
 use Rattle.board_model.specs.Shapes.{Size, ram_bytes_of}
 use Rattle.board_model.specs.declared.durable.Reason.{Reason}
 use Rattle.store.specs.Follows.{FitsBoard}
@@ -37,14 +37,13 @@ use Rattle.bench_report.specs.Bench.{DiskState, Formatted, BenchLife, Bench}
 use Rattle.report_lines.specs.declared.printed.Answer.{Answer}
 use Rattle.bench_report.specs.Happens.{shows, out_of_memory, off, on_with, has_machine}
 use Rattle.bench_report.specs.Commands.{Issued}
-use Rattle.bench_report.specs.Turns.{refused, AnswersError, HartCommand, Resets, SuspendIssued, dozes, BenchFallsAsleep, BenchSleeps, BenchSleepsBy, BenchMakesCall, ComesTo, IsLastTurn, GuestTurns}
+use Rattle.bench_report.specs.Turns.{refused, AnswersError, HartCommand, Resets, dozes, BenchFallsAsleep, BenchSleeps, BenchSleepsBy, BenchMakesCall, ComesTo, IsLastTurn, GuestTurns}
 use Rattle.bench_report.specs.Steps.{CallReported, GuestCall, TurnStep, CallStep}
 use Rattle.bench_report.specs.Agree.{LifeIs, StoreIs, BoardIs, DeviceIs, OffIs, OnIs, BoardAfter, Agrees}
 use Rattle.bench_report.proofs.Came.{has_other, comes}
 use Rattle.bench_report.proofs.Dozed.{turn_size, call_size}
 use Rattle.bench_report.proofs.Issues.{GoesOn}
 use Rattle.bench_report.proofs.Lines.{stands_by}
-use Rattle.bench_sweep.specs.Ledgers.{in_doubt}
 use Rattle.bench_report.specs.declared.power.Power.{Power}
 use Rattle.bench_report.specs.declared.power.OffDisk.{OffDisk}
 use Rattle.bench_report.specs.declared.power.Power.TheVariants.{Off, On}
@@ -55,7 +54,7 @@ use Rattle.bench_report.specs.Prefix.{AskedLine, Boot, asked_by}
 use Rattle.bench_sweep.specs.Told.{is_boot, is_guest, moves_harts, powers_on, IssuedTold, IsOfHart, HartTold}
 use Rattle.bench_sweep.proofs.Left.{no_serials}
 use Rattle.bench_sweep.proofs.Followed.{follows_same}
-use Rattle.bench_sweep.proofs.Told.{number_in, Tells, issued_tells}
+use Rattle.bench_sweep.proofs.Told.{issued_tells}
 
 -- ---- what comes of what a hart did
 abbrev Told : Size → List ℕ → Bench → Word → Bench → Type 0

@@ -5,8 +5,8 @@ use Rattle.std.proofs.lemmas.Grind.{flat_map-append}
 use Rattle.std.proofs.lemmas.Bool.{cases_lt}
 use Rattle.std.proofs.lemmas.List.Sums.{sum_by-append, count_by_more_yes, count_by_more_no}
 use Rattle.std.proofs.lemmas.List.Elements.{All-nil, All-cons, All-head, All-tail, All-append, All-weaker}
-use Rattle.std.specs.List.{flat_map, All}
-use Rattle.std.specs.Option.{is_some, is_none}
+use Rattle.std.specs.List.{All, AllZip}
+use Rattle.std.specs.Option.{is_some}
 use Rattle.std.proofs.Math.Seq.{drop-append_seam, take-append_seam}
 use Rattle.jobs.specs.Parts.{window, piece, own_of, joined}
 use Rattle.jobs.specs.declared.part.Part.{Part}
@@ -14,21 +14,23 @@ use Rattle.jobs.proofs.Pieces.{window_at, window_cut, window_more, joined_all}
 use Rattle.bench_sweep.specs.declared.plan.Plan.{Plan}
 use Rattle.std.specs.Io.KnownBytes.{Appends, Keeps}
 use Rattle.disk.specs.Facts.{counted}
-use Rattle.bench_sweep.specs.declared.judges.Sweep.{Sweep}
 use Rattle.bench_sweep.specs.declared.points.Bench.{Bench}
 use Rattle.bench_sweep.specs.declared.points.Bench.TheVariants.{Cuts, Fails}
 use Rattle.bench_sweep.specs.declared.points.Caller.{Caller}
+use Rattle.simdisk.specs.declared.SimDisk.{SimDisk}
 use Rattle.simdisk.specs.declared.fill.Fill.{Fill}
 use Rattle.simdisk.specs.declared.fill.Fill.TheVariants.{Byte, Alternating, Old, New}
 use Rattle.board_model.specs.Shapes.{Size}
 use Rattle.script_lang.specs.declared.line.Line.{Line}
 use Rattle.bench_report.specs.Bench.{Bench as ModelBench}
-use Rattle.bench_report.specs.Happens.{unpowered}
+use Rattle.bench_report.specs.Happens.{off, unpowered}
 use Rattle.report_lines.proofs.Written.{appended, unwritten}
 use Rattle.bench_sweep.specs.Made.{IsFormatted, IsPlainRun, IsUncut, IsRunOf}
+use Rattle.bench_sweep.specs.Points.{MadeCalls}
+use Rattle.bench_sweep.specs.Took.{RunTook, StandsOn}
+use Rattle.bench_sweep.proofs.Made.{zip_long}
 use Rattle.bench_sweep.specs.declared.rows.Row.{Row}
-use Rattle.bench_sweep.specs.Recovers.{Compared, nothing_compared}
-use Rattle.bench_sweep.specs.Rows.{row_text, row_lines, differs_text, differing_lines, shown_lines, told_part, differing_rows, sweep_text}
+use Rattle.bench_sweep.specs.Rows.{row_text, row_lines, differs_text, shown_lines, told_part, differing_rows, sweep_text}
 use Rattle.bench_sweep.specs.declared.recovery.Differs.{Differs}
 use Rattle.bench_sweep.specs.declared.sweeps.Recovered.{Recovered}
 use Rattle.bench_sweep.specs.Swept.{Cell, Spot, spot, cell, cell_of, runs_of, runs_from, runs_at, callers, all_points, all_runs, joined_runs, own_runs, own_total, points_from, rows_text, GoesOn, Writes, total, WroteAll, WroteRows}
@@ -57,26 +59,6 @@ pub row_handed : (a b c d : Option (List ℕ)) (row : Row) → Appends a b (row_
 row_handed a b c d row first second keeps =
     let A : List ℕ → Type 0 = λ text. Appends a d text in
     subst A (row_told row _ refl) (handed_on a c d _ (appended a b c (row_text row ++ 10 ∷ []) (told_part row row.recovered) first second) keeps)
-
--- by a quiet bench only where a look differs
-pub shown_quiet : (a : Option (List ℕ)) (quiet : Bool) (row : Row) → quiet ≡ true → is_none row.recovered ≡ true → Appends a a (shown_lines quiet row)
-shown_quiet a quiet row is none =
-    let P : Bool → Type 0 = λ q. Appends a a (shown_lines q row) in
-    let Q : Option Differs → Type 0 = λ d. is_none d ≡ true → Appends a a (differing_lines row d) in
-    subst P (sym is) (by row.recovered none)
-  where
-    by : (d : Option Differs) → is_none d ≡ true → Appends a a (differing_lines row d)
-    by None e = unwritten a
-    by (Some d) e = cc
-
-pub shown_all : (quiet : Bool) (row : Row) → (quiet ≡ false) ⊎ (is_none row.recovered ≡ false) → shown_lines quiet row ≡ row_lines row
-shown_all false row why = refl
-shown_all true row (inl never) = cc
-shown_all true row (inr some) = by row.recovered some
-  where
-    by : (d : Option Differs) → is_none d ≡ false → differing_lines row d ≡ row_lines row
-    by None e = cc
-    by (Some d) e = refl
 
 text_more : (quiet : Bool) (rows more : List Row) → rows_text quiet (rows ++ more) ≡ rows_text quiet rows ++ rows_text quiet more
 text_more quiet rows more = flat_map-append (λ (row : Row). shown_lines quiet row) rows more
@@ -309,25 +291,30 @@ pub parts_join : (bench : Bench) (of : ℕ) (counts : List ℕ) → 0 < of → j
 parts_join bench of counts some = joined_part bench of of counts ∙ ap (runs_at bench) (joined_all of (all_points callers counts) some) ∙ runs_of_all bench callers counts
 
 -- all rows
-pub wrote_rows : (plan : Plan) (size : Size) (start : List (List ℕ)) (lines after : List Line) (numbers : List ℕ) (a b : Option (List ℕ)) (s t : Recovered) (begin : ℕ) (first : ModelBench) (counts : List ℕ) (own : List Printed) → s.sweep.points ≡ 0 → s.sweep.runs ≡ 0 → s.sweep.wrong ≡ 0
-    → s.differ ≡ 0 → IsFormatted size start (take begin lines) first → IsPlainRun size (unpowered first) (drop begin lines) → IsUncut size (unpowered first) (drop begin lines) after own → length counts ≡ 5
-    → Writes plan.quiet (λ row. IsRunOf size plan.bench row.caller row.number (unpowered first) (drop begin lines) (record { lines = after; numbers = numbers; own = own }) row.left row.recovered) a b s t
+pub wrote_rows : (plan : Plan) (size : Size) (start : List (List ℕ)) (lines after : List Line) (numbers : List ℕ) (a b : Option (List ℕ)) (s t : Recovered) (begin : ℕ) (first : ModelBench) (origin ended : SimDisk) (counts : List ℕ) (own : List Printed) → s.sweep.points ≡ 0 → s.sweep.runs ≡ 0 → s.sweep.wrong ≡ 0
+    → s.differ ≡ 0 → IsFormatted size start (take begin lines) first → StandsOn size (off first) origin → IsPlainRun size (unpowered first) (drop begin lines) → IsUncut size (unpowered first) (drop begin lines) after own → RunTook size (drop begin lines) origin ended
+    → AllZip (MadeCalls origin ended) callers counts
+    → Writes plan.quiet (λ row. IsRunOf size plan.bench origin row.caller row.number (unpowered first) (drop begin lines) (record { lines = after; numbers = numbers; own = own }) row.left row.recovered) a b s t
     (runs_at plan.bench (own_of plan.part (all_points callers counts))) (length (own_of plan.part (all_points callers counts)))
     → WroteRows plan size start lines after numbers a b t
-wrote_rows plan size start lines after numbers a b s t begin first counts own no_point no_run no_wrong no_differ format plain uncut five wrote = record {
+wrote_rows plan size start lines after numbers a b s t begin first origin ended counts own no_point no_run no_wrong no_differ format stands plain uncut took zip wrote = record {
   begin = begin;
   first = first;
   format = format;
   plain = plain;
   own = own;
   uncut = uncut;
+  origin = origin;
+  stands = stands;
+  ended = ended;
+  took = took;
   counts = counts;
-  five = five;
+  calls = zip;
   rows = wrote.rows;
   each = wrote.each;
   cells = wrote.cells ∙ runs_of_own plan.bench plan.part counts;
   text = wrote.text;
-  points = wrote.points 0 no_point ∙ ap (λ k. counted 0 k) (zero-add (length (own_of plan.part (all_points callers counts))) ∙ own_long plan.part counts five);
+  points = wrote.points 0 no_point ∙ ap (λ k. counted 0 k) (zero-add (length (own_of plan.part (all_points callers counts))) ∙ own_long plan.part counts (zip_long (MadeCalls origin ended) callers counts zip));
   runs = wrote.runs 0 no_run ∙ ap (λ k. counted 0 k) (zero-add (length wrote.rows));
   right = wrote.right ∙ no_wrong;
   differ = wrote.differ 0 no_differ ∙ ap (λ k. counted 0 k) (zero-add (differing_rows wrote.rows));
@@ -341,13 +328,17 @@ nothing_said size first lines own uncut = uncut.recovers.says
 pub wrote_all : (plan : Plan) (size : Size) (start : List (List ℕ)) (lines : List Line) (a b c : Option (List ℕ)) (t : Recovered) → WroteRows plan size start lines [] [] a b t → Appends b c (sweep_text plan.part t.sweep ++ 10 ∷ []) → WroteAll plan size start lines a c t.sweep
 wrote_all plan size start lines a b c t wrote last =
     let none = nothing_said size (unpowered wrote.first) (drop wrote.begin lines) wrote.own wrote.uncut in
-    let E : List Printed → Type 0 = λ own. All (λ (row : Row). IsRunOf size plan.bench row.caller row.number (unpowered wrote.first) (drop wrote.begin lines) (record { lines = []; numbers = []; own = own }) row.left row.recovered) wrote.rows in record {
+    let E : List Printed → Type 0 = λ own. All (λ (row : Row). IsRunOf size plan.bench wrote.origin row.caller row.number (unpowered wrote.first) (drop wrote.begin lines) (record { lines = []; numbers = []; own = own }) row.left row.recovered) wrote.rows in record {
       begin = wrote.begin;
       first = wrote.first;
       format = wrote.format;
       plain = wrote.plain;
+      origin = wrote.origin;
+      stands = wrote.stands;
+      ended = wrote.ended;
+      took = wrote.took;
       counts = wrote.counts;
-      five = wrote.five;
+      calls = wrote.calls;
       rows = wrote.rows;
       each = subst E none wrote.each;
       cells = wrote.cells;

@@ -3,6 +3,7 @@ pub mod Ledgers
 pub mod Apart
 pub mod Rows
 pub mod Points
+pub mod Took
 pub mod Made
 pub mod Swept
 pub mod Told

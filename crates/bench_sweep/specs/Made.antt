@@ -8,6 +8,7 @@ use Rattle.board_model.specs.Views.{durable_of}
 use Rattle.board_model.specs.declared.boot_mode.BootMode.TheVariants as modes
 use Rattle.board_model.specs.declared.durable.Durable.{Durable}
 use Rattle.disk.specs.FaultState.{Unarmed}
+use Rattle.simdisk.specs.declared.SimDisk.{SimDisk}
 use Rattle.script_lang.specs.declared.line.Line.{Line}
 use Rattle.report_lines.specs.declared.printed.Answer.{Answer}
 use Rattle.report_lines.specs.declared.printed.Printed.{Printed}
@@ -19,9 +20,10 @@ use Rattle.bench_report.specs.Steps.{Run}
 use Rattle.bench_sweep.specs.declared.points.Bench.{Bench as Kind}
 use Rattle.bench_sweep.specs.declared.points.Bench.TheVariants.{Cuts, Fails}
 use Rattle.bench_sweep.specs.declared.points.Caller.{Caller}
-use Rattle.bench_sweep.specs.Points.{fault_at}
+use Rattle.bench_sweep.specs.Points.{fault_at, MadeCalls}
 use Rattle.bench_sweep.specs.Recovers.{Compared, looks_of, TellsFirst}
 use Rattle.bench_sweep.specs.declared.recovery.Differs.{Differs}
+use Rattle.bench_sweep.specs.Took.{RunTook, StandsOn}
 
 -- ---- the script as it is
 -- The first lines of a script that begins with these payloads, the last of which formatted the disk, come to that bench.
@@ -135,9 +137,10 @@ pub record RunsWith (size : Size) (kind : Kind) (caller : Caller) (made number :
   pub recovered : IsRecovered size end rest left differs
 
 -- A row that says that is such a run: some first lines are run as they are, and so are so many of the life under way, and those
--- behind them with that armed.
-pub record IsRunOf (size : Size) (kind : Kind) (caller : Caller) (number : ℕ) (first : Bench) (lines : List Line) (rest : Compared)
-    (left : Answer) (differs : Option Differs) : Type 0 where
+-- behind them with that armed. The number of its call is counted from the origin, the disk in front of the first line: in these first
+-- lines the disk of the board that they were run on counted those made before.
+pub record IsRunOf (size : Size) (kind : Kind) (origin : SimDisk) (caller : Caller) (number : ℕ) (first : Bench) (lines : List Line)
+    (rest : Compared) (left : Answer) (differs : Option Differs) : Type 0 where
   pub before : ℕ
   pub bench : Bench
   pub plain : ComesTo size first (take before lines) bench
@@ -145,5 +148,9 @@ pub record IsRunOf (size : Size) (kind : Kind) (caller : Caller) (number : ℕ) 
   pub answers : List Answer
   pub at : Bench
   pub along : Run size (unpowered bench) (take more (drop before lines)) answers at
+  pub disk : SimDisk
+  pub stands : StandsOn size at disk
+  pub took : RunTook size (take (before + more) lines) origin disk
   pub made : ℕ
+  pub counted : MadeCalls origin disk caller made
   pub run : RunsWith size kind caller made number at (drop (before + more) lines) rest left differs

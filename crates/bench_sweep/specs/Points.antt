@@ -1,5 +1,5 @@
 -- The calls at which a bench cuts power, or lets one fail. Source: docs/SCRIPT.md, "The benches".
-use Rattle.std.specs.Prelude.{◌≡◌, ◌+◌, ℕ, List, Option, None, Some, get_or}
+use Rattle.std.specs.Prelude.{◌≡◌, ◌+◌, ℕ, Option, None, Some, get_or}
 use Rattle.disk.specs.declared.device.ArmedFault.{ArmedFault}
 use Rattle.disk.specs.declared.device.ArmedFault.TheVariants.{FailAt, CutAt, FailLane, CutLane}
 use Rattle.simdisk.specs.contracts.logged.SimDiskLogged.TheImpl as sim_logged

@@ -1,6 +1,7 @@
 -- What a bench has written and counted so far. Source: docs/SCRIPT.md, "The benches".
 use Rattle.std.specs.Prelude.{◌≡◌, ◌≤◌, ◌<◌, ◌+◌, ◌^◌, ◌++◌, ◌∷◌, [], ℕ, List, Option, None, All, length, map, take, drop}
 use Rattle.std.specs.Io.KnownBytes.{Appends}
+use Rattle.std.specs.List.{AllZip}
 use Rattle.disk.specs.Facts.{Content, counted}
 use Rattle.simdisk.specs.Views.{left_by_fill}
 use Rattle.simdisk.specs.declared.SimDisk.{SimDisk}
@@ -8,13 +9,11 @@ use Rattle.simdisk.specs.declared.fill.Fill.{Fill}
 use Rattle.disk.specs.WriteLog.{synced}
 use Rattle.board_model.specs.Shapes.{Size}
 use Rattle.script_lang.specs.declared.line.Line.{Line}
-use Rattle.bench_report.specs.Agree.{Agrees, HasDisk}
 use Rattle.bench_report.specs.Bench.{Bench}
 use Rattle.bench_report.specs.Examined.{OpensOf}
-use Rattle.bench_report.specs.Happens.{unpowered}
+use Rattle.bench_report.specs.Happens.{off, unpowered}
 use Rattle.bench_report.specs.Steps.{Run}
 use Rattle.bench_report.specs.Views.{facts, sim_log_of}
-use Rattle.bench_report.specs.declared.power.Power.{Power}
 use Rattle.bench_sweep.specs.declared.points.Bench.{Bench as Kind}
 use Rattle.bench_sweep.specs.declared.points.Caller.{Caller}
 use Rattle.bench_sweep.specs.declared.rows.Row.{Row}
@@ -27,6 +26,7 @@ use Rattle.bench_sweep.specs.Points.{cut_fill, MadeCalls}
 use Rattle.bench_sweep.specs.Recovers.{Compared, TellsFirst}
 use Rattle.bench_sweep.specs.Rows.{differing_rows}
 use Rattle.bench_sweep.specs.Runs.{LeftAt, RunsAt, Sits, SitsLeft}
+use Rattle.bench_sweep.specs.Took.{RunTook, StandsOn}
 use Rattle.report_lines.specs.declared.printed.Answer.{Answer}
 use Rattle.report_lines.specs.declared.printed.Printed.{Printed}
 use Rattle.bench_sweep.specs.Swept.{Cell, Spot, Writes, AreSwept, all_points, cell_of, rows_text, runs_at, runs_of, callers}
@@ -74,24 +74,26 @@ pub record IsLeftBy (size : Size) (end : Bench) (disk : SimDisk) (rest : Compare
 abbrev pub RunsRow : Size → Kind → ℕ → Bench → List Line → Compared → Row → Type 0
 RunsRow size kind made b lines rest row = RunsWith size kind row.caller made row.number b lines rest row.left row.recovered
 
--- A row whose run goes on behind some of those lines, which are run as they are from that bench on, where a board stands. So many
--- calls were made up to the site, and the disk of the board then has counted those behind it too.
-pub record RunsAlong (size : Size) (kind : Kind) (site : Site) (before : ℕ) (b : Bench) (lines : List Line) (rest : Compared) (row : Row) : Type 0 where
+-- A row of that caller whose run goes on behind some of those lines, which are run as they are from that bench on, where a board
+-- stands. So many calls were made up to the site, and in these lines, run on from its disk, the disk of the board then counted those
+-- behind it too.
+pub record RunsAlong (size : Size) (kind : Kind) (caller : Caller) (site : Site) (before : ℕ) (b : Bench) (lines : List Line)
+    (rest : Compared) (row : Row) : Type 0 where
+  pub who : row.caller ≡ caller
   pub more : ℕ
   pub answers : List Answer
   pub at : Bench
   pub along : Run size b (take more lines) answers at
-  pub power : Power
-  pub stands : Agrees size at power
   pub disk : SimDisk
-  pub has : HasDisk power disk
+  pub stands : StandsOn size at disk
+  pub took : RunTook size (take more lines) site.off.disk disk
   pub made : ℕ
-  pub counts : MadeCalls site.off.disk disk row.caller made
+  pub counts : MadeCalls site.off.disk disk caller made
   pub runs : RunsRow size kind (before + made) at (drop more lines) rest row
 
--- a row of a bench over those lines, of which the first begin at that bench
-abbrev pub IsRow : Size → Kind → Bench → List Line → Compared → Row → Type 0
-IsRow size kind first lines rest row = IsRunOf size kind row.caller row.number first lines rest row.left row.recovered
+-- a row of a bench over those lines, of which the first begin at that bench, and from that disk on
+abbrev pub IsRow : Size → Kind → SimDisk → Bench → List Line → Compared → Row → Type 0
+IsRow size kind origin first lines rest row = IsRunOf size kind origin row.caller row.number first lines rest row.left row.recovered
 
 -- ---- the rows of a point, before they are written
 -- One row more was kept, of that run, and counted as right; of it that holds.
@@ -123,7 +125,7 @@ pub record HasChunk (size : Size) (lines after : List Line) (count : ℕ) (site 
 abbrev pub IsOfCall : Size → Kind → Caller → ℕ → List Line → Compared → Site → ℕ → PointRows → Type 0
 IsOfCall size kind caller before lines rest site done rows =
     (b : Bench) → RunsAt size b site
-    → Judged (RunsAlong size kind site before (unpowered b) lines rest) rows (runs_of kind caller (before + done + 1))
+    → Judged (RunsAlong size kind caller site before (unpowered b) lines rest) rows (runs_of kind caller (before + done + 1))
 
 -- What the bench says of these rows was written, where none is wrong, and the point and its runs are counted with those before.
 pub record TakesPoint {W : Type 0} (contents : W → Option (List ℕ)) (old : Report W) (rows : PointRows) (new : Report W) : Type 0 where
@@ -136,15 +138,18 @@ pub record TakesPoint {W : Type 0} (contents : W → Option (List ℕ)) (old : R
   pub differ : new.done.differ ≡ counted old.done.differ (differing_rows rows.rows.items)
 
 -- ---- all rows
--- All lines from that bench on are run as they are, and then the runs at the points of each caller are made, or at those of a part.
-pub record ReportsAll {W : Type 0} (contents : W → Option (List ℕ)) (size : Size) (kind : Kind) (part : Option Part) (first : Bench) (lines : List Line)
-    (after : List Line) (numbers : List ℕ) (old new : Report W) : Type 0 where
+-- All lines from that bench on are run as they are, from that disk on, and then the runs at the points of each caller are made, or at
+-- those of a part: it has as many as it made calls in the lines.
+pub record ReportsAll {W : Type 0} (contents : W → Option (List ℕ)) (size : Size) (kind : Kind) (part : Option Part) (origin : SimDisk)
+    (first : Bench) (lines : List Line) (after : List Line) (numbers : List ℕ) (old new : Report W) : Type 0 where
   pub plain : IsPlainRun size first lines
+  pub ended : SimDisk
+  pub took : RunTook size lines origin ended
   pub counts : List ℕ
-  pub five : length counts ≡ 5
+  pub counted : AllZip (MadeCalls origin ended) callers counts
   pub own : List Printed
   pub uncut : IsUncut size first lines after own
-  pub runs : Reports contents kind (IsRow size kind first lines (record { lines = after; numbers = numbers; own = own })) old new (own_of part (all_points callers counts))
+  pub runs : Reports contents kind (IsRow size kind origin first lines (record { lines = after; numbers = numbers; own = own })) old new (own_of part (all_points callers counts))
 
 -- the same of the lines of a script behind its first format, where it begins with these payloads
 pub record ReportsScript {W : Type 0} (contents : W → Option (List ℕ)) (size : Size) (kind : Kind) (part : Option Part) (start : List (List ℕ)) (lines : List Line)
@@ -152,4 +157,6 @@ pub record ReportsScript {W : Type 0} (contents : W → Option (List ℕ)) (size
   pub begin : ℕ
   pub first : Bench
   pub format : IsFormatted size start (take begin lines) first
-  pub all : ReportsAll contents size kind part (unpowered first) (drop begin lines) after numbers old new
+  pub origin : SimDisk
+  pub stands : StandsOn size (off first) origin
+  pub all : ReportsAll contents size kind part origin (unpowered first) (drop begin lines) after numbers old new

@@ -1,11 +1,13 @@
 -- A row of a bench, written as a script. Source: docs/SCRIPT.md, "The benches".
 use Rattle.std.specs.Prelude.{◌≡◌, ◌≢◌, ◌⊎◌, ◌≤◌, ◌<◌, ◌+◌, ℕ, List, [], ◌∷◌, ◌++◌, ⊤, true, false, Option, None, Some, Ok, All, length, take, drop, get_or}
 use Rattle.std.specs.Io.KnownBytes.{Appends}
+use Rattle.std.specs.List.{AllZip}
 use Rattle.board_model.specs.Shapes.{Size}
 use Rattle.disk.specs.FaultState.{Unarmed}
 use Rattle.board_model.specs.declared.boot_mode.BootMode.TheVariants.{Keep}
 use Rattle.board_model.specs.declared.refusal.Refusal.{Refusal}
 use Rattle.board_model.specs.declared.refusal.Refusal.TheVariants.{NotPlain}
+use Rattle.simdisk.specs.declared.SimDisk.{SimDisk}
 use Rattle.simdisk.specs.declared.fill.Fill.{Fill}
 use Rattle.simdisk.specs.declared.fill.Fill.TheVariants.{Byte, Alternating, Old, New}
 use Rattle.script_lang.specs.Armings.{IsArmingInRange}
@@ -17,7 +19,7 @@ use Rattle.script_lang.specs.declared.line.Line.{Line}
 use Rattle.script_lang.specs.declared.line.Line.TheVariants as lines
 use Rattle.report_lines.specs.declared.printed.Answer.{Answer}
 use Rattle.bench_report.specs.Bench.{Bench}
-use Rattle.bench_report.specs.Happens.{unpowered, armed_with}
+use Rattle.bench_report.specs.Happens.{off, unpowered, armed_with}
 use Rattle.bench_report.specs.Steps.{Run}
 use Rattle.bench_sweep.specs.declared.points.Bench.{Bench as Kind}
 use Rattle.bench_sweep.specs.declared.points.Bench.TheVariants.{Cuts, Fails}
@@ -26,9 +28,10 @@ use Rattle.bench_sweep.specs.declared.points.Caller.TheVariants.{Disk, Lane}
 use Rattle.bench_sweep.specs.declared.recovery.RecoveryFile.{RecoveryFile}
 use Rattle.bench_sweep.specs.declared.points.RunAt.{RunAt}
 use Rattle.bench_sweep.specs.Made.{IsFormatted, IsPlainRun, WasRefusedNoMemory, EndsAs}
-use Rattle.bench_sweep.specs.Points.{cut_fill, fault_at}
+use Rattle.bench_sweep.specs.Points.{cut_fill, fault_at, MadeCalls}
 use Rattle.bench_sweep.specs.Recovers.{look_numbers, IsFaulty, Says}
 use Rattle.bench_sweep.specs.Swept.{Cell, IsNoFormat, IsPlainLine, all_runs, callers, cell}
+use Rattle.bench_sweep.specs.Took.{RunTook, StandsOn}
 
 -- ---- which run it is
 -- how many runs are made at each point
@@ -111,25 +114,29 @@ pub record WroteScript (script : Script) (old new : Option (List ℕ)) : Type 0 
   pub reads : script_of (script_text script) ≡ Ok script
   pub text : Appends old new (script_text script ++ 10 ∷ [])
 
--- The lines run as they are, by which the callers make so many calls; the run of that number is that one.
-pub record HasRun (kind : Kind) (size : Size) (b : Bench) (those : List Line) (number : ℕ) (run : Cell) : Type 0 where
+-- The lines run as they are, from that disk on; by the calls that the callers made in them, the run of that number is that one.
+pub record HasRun (kind : Kind) (size : Size) (origin : SimDisk) (b : Bench) (those : List Line) (number : ℕ) (run : Cell) : Type 0 where
   pub plain : IsPlainRun size b those
+  pub ended : SimDisk
+  pub took : RunTook size those origin ended
   pub counts : List ℕ
-  pub five : length counts ≡ 5
+  pub calls : AllZip (MadeCalls origin ended) callers counts
   pub nth : IsNthRun kind counts number run
 
 -- there is none of that number
-pub record HasNoRun (kind : Kind) (size : Size) (b : Bench) (those : List Line) (number : ℕ) : Type 0 where
+pub record HasNoRun (kind : Kind) (size : Size) (origin : SimDisk) (b : Bench) (those : List Line) (number : ℕ) : Type 0 where
   pub plain : IsPlainRun size b those
+  pub ended : SimDisk
+  pub took : RunTook size those origin ended
   pub counts : List ℕ
-  pub five : length counts ≡ 5
+  pub calls : AllZip (MadeCalls origin ended) callers counts
   pub fewer : HasFewer kind counts number
 
 -- The row of that number was written: its lines in front of it, those from that bench on that then run, and those behind its end.
-pub record ShowsFrom (kind : Kind) (size : Size) (b : Bench) (front those behind : List Line) (number : ℕ) (old new : Option (List ℕ))
-    : Type 0 where
+pub record ShowsFrom (kind : Kind) (size : Size) (origin : SimDisk) (b : Bench) (front those behind : List Line) (number : ℕ)
+    (old new : Option (List ℕ)) : Type 0 where
   pub run : Cell
-  pub has : HasRun kind size b those number run
+  pub has : HasRun kind size origin b those number run
   pub count : ℕ
   pub armed : RunsArmed size kind run b those count
   pub written : WroteScript (record { size = size; lines = row_lines kind front (arming kind run) (take count those) behind }) old new
@@ -141,28 +148,35 @@ pub record IsTooLong (kind : Kind) (size : Size) (b : Bench) (front those behind
   pub long : 65535 < length (row_lines kind front (arming kind run) (take count those) behind)
 
 -- such a run is not written: no line of a script arms its call, or it is too long
-pub record IsNotWritten (kind : Kind) (size : Size) (b : Bench) (front those behind : List Line) (number : ℕ) : Type 0 where
+pub record IsNotWritten (kind : Kind) (size : Size) (origin : SimDisk) (b : Bench) (front those behind : List Line) (number : ℕ)
+    : Type 0 where
   pub run : Cell
-  pub has : HasRun kind size b those number run
+  pub has : HasRun kind size origin b those number run
   pub why : (IsArmingInRange size (arming kind run) → ⊥) ⊎ IsTooLong kind size b front those behind run
 
 -- there is no such row to write: the bench has fewer runs, or that run is not written
-abbrev pub ShowsNone : Kind → Size → Bench → List Line → List Line → List Line → ℕ → Type 0
-ShowsNone kind size b front those behind number = HasNoRun kind size b those number ⊎ IsNotWritten kind size b front those behind number
+abbrev pub ShowsNone : Kind → Size → SimDisk → Bench → List Line → List Line → List Line → ℕ → Type 0
+ShowsNone kind size origin b front those behind number =
+    HasNoRun kind size origin b those number ⊎ IsNotWritten kind size origin b front those behind number
 
--- `--show`: the row of that number was written, behind the lines of which the last formatted the disk.
+-- `--show`: the row of that number was written, behind the lines of which the last formatted the disk. Its call, and those of the
+-- script's own run behind them, are counted from the origin, the disk of the board there.
 pub record ShownRow (kind : Kind) (size : Size) (start : List (List ℕ)) (those behind : List Line) (number : ℕ) (old new : Option (List ℕ))
     : Type 0 where
   pub begin : ℕ
   pub first : Bench
   pub format : IsFormatted size start (take begin those) first
-  pub shows : ShowsFrom kind size (unpowered first) (take begin those) (drop begin those) behind number old new
+  pub origin : SimDisk
+  pub stands : StandsOn size (off first) origin
+  pub shows : ShowsFrom kind size origin (unpowered first) (take begin those) (drop begin those) behind number old new
 
 pub record NoRow (kind : Kind) (size : Size) (start : List (List ℕ)) (those behind : List Line) (number : ℕ) : Type 0 where
   pub begin : ℕ
   pub first : Bench
   pub format : IsFormatted size start (take begin those) first
-  pub none : ShowsNone kind size (unpowered first) (take begin those) (drop begin those) behind number
+  pub origin : SimDisk
+  pub stands : StandsOn size (off first) origin
+  pub none : ShowsNone kind size origin (unpowered first) (take begin those) (drop begin those) behind number
 
 -- no lines run behind a row: for that fault of the recovery's bytes, or since no bench takes them
 abbrev pub NoneBehind : Size → Option RecoveryFile → Refusal → Type 0

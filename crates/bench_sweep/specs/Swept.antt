@@ -1,10 +1,11 @@
 -- What a bench wrote and counted. Source: docs/SCRIPT.md, "The benches".
 use Rattle.std.specs.Prelude.{◌≡◌, ◌≢◌, ◌⊎◌, ◌+◌, ℕ, Bool, false, zero, suc, List, [], ◌∷◌, ◌++◌, ⊤, Option, None, Some, Ok, All, length, map, take, drop}
-use Rattle.std.specs.List.{flat_map}
+use Rattle.std.specs.List.{AllZip, flat_map}
 use Rattle.std.specs.Io.KnownBytes.{Appends}
 use Rattle.disk.specs.Facts.{counted}
 use Rattle.jobs.specs.Parts.{part_of, piece}
 use Rattle.jobs.specs.declared.part.Part.{Part}
+use Rattle.simdisk.specs.declared.SimDisk.{SimDisk}
 use Rattle.simdisk.specs.declared.fill.Fill.{Fill}
 use Rattle.simdisk.specs.declared.fill.Fill.TheVariants.{Byte, Alternating, Old, New}
 use Rattle.board_model.specs.Shapes.{Size}
@@ -14,7 +15,7 @@ use Rattle.script_lang.specs.Lines.{IsLineInRange}
 use Rattle.script_lang.specs.Scripts.{script_of, Script}
 use Rattle.script_lang.specs.declared.line.Line.{Line}
 use Rattle.bench_report.specs.Bench.{Bench as ModelBench}
-use Rattle.bench_report.specs.Happens.{unpowered}
+use Rattle.bench_report.specs.Happens.{off, unpowered}
 use Rattle.bench_report.specs.Deeds.{ArmFault, CutPower, WritePast, Deed, Format, Beside, deed_of}
 use Rattle.bench_sweep.specs.declared.judges.Sweep.{Sweep}
 use Rattle.bench_sweep.specs.declared.plan.Plan.{Plan}
@@ -24,8 +25,10 @@ use Rattle.bench_sweep.specs.declared.points.Caller.{Caller}
 use Rattle.bench_sweep.specs.declared.points.Caller.TheVariants.{Disk, Lane}
 use Rattle.bench_sweep.specs.declared.rows.Row.{Row}
 use Rattle.bench_sweep.specs.Made.{IsFormatted, IsPlainRun, IsUncut, IsRunOf}
+use Rattle.bench_sweep.specs.Points.{MadeCalls}
 use Rattle.bench_sweep.specs.Recovers.{look_numbers, nothing_compared, IsFaulty, Says}
 use Rattle.bench_sweep.specs.Rows.{differing_rows, recovered_text, shown_lines, sweep_text}
+use Rattle.bench_sweep.specs.Took.{RunTook, StandsOn}
 use Rattle.bench_sweep.specs.declared.sweeps.Recovered.{Recovered}
 use Rattle.report_lines.specs.declared.printed.Printed.{Printed}
 
@@ -159,18 +162,23 @@ joined_runs bench (suc k) of counts = joined_runs bench k of counts ++ runs_at b
 abbrev pub whole : Bench → Plan
 whole bench = record { bench = bench; part = None; quiet = false }
 
--- Of each caller so many points; the runs at them, or at those of the plan's part, in order, each of the script's own lines
--- behind its first format, what the plan has of each, and then the line of the counts. No run was wrong.
+-- Of each caller as many points as it made calls in the script's own run behind its first format, from the origin, the disk of the
+-- board there, to the end; the runs at them, or at those of the plan's part, in order, each of those lines, what the plan has of each,
+-- and then the line of the counts. No run was wrong.
 pub record WroteAll (plan : Plan) (size : Size) (start : List (List ℕ)) (lines : List Line) (old now : Option (List ℕ)) (sweep : Sweep)
     : Type 0 where
   pub begin : ℕ
   pub first : ModelBench
   pub format : IsFormatted size start (take begin lines) first
   pub plain : IsPlainRun size (unpowered first) (drop begin lines)
+  pub origin : SimDisk
+  pub stands : StandsOn size (off first) origin
+  pub ended : SimDisk
+  pub took : RunTook size (drop begin lines) origin ended
   pub counts : List ℕ
-  pub five : length counts ≡ 5
+  pub calls : AllZip (MadeCalls origin ended) callers counts
   pub rows : List Row
-  pub each : All (λ (row : Row). IsRunOf size plan.bench row.caller row.number (unpowered first) (drop begin lines) nothing_compared row.left row.recovered) rows
+  pub each : All (λ (row : Row). IsRunOf size plan.bench origin row.caller row.number (unpowered first) (drop begin lines) nothing_compared row.left row.recovered) rows
   pub cells : map cell_of rows ≡ own_runs plan.bench plan.part counts
   pub text : Appends old now (rows_text plan.quiet rows ++ (sweep_text plan.part sweep ++ 10 ∷ []))
   pub points : sweep.points ≡ counted 0 (own_total plan.part counts)
@@ -188,10 +196,14 @@ pub record WroteRows (plan : Plan) (size : Size) (start : List (List ℕ)) (line
   pub plain : IsPlainRun size (unpowered first) (drop begin lines)
   pub own : List Printed
   pub uncut : IsUncut size (unpowered first) (drop begin lines) after own
+  pub origin : SimDisk
+  pub stands : StandsOn size (off first) origin
+  pub ended : SimDisk
+  pub took : RunTook size (drop begin lines) origin ended
   pub counts : List ℕ
-  pub five : length counts ≡ 5
+  pub calls : AllZip (MadeCalls origin ended) callers counts
   pub rows : List Row
-  pub each : All (λ (row : Row). IsRunOf size plan.bench row.caller row.number (unpowered first) (drop begin lines)
+  pub each : All (λ (row : Row). IsRunOf size plan.bench origin row.caller row.number (unpowered first) (drop begin lines)
       (record { lines = after; numbers = numbers; own = own }) row.left row.recovered) rows
   pub cells : map cell_of rows ≡ own_runs plan.bench plan.part counts
   pub text : Appends old now (rows_text plan.quiet rows)

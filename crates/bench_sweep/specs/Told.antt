@@ -1,5 +1,5 @@
 -- What a line's answer tells of the commands that a disk keeps. Source: docs/DURABLE.md, "What an open finds".
-use Rattle.std.specs.Prelude.{◌≡◌, ◌≢◌, ◌⊎◌, ⊤, ℕ, Bool, true, false, List, [], ◌∷◌, Option, None, Some, length}
+use Rattle.std.specs.Prelude.{◌≡◌, ◌≢◌, ◌⊎◌, ℕ, Bool, true, false, List, [], ◌∷◌, Option, None, Some, length}
 use Rattle.board_model.specs.Durable.{Change, Reset, Suspend, Consume, Discard, refusal_of}
 use Rattle.board_model.specs.Kept.{Kept, MayKeep, found_of}
 use Rattle.board_model.specs.Shapes.{Size, ram_bytes_of}

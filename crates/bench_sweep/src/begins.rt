@@ -1,7 +1,6 @@
 //! Where a bench begins: behind the first format of its script that answers Ok.
 
 ghost use Rattle.std.specs.Prelude.{◌≡◌, ◌≤◌, ℕ, List, false, true, length, take, All, Err, IfOk, IfErr, MatchResult, OnErr, OnOk, ◌↔◌, IsTrue};
-ghost use Rattle.board_model.specs.Shapes.{Size};
 ghost use Rattle.board_model.specs.declared.refusal.Refusal.TheVariants.{Memory};
 ghost use Rattle.script_lang.specs.Lines.{IsLineInRange};
 ghost use Rattle.bench_report.specs.Agree.{Agrees, IsBench};

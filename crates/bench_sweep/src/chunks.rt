@@ -33,6 +33,29 @@ pub fn chunk_size(calls: u64, threads: usize) -> u64
     (calls / chunks).clamp(1, MOST_CALLS)
 }
 
+/// Runs on up to so many lines, and keeps how many calls the caller has made then from the site on. Refused `Memory` alone.
+fn mark_next<C: Crew>(
+    runner: &Runner<'_, C>,
+    site: &Site,
+    caller: Caller,
+    moment: Moment,
+    to: usize,
+    marks: &mut Vec<u64>,
+) -> Result<Moment, Refusal>
+    requires lines { AreSwept runner.now.setting.shape.now runner.now.lines.now }
+    requires order { moment.count ≤ to }
+    requires few { to ≤ length runner.now.lines.now }
+    requires sits { (b : ModelBench) × CameTold runner.now.setting.shape.now b runner.now.lines.now site.now moment }
+    ensures sits { IfOk result (λ at. (b : ModelBench)
+        × CameTold runner.now.setting.shape.now b runner.now.lines.now site.now at) }
+    ensures few { IfOk result (λ at. at.count ≤ to) }
+    ensures refused { IfErr result (λ e. e ≡ Memory) }
+{
+    let moment = moment.run_to(&runner.setting, runner.lines, to)?;
+    marks.push(moment.going.calls_since(site, caller)?)?;
+    Ok(moment)
+}
+
 /// How many calls the caller has made from the site on behind each of so many first lines. It is a hint for chunks: a wrong one would
 /// make their runs longer, or have them refused. Refused `Memory` alone.
 pub fn marks_of<C: Crew>(
@@ -49,8 +72,7 @@ pub fn marks_of<C: Crew>(
     let mut marks = Vec::new(runner.setting.alloc);
     let mut moment = Moment::at(runner.setting.alloc, site)?;
     for i in 0..count {
-        moment = moment.run_to(&runner.setting, runner.lines, i + 1)?;
-        marks.push(moment.going.calls_since(site, caller)?)?;
+        moment = mark_next(runner, site, caller, moment, i + 1, &mut marks)?;
     }
     Ok(marks)
 }
@@ -98,13 +120,13 @@ impl<'a, 'b, C: Crew> RunsAtCalls<'a, 'b, C> {
         requires lines { AreSwept self.now.runner.now.setting.shape.now self.now.runner.now.lines.now }
         requires recovery { AreSwept self.now.runner.now.setting.shape.now self.now.runner.now.recovery.lines.now }
         requires room { self.now.before + done + 1 < 2 ^ 64 }
-        requires sits { (b : ModelBench) × CameTold self.now.runner.now.setting.shape.now b self.now.runner.now.lines.now self.now.site.now.ledger moment.old }
-        ensures stays { (b : ModelBench) → CameTold self.now.runner.now.setting.shape.now b self.now.runner.now.lines.now self.now.site.now.ledger moment.old
-            → CameTold self.now.runner.now.setting.shape.now b self.now.runner.now.lines.now self.now.site.now.ledger moment.new }
+        requires sits { (b : ModelBench) × CameTold self.now.runner.now.setting.shape.now b self.now.runner.now.lines.now self.now.site.now moment.old }
+        ensures stays { (b : ModelBench) → CameTold self.now.runner.now.setting.shape.now b self.now.runner.now.lines.now self.now.site.now moment.old
+            → CameTold self.now.runner.now.setting.shape.now b self.now.runner.now.lines.now self.now.site.now moment.new }
         ensures count { moment.new.count ≡ moment.old.count }
         ensures judged { IfOk result (λ made. (b : ModelBench)
-            → CameTold self.now.runner.now.setting.shape.now b self.now.runner.now.lines.now self.now.site.now.ledger moment.old
-            → Judged (RunsAlong self.now.runner.now.setting.shape.now self.now.runner.now.bench self.now.site.now self.now.before b
+            → CameTold self.now.runner.now.setting.shape.now b self.now.runner.now.lines.now self.now.site.now moment.old
+            → Judged (RunsAlong self.now.runner.now.setting.shape.now self.now.runner.now.bench self.now.caller self.now.site.now self.now.before b
             self.now.runner.now.lines.now (compared self.now.runner.now.recovery)) made
             (runs_of self.now.runner.now.bench self.now.caller (self.now.before + done + 1))) }
         ensures refused { IfErr result (λ e. e ≡ Memory) }
@@ -137,14 +159,14 @@ impl<'a, 'b, C: Crew> RunsAtCalls<'a, 'b, C> {
         requires lines { AreSwept self.now.runner.now.setting.shape.now self.now.runner.now.lines.now }
         requires recovery { AreSwept self.now.runner.now.setting.shape.now self.now.runner.now.recovery.lines.now }
         requires room { self.now.before + done + 1 < 2 ^ 64 }
-        requires sits { (b : ModelBench) × CameTold self.now.runner.now.setting.shape.now b self.now.runner.now.lines.now self.now.site.now.ledger moment }
+        requires sits { (b : ModelBench) × CameTold self.now.runner.now.setting.shape.now b self.now.runner.now.lines.now self.now.site.now moment }
         ensures few { IfOk result (λ did. did.0.count ≤ self.now.count) }
         ensures came { IfOk result (λ did. (b : ModelBench)
-            → CameTold self.now.runner.now.setting.shape.now b self.now.runner.now.lines.now self.now.site.now.ledger moment
-            → CameTold self.now.runner.now.setting.shape.now b self.now.runner.now.lines.now self.now.site.now.ledger did.0) }
+            → CameTold self.now.runner.now.setting.shape.now b self.now.runner.now.lines.now self.now.site.now moment
+            → CameTold self.now.runner.now.setting.shape.now b self.now.runner.now.lines.now self.now.site.now did.0) }
         ensures judged { IfOk result (λ did. (b : ModelBench)
-            → CameTold self.now.runner.now.setting.shape.now b self.now.runner.now.lines.now self.now.site.now.ledger moment
-            → Judged (RunsAlong self.now.runner.now.setting.shape.now self.now.runner.now.bench self.now.site.now self.now.before b
+            → CameTold self.now.runner.now.setting.shape.now b self.now.runner.now.lines.now self.now.site.now moment
+            → Judged (RunsAlong self.now.runner.now.setting.shape.now self.now.runner.now.bench self.now.caller self.now.site.now self.now.before b
             self.now.runner.now.lines.now (compared self.now.runner.now.recovery)) did.1
             (runs_of self.now.runner.now.bench self.now.caller (self.now.before + done + 1))) }
         ensures refused { IfErr result (λ e. e ≡ Memory) }

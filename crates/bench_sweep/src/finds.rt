@@ -1,22 +1,20 @@
 //! What a run left: a power-on that keeps its image, and the judge's word of what that found.
 
-ghost use Rattle.std.specs.Prelude.{◌≡◌, ◌⊎◌, ◌≢◌, ℕ, List, Option, None, Some, IfErr, IfOk, OnOk, IsTrue, ◌↔◌};
-ghost use Rattle.board_model.specs.Durable.{DurableState, IsWhole};
-ghost use Rattle.board_model.specs.Kept.{MayFind};
+ghost use Rattle.std.specs.Prelude.{◌≡◌, ◌⊎◌, ℕ, List, None, Some, IfErr, IfOk, OnOk};
+ghost use Rattle.board_model.specs.Durable.{DurableState};
 ghost use Rattle.board_model.specs.Plains.{state_in, IsPlainOf};
 ghost use Rattle.board_model.specs.Shapes.{Size, IsSize};
 ghost use Rattle.board_model.specs.Views.{durable_of};
 ghost use Rattle.board_model.specs.declared.plain.Plain.{Plain as State};
-ghost use Rattle.board_model.specs.declared.refusal.Refusal.TheVariants.{Memory, Device};
+ghost use Rattle.board_model.specs.declared.refusal.Refusal.TheVariants.{Memory};
 ghost use Rattle.disk.specs.Facts.{counted};
-ghost use Rattle.disk.specs.FaultState.{fault_state_left};
 ghost use Rattle.bench_report.specs.declared.power.Power.TheVariants.{On};
 ghost use Rattle.report_lines.specs.declared.printed.Printed.{Printed as Said};
 ghost use Rattle.report_lines.specs.declared.printed.Printed.TheVariants.{OnRefused};
 ghost use Rattle.bench_report.specs.Agree.{OffIs};
-ghost use Rattle.bench_report.specs.Bench.{Bench, Formatted};
+ghost use Rattle.bench_report.specs.Bench.{Bench};
 ghost use Rattle.bench_report.specs.Examined.{OpensOf};
-ghost use Rattle.bench_report.specs.Views.{facts, fault_state, store_in, store_size, store_now, store_fault_state};
+ghost use Rattle.bench_report.specs.Views.{facts, fault_state, store_in, store_now};
 ghost use Rattle.bench_sweep.specs.Made.{LooksAt};
 ghost use Rattle.bench_sweep.specs.Runs.{LeftOff, Finds, FindsState, IsJudged, IsSpoilt, PowerFinds};
 

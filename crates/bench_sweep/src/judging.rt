@@ -16,6 +16,7 @@ ghost use Rattle.bench_sweep.specs.Swept.{AreSwept, cell, runs_of};
 ghost use Rattle.bench_sweep.specs.Reports.{cut_content, Keeps, Judged, IsLeftBy, RunsRow, ToldOver};
 ghost use Rattle.bench_sweep.specs.Recovers.{compared};
 ghost use Rattle.bench_sweep.specs.Made.{IsRecovered};
+ghost use Rattle.bench_sweep.specs.Took.{disk_at};
 ghost use Rattle.bench_report.specs.Examined.{OpensOf};
 
 use crate::finds::count_run;
@@ -240,6 +241,7 @@ pub fn turn_off(going: Going, struck: bool) -> Result<Site, Refusal>
     ensures runs { IfOk result (λ site. (size : Size) (b : ModelBench)
         → Runs size b going.power going.payloads going.ledger
         → (b.fault_state.struck ≡ struck) × (b.fault_state.own ≡ 0) × RunsAt size (off b) site) }
+    ensures disk { IfOk result (λ site. site.off.disk ≡ disk_at going.power) }
     ensures refused { IfErr result (λ e. e ≡ Memory) }
 {
     if going.is_struck() != struck {

@@ -9,7 +9,7 @@ ghost use Rattle.bench_report.specs.Happens.{armed_with, unpowered};
 ghost use Rattle.bench_sweep.specs.Points.{fault_at, MadeCalls};
 ghost use Rattle.bench_sweep.specs.Along.{CameTold};
 ghost use Rattle.bench_sweep.specs.Runs.{RunsAt, RunsCalm};
-ghost use Rattle.bench_sweep.specs.declared.ledgers.Ledger.{Ledger as LedgerThen};
+ghost use Rattle.bench_sweep.specs.declared.site.Site.{Site as SiteThen};
 ghost use Rattle.bench_sweep.specs.Swept.{AreSwept};
 ghost use Rattle.script_lang.specs.declared.line.Line.{Line as ScriptLine};
 ghost use Rattle.simdisk.specs.declared.SimDisk.{SimDisk};
@@ -92,7 +92,7 @@ impl Moment {
     /// The moment of a site, with none of the lines behind it.
     pub fn at(alloc: Global, site: &Site) -> Result<Moment, Refusal>
         ensures came { IfOk result (λ at. (size : Size) (b : Bench) (lines : List ScriptLine) → RunsAt size b site.now
-            → CameTold size (unpowered b) lines site.now.ledger at) }
+            → CameTold size (unpowered b) lines site.now at) }
         ensures none { IfOk result (λ at. at.count ≡ 0) }
         ensures refused { IfErr result (λ e. e ≡ Memory) }
     {
@@ -111,8 +111,8 @@ impl Moment {
         requires lines { AreSwept setting.now.shape.now lines.now }
         requires order { self.count ≤ to }
         requires few { to ≤ length lines.now }
-        requires sits { (b : Bench) × (first : LedgerThen) × CameTold setting.now.shape.now b lines.now first self }
-        ensures came { IfOk result (λ at. (b : Bench) (first : LedgerThen)
+        requires sits { (b : Bench) × (first : SiteThen) × CameTold setting.now.shape.now b lines.now first self }
+        ensures came { IfOk result (λ at. (b : Bench) (first : SiteThen)
             → CameTold setting.now.shape.now b lines.now first self → CameTold setting.now.shape.now b lines.now first at) }
         ensures few { IfOk result (λ at. at.count ≤ to) }
         ensures refused { IfErr result (λ e. e ≡ Memory) }

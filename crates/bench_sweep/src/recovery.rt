@@ -1,6 +1,6 @@
 //! The operator's recovery behind a run: lines that follow a power-off, run over what the run left.
 
-ghost use Rattle.std.specs.Prelude.{◌≡◌, ◌⊎◌, ◌↔◌, ◌++◌, ◌∷◌, [], List, length, true, slice_index_or, All, IsTrue, IfOk, IfErr};
+ghost use Rattle.std.specs.Prelude.{◌≡◌, ◌⊎◌, ◌↔◌, List, length, true, slice_index_or, All, IsTrue, IfOk, IfErr};
 ghost use Rattle.board_model.specs.declared.refusal.Refusal.TheVariants.{Memory};
 ghost use Rattle.bench_report.specs.Agree.{IsUnstruck};
 ghost use Rattle.bench_report.specs.Bench.{Bench};

@@ -111,10 +111,10 @@ fn find_run<C: Crew>(runner: &Runner<'_, C>, site: &Site, number: u64) -> Result
     requires sits { Sits runner.now.setting.shape.now site.now }
     ensures found { IfOk result (λ run. (b : ModelBench)
         → RunsAt runner.now.setting.shape.now b site.now
-        → HasRun runner.now.bench runner.now.setting.shape.now (unpowered b) runner.now.lines.now number (run_cell run)) }
+        → HasRun runner.now.bench runner.now.setting.shape.now site.now.off.disk (unpowered b) runner.now.lines.now number (run_cell run)) }
     ensures refused { IfErr result (λ e. (e ≡ Memory) ⊎ ((e ≡ BadShape) × ((b : ModelBench)
         → RunsAt runner.now.setting.shape.now b site.now
-        → HasNoRun runner.now.bench runner.now.setting.shape.now (unpowered b) runner.now.lines.now number))) }
+        → HasNoRun runner.now.bench runner.now.setting.shape.now site.now.off.disk (unpowered b) runner.now.lines.now number))) }
 {
     let end = run_plain(runner, site)?;
     let counts = counts_of(runner.setting.alloc, site, &end)?;
@@ -329,11 +329,11 @@ fn show_from<'a, C: Crew, W: Write>(
     requires behind { All (IsLineInRange runner.now.setting.shape.now) behind.now }
     ensures shown { OnOk result ((b : ModelBench)
         → RunsAt runner.now.setting.shape.now b site.now
-        → ShowsFrom runner.now.bench runner.now.setting.shape.now (unpowered b) front.now runner.now.lines.now behind.now number
+        → ShowsFrom runner.now.bench runner.now.setting.shape.now site.now.off.disk (unpowered b) front.now runner.now.lines.now behind.now number
         (W.contents out.old) (W.contents out.new)) }
     ensures refused { IfErr result (λ e. (e ≡ Memory) ⊎ (e ≡ Output) ⊎ ((e ≡ BadShape) × ((b : ModelBench)
         → RunsAt runner.now.setting.shape.now b site.now
-        → ShowsNone runner.now.bench runner.now.setting.shape.now (unpowered b) front.now runner.now.lines.now behind.now number))) }
+        → ShowsNone runner.now.bench runner.now.setting.shape.now site.now.off.disk (unpowered b) front.now runner.now.lines.now behind.now number))) }
     ensures none { result ≡ Err BadShape → W.contents out.new ≡ W.contents out.old }
 {
     let run = find_run(runner, site, number)?;

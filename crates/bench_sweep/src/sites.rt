@@ -22,6 +22,7 @@ ghost use Rattle.bench_sweep.specs.Reports.{cut_content};
 ghost use Rattle.bench_sweep.specs.Runs.{Runs, RunsAt, RunsCalm, LeftAt, RanTo, SettlesAt, StopsOff};
 ghost use Rattle.bench_sweep.specs.Swept.{IsPlainLine};
 ghost use Rattle.bench_sweep.specs.Told.{moves_harts, powers_on};
+ghost use Rattle.bench_sweep.specs.Took.{disk_at, LineTook, RunTook};
 ghost use Rattle.bench_sweep.specs.declared.points.Caller.{Caller};
 
 use crate::follows::{record_answered, record_console, record_powered};
@@ -122,6 +123,7 @@ impl Going {
     /// The run that begins at that site.
     pub fn from(site: Site) -> Going
         ensures calm { IsUnstruck result.power }
+        ensures disk { disk_at result.power ≡ site.off.disk }
         ensures ledger { result.ledger ≡ site.ledger }
         ensures runs { (size : Size) (b : Bench) → RunsCalm size b (Off site.off) site.payloads site.ledger
             → RunsCalm size b result.power result.payloads result.ledger }
@@ -136,6 +138,7 @@ impl Going {
     /// Turns the board off.
     pub fn into_site(self) -> Site
         ensures runs { (size : Size) (b : Bench) → Runs size b self.power self.payloads self.ledger → RunsAt size (off b) result }
+        ensures disk { result.off.disk ≡ disk_at self.power }
         ensures ledger { result.ledger ≡ self.ledger }
     {
         Site {
@@ -294,6 +297,9 @@ pub fn run_line<C: Crew>(
     ensures runs { IfOk result (λ now. (b : Bench)
         → RunsCalm setting.now.shape.now b going.power going.payloads going.ledger
         → LineMoves setting.now.shape.now line.now b now.power now.payloads going.ledger now.ledger) }
+    ensures took { IfOk result (λ now. (b : Bench)
+        → RunsCalm setting.now.shape.now b going.power going.payloads going.ledger
+        → LineTook setting.now.shape.now line.now (disk_at going.power) (disk_at now.power)) }
     ensures refused { IfErr result (λ e. e ≡ Memory) }
 {
     let Going {
@@ -315,6 +321,9 @@ fn run_command(alloc: Global, command: ConsoleCommand, going: &mut Going) -> Res
     ensures runs { OnOk result ((size : Size) (b : Bench)
         → RunsCalm size b going.old.power going.old.payloads going.old.ledger
         → LineMoves size (lines.Command command) b going.new.power going.new.payloads going.old.ledger going.new.ledger) }
+    ensures took { OnOk result ((size : Size) (b : Bench)
+        → RunsCalm size b going.old.power going.old.payloads going.old.ledger
+        → LineTook size (lines.Command command) (disk_at going.old.power) (disk_at going.new.power)) }
     ensures resumed { going.new.ledger.resumed ≡ going.old.ledger.resumed }
     ensures refused { IfErr result (λ e. e ≡ Memory) }
 {
@@ -344,6 +353,9 @@ pub fn run_lines<C: Crew>(
     ensures ran { IfOk result (λ went. (b : Bench)
         → RunsCalm setting.now.shape.now b from.power from.payloads from.ledger
         → RanTo setting.now.shape.now b (take went.count lines.now) went.going.power went.going.payloads from.ledger went.going.ledger) }
+    ensures took { IfOk result (λ went. (b : Bench)
+        → RunsCalm setting.now.shape.now b from.power from.payloads from.ledger
+        → RunTook setting.now.shape.now (take went.count lines.now) (disk_at from.power) (disk_at went.going.power)) }
     ensures stops { IfOk result (λ went. until_off ≡ true → went.count < length lines.now → StopsOff went.going.power) }
     // Where it is not asked to end at a board that is off, only an armed cut that struck ends it early.
     ensures whole { IfOk result (λ went. until_off ≡ false → (size : Size) (b : Bench) → Agrees size b went.going.power

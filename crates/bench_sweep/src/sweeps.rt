@@ -1,8 +1,7 @@
 //! Whole benches.
 
-ghost use Rattle.std.specs.Prelude.{◌≡◌, ◌⊎◌, ◌↔◌, ◌≤◌, ◌<◌, ◌+◌, ◌^◌, ℕ, List, length, All, Ok, Err, IsTrue, IfOk, IfErr, OnOk};
+ghost use Rattle.std.specs.Prelude.{◌≡◌, ◌⊎◌, ◌↔◌, ◌≤◌, ◌<◌, ◌+◌, ◌^◌, ℕ, List, length, take, All, Ok, Err, IsTrue, IfOk, IfErr, OnOk};
 ghost use Rattle.std.specs.List.{AllZip};
-ghost use Rattle.board_model.specs.Shapes.{Size};
 ghost use Rattle.board_model.specs.declared.refusal.Refusal.{Refusal};
 ghost use Rattle.board_model.specs.declared.refusal.Refusal.TheVariants.{Memory, Output, NotPlain};
 ghost use Rattle.script_lang.specs.Lines.{IsLineInRange};
@@ -11,11 +10,12 @@ ghost use Rattle.bench_report.specs.Bench.{Bench as ModelBench};
 ghost use Rattle.bench_report.specs.Happens.{off, unpowered};
 ghost use Rattle.bench_sweep.specs.Points.{calls_of, MadeCalls};
 ghost use Rattle.bench_sweep.specs.declared.points.Bench.{Bench as Kind};
-ghost use Rattle.bench_sweep.specs.Runs.{Runs, RunsAt, LeftAt, Sits, SitsLeft, IsEnd, IsLife};
+ghost use Rattle.bench_sweep.specs.Runs.{RunsAt, Sits, IsEnd, IsLife};
 ghost use Rattle.bench_sweep.specs.Swept.{IsPlainLine, IsNoFormat, IsNotPlain, NoBenchRuns, NoRecoveryRuns, AreSwept, all_points, all_runs, callers, joined_runs, points_from, total, WroteRows, IsBenchOf, IsRecoveredBenchOf};
 ghost use Rattle.bench_sweep.specs.Recovers.{compared};
+ghost use Rattle.bench_sweep.specs.Took.{RunTook};
 ghost use Rattle.jobs.specs.Parts.{own_of, window};
-ghost use Rattle.bench_sweep.specs.Reports.{Reports, ReportsAll, ReportsScript, IsLeft, RunsAlong, IsRow, TakesPoint};
+ghost use Rattle.bench_sweep.specs.Reports.{Reports, ReportsAll, ReportsScript, RunsAlong, IsRow, TakesPoint};
 
 use crate::begins::run_to_format;
 use crate::chunks::{RunsAtCalls, chunk_size, marks_of};
@@ -116,7 +116,7 @@ fn run_at_calls<R: Threads + Sync, P: Progress, C: Crew + Sync, W: Write>(
     requires sits { Sits runner.now.setting.shape.now site.now }
     ensures wrote { OnOk result ((b : ModelBench)
         → RunsAt runner.now.setting.shape.now b site.now
-        → Reports W.contents runner.now.bench (RunsAlong runner.now.setting.shape.now runner.now.bench site.now calls.made (unpowered b) runner.now.lines.now (compared runner.now.recovery))
+        → Reports W.contents runner.now.bench (RunsAlong runner.now.setting.shape.now runner.now.bench calls.caller site.now calls.made (unpowered b) runner.now.lines.now (compared runner.now.recovery))
         report.old report.new (window within.from within.to (points_from calls.caller (calls.made + 1) calls.count))) }
     ensures refused { IfErr result (λ e. (e ≡ Memory) ⊎ (e ≡ Output)) }
 {
@@ -161,6 +161,8 @@ fn stretch_of<C: Crew>(runner: &Runner<'_, C>, site: &Site) -> Result<Stretch, R
     ensures lives { IfOk result (λ did. (b : ModelBench)
         → RunsAt runner.now.setting.shape.now b site.now
         → IsLife runner.now.setting.shape.now b runner.now.lines.now did.count did.next) }
+    ensures took { IfOk result (λ did. RunTook runner.now.setting.shape.now (take did.count runner.now.lines.now)
+        site.now.off.disk did.next.off.disk) }
     ensures refused { IfErr result (λ e. e ≡ Memory) }
 {
     let copy = site.copy(runner.setting.alloc)?;
@@ -209,9 +211,11 @@ fn sweep_stretch<R: Threads + Sync, P: Progress, C: Crew + Sync, W: Write>(
     ensures lives { IfOk result (λ did. (b : ModelBench)
         → RunsAt runner.now.setting.shape.now b site.old
         → IsLife runner.now.setting.shape.now b runner.now.lines.now did.0 site.new) }
+    ensures took { IfOk result (λ did. RunTook runner.now.setting.shape.now (take did.0 runner.now.lines.now)
+        site.old.off.disk site.new.off.disk) }
     ensures wrote { IfOk result (λ did. (b : ModelBench)
         → RunsAt runner.now.setting.shape.now b site.old
-        → Reports W.contents runner.now.bench (RunsAlong runner.now.setting.shape.now runner.now.bench site.old made (unpowered b) runner.now.lines.now (compared runner.now.recovery))
+        → Reports W.contents runner.now.bench (RunsAlong runner.now.setting.shape.now runner.now.bench caller site.old made (unpowered b) runner.now.lines.now (compared runner.now.recovery))
         report.old report.new (window within.from within.to (points_from caller (made + 1) did.1))) }
     ensures refused { IfErr result (λ e. (e ≡ Memory) ⊎ (e ≡ Output)) }
 {
@@ -242,7 +246,7 @@ fn sweep_caller<R: Threads + Sync, P: Progress, C: Crew + Sync, W: Write>(
     requires sits { Sits runner.now.setting.shape.now begin.now }
     ensures wrote { IfOk result (λ n. (b : ModelBench)
         → RunsAt runner.now.setting.shape.now b begin.now
-        → Reports W.contents runner.now.bench (IsRow runner.now.setting.shape.now runner.now.bench (unpowered b) runner.now.lines.now (compared runner.now.recovery))
+        → Reports W.contents runner.now.bench (IsRow runner.now.setting.shape.now runner.now.bench begin.now.off.disk (unpowered b) runner.now.lines.now (compared runner.now.recovery))
         report.old report.new (window within.from within.to (points_from caller 1 n))) }
     ensures refused { IfErr result (λ e. (e ≡ Memory) ⊎ (e ≡ Output)) }
 {
@@ -273,6 +277,7 @@ pub fn run_plain<C: Crew>(runner: &Runner<'_, C>, begin: &Site) -> Result<Site, 
     ensures ends { IfOk result (λ end. (b : ModelBench)
         → RunsAt runner.now.setting.shape.now b begin.now
         → IsEnd runner.now.setting.shape.now (unpowered b) runner.now.lines.now end) }
+    ensures took { IfOk result (λ end. RunTook runner.now.setting.shape.now runner.now.lines.now begin.now.off.disk end.off.disk) }
     ensures refused { IfErr result (λ e. e ≡ Memory) }
 {
     let mut site = begin.copy(runner.setting.alloc)?;
@@ -328,7 +333,7 @@ fn sweep_all_callers<R: Threads + Sync, P: Progress, C: Crew + Sync, W: Write>(
     ensures wrote { OnOk result ((b : ModelBench)
         → RunsAt runner.now.setting.shape.now b site.now
         → (counts : List ℕ) × AllZip (MadeCalls site.now.off.disk end.now.off.disk) callers counts
-        × Reports W.contents runner.now.bench (IsRow runner.now.setting.shape.now runner.now.bench (unpowered b) runner.now.lines.now (compared runner.now.recovery))
+        × Reports W.contents runner.now.bench (IsRow runner.now.setting.shape.now runner.now.bench site.now.off.disk (unpowered b) runner.now.lines.now (compared runner.now.recovery))
         report.old report.new (own_of part (all_points callers counts))) }
     ensures refused { IfErr result (λ e. (e ≡ Memory) ⊎ (e ≡ Output)) }
 {
@@ -359,7 +364,7 @@ fn sweep_site<R: Threads + Sync, P: Progress, C: Crew + Sync, W: Write>(
     requires sits { Sits runner.now.setting.shape.now site.now }
     ensures wrote { OnOk result ((b : ModelBench)
         → RunsAt runner.now.setting.shape.now b site.now
-        → ReportsAll W.contents runner.now.setting.shape.now runner.now.bench part (unpowered b) runner.now.lines.now
+        → ReportsAll W.contents runner.now.setting.shape.now runner.now.bench part site.now.off.disk (unpowered b) runner.now.lines.now
         runner.now.recovery.lines.now runner.now.recovery.numbers.now report.old report.new) }
     ensures refused { IfErr result (λ e. (e ≡ Memory) ⊎ (e ≡ Output)) }
 {

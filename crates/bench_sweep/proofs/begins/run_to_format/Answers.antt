@@ -1,4 +1,4 @@
-use Rattle.std.proofs.Common.{◌≡◌, ◌+◌, ℕ, rules, refl, sym, ◌∙◌, [], take, subst, arith}
+use Rattle.std.proofs.Common.{◌≡◌, ◌+◌, ℕ, rules, refl, ◌∙◌, [], take, subst, arith}
 use Rattle.bench_sweep.specs.Runs.{IsFormattedAt}
 use Rattle.bench_report.specs.Bench.{bench_with}
 use Rattle.bench_sweep.proofs.Begun.{begun_by, begins_more}

@@ -7,5 +7,5 @@ use Rattle.bench_sweep.proofs.chunks.marks_of.Given as goal
 abbrev pub invariant-loop-i : goal.invariant-loop-i
 invariant-loop-i g l = record {
   few : l.moment.count ≤ l.i;
-  sits : (b : Bench) × CameTold l.runner.setting.shape.now b l.runner.lines.now l.site.ledger l.moment;
+  sits : (b : Bench) × CameTold l.runner.setting.shape.now b l.runner.lines.now l.site l.moment;
 }

@@ -1,4 +1,4 @@
-use Rattle.std.proofs.Common.{◌≡◌, refl, subst, OnOk}
+use Rattle.std.proofs.Common.{refl, subst}
 use Rattle.board_model.specs.Plains.{state_in}
 use Rattle.board_model.specs.Views.{durable_of}
 use Rattle.disk.specs.Facts.{Content}

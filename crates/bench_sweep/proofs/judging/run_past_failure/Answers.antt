@@ -1,4 +1,4 @@
-use Rattle.std.proofs.Common.{◌≡◌, ℕ, [], refl, arith, length}
+use Rattle.std.proofs.Common.{◌≡◌, [], arith, length}
 use Rattle.bench_sweep.specs.declared.points.Bench.TheVariants.{Fails}
 use Rattle.bench_sweep.specs.Points.{fault_at}
 use Rattle.bench_report.specs.Happens.{armed_with, off}

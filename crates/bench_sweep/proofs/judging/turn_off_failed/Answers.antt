@@ -1,4 +1,4 @@
-use Rattle.std.proofs.Common.{◌≡◌, ◌∙◌, ap}
+use Rattle.std.proofs.Common.{◌∙◌, ap}
 use Rattle.disk.specs.FaultState.{FaultState}
 use Rattle.bench_sweep.proofs.judging.turn_off_failed.Goals as goal
 

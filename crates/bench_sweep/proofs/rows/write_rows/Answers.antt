@@ -1,4 +1,4 @@
-use Rattle.std.proofs.Common.{◌≡◌, List, ℕ, take, subst, arith}
+use Rattle.std.proofs.Common.{List, ℕ, subst, arith}
 use Rattle.std.specs.Io.KnownBytes.{Appends}
 use Rattle.report_lines.proofs.Written.{appended, unwritten}
 use Rattle.std.proofs.lemmas.List.{take_all}

@@ -1,5 +1,4 @@
 use Rattle.std.proofs.Common.{◌≡◌, ◌+◌, ◌*◌, ◌∙◌, ℕ, take, ap, sym, refl, arith}
-use Rattle.std.proofs.lemmas.Bool.Decides.{nat_tests}
 use Rattle.bench_sweep.specs.Shown.{runs_each}
 use Rattle.bench_sweep.specs.Swept.{total}
 use Rattle.bench_sweep.specs.declared.points.Caller.TheVariants.{Disk}

@@ -1,9 +1,10 @@
-use Rattle.std.proofs.Common.{List, subst, take}
+use Rattle.std.proofs.Common.{List, refl, subst, take}
 use Rattle.std.proofs.lemmas.List.Elements.{All-take}
 use Rattle.std.proofs.lemmas.Result.{on_ok_weaker}
 use Rattle.script_lang.specs.Lines.{IsLineInRange}
 use Rattle.script_lang.specs.declared.line.Line.{Line}
 use Rattle.bench_report.specs.Happens.{off, unpowered}
+use Rattle.bench_report.specs.declared.power.Power.TheVariants.{Off}
 use Rattle.bench_sweep.specs.Shown.{ShowsFrom, ShowsNone}
 use Rattle.bench_sweep.proofs.Made.{rest_is}
 use Rattle.bench_sweep.proofs.Reported.{swept_take, swept_drop}
@@ -25,16 +26,18 @@ pub returns-clause-shown : goal.returns-clause-shown
 returns-clause-shown g c = on_ok_weaker c.show_from.result (λ did.
     (let begun = c.in_ok-begin.ensures.runs in
     let begin = c.in_ok-begin.begin in
+    let site = c.in_ok-begin.site in
     let lines = c.args.lines.now in
-    let S : List Line → Type 0 = λ ls. ShowsFrom c.args.wanted.bench c.args.setting.now.shape.now (unpowered begun.0) (take begin lines) ls c.args.behind.now c.args.wanted.number (g.W.Write.contents c.args.out.now) (g.W.Write.contents c.show_from.new.out) in
-    record { begin = begin; first = begun.0; format = begun.1; shows = subst S (rest_is begin lines) (did (off begun.0) begun.2) }))
+    let S : List Line → Type 0 = λ ls. ShowsFrom c.args.wanted.bench c.args.setting.now.shape.now site.off.disk (unpowered begun.0) (take begin lines) ls c.args.behind.now c.args.wanted.number (g.W.Write.contents c.args.out.now) (g.W.Write.contents c.show_from.new.out) in
+    record { begin = begin; first = begun.0; format = begun.1; origin = site.off.disk; stands = (Off site.off, begun.2.agrees, refl); shows = subst S (rest_is begin lines) (did (off begun.0) begun.2) }))
     c.show_from.ensures.shown
 
 pub returns-clause-refused : goal.returns-clause-refused
 returns-clause-refused g c = refused_so c.show_from.result (λ did.
     (let begun = c.in_ok-begin.ensures.runs in
     let begin = c.in_ok-begin.begin in
+    let site = c.in_ok-begin.site in
     let lines = c.args.lines.now in
-    let S : List Line → Type 0 = λ ls. ShowsNone c.args.wanted.bench c.args.setting.now.shape.now (unpowered begun.0) (take begin lines) ls c.args.behind.now c.args.wanted.number in
-    record { begin = begin; first = begun.0; format = begun.1; none = subst S (rest_is begin lines) (did (off begun.0) begun.2) }))
+    let S : List Line → Type 0 = λ ls. ShowsNone c.args.wanted.bench c.args.setting.now.shape.now site.off.disk (unpowered begun.0) (take begin lines) ls c.args.behind.now c.args.wanted.number in
+    record { begin = begin; first = begun.0; format = begun.1; origin = site.off.disk; stands = (Off site.off, begun.2.agrees, refl); none = subst S (rest_is begin lines) (did (off begun.0) begun.2) }))
     c.show_from.ensures.refused

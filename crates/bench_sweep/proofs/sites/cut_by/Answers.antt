@@ -1,7 +1,3 @@
-use Rattle.std.proofs.Common.{◌≡◌, ℕ, List, ap, get_or}
-use Rattle.simdisk.specs.declared.SimDisk.{SimDisk}
-use Rattle.simdisk.specs.contracts.logged.SimDiskLogged.TheImpl as sim_logged
-use Rattle.bench_report.specs.Views.{facts}
 use Rattle.bench_sweep.proofs.Left.{left_off}
 use Rattle.bench_sweep.proofs.Calls.{same_calls}
 use Rattle.bench_sweep.proofs.sites.cut_by.Goals as goal

@@ -5,7 +5,9 @@ use Rattle.script_lang.specs.declared.line.Line.TheVariants as lines
 use Rattle.bench_sweep.specs.Lines.{LineMoves}
 use Rattle.bench_sweep.specs.declared.site.Going.{Going}
 use Rattle.bench_sweep.specs.Runs.{RunsCalm, RanTo}
+use Rattle.bench_sweep.specs.Took.{LineTook, RunTook, disk_at}
 use Rattle.bench_sweep.proofs.Ran.{ran_none, ran_more, ran_line, ran_calm}
+use Rattle.bench_sweep.proofs.Took.{took_more}
 use Rattle.bench_sweep.proofs.sites.run_lines.Given.{Over}
 use Rattle.bench_sweep.proofs.sites.run_lines.Goals.{After-stops, in-Command+in_ok-run_command-in-Command, in_default+in_ok-going-in_default}
 use Rattle.bench_sweep.proofs.sites.run_lines.Goals as goal
@@ -24,8 +26,31 @@ moved g c mid r =
       | in_default+in_ok-going-in_default w ↦ subst G (sym w.going-is) (w.in_ok-going-in_default.ensures.runs mid r)
     ]
 
+-- and on its disk
+took : (g : Over) (c : After-stops g) → (mid : Bench) → RunsCalm c.args.setting.now.shape.now mid c.loop-line.going.power c.loop-line.going.payloads c.loop-line.going.ledger
+    → LineTook c.args.setting.now.shape.now c.line-item.result (disk_at c.loop-line.going.power) (disk_at c.match-line.going.power)
+took g c mid r =
+    let size = c.args.setting.now.shape.now in
+    let old = disk_at c.loop-line.going.power in
+    let G : Going → Type 0 = λ now. LineTook size c.line-item.result old (disk_at now.power) in
+    elim c.match-line.branch [
+      | in-Command+in_ok-run_command-in-Command w ↦
+          let did = w.in_ok-run_command-in-Command.ensures.took size mid r in
+          let L : Line → Type 0 = λ l. LineTook size l old (disk_at w.run_command.new.going.power) in
+          subst G (sym w.going-is) (subst L (sym w.in-Command.is) did)
+      | in_default+in_ok-going-in_default w ↦ subst G (sym w.going-is) (w.in_ok-going-in_default.ensures.took mid r)
+    ]
+
+-- the lines up to this one
+took_on : (g : Over) (c : After-stops g) → (b : Bench) → RunsCalm c.args.setting.now.shape.now b c.args.from.power c.args.from.payloads c.args.from.ledger
+    → RunTook c.args.setting.now.shape.now (take (c.loop-line.line-index + 1) c.args.lines.now) (disk_at c.args.from.power) (disk_at c.match-line.going.power)
+took_on g c b r =
+    let i = c.loop-line.invariant in
+    let far = i.ran b r in
+    took_more c.args.setting.now.shape.now c.args.lines.now c.loop-line.line-index c.line-item.result c.line-item.result _ (disk_at c.loop-line.going.power) _ c.loop-line-test.true c.line-item.is (i.took b r) (took g c far.bench far.runs)
+
 pub loop-line-init : goal.loop-line-init
-loop-line-init g c = record { calm = c.requires.calm; ran = λ b r. ran_none _ b _ _ _ _ refl r; count = refl }
+loop-line-init g c = record { calm = c.requires.calm; ran = λ b r. ran_none _ b _ _ _ _ refl r; took = λ b r caller. refl; count = refl }
 
 pub loop-line-preserved : goal.loop-line-preserved
 loop-line-preserved g c =
@@ -36,6 +61,7 @@ loop-line-preserved g c =
           (let far = i.ran b r in
           let m = moved g at far.bench far.runs in
           ran_more c.args.setting.now.shape.now b c.args.lines.now c.loop-line.line-index c.line-item.result c.line-item.result _ _ _ _ _ _ _ c.loop-line-test.true c.line-item.is far m (c.stops.ensures.exact c.if-stops.false c.args.setting.now.shape.now m.bench m.runs.agrees));
+      took = λ b r. took_on g at b r;
       count = search rules;
     }
 
@@ -49,6 +75,13 @@ returns-then-stops-clause-ran g c = λ b r.
     let P : ℕ → Type 0 = λ n. RanTo size b (take n c.args.lines.now) c.match-line.going.power c.match-line.going.payloads c.args.from.ledger c.match-line.going.ledger in
     subst P count (ran_line size b c.args.lines.now c.loop-line.line-index c.line-item.result c.line-item.result _ _ _ _ _ _ _ c.loop-line-test.true c.line-item.is far m)
 
+pub returns-then-stops-clause-took : goal.returns-then-stops-clause-took
+returns-then-stops-clause-took g c = λ b r.
+    let i = c.loop-line.invariant in
+    let count : c.loop-line.line-index + 1 ≡ c.loop-line.count + 1 = omega (arith, i.count) in
+    let P : ℕ → Type 0 = λ n. RunTook c.args.setting.now.shape.now (take n c.args.lines.now) (disk_at c.args.from.power) (disk_at c.match-line.going.power) in
+    subst P count (took_on g (goal.at.returns-then-stops-clause-took g c).After-stops b r)
+
 pub returns-then-stops-clause-stops : goal.returns-then-stops-clause-stops
 returns-then-stops-clause-stops g c = λ until less. c.stops.ensures.off c.if-stops.true
 
@@ -61,6 +94,12 @@ returns-clause-ran g c = λ b r.
     let i = c.loop-line.invariant in
     let P : ℕ → Type 0 = λ n. RanTo size b (take n c.args.lines.now) c.loop-line.going.power c.loop-line.going.payloads c.args.from.ledger c.loop-line.going.ledger in
     subst P (sym i.count) (ran_calm size b _ _ _ _ _ (i.ran b r))
+
+pub returns-clause-took : goal.returns-clause-took
+returns-clause-took g c = λ b r.
+    let i = c.loop-line.invariant in
+    let P : ℕ → Type 0 = λ n. RunTook c.args.setting.now.shape.now (take n c.args.lines.now) (disk_at c.args.from.power) (disk_at c.loop-line.going.power) in
+    subst P (sym i.count) (i.took b r)
 
 pub returns-clause-stops : goal.returns-clause-stops
 returns-clause-stops g c = λ until less. let i = c.loop-line.invariant in absurd (omega (arith, i.count, less, c.loop-line-test.false))

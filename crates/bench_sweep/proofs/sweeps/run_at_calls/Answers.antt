@@ -3,7 +3,6 @@ use Rattle.std.proofs.lemmas.Result.{on_ok_weaker}
 use Rattle.bench_sweep.specs.Recovers.{compared}
 use Rattle.bench_sweep.specs.Reports.{IsOfCall, TakesPoint}
 use Rattle.bench_sweep.specs.Swept.{Spot, points_from}
-use Rattle.bench_sweep.specs.declared.judging.PointRows.{PointRows}
 use Rattle.jobs.specs.Parts.{chunk_from, window}
 use Rattle.jobs.proofs.Chunked.{chunks_handed}
 use Rattle.bench_sweep.proofs.Reported.{reports_as, reports_none}

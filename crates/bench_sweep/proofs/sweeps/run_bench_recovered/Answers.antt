@@ -10,3 +10,8 @@ returns-in_err-lines-clause-refused g c =
     (⊎_elim (λ memory. inl memory)
     (λ faulty. inr (inr (inr (inr (view c.in_ok-script.script, c.in_ok-script.ensures.value, inr faulty)))))
     c.in_err-lines.ensures.refused)
+
+pub returns-in_err-write_recovered-clause-refused : goal.returns-in_err-write_recovered-clause-refused
+returns-in_err-write_recovered-clause-refused g c =
+    let p = err_from_is_err_and c.from_residual-in_err-write_recovered.result c.from_residual-in_err-write_recovered.ensures.1 in
+    rw (p.1, p.2) (⊎_elim (λ memory. inl memory) (λ output. inr (inl output)) c.in_err-write_recovered.ensures.err)

@@ -1,7 +1,11 @@
-use Rattle.std.proofs.Common.{refl}
+use Rattle.std.proofs.Common.{◌∙◌, ap, refl, sym, subst, take}
+use Rattle.simdisk.specs.declared.SimDisk.{SimDisk}
 use Rattle.bench_report.specs.Happens.{off, unpowered}
+use Rattle.bench_sweep.specs.Points.{calls_of}
+use Rattle.bench_sweep.specs.Took.{RunTook, disk_at}
 use Rattle.bench_sweep.proofs.Left.{calm_off}
 use Rattle.bench_sweep.proofs.Ran.{life_of}
+use Rattle.bench_sweep.proofs.Took.{took_since}
 use Rattle.bench_sweep.proofs.sweeps.stretch_of.Goals as goal
 
 pub returns-clause-lives : goal.returns-clause-lives
@@ -20,3 +24,14 @@ returns-clause-sits g c =
     let ran = c.in_ok-went.ensures.ran (unpowered sits.0) calm in
     let left = c.in_ok-next.ensures.runs size ran.bench ran.runs in
     (off ran.bench, left.2)
+
+pub returns-clause-took : goal.returns-clause-took
+returns-clause-took g c =
+    let size = c.args.runner.now.setting.shape.now in
+    let lines = take c.in_ok-went.went.count c.args.runner.now.lines.now in
+    let sits = c.requires.sits in
+    let begun = disk_at c.from-plain.result.power in
+    let calm = c.from-plain.ensures.runs size (unpowered sits.0) (calm_off size (unpowered sits.0) _ _ _ (c.in_ok-copy.ensures.runs size sits.0 sits.1)) in
+    let D : SimDisk → Type 0 = λ d. RunTook size lines begun d in
+    took_since size lines c.args.site.now.off.disk begun _ (λ caller. ap (λ (d : SimDisk). calls_of caller d) c.from-plain.ensures.disk ∙ c.in_ok-copy.ensures.calls caller)
+    (subst D (sym c.in_ok-next.ensures.disk) (c.in_ok-went.ensures.took (unpowered sits.0) calm))

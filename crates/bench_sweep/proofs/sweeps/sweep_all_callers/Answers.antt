@@ -4,8 +4,8 @@ use Rattle.std.specs.List.{AllZip}
 use Rattle.bench_sweep.specs.Points.{MadeCalls}
 use Rattle.bench_sweep.specs.declared.points.Caller.{Caller}
 use Rattle.bench_sweep.specs.declared.points.Caller.TheVariants.{Disk}
-use Rattle.bench_sweep.specs.Swept.{Spot, callers, all_points, total}
-use Rattle.jobs.specs.Parts.{window, own_of, begin_of, end_of}
+use Rattle.bench_sweep.specs.Swept.{callers, all_points, total}
+use Rattle.jobs.specs.Parts.{window, begin_of, end_of}
 use Rattle.jobs.proofs.Pieces.{window_none, window_at, own_is}
 use Rattle.bench_sweep.proofs.Made.{zip_long, zip_more, zip_same}
 use Rattle.bench_sweep.proofs.Reported.{reports_none, reports_more, reports_as}

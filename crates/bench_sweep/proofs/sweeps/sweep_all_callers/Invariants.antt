@@ -16,5 +16,5 @@ invariant-loop-caller g l =
     (b : Bench) → RunsAt l.runner.setting.shape.now b l.site
     → (counts : List ℕ) × AllZip (MadeCalls l.site.off.disk l.end.off.disk) (take l.caller-index l.caller-items) counts
     × (l.within.from ≡ l.initial.within.from - total counts) × (l.within.to ≡ l.initial.within.to - total counts)
-    × Reports g.W.Write.contents l.runner.bench (IsRow l.runner.setting.shape.now l.runner.bench (unpowered b) l.runner.lines.now (compared l.runner.recovery)) l.fn.report l.report
+    × Reports g.W.Write.contents l.runner.bench (IsRow l.runner.setting.shape.now l.runner.bench l.site.off.disk (unpowered b) l.runner.lines.now (compared l.runner.recovery)) l.fn.report l.report
     (window l.initial.within.from l.initial.within.to (all_points (take l.caller-index l.caller-items) counts))

@@ -1,8 +1,8 @@
-use Rattle.std.proofs.Common.{◌≡◌, ◌+◌, ◌-◌, arith, refl, sym}
+use Rattle.std.proofs.Common.{◌-◌, arith, sym}
 use Rattle.bench_report.specs.Happens.{unpowered}
 use Rattle.bench_sweep.specs.Recovers.{compared}
 use Rattle.bench_sweep.proofs.Left.{off_sits}
-use Rattle.bench_sweep.proofs.Made.{none_yet, sits_at, went_more, rest_is, row_of}
+use Rattle.bench_sweep.proofs.Made.{none_yet, sits_at, went_more, rest_is, row_of, took_on}
 use Rattle.bench_sweep.proofs.Reported.{reports_none, reports_more, reports_as, reports_weaker, swept_take, swept_drop, stays_within}
 use Rattle.jobs.proofs.Pieces.{window_none}
 use Rattle.bench_sweep.proofs.Written.{next_window}
@@ -15,6 +15,7 @@ loop-from-init g c =
     let sits = c.requires.sits in record {
       within = omega arith;
       sits = (unpowered sits.0, off_sits size (unpowered sits.0) _ _ _ (copy.runs size sits.0 sits.1));
+      took = copy.calls;
       counts = omega (arith, copy.calls c.args.caller);
       lives = λ b r. none_yet _ (unpowered b) _ _ (off_sits size (unpowered b) _ _ _ (copy.runs size b r));
       wrote = λ b r. reports_as _ _ _ _ _ _ _ (sym (window_none c.args.within.from c.args.within.to)) (reports_none _ _ _ _);
@@ -44,6 +45,7 @@ loop-from-preserved g c =
     let rest = rest_is from lines in record {
       within = stays_within from count _ lines i.within did.ensures.few;
       sits = did.ensures.sits;
+      took = took_on size lines _ from count _ _ _ rest i.took did.ensures.took;
       counts = omega (arith, i.counts, did.ensures.calls);
       lives = λ b r.
           (let f = sits_at size (unpowered b) lines from _ c.loop-from-test.true (i.lives b r) in
@@ -51,7 +53,7 @@ loop-from-preserved g c =
       wrote = λ b r.
           (let f = sits_at size (unpowered b) lines from _ c.loop-from-test.true (i.lives b r) in
           reports_as _ _ _ _ _ _ _ (next_window c.args.caller c.args.within.from c.args.within.to made calls _ _ c.args.within.order i.from i.to (omega (arith, i.counts, did.ensures.calls, did.ensures.below)))
-          (reports_more _ _ _ _ _ _ _ _ (i.wrote b r) (reports_weaker _ _ _ _ _ _ _ (row_of size kind made (unpowered b) lines _ from c.loop-from.site rest f (compared c.args.runner.now.recovery)) (did.ensures.wrote f.bench f.site))));
+          (reports_more _ _ _ _ _ _ _ _ (i.wrote b r) (reports_weaker _ _ _ _ _ _ _ (row_of size kind c.args.caller made c.args.begin.now.off.disk (unpowered b) lines _ from c.loop-from.site rest f i.took i.counts (compared c.args.runner.now.recovery)) (did.ensures.wrote f.bench f.site))));
       from = omega (arith, i.from, c.behind-left.ensures.from);
       to = omega (arith, i.to, c.behind-left.ensures.to);
     }

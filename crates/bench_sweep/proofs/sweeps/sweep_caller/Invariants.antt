@@ -1,4 +1,4 @@
-use Rattle.std.proofs.Common.{◌≡◌, ◌≤◌, ◌+◌, ◌-◌, length}
+use Rattle.std.proofs.Common.{◌≡◌, ◌≤◌, ◌+◌, ◌-◌, length, take}
 use Rattle.bench_report.specs.Bench.{Bench}
 use Rattle.bench_report.specs.Happens.{unpowered}
 use Rattle.bench_sweep.specs.Points.{calls_of}
@@ -6,6 +6,7 @@ use Rattle.bench_sweep.specs.Reports.{Reports, IsRow}
 use Rattle.bench_sweep.specs.Recovers.{compared}
 use Rattle.bench_sweep.specs.Runs.{RunsAt, Sits}
 use Rattle.bench_sweep.specs.Swept.{points_from}
+use Rattle.bench_sweep.specs.Took.{RunTook}
 use Rattle.jobs.specs.Parts.{window}
 use Rattle.bench_sweep.proofs.Made.{Went}
 use Rattle.bench_sweep.proofs.sweeps.sweep_caller.Given as goal
@@ -15,10 +16,11 @@ abbrev pub invariant-loop-from : goal.invariant-loop-from
 invariant-loop-from g l = record {
   within : l.from ≤ length l.runner.lines.now;
   sits : Sits l.runner.setting.shape.now l.site;
+  took : RunTook l.runner.setting.shape.now (take l.from l.runner.lines.now) l.begin.off.disk l.site.off.disk;
   counts : calls_of l.caller l.site.off.disk ≡ calls_of l.caller l.begin.off.disk + l.made;
   lives : (b : Bench) → RunsAt l.runner.setting.shape.now b l.begin → Went l.runner.setting.shape.now (unpowered b) l.runner.lines.now l.from l.site;
   wrote : (b : Bench) → RunsAt l.runner.setting.shape.now b l.begin
-      → Reports g.W.Write.contents l.runner.bench (IsRow l.runner.setting.shape.now l.runner.bench (unpowered b) l.runner.lines.now (compared l.runner.recovery)) l.fn.report l.report (window l.fn.within.from l.fn.within.to (points_from l.caller 1 l.made));
+      → Reports g.W.Write.contents l.runner.bench (IsRow l.runner.setting.shape.now l.runner.bench l.begin.off.disk (unpowered b) l.runner.lines.now (compared l.runner.recovery)) l.fn.report l.report (window l.fn.within.from l.fn.within.to (points_from l.caller 1 l.made));
   from : l.left.from ≡ l.fn.within.from - l.made;
   to : l.left.to ≡ l.fn.within.to - l.made;
 }

@@ -3,9 +3,7 @@ use Rattle.std.proofs.lemmas.Result.{on_ok_weaker}
 use Rattle.report_lines.specs.declared.printed.Printed.{Printed}
 use Rattle.bench_sweep.specs.Made.{Recovers}
 use Rattle.bench_report.specs.Happens.{unpowered}
-use Rattle.bench_sweep.specs.Points.{MadeCalls}
-use Rattle.bench_sweep.specs.Swept.{callers}
-use Rattle.bench_sweep.proofs.Made.{plain_run, uncut_run, zip_long}
+use Rattle.bench_sweep.proofs.Made.{plain_run, uncut_run}
 use Rattle.bench_sweep.proofs.sweeps.sweep_site.Goals as goal
 
 pub looks_of-requires-clause-sits : goal.looks_of-requires-clause-sits
@@ -23,8 +21,10 @@ returns-clause-wrote g c = on_ok_weaker c.sweep_all_callers.result (λ did b r.
     let P : List Printed → Type 0 = λ said. Recovers size (unpowered end.at) rest said in
     let recovers = subst P (sym c.deref.ensures.value) (c.in_ok-own.ensures.says (unpowered end.at) (c.in_ok-left.ensures.runs size end.at end.stands)) in record {
       plain = plain_run size (unpowered b) c.args.runner.now.lines.now _ end;
+      ended = c.in_ok-end.end.off.disk;
+      took = c.in_ok-end.ensures.took;
       counts = wrote.0;
-      five = zip_long (MadeCalls c.args.site.now.off.disk c.in_ok-end.end.off.disk) callers wrote.0 wrote.1;
+      counted = wrote.1;
       own = c.deref.result.now;
       uncut = uncut_run size (unpowered b) c.args.runner.now.lines.now rest _ _ end recovers;
       runs = wrote.2;

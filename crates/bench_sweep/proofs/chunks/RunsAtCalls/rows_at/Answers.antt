@@ -1,4 +1,4 @@
-use Rattle.std.proofs.Common.{◌≡◌, ◌+◌, refl, arith}
+use Rattle.std.proofs.Common.{◌+◌, refl}
 use Rattle.std.proofs.lemmas.Result.{IfOk-weaker}
 use Rattle.bench_sweep.specs.Recovers.{compared}
 use Rattle.bench_sweep.proofs.Along.{along, came_again}
@@ -21,7 +21,7 @@ run_at_point-requires-clause-sits g c κs within =
 pub returns-clause-stays : goal.returns-clause-stays
 returns-clause-stays g c = λ b told.
     let runner = c.args.self.now.runner.now in
-    came_again runner.setting.shape.now b runner.lines.now c.args.self.now.site.now.ledger c.args.moment.now _ told refl c.copy.ensures.ledger (c.copy.ensures.stays runner.setting.shape.now told.came.at told.came.runs)
+    came_again runner.setting.shape.now b runner.lines.now c.args.self.now.site.now c.args.moment.now _ told refl c.copy.ensures.ledger (c.copy.ensures.stays runner.setting.shape.now told.came.at told.came.runs) c.copy.ensures.same
 
 pub returns-clause-judged : goal.returns-clause-judged
 returns-clause-judged g c = IfOk-weaker c.run_at_point.result _ _ (λ rows did b told.
@@ -31,11 +31,11 @@ returns-clause-judged g c = IfOk-weaker c.run_at_point.result _ _ (λ rows did b
     let lines = runner.lines.now in
     let since = c.in_ok-made.ensures.calls in
     judged_at runner.bench self.caller (self.before + c.args.done + 1) _ _ rows
-    (λ row who number is. along size runner.bench self.site.now self.before b lines _ (compared runner.recovery) c.args.moment.now told.came since.0 self.caller c.in_ok-made.made since.1 since.2 (rest_is c.args.moment.now.count lines) row who is)
+    (λ row who number is. along size runner.bench self.site.now self.before b lines _ (compared runner.recovery) c.args.moment.now told since.0 self.caller c.in_ok-made.made since.1 since.2 (rest_is c.args.moment.now.count lines) row who is)
     (did told.came.at (c.in_ok-going.ensures.runs size told.came.at told.came.runs))))
     c.run_at_point.ensures.judged
 
 pub returns-in_err-going-clause-stays : goal.returns-in_err-going-clause-stays
 returns-in_err-going-clause-stays g c = λ b told.
     let runner = c.args.self.now.runner.now in
-    came_again runner.setting.shape.now b runner.lines.now c.args.self.now.site.now.ledger c.args.moment.now _ told refl c.copy.ensures.ledger (c.copy.ensures.stays runner.setting.shape.now told.came.at told.came.runs)
+    came_again runner.setting.shape.now b runner.lines.now c.args.self.now.site.now c.args.moment.now _ told refl c.copy.ensures.ledger (c.copy.ensures.stays runner.setting.shape.now told.came.at told.came.runs) c.copy.ensures.same

@@ -12,7 +12,7 @@ use Rattle.bench_sweep.proofs.chunks.RunsAtCallsTask.row.Given as goal
 abbrev pub invariant-loop-done : goal.invariant-loop-done
 invariant-loop-done g l = record {
   few : l.moment.count ≤ l.self.count;
-  came : (b : Bench) → RunsAt l.self.runner.now.setting.shape.now b l.self.site.now → CameTold l.self.runner.now.setting.shape.now (unpowered b) l.self.runner.now.lines.now l.self.site.now.ledger l.moment;
+  came : (b : Bench) → RunsAt l.self.runner.now.setting.shape.now b l.self.site.now → CameTold l.self.runner.now.setting.shape.now (unpowered b) l.self.runner.now.lines.now l.self.site.now l.moment;
   many : length l.rows.items ≡ l.done - l.from;
   are : AreRows (IsOfCall l.self.runner.now.setting.shape.now l.self.runner.now.bench l.self.caller l.self.before l.self.runner.now.lines.now (compared l.self.runner.now.recovery) l.self.site.now) l.from l.rows.items;
 }

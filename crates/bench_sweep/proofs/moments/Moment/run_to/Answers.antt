@@ -18,4 +18,4 @@ returns-clause-came g c = λ b first told.
     let size = c.args.setting.now.shape.now in
     let ran = c.in_ok-went.ensures.ran told.came.at told.came.runs in
     let calm = sym (c.is_struck.ensures.exact size ran.bench ran.runs.agrees) ∙ c.if-is_struck.false in
-    came_on size b c.args.lines.now first c.args.self _ c.args.to c.in_ok-went.went.count told ran calm c.in_ok-went.ensures.few refl
+    came_on size b c.args.lines.now first c.args.self _ c.args.to c.in_ok-went.went.count told ran (c.in_ok-went.ensures.took told.came.at told.came.runs) calm c.in_ok-went.ensures.few refl
