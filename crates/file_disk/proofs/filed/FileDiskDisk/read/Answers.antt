@@ -2,8 +2,12 @@ use Rattle.std.proofs.Common.{ap, length, subst}
 use Rattle.disk.specs.Facts.{Stays}
 use Rattle.disk.specs.WriteLog.{WriteLog, Untouched, ranges}
 use Rattle.simdisk.specs.contracts.device.SimDiskDisk.TheImpl as sim_disk
+use Rattle.file_disk.proofs.Beside.{call_beside}
 use Rattle.file_disk.proofs.Kept.{marks_stay, kept_on, spares_all}
 use Rattle.file_disk.proofs.filed.FileDiskDisk.read.Goals as goal
+
+pub returns-clause-called : goal.returns-clause-called
+returns-clause-called g c = call_beside _ _ _ _ _ _ _ c.read.ensures.called
 
 pub invariant_of-self-clause-marked : goal.invariant_of-self-clause-marked
 invariant_of-self-clause-marked g c =
