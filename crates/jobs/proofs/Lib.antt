@@ -1,4 +1,3 @@
 pub mod HandedOn
 pub mod Pieces
 pub mod Chunked
-pub mod Dealing

@@ -6,7 +6,6 @@ mod chunk;
 mod part;
 mod progress;
 mod shares;
-mod slots;
 mod windows;
 
 pub use chunk::Chunk;
