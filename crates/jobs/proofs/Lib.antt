@@ -1,3 +1,4 @@
 pub mod HandedOn
 pub mod Pieces
 pub mod Chunked
+pub mod Dealing

@@ -6,6 +6,7 @@ mod chunk;
 mod part;
 mod progress;
 mod shares;
+mod slots;
 mod windows;
 
 pub use chunk::Chunk;

@@ -1,10 +1,12 @@
 //! Rows that several threads make, a window of them at a time.
 
-ghost use Rattle.std.specs.Prelude.{◌≡◌, ◌⊎◌, ◌+◌, ◌<◌, ◌≤◌, ◌^◌, ℕ, length, IfOk, IfErr, OnOk, slice_index_or};
+ghost use Rattle.std.specs.Prelude.{◌≡◌, ◌⊎◌, ◌+◌, ◌*◌, ◌<◌, ◌≤◌, ◌^◌, ℕ, length, IfOk, IfErr, OnOk, slice_index_or};
 ghost use Rattle.board_model.specs.declared.refusal.Refusal.TheVariants.{Memory, Output};
 ghost use Rattle.jobs.specs.Handed.{IsMade, Handed};
+ghost use Rattle.jobs.specs.Dealing.{dealt};
 
 use crate::progress::Progress;
+use crate::slots::{dealt, hands_of};
 use board_model::Refusal;
 use std::alloc::Global;
 use std::thread;
@@ -93,23 +95,52 @@ pub trait Sink<Row> {
         ensures refused { IfErr result (λ e. (e ≡ Memory) ⊎ (e ≡ Output)) };
 }
 
-/// Makes the row of each slot, by the threads of these jobs. The first slot has that number.
+/// Makes the row of that slot. The rows begin with that number, and are dealt to so many threads, which have so many slots each.
+fn make_slot<T: Task>(
+    task: &T,
+    first: u64,
+    hands: usize,
+    each: usize,
+    slot: usize,
+) -> Result<T::Row, Refusal>
+    requires room { first + hands * each < 2 ^ 64 }
+    requires within { slot < hands * each }
+    requires has { (i : ℕ) → i < hands * each → T.has task.now (first + i) }
+    ensures row { IfOk result (λ row. T.is_row task.now (first + dealt slot each hands) row) }
+    ensures refused { IfErr result (λ e. e ≡ Memory) }
+{
+    task.row(first + dealt(slot, each, hands) as u64)
+}
+
+/// Makes the row of each slot, by the threads of these jobs. The rows begin with that number, and are dealt to so many threads, which
+/// have so many slots each: where later rows take longer, each thread makes some of these.
 fn make_each<R: Threads + Sync, P: Progress, T: Task>(
     jobs: &Jobs<'_, R, P>,
     task: &T,
     first: u64,
+    hands: usize,
+    each: usize,
     slots: &mut [Option<Result<T::Row, Refusal>>],
 )
     requires room { first + length slots.old < 2 ^ 64 }
+    requires all { length slots.old ≡ hands * each }
     requires has { (i : ℕ) → i < length slots.old → T.has task.now (first + i) }
-    ensures each { (i : ℕ) (d : _) → i < length slots.old → IsMade (T.is_row task.now) (first + i) (slice_index_or slots.new i d) }
+    ensures each { (i : ℕ) (d : _) → i < length slots.old
+        → IsMade (T.is_row task.now) (first + dealt i each hands) (slice_index_or slots.new i d) }
     ensures as_many { length slots.new ≡ length slots.old }
 {
     thread::for_each_mut(
         jobs.rt,
         slots,
         jobs.count,
-        &|i, slot| *slot = Some(task.row(first + i as u64)),
+        &|i: usize, slot: &mut Option<Result<T::Row, Refusal>>|
+            requires room { first + hands * each < 2 ^ 64 }
+            requires within { i < hands * each }
+            requires has { (k : ℕ) → k < hands * each → T.has task.now (first + k) }
+            ensures { IsMade (T.is_row task.entry.now) (first + dealt i each hands) slot.new }
+        {
+            *slot = Some(make_slot(task, first, hands, each, i));
+        },
     );
 }
 
@@ -131,22 +162,28 @@ fn row_in<T: Task>(
     }
 }
 
-/// Hands on the rows of the slots, in order, up to the first that was refused.
+/// Hands on the rows of the slots, in order, up to the first that was refused. They were dealt to so many threads, which have so many
+/// slots each.
 fn hand_on<P: Progress, T: Task, S: Sink<T::Row>>(
     task: &T,
     first: u64,
+    hands: usize,
+    each: usize,
     slots: &mut [Option<Result<T::Row, Refusal>>],
     sink: &mut S,
     progress: &P,
 ) -> Result<(), Refusal>
     requires room { first + length slots.old < 2 ^ 64 }
-    requires made { (i : ℕ) (d : _) → i < length slots.old → IsMade (T.is_row task.now) (first + i) (slice_index_or slots.old i d) }
+    requires all { length slots.old ≡ hands * each }
+    requires made { (i : ℕ) (d : _) → i < length slots.old
+        → IsMade (T.is_row task.now) (first + dealt i each hands) (slice_index_or slots.old i d) }
     ensures handed { OnOk result (Handed (T.is_row task.now) S.takes first (length slots.old) sink.old sink.new) }
     ensures as_many { length slots.new ≡ length slots.old }
     ensures refused { IfErr result (λ e. (e ≡ Memory) ⊎ (e ≡ Output)) }
 {
     for i in 0..slots.len() {
-        let row = row_in(task, first + i as u64, &mut slots[i])?;
+        let at = dealt(i, hands, each);
+        let row = row_in(task, first + i as u64, &mut slots[at])?;
         sink.take(row, progress)?;
     }
     Ok(())
@@ -166,8 +203,9 @@ fn run_window<R: Threads + Sync, P: Progress, T: Task, S: Sink<T::Row>>(
     ensures as_many { length slots.new ≡ length slots.old }
     ensures refused { IfErr result (λ e. (e ≡ Memory) ⊎ (e ≡ Output)) }
 {
-    make_each(jobs, task, first, slots);
-    hand_on(task, first, slots, sink, &jobs.progress)
+    let (hands, each) = hands_of(jobs.count, slots.len());
+    make_each(jobs, task, first, hands, each, slots);
+    hand_on(task, first, hands, each, slots, sink, &jobs.progress)
 }
 
 /// Makes the rows of so many of the slots, from the first on, and hands them on.
