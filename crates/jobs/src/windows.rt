@@ -133,7 +133,14 @@ fn make_each<R: Threads + Sync, P: Progress, T: Task>(
         jobs.rt,
         slots,
         jobs.count,
-        &|i, slot| *slot = Some(make_slot(task, first, hands, each, i)),
+        &|i: usize, slot: &mut Option<Result<T::Row, Refusal>>|
+            requires room { first + hands * each < 2 ^ 64 }
+            requires within { i < hands * each }
+            requires has { (k : ℕ) → k < hands * each → T.has task.now (first + k) }
+            ensures { IsMade (T.is_row task.entry.now) (first + dealt i each hands) slot.new }
+        {
+            *slot = Some(make_slot(task, first, hands, each, i));
+        },
     );
 }
 
