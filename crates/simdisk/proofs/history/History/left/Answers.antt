@@ -1,4 +1,4 @@
-use Rattle.std.proofs.Common.{◌≡◌, ◌≤◌, ◌∙◌, ℕ, List, length, ap, sym, subst, rules}
+use Rattle.std.proofs.Common.{◌≡◌, ◌≤◌, ◌∙◌, ℕ, List, length, refl, ap, sym, subst, rules}
 use Rattle.std.specs.Vec.{vec_capacity}
 use Rattle.disk.specs.Facts.{Content}
 use Rattle.simdisk.specs.History.{log_of}
