@@ -56,8 +56,8 @@ fn mark_next<C: Crew>(
     Ok(moment)
 }
 
-/// How many calls the caller has made from the site on behind each of so many first lines. It is a hint for chunks: a wrong one would
-/// make their runs longer, or have them refused. Refused `Memory` alone.
+/// How many calls the caller has made from the site on behind each of so many first lines but the last, in which all others lie. It is a
+/// hint for chunks: a wrong one would make their runs longer, or have them refused. Refused `Memory` alone.
 pub fn marks_of<C: Crew>(
     runner: &Runner<'_, C>,
     count: usize,
@@ -71,7 +71,8 @@ pub fn marks_of<C: Crew>(
 {
     let mut marks = Vec::new(runner.setting.alloc);
     let mut moment = Moment::at(runner.setting.alloc, site)?;
-    for i in 0..count {
+    let but_last = count.saturating_sub(1);
+    for i in 0..but_last {
         moment = mark_next(runner, site, caller, moment, i + 1, &mut marks)?;
     }
     Ok(marks)
