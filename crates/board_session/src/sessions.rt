@@ -34,7 +34,11 @@ use board_console::{Left, console};
 use board_model::{Refusal, Shape};
 use board_options::Options;
 use disk::Disk;
-use hart_threads::{AfterConsole, Closing, HartEnd, Parted, Rested, SharedBoard, Threaded, drive};
+use hart_threads::{
+    AfterConsole, BootedHarts, Closing, HartEnd, Parted, Rested, SharedBoard, Threaded, Undriven,
+    drive,
+};
+use sbi_calls::Tables;
 use shared_store::{Heard, Journal, Locks, NewBook, Part, SharedBus, SharedStore, Unshared};
 use std::alloc::{AllocError, Global};
 use std::io::{Read, Write};
@@ -42,6 +46,7 @@ use std::marker::Brand;
 use std::sync::{Mutex, OnceLock, Wait};
 use std::thread::Threads;
 use store::{Saving, format, kept_disks};
+use susp::Bus;
 use tallies::Halt;
 
 /// What a console reads its lines from, and what it writes its answers to.
@@ -212,11 +217,87 @@ fn run_board<
     let Ok((given, room)) = hand_out_to_harts(alloc, &mut whole, harts.len()) else {
         return without_console(alloc, whole, Vec::new(alloc), Vec::new(alloc), side, boot);
     };
-    let doze = bus.doze;
+    let closing = Closing::new(lock, halt);
+    let booted = BootedHarts {
+        harts,
+        seats,
+        doze: bus.doze,
+        parts: given,
+        turns,
+    };
+    let unlocked = Unlocked {
+        shape,
+        tables,
+        bus,
+        whole,
+    };
+    match drive_beside_console(rt, alloc, &closing, unlocked, booted, side) {
+        Ok((whole, loops, talked)) => after_console(rt, alloc, whole, loops, talked, boot, room),
+        Err((whole, back)) => {
+            without_console(alloc, whole, back.loops, back.parts, back.side, boot)
+        }
+    }
+}
+
+/// What the threads of a board's harts are to share, before its bus and its store are behind their locks.
+#[derive(Drop)]
+struct Unlocked<D: Disk + Drop, J: Journal> {
+    shape: Shape,
+    tables: Tables,
+    bus: Bus,
+    whole: Unshared<D, J>,
+}
+
+/// The store, with the loops that ended and the console that has left, or with what comes back where no console could be begun.
+type Driven<'c, D, J, I, W> = Result<
+    (Unshared<D, J>, Vec<Rested<'c, J>>, Talked<'c, J, I, W>),
+    (Unshared<D, J>, Undriven<'c, J, ConsoleSide<J, I, W>>),
+>;
+
+/// Runs the harts on threads and the console beside them, with the bus and the store behind their locks, until all have ended.
+/// Then the store is shared no longer.
+fn drive_beside_console<
+    'c,
+    D: Disk + Drop + Send,
+    J: Threaded + Send + Sync,
+    R: Threads + Wait + Sync,
+    I: Read + Drop,
+    W: Write + Drop,
+>(
+    rt: &R,
+    alloc: Global,
+    closing: &'c Closing<J>,
+    unlocked: Unlocked<D, J>,
+    booted: BootedHarts<J>,
+    side: ConsoleSide<J, I, W>,
+) -> Driven<'c, D, J, I, W>
+    requires none { length (parts_with unlocked.whole) ≡ 0 }
+    requires shape { unlocked.shape ≡ J.size }
+    requires memory { unlocked.bus.ram ≡ J.memory }
+    requires turns { booted.turns ≡ J.turns }
+    requires parts { vec_len booted.parts ≡ vec_len booted.harts }
+    requires fresh { All (λ p. p.told ≡ []) booted.parts.items }
+    requires held { IsHeld unlocked.shape booted.harts.items unlocked.tables (Some booted.seats) booted.doze }
+    requires machine { J.machine ≡ board_of unlocked.shape J.memory booted.doze booted.harts.items booted.seats }
+    ensures none { MatchResult result (λ r. length (parts_with r.0) ≡ 0) (λ e. length (parts_with e.0) ≡ 0) }
+    ensures said { IfOk result (λ r. Talks J.found J.issued r.2.left
+        (dialogue_ends (I.remaining side.streams.input) (W.contents side.streams.out) (party side.part.told side.heard))
+        (dialogue_ends (I.remaining r.2.side.streams.input) (W.contents r.2.side.streams.out)
+        (party r.2.side.part.told r.2.side.heard))) }
+    ensures loops { IfOk result (λ r. vec_len r.1 ≡ vec_len booted.harts) }
+    ensures side { IfErr result (λ e. e.1.side ≡ side) }
+    ensures back { IfErr result (λ e. vec_len e.1.loops + vec_len e.1.parts ≡ vec_len booted.harts) }
+    ensures fresh { IfErr result (λ e. All (λ p. p.told ≡ []) e.1.parts.items) }
+{
+    let Unlocked {
+        shape,
+        tables,
+        bus,
+        whole,
+    } = unlocked;
     let bus_lock: Mutex<SharedBus<J>> = Mutex::new(SharedBus::new(bus));
     let store_lock: Mutex<SharedStore<D, J>> = Mutex::new(whole.share());
-    let closing_once = Closing::new(lock, halt);
-    let (bus, store, closing) = (&bus_lock, &store_lock, &closing_once);
+    let (bus, store) = (&bus_lock, &store_lock);
     let crew = crew::Threads::new(rt);
     let board = SharedBoard {
         saving: Saving { alloc, crew: &crew },
@@ -230,11 +311,7 @@ fn run_board<
         rt,
         &Open,
         board,
-        harts,
-        seats,
-        doze,
-        turns,
-        given,
+        booted,
         side,
         move |side: ConsoleSide<J, I, W>| -> Talked<'_, J, I, W>
             ensures { Talks J.found J.issued result.left
@@ -246,8 +323,8 @@ fn run_board<
     );
     let whole = store_lock.into_inner().unshare();
     match driven {
-        Ok((loops, talked)) => after_console(rt, alloc, whole, loops, talked, boot, room),
-        Err(back) => without_console(alloc, whole, back.loops, back.parts, back.side, boot),
+        Ok((loops, talked)) => Ok((whole, loops, talked)),
+        Err(back) => Err((whole, back)),
     }
 }
 

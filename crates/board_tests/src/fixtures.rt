@@ -14,7 +14,9 @@ use board::{Board, Parts, Payloads};
 use board_console::console;
 use board_model::{BootMode, Command, Refusal, Shape, Slot};
 use disk::{ArmedFault, Disk};
-use hart_threads::{AfterConsole, Closing, Gate, Rested, SharedBoard, Threaded, Why, drive};
+use hart_threads::{
+    AfterConsole, BootedHarts, Closing, Gate, Rested, SharedBoard, Threaded, Why, drive,
+};
 use rv_decode::Reg;
 use shared_store::{Heard, Journal, Locks, NewBook, Part, SharedBus, SharedStore, Unshared};
 use simdisk::SimDisk;
@@ -267,7 +269,13 @@ fn driven_as<J: Threaded + Send + Sync, R: Threads + Wait + Clock + Abort + Sync
     let Ok(given) = whole.hand_out_all(alloc, harts.len()) else {
         rt.panic("no memory")
     };
-    let doze = bus.doze;
+    let booted = BootedHarts {
+        harts,
+        seats,
+        doze: bus.doze,
+        parts: given,
+        turns: trial.turns,
+    };
     let bus: Mutex<SharedBus<J>> = Mutex::new(SharedBus::new(bus));
     let mut shared = whole.share();
     issue(&mut shared, boot, &mut heard, trial.commands);
@@ -288,11 +296,7 @@ fn driven_as<J: Threaded + Send + Sync, R: Threads + Wait + Clock + Abort + Sync
         rt,
         &gate,
         board,
-        harts,
-        seats,
-        doze,
-        trial.turns,
-        given,
+        booted,
         part,
         move |part| talk(rt, alloc, rung, told, part, heard, trial),
     );

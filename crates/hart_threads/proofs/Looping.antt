@@ -101,26 +101,23 @@ between_after by s whys.Turns doze a = rests_between by s doze a
 
 -- ---- one turn
 -- of a hart that does not doze
-undozed : (size : Size) (begun : List ℕ) (s : ArchState) (k : Known) (doze : Option Doze) (looks : Looked) (r : RefusedCalls) (b : Seated) (word : Word) (told : Option (ℕ × Entry)) → doze ≡ None → OwnOnce size begun (seated s k None looks r) b word told → TurnOnce size begun (seated s k doze looks r) b word told
+pub undozed : (size : Size) (begun : List ℕ) (s : ArchState) (k : Known) (doze : Option Doze) (looks : Looked) (r : RefusedCalls) (b : Seated) (word : Word) (told : Option (ℕ × Entry)) → doze ≡ None → OwnOnce size begun (seated s k None looks r) b word told → TurnOnce size begun (seated s k doze looks r) b word told
 undozed size begun s k doze looks r b word told none own = subst (λ (o : Option Doze). TurnOnce size begun (seated s k o looks r) b word told) (sym none) own
 
 -- of one that dozes
-pub dozed : (size : Size) (begun : List ℕ) (s : ArchState) (k : Known) (doze : Option Doze) (d : Doze) (looks : Looked) (r : RefusedCalls) (b : Seated) (woken : Bool) (word : Word) → doze ≡ Some d → DozeOnce woken d (seated s k (Some d) looks r) b word → TurnOnce size begun (seated s k doze looks r) b word None
-dozed size begun s k doze d looks r b woken word is once = subst (λ (o : Option Doze). TurnOnce size begun (seated s k o looks r) b word None) (sym is) (woken, once, refl)
+pub dozed : (size : Size) (begun : List ℕ) (s : ArchState) (k : Known) (doze : Option Doze) (d : Doze) (looks : Looked) (r : RefusedCalls) (b : Seated) (woken : Bool) (word : Word) (told : Option (ℕ × Entry)) → doze ≡ Some d → DozeOnce woken d (seated s k (Some d) looks r) b word → told ≡ None → TurnOnce size begun (seated s k doze looks r) b word told
+dozed size begun s k doze d looks r b woken word told is once none = subst (λ (o : Option Doze). TurnOnce size begun (seated s k o looks r) b word told) (sym is) (woken, once, none)
 
+-- ---- what comes of what a hart did
 -- that asked for no durable call
-pub own_once : (size : Size) (begun : List ℕ) (s t : ArchState) (k k' : Known) (doze : Option Doze) (looks : Looked) (r : RefusedCalls) (found left : List ℕ) (turned : Turned) (did : Did) → StepsMake begun found → StepsMake begun left → doze ≡ None → turned ≡ Made did → TurnOwn size s found t left k k' turned
-    → TurnOnce size begun (seated s k doze looks r) (seated t k' None looks r) (Goes did) None
-own_once size begun s t k k' doze looks r found left turned did before after none is own =
-    undozed size begun s k doze looks r (seated t k' None looks r) (Goes did) None none
-    (found, left, Made did, seated t k' None looks r, subst (λ (w : Turned). TurnOwn size s found t left k k' w) is own, (refl, refl, refl), refl, refl, before, after, refl)
+pub made_comes : (size : Size) (a : Seated) (turned : Turned) (did : Did) → turned ≡ Made did → ComesOnce size turned a a (Goes did) None
+made_comes size a turned did is = subst (λ (w : Turned). ComesOnce size w a a (Goes did) None) (sym is) (refl, refl, refl)
 
 -- that asked for one
-pub held_turn : (size : Size) (begun : List ℕ) (s u t : ArchState) (k m k' : Known) (doze after : Option Doze) (looks : Looked) (r r' : RefusedCalls) (found left : List ℕ) (turned : Turned) (word : Word) (told : Option (ℕ × Entry)) → StepsMake begun found → StepsMake begun left → doze ≡ None → turned ≡ Durable → TurnOwn size s found u left k m turned
-    → HeldOnce size (call_of u) u t m k' word → IsToldBy size (call_of u) u.id word told → IsDozeBy size (call_of u) u.id word after → RefusedOnce (call_of u) word t r r' → TurnOnce size begun (seated s k doze looks r) (seated t k' after looks r') word told
-held_turn size begun s u t k m k' doze after looks r r' found left turned word told was now none is own once has dozes refused =
-    undozed size begun s k doze looks r (seated t k' after looks r') word told none
-    (found, left, Durable, seated u m None looks r, subst (λ (w : Turned). TurnOwn size s found u left k m w) is own, (once, has, dozes, refl, refused), refl, refl, was, now, refl)
+pub held_comes : (size : Size) (s t : ArchState) (k k' : Known) (doze after : Option Doze) (looks : Looked) (r r' : RefusedCalls) (turned : Turned) (word : Word) (told : Option (ℕ × Entry)) → turned ≡ Durable
+    → HeldOnce size (call_of s) s t k k' word → IsToldBy size (call_of s) s.id word told → IsDozeBy size (call_of s) s.id word after → RefusedOnce (call_of s) word t r r' → ComesOnce size turned (seated s k doze looks r) (seated t k' after looks r') word told
+held_comes size s t k k' doze after looks r r' turned word told is once has dozes refused =
+    subst (λ (w : Turned). ComesOnce size w (seated s k doze looks r) (seated t k' after looks r') word told) (sym is) (once, has, dozes, refl, refused)
 
 -- the receipt that a turn has, by whether the life goes on
 held_none : (size : Size) (call : Call) (by : ℕ) (word : Word) (told : Option (ℕ × Entry)) → IsToldBy size call by word told → loop_goes_on word ≡ true → told ≡ None

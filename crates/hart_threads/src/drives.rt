@@ -23,11 +23,25 @@ use board_model::Refusal;
 use disk::Disk;
 use hart::Hart;
 use sbi_calls::{Seats, Tables};
-use shared_store::{Locks, Part};
+use shared_store::{Journal, Locks, Part};
 use std::alloc::Global;
 use std::sync::Wait;
 use std::thread::Threads;
 use susp::Doze;
+
+/// The harts that are to be driven, as the boot left them, and what their loops are given.
+#[derive(Drop)]
+pub struct BootedHarts<J: Journal> {
+    pub harts: Vec<Hart>,
+    /// The one seat of them all.
+    pub seats: Seats,
+    /// The doze of the bus, where the board dozes. The hart of the doze is given a copy of it.
+    pub doze: Option<Doze>,
+    /// A part of the receipts for each loop, which was told nothing yet.
+    pub parts: Vec<Part<J>>,
+    /// How many turns each makes at most.
+    pub turns: u64,
+}
 
 /// What comes back where no console could be begun.
 #[derive(Drop)]
@@ -65,16 +79,16 @@ fn unbegun<'a, J: Threaded, E: Drop>(
 /// all threads have ended.
 ///
 /// The harts, seats, tables and bus are those of a board's parts, which the life's name has as its machine: each loop that
-/// ended is of a hart of that machine, which went from there by its own turns. `doze` is the doze of that bus, of which its
-/// hart is given a copy: it is read before the bus goes behind its lock. Once a loop ended with the life, each other one
+/// ended is of a hart of that machine, which went from there by its own turns. `booted.doze` is the doze of that bus: it is
+/// read before the bus goes behind its lock. Once a loop ended with the life, each other one
 /// ends before its next turn. The console goes on until it returns by itself, and where it returns first the harts
 /// run out their turns, unless it halts them by the board's `closing`, and as far as the gate lets them.
 ///
-/// A loop that ended with its turns made all that the life gives each hart, which is `turns`; one that ended before has
-/// what ended it.
+/// A loop that ended with its turns made all that the life gives each hart, which is `booted.turns`; one that ended before
+/// has what ended it.
 ///
 /// The console is given `side`, as its input and its output, and what it gives back comes back with the loops
-/// that ended, one for each hart. Each has one of `parts`, which were told nothing yet. Refused `Memory` where
+/// that ended, one for each hart. Each has one of the parts. Refused `Memory` where
 /// there is no room for the harts' seats, or where a thread could not be started: the loops of all harts have
 /// then ended, or none has begun, and the console was not called.
 pub fn drive<
@@ -90,28 +104,31 @@ pub fn drive<
     rt: &R,
     gate: &G,
     board: SharedBoard<'_, 'c, D, J, crew::Threads<'_, R>>,
-    harts: Vec<Hart>,
-    seats: Seats,
-    doze: Option<Doze>,
-    turns: u64,
-    parts: Vec<Part<J>>,
+    booted: BootedHarts<J>,
     side: E,
     console: K,
 ) -> Result<(Vec<Rested<'c, J>>, T), Undriven<'c, J, E>>
     requires console { K.IsAlwaysCallable console }
     requires board { board.shape.now ≡ J.size }
-    requires turns { turns ≡ J.turns }
+    requires turns { booted.turns ≡ J.turns }
     requires gated { (h n : ℕ) → G.answers gate.now h n false → J.gated ≡ true }
-    requires parts { vec_len parts ≡ vec_len harts }
-    requires fresh { All (λ p. p.told ≡ []) parts.items }
-    requires held { IsHeld board.shape.now harts.items board.tables.now (Some seats) doze }
-    requires machine { J.machine ≡ board_of board.shape.now J.memory doze harts.items seats }
+    requires parts { vec_len booted.parts ≡ vec_len booted.harts }
+    requires fresh { All (λ p. p.told ≡ []) booted.parts.items }
+    requires held { IsHeld board.shape.now booted.harts.items board.tables.now (Some booted.seats) booted.doze }
+    requires machine { J.machine ≡ board_of board.shape.now J.memory booted.doze booted.harts.items booted.seats }
     ensures said { IfOk result (λ r. K.post console side r.1) }
-    ensures loops { IfOk result (λ r. vec_len r.0 ≡ vec_len harts) }
+    ensures loops { IfOk result (λ r. vec_len r.0 ≡ vec_len booted.harts) }
     ensures refused { IfErr result (λ e. (e.side ≡ side) × (e.refusal ≡ Memory)) }
-    ensures back { IfErr result (λ e. vec_len e.loops + vec_len e.parts ≡ vec_len harts) }
+    ensures back { IfErr result (λ e. vec_len e.loops + vec_len e.parts ≡ vec_len booted.harts) }
     ensures fresh { IfErr result (λ e. All (λ p. p.told ≡ []) e.parts.items) }
 {
+    let BootedHarts {
+        harts,
+        seats,
+        doze,
+        parts,
+        turns,
+    } = booted;
     let alloc = board.saving.alloc;
     let all = match seat_harts(alloc, harts, seats, doze, board.tables) {
         Ok(all) => all,

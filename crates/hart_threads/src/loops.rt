@@ -74,6 +74,53 @@ fn goes_on(word: Word) -> bool
     }
 }
 
+/// A hart in its loop, between two of its turns.
+#[derive(Drop)]
+struct HartRun<J: Threaded> {
+    hart: Hart,
+    local: HartLocal<J>,
+    looks: Looks,
+    asked: Asked<J>,
+}
+
+impl<J: Threaded> HartRun<J> {
+    /// Its loop ends after so many turns, for that reason.
+    fn end<'a>(
+        self,
+        made: u64,
+        why: Why,
+        shut: Option<Shut<'a, J>>,
+        told: Option<Told<J>>,
+    ) -> Ended<'a, J>
+        requires receipt { why ≡ Life → IsTrue (is_some told) }
+        requires noted { self.local.part.told ≡ option_to_list told }
+        requires ends { ends_life told ≡ true }
+        requires whole { why ≡ Turns → made ≡ J.turns }
+        requires closed { why ≡ Closed → IsTrue (is_some shut) }
+        requires gated { why ≡ ByGate → J.gated ≡ true }
+        requires looked { made ≤ self.asked }
+        ensures hart { (result.hart ≡ self.hart) × (result.local ≡ self.local) × (result.looks ≡ self.looks) }
+        ensures end { (result.made ≡ made) × (result.why ≡ why) × (result.told ≡ told) }
+    {
+        let HartRun {
+            hart,
+            local,
+            looks,
+            asked,
+        } = self;
+        Ended {
+            hart,
+            local,
+            looks,
+            asked,
+            made,
+            why,
+            shut,
+            told,
+        }
+    }
+}
+
 /// The turns of a hart, as many as the life gives it, one after another, until the gate ends them or a reset or a
 /// suspension of this hart was acknowledged, another hart ended the life, or the console halted the harts: that is
 /// asked before each turn. Then the gate is asked; it is told after the turn, also of one that did nothing and of the
@@ -114,64 +161,28 @@ pub fn hart_loop<'c, R: Wait, G: Gate, D: Disk + Drop, J: Threaded, C: Crew>(
         (seated result.hart (known result.local.seats) result.local.doze result.looks result.local.refused) result.why
         result.told }
 {
-    let (mut hart, mut local, mut locks) = (hart, local, locks);
-    let (mut looks, mut asked) = (Looks::none(), Asked::none(board.closing));
-    for made in 0..turns {
-        let going = match board.closing.look(rt, &mut asked, locks) {
-            Ok(going) => going,
-            Err(shut) => {
-                let (why, shut) = (Why::Closed, Some(shut));
-                return Ended {
-                    hart,
-                    local,
-                    looks,
-                    asked,
-                    made,
-                    why,
-                    shut,
-                    told: None,
-                };
-            }
-        };
-        let Some(allowed) = ask(gate, going, hart.id(), made) else {
-            let (why, shut) = (Why::Gate, None);
-            return Ended {
-                hart,
-                local,
-                looks,
-                asked,
-                made,
-                why,
-                shut,
-                told: None,
-            };
-        };
-        let (next, word, told, turn) = whole_turn(rt, board, &mut hart, &mut looks, local, allowed);
-        local = next;
-        locks = tell(gate, turn);
-        if !goes_on(word) {
-            let (why, shut) = (Why::Life, None);
-            return Ended {
-                hart,
-                local,
-                looks,
-                asked,
-                made: made + 1,
-                why,
-                shut,
-                told,
-            };
-        }
-    }
-    let (why, shut) = (Why::Turns, None);
-    Ended {
+    let mut run = HartRun {
         hart,
         local,
-        looks,
-        asked,
-        made: turns,
-        why,
-        shut,
-        told: None,
+        looks: Looks::none(),
+        asked: Asked::none(board.closing),
+    };
+    let mut locks = locks;
+    for made in 0..turns {
+        let unhalted = match board.closing.look(rt, &mut run.asked, locks) {
+            Ok(unhalted) => unhalted,
+            Err(shut) => return run.end(made, Why::Closed, Some(shut), None),
+        };
+        let Some(allowed) = ask(gate, unhalted, run.hart.id(), made) else {
+            return run.end(made, Why::Gate, None, None);
+        };
+        let local = run.local;
+        let (end, turn) = whole_turn(rt, board, &mut run.hart, &mut run.looks, local, allowed);
+        run.local = end.local;
+        locks = tell(gate, turn);
+        if !goes_on(end.word) {
+            return run.end(made + 1, Why::Life, None, end.told);
+        }
     }
+    run.end(turns, Why::Turns, None, None)
 }

@@ -11,16 +11,12 @@ ghost use Rattle.shared_store.specs.Runs.{StepsMake};
 ghost use Rattle.shared_store.specs.Locks.{no_locks};
 ghost use Rattle.hart_threads.specs.Threads.{HeldOnce, IsDozeBy, RefusedOnce};
 
-use crate::dozes::doze_by;
-use crate::refusals::Refusals;
-use crate::shared::{HartLocal, LoopBoard};
+use crate::shared::{HartLocal, LoopBoard, TurnEnd};
 use crate::threaded::Threaded;
 use crew::Crew;
 use disk::Disk;
 use hart::{Hart, Outcome};
-use sbi::Word;
-use sbi_calls::Seats;
-use shared_store::{BusLock, Locks, Part, Told};
+use shared_store::{BusLock, Locks};
 use std::sync::Wait;
 use turns::MemoryBus;
 
@@ -45,48 +41,36 @@ impl<'r, 'a, R: Wait, J: Threaded> MemoryBus for LockedBus<'r, 'a, R, J> {
 }
 
 /// The durable call at which a hart stands, made in one hold of the bus and of the store. The bus is taken
-/// first: whoever takes both does so, and no thread that holds the store waits for the bus. Where the board then
-/// dozes, the hart has a copy of its doze. A call that the store refused is counted.
+/// first: whoever takes both does so, and no thread that holds the store waits for the bus.
 pub(crate) fn call_locked<R: Wait, D: Disk + Drop, J: Threaded, C: Crew>(
     rt: &R,
     board: LoopBoard<'_, '_, J, C>,
     locks: &mut Locks<'_, D, J>,
     hart: &mut Hart,
-    seats: Seats,
-    part: Part<J>,
-    refused: Refusals<J>,
-) -> (HartLocal<J>, Word, Option<Told<J>>)
+    local: HartLocal<J>,
+) -> TurnEnd<J>
     requires tables { AreTablesOf board.shape.now board.tables.now }
-    requires seats { AreSeatsOfBoth board.tables.now seats }
+    requires seats { AreSeatsOfBoth board.tables.now local.seats }
     requires hart { hart.old.id < board.shape.now.harts }
     requires board { board.shape.now ≡ J.size }
-    requires acts { Acts hart.old.id Running seats }
+    requires acts { Acts hart.old.id Running local.seats }
     requires free { locks.old ≡ no_locks }
     ensures free { locks.new ≡ no_locks }
-    ensures gives { GivesBack board.entry.tables.now hart.old.id seats result.0.seats }
-    ensures acts { Acts hart.old.id (stage_told result.1) result.0.seats }
+    ensures gives { GivesBack board.entry.tables.now hart.old.id local.seats result.local.seats }
+    ensures acts { Acts hart.old.id (stage_told result.word) result.local.seats }
     ensures id { hart.new.id ≡ hart.old.id }
-    ensures told { IsToldBy board.entry.shape.now (call_of hart.old) hart.old.id result.1 result.2 }
-    ensures noted { result.0.part ≡ part_after result.2 part }
-    ensures once { HeldOnce board.entry.shape.now (call_of hart.old) hart.old hart.new (known seats)
-        (known result.0.seats) result.1 }
-    ensures refused { RefusedOnce (call_of hart.old) result.1 hart.new refused result.0.refused }
-    ensures doze { IsDozeBy board.entry.shape.now (call_of hart.old) hart.old.id result.1 result.0.doze }
+    ensures told { IsToldBy board.entry.shape.now (call_of hart.old) hart.old.id result.word result.told }
+    ensures noted { result.local.part ≡ part_after result.told local.part }
+    ensures once { HeldOnce board.entry.shape.now (call_of hart.old) hart.old hart.new (known local.seats)
+        (known result.local.seats) result.word }
+    ensures refused { RefusedOnce (call_of hart.old) result.word hart.new local.refused result.local.refused }
+    ensures doze { IsDozeBy board.entry.shape.now (call_of hart.old) hart.old.id result.word result.local.doze }
 {
-    let mut refused = refused;
     let mut guard = locks.take_bus(rt);
     let bus = &mut *guard;
     let mut store = locks.take_store(rt);
-    let (seats, word, told, part) = refused.ask(board, &mut store, bus, hart, seats, part);
-    let found = bus.doze();
+    let end = local.call(board, bus, &mut store, hart);
     locks.give_store(store);
     locks.give_bus(guard);
-    let doze = doze_by(word, found);
-    let local = HartLocal {
-        seats,
-        doze,
-        part,
-        refused,
-    };
-    (local, word, told)
+    end
 }

@@ -1,19 +1,19 @@
-//! The calls of a hart that its store refused.
+//! The durable calls of a hart, and those that its store refused.
 
 ghost use Rattle.std.specs.Prelude.{◌≡◌, ◌<◌, true};
 ghost use Rattle.hart.specs.State.{reg};
 ghost use Rattle.hsm_steps.specs.declared.view.Stage.TheVariants.{Running};
-ghost use Rattle.sbi.specs.Helds.{MakesHeld};
 ghost use Rattle.sbi.specs.Words.{stage_told};
 ghost use Rattle.sbi_abi.specs.Calls.{call_of};
-ghost use Rattle.sbi_calls.specs.Both.{AreSeatsOfBoth, GivesBack, Acts, harts_of_both, known};
+ghost use Rattle.sbi_calls.specs.Both.{AreTablesOf, AreSeatsOfBoth, GivesBack, Acts, known};
 ghost use Rattle.shared_store.specs.Called.{IsToldBy};
 ghost use Rattle.shared_store.specs.Noted.{part_after};
 ghost use Rattle.shared_store.specs.Views.{bus_in, store_in};
-ghost use Rattle.store.specs.Views.{size_of_store};
 ghost use Rattle.hart_threads.specs.Refusals.{RefusedCalls, none_refused, finds_failure, after_call, Denies};
+ghost use Rattle.hart_threads.specs.Threads.{HeldOnce, IsDozeBy, RefusedOnce};
 
-use crate::shared::LoopBoard;
+use crate::dozes::doze_by;
+use crate::shared::{HartLocal, LoopBoard, TurnEnd};
 use crate::threaded::Threaded;
 use crew::Crew;
 use disk::Disk;
@@ -21,8 +21,7 @@ use hart::Hart;
 use rv_decode::Reg;
 use sbi::Word;
 use sbi_abi::Call;
-use sbi_calls::Seats;
-use shared_store::{Journal, Part, SharedBus, SharedStore, Told};
+use shared_store::{Journal, SharedBus, SharedStore};
 use std::marker::{Model, PhantomData};
 
 /// How many calls of a hart the store of the life J refused, and the last of them. Only a call of that store counts here. A
@@ -78,34 +77,50 @@ impl<J: Journal> Refusals<J> {
 }
 
 impl<J: Threaded> Refusals<J> {
+    /// Counts a durable call of the hart, which came to that word, where the hart finds it answered -1.
+    fn count(&mut self, call: Call, word: Word, hart: &Hart)
+        ensures { self.new ≡ after_call (finds_failure word (reg hart.now 10)) call self.old }
+    {
+        if finds_failure(word, hart) {
+            self.times = self.times.wrapping_add(1);
+            self.last = Some(call);
+        }
+    }
+}
+
+impl<J: Threaded> HartLocal<J> {
     /// The durable call at which a hart stands, as `SharedStore::call` with that bus. One that the hart finds answered -1 is
-    /// counted: the store was asked for it, and refused it.
-    pub(crate) fn ask<D: Disk + Drop, C: Crew>(
-        &mut self,
+    /// counted: the store was asked for it, and refused it. Where the board then dozes, the hart has a copy of its doze.
+    pub(crate) fn call<D: Disk + Drop, C: Crew>(
+        self,
         board: LoopBoard<'_, '_, J, C>,
-        store: &mut SharedStore<D, J>,
         bus: &mut SharedBus<J>,
+        store: &mut SharedStore<D, J>,
         hart: &mut Hart,
-        seats: Seats,
-        part: Part<J>,
-    ) -> (Seats, Word, Option<Told<J>>, Part<J>)
-        requires seats { AreSeatsOfBoth board.tables.now seats }
-        requires acts { Acts hart.old.id Running seats }
-        requires hart { hart.old.id < harts_of_both board.tables.now }
-        ensures gives { GivesBack board.entry.tables.now hart.old.id seats result.0 }
-        ensures acts { Acts hart.old.id (stage_told result.1) result.0 }
+    ) -> TurnEnd<J>
+        requires tables { AreTablesOf board.shape.now board.tables.now }
+        requires seats { AreSeatsOfBoth board.tables.now self.seats }
+        requires acts { Acts hart.old.id Running self.seats }
+        requires hart { hart.old.id < board.shape.now.harts }
+        requires board { board.shape.now ≡ J.size }
+        ensures gives { GivesBack board.entry.tables.now hart.old.id self.seats result.local.seats }
+        ensures acts { Acts hart.old.id (stage_told result.word) result.local.seats }
         ensures id { hart.new.id ≡ hart.old.id }
-        ensures makes { MakesHeld (harts_of_both board.entry.tables.now) (call_of hart.old) hart.old hart.new
-            (known seats) (known result.0) (bus_in bus.old) (bus_in bus.new) (store_in store.old) (store_in store.new)
-            result.1 }
-        ensures memory { (bus_in bus.new).ram ≡ (bus_in bus.old).ram }
-        ensures board { size_of_store (store_in store.old) ≡ J.size }
-        ensures told { IsToldBy J.size (call_of hart.old) hart.old.id result.1 result.2 }
-        ensures noted { result.3 ≡ part_after result.2 part }
-        ensures counted { self.new ≡ after_call (finds_failure result.1 (reg hart.new 10)) (call_of hart.old) self.old }
-        ensures denied { finds_failure result.1 (reg hart.new 10) ≡ true
+        ensures told { IsToldBy board.entry.shape.now (call_of hart.old) hart.old.id result.word result.told }
+        ensures noted { result.local.part ≡ part_after result.told self.part }
+        ensures once { HeldOnce board.entry.shape.now (call_of hart.old) hart.old hart.new (known self.seats)
+            (known result.local.seats) result.word }
+        ensures refused { RefusedOnce (call_of hart.old) result.word hart.new self.refused result.local.refused }
+        ensures doze { IsDozeBy board.entry.shape.now (call_of hart.old) hart.old.id result.word result.local.doze }
+        ensures denied { finds_failure result.word (reg hart.new 10) ≡ true
             → Denies (call_of hart.old) hart.old.id (bus_in bus.old).ram (store_in store.old) (store_in store.new) }
     {
+        let HartLocal {
+            seats,
+            doze: _,
+            part,
+            mut refused,
+        } = self;
         let call = Call::of(hart);
         let (seats, word, told, part) = store.call(
             board.saving,
@@ -115,10 +130,15 @@ impl<J: Threaded> Refusals<J> {
             bus,
             part,
         );
-        if finds_failure(word, hart) {
-            self.times = self.times.wrapping_add(1);
-            self.last = Some(call);
-        }
-        (seats, word, told, part)
+        refused.count(call, word, hart);
+        let found = bus.doze();
+        let doze = doze_by(word, found);
+        let local = HartLocal {
+            seats,
+            doze,
+            part,
+            refused,
+        };
+        TurnEnd { local, word, told }
     }
 }

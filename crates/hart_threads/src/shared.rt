@@ -7,8 +7,9 @@ use crate::refusals::Refusals;
 use crate::threaded::Threaded;
 use board_model::Shape;
 use disk::Disk;
+use sbi::Word;
 use sbi_calls::{Seats, Tables};
-use shared_store::{Journal, Part, SharedBus, SharedStore};
+use shared_store::{Journal, Part, SharedBus, SharedStore, Told};
 use std::alloc::AllocError;
 use std::sync::Mutex;
 use store::Saving;
@@ -75,4 +76,14 @@ pub struct HartLocal<J: Journal> {
     pub part: Part<J>,
     /// Its calls that the store refused.
     pub refused: Refusals<J>,
+}
+
+/// What a turn of a hart came to.
+#[derive(Drop)]
+pub(crate) struct TurnEnd<J: Journal> {
+    /// What the hart then has beside its registers.
+    pub(crate) local: HartLocal<J>,
+    pub(crate) word: Word,
+    /// The receipt of the command with which the turn ended the life.
+    pub(crate) told: Option<Told<J>>,
 }

@@ -1,27 +1,32 @@
 //! A turn of a hart that its gate let begin.
 
-ghost use Rattle.std.specs.Prelude.{◌≡◌, ◌≤◌, ◌<◌, ◌+◌, ◌-◌, ◌^◌, ℕ, true, false, MatchOption};
-ghost use Rattle.sbi_calls.specs.Both.{AreTablesOf, GivesBack, known};
+ghost use Rattle.std.specs.Prelude.{◌≡◌, ◌≤◌, ◌<◌, ◌+◌, ◌-◌, ◌^◌, ℕ, Bool, true, false, Some, None, MatchOption};
+ghost use Rattle.hsm_steps.specs.declared.view.Stage.TheVariants.{Running};
+ghost use Rattle.sbi_calls.specs.Both.{AreTablesOf, AreSeatsOfBoth, Acts, GivesBack, known};
+ghost use Rattle.sbi_calls.specs.declared.words.Turned.TheVariants.{Durable};
+ghost use Rattle.machine.specs.Held.{RestsBy};
 ghost use Rattle.shared_store.specs.Locks.{no_locks};
 ghost use Rattle.shared_store.specs.Noted.{part_after};
+ghost use Rattle.hart_threads.specs.Looks.{Looked};
 ghost use Rattle.hart_threads.specs.Seated.{IsSeated, StandsAfterTurn};
-ghost use Rattle.hart_threads.specs.Threads.{seated, TurnOnce};
+ghost use Rattle.hart_threads.specs.Threads.{seated, ComesOnce, OwnOnce, DozeOnce, TurnOnce};
 
 use crate::closing::Unhalted;
 use crate::dozes::{Looks, doze_turn};
 use crate::gates::Gate;
 use crate::once::{LockedBus, call_locked};
-use crate::shared::{HartLocal, LoopBoard};
+use crate::shared::{HartLocal, LoopBoard, TurnEnd};
 use crate::threaded::Threaded;
 use board_model::HartId;
 use crew::Crew;
 use disk::Disk;
 use hart::Hart;
 use sbi::Word;
-use sbi_calls::Turned;
-use shared_store::{Locks, Told};
+use sbi_calls::{Tables, Turned};
+use shared_store::Locks;
 use std::marker::Model;
 use std::sync::Wait;
+use susp::Doze;
 use turns::turn_by_bus;
 
 /// The right to make one turn of a hart, with the locks that it may take. Only a gate that was asked for that turn gives it,
@@ -89,6 +94,129 @@ pub(crate) fn tell<'a, G: Gate, D: Disk + Drop, J: Threaded>(
     locks
 }
 
+/// What comes of what a hart did that does not doze: a durable command, where it stands at such a call.
+fn came_of<R: Wait, D: Disk + Drop, J: Threaded, C: Crew>(
+    rt: &R,
+    board: LoopBoard<'_, '_, J, C>,
+    locks: &mut Locks<'_, D, J>,
+    hart: &mut Hart,
+    local: HartLocal<J>,
+    turned: Turned,
+) -> TurnEnd<J>
+    requires tables { AreTablesOf board.shape.now board.tables.now }
+    requires board { board.shape.now ≡ J.size }
+    requires seats { AreSeatsOfBoth board.tables.now local.seats }
+    requires hart { hart.old.id < board.shape.now.harts }
+    requires rests { RestsBy local.doze hart.old.id local.seats }
+    requires asks { turned ≡ Durable → Acts hart.old.id Running local.seats }
+    requires free { locks.old ≡ no_locks }
+    ensures free { locks.new ≡ no_locks }
+    ensures gives { GivesBack board.entry.tables.now hart.old.id local.seats result.local.seats }
+    ensures stands { StandsAfterTurn result.word result.local.doze hart.old.id result.local.seats }
+    ensures id { hart.new.id ≡ hart.old.id }
+    ensures noted { result.local.part ≡ part_after result.told local.part }
+    ensures once { (looks : Looked) → ComesOnce board.entry.shape.now turned
+        (seated hart.old (known local.seats) local.doze looks local.refused)
+        (seated hart.new (known result.local.seats) result.local.doze looks result.local.refused) result.word result.told }
+{
+    match turned {
+        Turned::Durable => call_locked(rt, board, locks, hart, local),
+        Turned::Made(did) => TurnEnd {
+            local,
+            word: Word::Goes(did),
+            told: None,
+        },
+    }
+}
+
+/// A turn of a hart that does not doze, and the durable command that it may make. A step is one hold of the bus.
+fn own_turn<'a, R: Wait, D: Disk + Drop, J: Threaded, C: Crew>(
+    rt: &R,
+    board: LoopBoard<'_, '_, J, C>,
+    locks: Locks<'a, D, J>,
+    hart: &mut Hart,
+    local: HartLocal<J>,
+) -> (TurnEnd<J>, Locks<'a, D, J>)
+    requires tables { AreTablesOf board.shape.now board.tables.now }
+    requires board { board.shape.now ≡ J.size }
+    requires seated { IsSeated board.tables.now hart.old.id local.seats None }
+    requires free { locks ≡ no_locks }
+    ensures free { result.1 ≡ no_locks }
+    ensures gives { GivesBack board.entry.tables.now hart.old.id local.seats result.0.local.seats }
+    ensures stands { StandsAfterTurn result.0.word result.0.local.doze hart.old.id result.0.local.seats }
+    ensures id { hart.new.id ≡ hart.old.id }
+    ensures noted { result.0.local.part ≡ part_after result.0.told local.part }
+    ensures once { (looks : Looked) → OwnOnce board.entry.shape.now J.memory
+        (seated hart.old (known local.seats) None looks local.refused)
+        (seated hart.new (known result.0.local.seats) result.0.local.doze looks result.0.local.refused) result.0.word
+        result.0.told }
+{
+    let HartLocal {
+        seats,
+        doze: _,
+        part,
+        refused,
+    } = local;
+    let (bus, apart) = locks.apart();
+    let mut bus = LockedBus { rt, bus };
+    let (seats, turned) = turn_by_bus(hart, seats, board.tables, &mut bus, board.shape);
+    let LockedBus { rt: _, bus } = bus;
+    let mut locks = apart.whole(bus);
+    let local = HartLocal {
+        seats,
+        doze: None,
+        part,
+        refused,
+    };
+    let end = came_of(rt, board, &mut locks, hart, local, turned);
+    (end, locks)
+}
+
+/// A turn of a hart that dozes: one look at the bus, in one hold of it.
+fn dozing_turn<R: Wait, D: Disk + Drop, J: Threaded>(
+    rt: &R,
+    tables: &Tables,
+    locks: &mut Locks<'_, D, J>,
+    hart: &mut Hart,
+    looks: &mut Looks,
+    local: HartLocal<J>,
+    doze: Doze,
+) -> TurnEnd<J>
+    requires seated { IsSeated tables.now hart.old.id local.seats (Some doze) }
+    requires few { looks.old.made < 2 ^ 64 - 1 }
+    requires free { locks.old ≡ no_locks }
+    ensures free { locks.new ≡ no_locks }
+    ensures gives { GivesBack tables.entry.now hart.old.id local.seats result.local.seats }
+    ensures stands { StandsAfterTurn result.word result.local.doze hart.old.id result.local.seats }
+    ensures id { hart.new.id ≡ hart.old.id }
+    ensures range { looks.new.made ≡ looks.old.made + 1 }
+    ensures noted { (result.local.part ≡ local.part) × (result.told ≡ None) }
+    ensures once { (woken : Bool) × DozeOnce woken doze
+        (seated hart.old (known local.seats) (Some doze) looks.old local.refused)
+        (seated hart.new (known result.local.seats) result.local.doze looks.new result.local.refused) result.word }
+{
+    let HartLocal {
+        seats,
+        doze: _,
+        part,
+        refused,
+    } = local;
+    let mut bus = locks.take_bus(rt);
+    let (seats, word, doze) = doze_turn(&mut bus, hart, seats, tables, doze, looks);
+    locks.give_bus(bus);
+    let local = HartLocal {
+        seats,
+        doze,
+        part,
+        refused,
+    };
+    TurnEnd {
+        local,
+        word,
+        told: None,
+    }
+}
+
 /// One turn of a hart that a gate let begin, and the durable command that it may make: a system reset, or a system
 /// suspend with the memory of that moment. A hart that dozes looks at the bus alone, and no other looks there for a
 /// doze. It gives back the copy of its doze that the hart then keeps.
@@ -99,92 +227,43 @@ pub(crate) fn whole_turn<'a, R: Wait, D: Disk + Drop, J: Threaded, C: Crew>(
     looks: &mut Looks,
     local: HartLocal<J>,
     allowed: Allowed<'a, D, J>,
-) -> (HartLocal<J>, Word, Option<Told<J>>, TurnMade<'a, D, J>)
+) -> (TurnEnd<J>, TurnMade<'a, D, J>)
     requires tables { AreTablesOf board.shape.now board.tables.now }
     requires board { board.shape.now ≡ J.size }
     requires seated { IsSeated board.tables.now hart.old.id local.seats local.doze }
     requires few { looks.old.made < 2 ^ 64 - 1 }
     requires allowed { allowed.0 ≡ hart.old.id }
-    ensures gives { GivesBack board.entry.tables.now hart.old.id local.seats result.0.seats }
-    ensures stands { StandsAfterTurn result.1 result.0.doze hart.old.id result.0.seats }
+    ensures gives { GivesBack board.entry.tables.now hart.old.id local.seats result.0.local.seats }
+    ensures stands { StandsAfterTurn result.0.word result.0.local.doze hart.old.id result.0.local.seats }
     ensures id { hart.new.id ≡ hart.old.id }
-    ensures noted { result.0.part ≡ part_after result.2 local.part }
+    ensures noted { result.0.local.part ≡ part_after result.0.told local.part }
     ensures range { looks.new.made ≤ looks.old.made + 1 }
     ensures once { TurnOnce board.entry.shape.now J.memory
         (seated hart.old (known local.seats) local.doze looks.old local.refused)
-        (seated hart.new (known result.0.seats) result.0.doze looks.new result.0.refused) result.1 result.2 }
-    ensures made { result.3 ≡ allowed.entry }
+        (seated hart.new (known result.0.local.seats) result.0.local.doze looks.new result.0.local.refused) result.0.word
+        result.0.told }
+    ensures made { result.1 ≡ allowed.entry }
 {
-    let HartLocal {
-        seats,
-        doze,
-        part,
-        refused,
-    } = local;
     let Allowed {
         hart: of,
         turn,
         mut locks,
     } = allowed;
+    let doze = local.doze;
     if let Some(doze) = doze {
-        let mut bus = locks.take_bus(rt);
-        let (seats, word, doze) = doze_turn(&mut bus, hart, seats, board.tables, doze, looks);
-        locks.give_bus(bus);
-        let local = HartLocal {
-            seats,
-            doze,
-            part,
-            refused,
+        let end = dozing_turn(rt, board.tables, &mut locks, hart, looks, local, doze);
+        let made = TurnMade {
+            hart: of,
+            turn,
+            locks,
         };
-        return (
-            local,
-            word,
-            None,
-            TurnMade {
-                hart: of,
-                turn,
-                locks,
-            },
-        );
+        return (end, made);
     }
-    let (bus, apart) = locks.apart();
-    let mut bus = LockedBus { rt, bus };
-    let (seats, turned) = turn_by_bus(hart, seats, board.tables, &mut bus, board.shape);
-    let LockedBus { rt: _, bus } = bus;
-    let mut locks = apart.whole(bus);
-    match turned {
-        Turned::Durable => {
-            let (local, word, told) = call_locked(
-                rt, board, &mut locks, hart, seats, part, refused,
-            );
-            (
-                local,
-                word,
-                told,
-                TurnMade {
-                    hart: of,
-                    turn,
-                    locks,
-                },
-            )
-        }
-        Turned::Made(did) => {
-            let local = HartLocal {
-                seats,
-                doze: None,
-                part,
-                refused,
-            };
-            (
-                local,
-                Word::Goes(did),
-                None,
-                TurnMade {
-                    hart: of,
-                    turn,
-                    locks,
-                },
-            )
-        }
-    }
+    let (end, locks) = own_turn(rt, board, locks, hart, local);
+    let made = TurnMade {
+        hart: of,
+        turn,
+        locks,
+    };
+    (end, made)
 }

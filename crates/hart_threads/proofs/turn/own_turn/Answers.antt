@@ -1,0 +1,41 @@
+use Rattle.std.proofs.Common.{ℕ, ◌<◌, ◌∙◌, refl, sym, subst}
+use Rattle.hsm_steps.specs.declared.view.Stage.TheVariants.{Running}
+use Rattle.sbi_calls.specs.Both.{GivesBack, Acts, known}
+use Rattle.machine.specs.Held.{RestsBy}
+use Rattle.std.specs.Prelude.{None}
+use Rattle.turns.proofs.Begun.{gives_then}
+use Rattle.hart_threads.specs.Seated.{StandsAfterTurn}
+use Rattle.hart_threads.specs.Threads.{seated}
+use Rattle.hart_threads.proofs.turn.own_turn.Goals as goal
+
+pub turn_by_bus-seats-requires-clause-hart : goal.turn_by_bus-seats-requires-clause-hart
+turn_by_bus-seats-requires-clause-hart g c = subst (λ (n : ℕ). c.args.hart.now.id < n) c.requires.tables c.requires.seated.1
+
+pub came_of-end-requires-clause-hart : goal.came_of-end-requires-clause-hart
+came_of-end-requires-clause-hart g c κs within =
+    subst (λ (k : ℕ). k < c.args.board.shape.now.harts) (sym c.turn_by_bus-seats.ensures.id) (subst (λ (n : ℕ). c.args.hart.now.id < n) c.requires.tables c.requires.seated.1)
+
+pub came_of-end-requires-clause-rests : goal.came_of-end-requires-clause-rests
+came_of-end-requires-clause-rests g c κs within = subst (λ (k : ℕ). RestsBy None k c.turn_by_bus-seats.result.0) (sym c.turn_by_bus-seats.ensures.id) c.turn_by_bus-seats.ensures.rests
+
+pub came_of-end-requires-clause-asks : goal.came_of-end-requires-clause-asks
+came_of-end-requires-clause-asks g c κs within = λ is. subst (λ (k : ℕ). Acts k Running c.turn_by_bus-seats.result.0) (sym c.turn_by_bus-seats.ensures.id) (c.turn_by_bus-seats.ensures.asks is)
+
+pub returns-clause-gives : goal.returns-clause-gives
+returns-clause-gives g c =
+    let t = c.args.board.tables.now in let s = c.args.local.seats in let s1 = c.turn_by_bus-seats.result.0 in let s2 = c.came_of-end.result.local.seats in
+    gives_then t c.args.hart.now.id s s1 s2 c.turn_by_bus-seats.ensures.gives (subst (λ (k : ℕ). GivesBack t k s1 s2) c.turn_by_bus-seats.ensures.id c.came_of-end.ensures.gives)
+
+pub returns-clause-stands : goal.returns-clause-stands
+returns-clause-stands g c =
+    let e = c.came_of-end in
+    subst (λ (k : ℕ). StandsAfterTurn e.result.word e.result.local.doze k e.result.local.seats) c.turn_by_bus-seats.ensures.id e.ensures.stands
+
+pub returns-clause-id : goal.returns-clause-id
+returns-clause-id g c = c.came_of-end.ensures.id ∙ c.turn_by_bus-seats.ensures.id
+
+pub returns-clause-once : goal.returns-clause-once
+returns-clause-once g c = λ looks.
+    let t = c.turn_by_bus-seats in
+    let turn = t.ensures.turns in
+    (turn.0, turn.1, t.result.1, seated t.new.hart (known t.result.0) None looks c.args.local.refused, turn.4, c.came_of-end.ensures.once looks, refl, refl, turn.2, turn.3, refl)
