@@ -24,7 +24,7 @@ pub use crate::files::{
 pub use crate::flags::flag;
 pub use crate::heap::keep_heap;
 pub use crate::options::{number, option, path, path_given, payload_paths, with_payloads};
-pub use crate::parses::{out_of_range, parse};
+pub use crate::parses::{out_of_range, parse, release, value_fault};
 pub use crate::pipe::Pipe;
 pub use crate::programs::program;
 pub use crate::reads::read_at_most;

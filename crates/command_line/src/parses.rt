@@ -20,9 +20,19 @@ pub fn parse<'a, S: AsStr>(command: Command<'a>, words: &'a [S]) -> Result<ArgMa
     command.try_get_matches_from(words)
 }
 
-/// The fault of a value that is out of its range, although the command's parser let it through.
-pub fn out_of_range(mut command: Command<'_>) -> Result<Error, AllocError>
+/// The fault of values that the command's parser let through, in those words.
+pub fn value_fault(mut command: Command<'_>, text: &str) -> Result<Error, AllocError>
     ensures { IfOk result (λ e. kind_of e ≡ ErrorKind.ValueValidation) }
 {
-    command.error(ErrorKind::ValueValidation, "a value is out of its range")
+    command.error(ErrorKind::ValueValidation, text)
 }
+
+/// The fault of a value that is out of its range, although the command's parser let it through.
+pub fn out_of_range(command: Command<'_>) -> Result<Error, AllocError>
+    ensures { IfOk result (λ e. kind_of e ≡ ErrorKind.ValueValidation) }
+{
+    value_fault(command, "a value is out of its range")
+}
+
+/// Lets go of what was parsed. A crate that does so itself has to prove for each part of it that it is let go of.
+pub fn release(_matches: ArgMatches<'_>) {}
