@@ -15,7 +15,9 @@ fn number_up_to(most: u64, word: &str) -> Option<u64>
     ensures value { result ≡ number_up_to most (number_of word.now) }
     ensures range { IfSome result (IsUpTo most) }
 {
-    let number = number(word.as_bytes())?;
+    let Some(number) = number(word.as_bytes()) else {
+        return None;
+    };
     if number < 1 || most < number {
         return None;
     }
@@ -37,9 +39,10 @@ fn drawn(number: &str, seed: Option<&str>) -> Option<Begin>
     ensures value { result ≡ drawn_by (number_up_to 1000000 (number_of number.now)) (seed_of (option_map (λ s. s.now) seed.entry)) }
     ensures bounded { IfSome result IsBounded }
 {
-    let number = number_up_to(MOST_NUMBER, number)?;
-    let seed = seed_of(seed)?;
-    Some(Begin::Schedule(Drawn { seed, number }))
+    match (number_up_to(MOST_NUMBER, number), seed_of(seed)) {
+        (Some(number), Some(seed)) => Some(Begin::Schedule(Drawn { seed, number })),
+        (_, _) => None,
+    }
 }
 
 /// Where an order parts, by how many preemptions it has at most, and its number among those that differ.
@@ -47,9 +50,13 @@ fn ordered(most: &str, number: &str) -> Option<Begin>
     ensures value { result ≡ ordered_by (number_up_to 3 (number_of most.now)) (number_up_to 1000000 (number_of number.now)) }
     ensures bounded { IfSome result IsBounded }
 {
-    let most = number_up_to(MOST_PREEMPTIONS, most)?;
-    let number = number_up_to(MOST_NUMBER, number)?;
-    Some(Begin::Order(Preempted { most, number }))
+    match (
+        number_up_to(MOST_PREEMPTIONS, most),
+        number_up_to(MOST_NUMBER, number),
+    ) {
+        (Some(most), Some(number)) => Some(Begin::Order(Preempted { most, number })),
+        (_, _) => None,
+    }
 }
 
 /// Where the session begins without `--schedule`. None where a word is out of its range, or one of the two is missing.
@@ -76,10 +83,10 @@ fn schedule_named(
         (drawn_by (number_up_to 1000000 (number_of number.now)) (seed_of (option_map (λ s. s.now) seed.entry))) }
     ensures bounded { IfSome result IsBounded }
 {
-    if most.is_some() || order.is_some() {
-        return None;
+    match (most, order) {
+        (None, None) => drawn(number, seed),
+        (_, _) => None,
     }
-    drawn(number, seed)
 }
 
 /// Where the session begins, by the words of its options. None where a word is out of its range, or where they do not go
@@ -94,14 +101,10 @@ pub(crate) fn begin_named(
         (option_map (λ s. s.now) most.entry) (option_map (λ s. s.now) order.entry) }
     ensures bounded { IfSome result IsBounded }
 {
-    match schedule {
-        Some(number) => schedule_named(number, seed, most, order),
-        None => {
-            if seed.is_some() {
-                return None;
-            }
-            order_named(most, order)
-        }
+    match (schedule, seed) {
+        (Some(number), _) => schedule_named(number, seed, most, order),
+        (None, None) => order_named(most, order),
+        (None, Some(_)) => None,
     }
 }
 

@@ -3,7 +3,7 @@
 ghost use Rattle.std.specs.Prelude.{◌≡◌, false, codes, IfOk};
 ghost use Rattle.clap.specs.Words.{app_of, rule_of, with_rule};
 ghost use Rattle.clap.specs.declared.builder.value_parser.ValueParser.TheVariants.{Unsigned};
-ghost use Rattle.command_line.specs.Options.{number_rule, value_rule};
+ghost use Rattle.command_line.specs.Options.{number_rule, option_rule, value_rule};
 ghost use Rattle.debug_options.specs.Lines.{sbigdb, script_rule, with_begins, with_rows};
 
 use clap::builder::ValueParser;
@@ -118,19 +118,36 @@ fn with_rows<'a>(alloc: Global, command: Command<'a>) -> Result<Command<'a>, All
         .arg(count(alloc, ROW, MOST_NUMBER, "R", row))
 }
 
+/// The command with the options that say by which schedule a session begins.
+fn with_schedules<'a>(alloc: Global, command: Command<'a>) -> Result<Command<'a>, AllocError>
+    ensures { IfOk result (λ c. app_of c ≡ with_rule (with_rule (app_of command.entry)
+        (value_rule (codes "schedule") (Unsigned 1 1000000))) (option_rule (codes "seed"))) }
+{
+    let schedule = "Begins where schedule K parts from the script";
+    let seed = "The number that schedules are drawn from; 1 if not given";
+    command
+        .arg(count(alloc, SCHEDULE, MOST_NUMBER, "K", schedule))?
+        .arg(option(alloc, SEED, "S", seed))
+}
+
+/// The command with the options that say by which order that differs a session begins.
+fn with_orders<'a>(alloc: Global, command: Command<'a>) -> Result<Command<'a>, AllocError>
+    ensures { IfOk result (λ c. app_of c ≡ with_rule (with_rule (app_of command.entry)
+        (value_rule (codes "preemptions") (Unsigned 1 3))) (value_rule (codes "order") (Unsigned 1 1000000))) }
+{
+    let preemptions = "With --order: orders with at most K preemptions, 1 to 3";
+    let order = "Begins where the N-th order that reports otherwise parts from the script";
+    command
+        .arg(count(alloc, PREEMPTIONS, MOST_PREEMPTIONS, "K", preemptions))?
+        .arg(count(alloc, ORDER, MOST_NUMBER, "N", order))
+}
+
 /// The command with the options that say where a session begins.
 fn with_begins<'a>(alloc: Global, command: Command<'a>) -> Result<Command<'a>, AllocError>
     ensures { IfOk result (λ c. app_of c ≡ with_begins (app_of command.entry)) }
 {
-    let schedule = "Begins where schedule K parts from the script";
-    let seed = "The number that schedules are drawn from; 1 if not given";
-    let preemptions = "With --order: orders with at most K preemptions, 1 to 3";
-    let order = "Begins where the N-th order that reports otherwise parts from the script";
-    let command = command
-        .arg(count(alloc, SCHEDULE, MOST_NUMBER, "K", schedule))?
-        .arg(option(alloc, SEED, "S", seed))?
-        .arg(count(alloc, PREEMPTIONS, MOST_PREEMPTIONS, "K", preemptions))?
-        .arg(count(alloc, ORDER, MOST_NUMBER, "N", order))?;
+    let command = with_schedules(alloc, command)?;
+    let command = with_orders(alloc, command)?;
     with_rows(alloc, command)
 }
 

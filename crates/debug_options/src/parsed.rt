@@ -15,8 +15,8 @@ use crate::help::{
     SEED, SWEEP, command,
 };
 use clap::error::ErrorKind;
-use clap::{ArgMatches, Command, Error};
-use command_line::{parse, path_given, payload_paths};
+use clap::{ArgMatches, Error};
+use command_line::{parse, path_given, payload_paths, release, value_fault};
 use script_lang::number as number_in;
 use std::alloc::{AllocError, Global};
 use std::convert::AsStr;
@@ -34,7 +34,12 @@ fn number(matches: &ArgMatches<'_>, id: &str, most: u64) -> Option<u32>
     ensures none { result ≡ None → (n : ℕ) → IsUpTo most n
         → option_and_then number_of (first_value (found_of matches.now) id.now) ≡ Some n → ⊥ }
 {
-    let number = number_in(matches.get_str(id)?.as_bytes())?;
+    let Some(word) = matches.get_str(id) else {
+        return None;
+    };
+    let Some(number) = number_in(word.as_bytes()) else {
+        return None;
+    };
     if number < 1 || most < number {
         return None;
     }
@@ -99,10 +104,10 @@ fn parsed<'a, S: AsStr>(alloc: Global, words: &'a [S]) -> Result<ArgMatches<'a>,
 }
 
 /// The fault of options that do not go together.
-fn apart(mut command: Command<'_>) -> Result<Error, AllocError>
+fn apart(alloc: Global) -> Result<Error, AllocError>
     ensures { IfOk result (λ e. kind_of e ≡ ErrorKind.ValueValidation) }
 {
-    command.error(ErrorKind::ValueValidation, APART)
+    value_fault(command(alloc)?, APART)
 }
 
 /// Reads a command line, the program's name first. The error is the command line's own text, which is the help or the
@@ -116,10 +121,12 @@ pub fn options_of<'a, S: AsStr>(alloc: Global, words: &'a [S]) -> Result<Options
         ⊎ NamesNone (map S.text words.now) (kind_of e)) }
 {
     let matches = parsed(alloc, words)?;
-    match options_in(alloc, &matches)? {
+    let found = options_in(alloc, &matches);
+    release(matches);
+    match found? {
         Some(options) => Ok(options),
         None => {
-            let fault = apart(command(alloc)?)?;
+            let fault = apart(alloc)?;
             Err(fault)
         }
     }

@@ -169,8 +169,37 @@ fn last_halt_of<C: Crew>(
     }
 }
 
-/// Runs the history again, turn by turn: the last turn before which its hart stood at a breakpoint, or that touched
-/// a watchpoint. The interrupt is looked at before each line.
+/// Runs the history again on a bench at its begin, turn by turn: the last turn before which its hart stood at a breakpoint, or
+/// that touched a watchpoint. The interrupt is looked at before each line.
+fn last_halt_along<C: Crew>(
+    setting: &Setting<'_, C>,
+    stops: &Stops,
+    timeline: &Timeline,
+    interrupt: &AtomicBool,
+    bench: &mut DebuggedBench,
+) -> Result<Way, Refusal>
+    requires ranges { AreInRange setting.now.shape.now timeline.now.history }
+    requires shows { Shows setting.now.shape.now (bench_with timeline.now.begins) bench.old }
+    requires sound { IsSound bench.old }
+    ensures place { IfOk result (λ way. IfEnded way (λ found. IfSome found (λ place. IsPlace place.stop.hart place.line
+        place.turns timeline.now.history))) }
+    ensures found { IfOk result (λ way. IfEnded way (λ found. (last : Bench) × FoundOf setting.now.shape.now stops.now found
+        timeline.now.history (moments timeline.now.history) (bench_with timeline.now.begins) last)) }
+    ensures refused { IfErr result (λ e. e ≡ Memory) }
+{
+    let mut found = None;
+    let lines = timeline.lines();
+    for (number, line) in lines.iter().enumerate() {
+        if interrupt.swap(false, Ordering::SeqCst) {
+            return Ok(Way::Interrupted);
+        }
+        let last = last_halt_of(setting, stops, bench, line)?;
+        found = later_place(found, number, last);
+    }
+    Ok(Way::Ended(found))
+}
+
+/// Runs the history again: the last turn before which its hart stood at a breakpoint, or that touched a watchpoint.
 fn last_halt<C: Crew>(
     setting: &Setting<'_, C>,
     stops: &Stops,
@@ -184,17 +213,10 @@ fn last_halt<C: Crew>(
         timeline.now.history (moments timeline.now.history) (bench_with timeline.now.begins) last)) }
     ensures refused { IfErr result (λ e. e ≡ Memory) }
 {
-    let mut found = None;
     let mut bench = DebuggedBench::blank(setting.alloc, setting.shape, timeline.begins())?;
-    let lines = timeline.lines();
-    for (number, line) in lines.iter().enumerate() {
-        if interrupt.swap(false, Ordering::SeqCst) {
-            return Ok(Way::Interrupted);
-        }
-        let last = last_halt_of(setting, stops, &mut bench, line)?;
-        found = later_place(found, number, last);
-    }
-    Ok(Way::Ended(found))
+    let way = last_halt_along(setting, stops, timeline, interrupt, &mut bench);
+    bench.release();
+    way
 }
 
 /// Where the way back ends: before the last turn of which the hart stood at a breakpoint, or that touched a

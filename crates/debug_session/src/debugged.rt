@@ -51,6 +51,9 @@ impl DebuggedBench {
         Ok(DebuggedBench { live })
     }
 
+    /// Lets go of a bench. That of its board's many parts is proved here, and not for each function that has a bench.
+    pub(crate) fn release(self) {}
+
     /// Runs a line, as `bench_report::line_with_cuts` does. Refused `Memory` alone, where a payload or a poke found
     /// none; then the bench is of no use.
     pub fn run<C: Crew>(&mut self, setting: &Setting<'_, C>, line: &Line) -> Result<Answer, Refusal>

@@ -1,6 +1,6 @@
 //! A history, run again.
 
-ghost use Rattle.std.specs.Prelude.{◌≡◌, IfOk, IfErr, OnOk};
+ghost use Rattle.std.specs.Prelude.{◌≡◌, ℕ, List, IfOk, IfErr, OnOk};
 ghost use Rattle.board_model.specs.declared.refusal.Refusal.TheVariants.{Memory};
 ghost use Rattle.bench_report.specs.Agree.{fill_after, fills_after};
 ghost use Rattle.bench_report.specs.Bench.{Bench, bench_with};
@@ -46,6 +46,28 @@ pub fn replay<C: Crew>(
     }
 }
 
+/// Runs lines from the begin of a bench on: whether a further turn of the hart of the last line is one row with it.
+fn replay_all<C: Crew>(
+    setting: &Setting<'_, C>,
+    lines: &[Line],
+    bench: &mut DebuggedBench,
+) -> Result<bool, Refusal>
+    requires ranges { AreInRange setting.now.shape.now lines.now }
+    requires sound { IsSound bench.old }
+    ensures left { IfOk result (λ joins. (begins : List (List ℕ)) → Shows setting.now.shape.now (bench_with begins) bench.old
+        → (b : Bench) × Leaves setting.now.shape.now (bench_with begins) lines.now b
+        × Joins setting.now.shape.now (bench_with begins) joins lines.now b × Shows setting.now.shape.now b bench.new) }
+    ensures sound { OnOk result (IsSound bench.new) }
+    ensures fill { OnOk result (bench.new.live.fill ≡ fills_after lines.now bench.old.live.fill) }
+    ensures refused { IfErr result (λ e. e ≡ Memory) }
+{
+    let mut joins = false;
+    for line in lines {
+        joins = replay(setting, line, bench)?;
+    }
+    Ok(joins)
+}
+
 /// The bench behind these lines of a script that begins with these payloads, and whether a further turn of the hart
 /// of the last line is one row with it. Refused `Memory` alone.
 pub(crate) fn replayed<C: Crew>(
@@ -61,9 +83,11 @@ pub(crate) fn replayed<C: Crew>(
     ensures refused { IfErr result (λ e. e ≡ Memory) }
 {
     let mut bench = DebuggedBench::blank(setting.alloc, setting.shape, begins)?;
-    let mut joins = false;
-    for line in lines {
-        joins = replay(setting, line, &mut bench)?;
+    match replay_all(setting, lines, &mut bench) {
+        Ok(joins) => Ok((bench, joins)),
+        Err(e) => {
+            bench.release();
+            Err(e)
+        }
     }
-    Ok((bench, joins))
 }

@@ -51,6 +51,26 @@ pub struct Session<'a, C> {
     stops: Stops,
 }
 
+/// Runs lines from the begin of a timeline on.
+fn run_all<C: Crew>(
+    setting: &Setting<'_, C>,
+    lines: Vec<Line>,
+    timeline: &mut Timeline,
+) -> Result<(), Refusal>
+    requires ranges { AreInRange setting.now.shape.now lines.items }
+    requires at { IsAt setting.now.shape.now timeline.old }
+    requires none { timeline.old.history ≡ [] }
+    ensures at { OnOk result (IsAt setting.now.shape.now timeline.new) }
+    ensures noted { OnOk result (AreNoted lines.items [] timeline.new.history) }
+    ensures begins { OnOk result (timeline.new.begins ≡ timeline.old.begins) }
+    ensures refused { IfErr result (λ e. e ≡ Memory) }
+{
+    for line in lines {
+        timeline.line(setting, line)?;
+    }
+    Ok(())
+}
+
 /// The timeline behind these lines.
 fn begun<C: Crew>(
     setting: &Setting<'_, C>,
@@ -64,10 +84,13 @@ fn begun<C: Crew>(
     ensures refused { IfErr result (λ e. e ≡ Memory) }
 {
     let mut timeline = Timeline::blank(setting.alloc, setting.shape, begins)?;
-    for line in lines {
-        timeline.line(setting, line)?;
+    match run_all(setting, lines, &mut timeline) {
+        Ok(()) => Ok(timeline),
+        Err(e) => {
+            timeline.release();
+            Err(e)
+        }
     }
-    Ok(timeline)
 }
 
 impl<'a, C: Crew> Session<'a, C> {

@@ -25,6 +25,7 @@ use crew::Crew;
 use machine::State;
 use script_lang::Line;
 use std::alloc::Global;
+use std::mem::replace;
 
 /// The bench that a history leaves, with that history.
 #[derive(Drop)]
@@ -50,6 +51,11 @@ impl Timeline {
             joins: false,
             bench,
         })
+    }
+
+    /// Lets go of a timeline.
+    pub(crate) fn release(self) {
+        self.bench.release();
     }
 
     /// The lines that were run, of a script that runs them again.
@@ -194,7 +200,8 @@ impl Timeline {
         ensures refused { IfErr result (λ e. e ≡ Memory) }
     {
         let (bench, joins) = replayed(setting, &self.begins, self.history.lines())?;
-        self.bench = bench;
+        let before = replace(&mut self.bench, bench);
+        before.release();
         self.joins = joins;
         Ok(())
     }

@@ -2,9 +2,10 @@
 
 ghost use Rattle.std.specs.Prelude.{◌≡◌, ◌==◌, map, IfOk};
 ghost use Rattle.std.specs.List.{slice_split};
-ghost use Rattle.gdb_protocol.specs.Actions.{action_of, are_known, asked_by, first_asked, is_known, is_thread, lettered, names};
+ghost use Rattle.gdb_protocol.specs.Actions.{action_of, are_known, asked_by, first_asked, is_known, is_thread, lettered, names, within};
+ghost use Rattle.gdb_protocol.specs.Fields.{two_numbers};
 
-use crate::fields::{number, parted, two_numbers};
+use crate::fields::{is_text, number, parted, two_numbers};
 use std::alloc::{AllocError, Global};
 
 /// What is asked of a thread; of one that is asked nothing, that it stays as it is.
@@ -25,6 +26,16 @@ pub fn parts(alloc: Global, word: &[u8]) -> Result<Vec<&[u8]>, AllocError>
     word.split(|b| *b == b';').collect(alloc)
 }
 
+/// A step within the addresses that stand behind `r`.
+fn within(range: &[u8]) -> Option<Action>
+    ensures { result ≡ within (two_numbers range.now) }
+{
+    match two_numbers(range) {
+        None => None,
+        Some((first, end)) => Some(Action::StepWithin(first, end)),
+    }
+}
+
 /// The action of a letter and what stands behind it.
 fn lettered(letter: u8, rest: &[u8]) -> Option<Action>
     ensures { result ≡ lettered letter rest.now }
@@ -32,10 +43,7 @@ fn lettered(letter: u8, rest: &[u8]) -> Option<Action>
     match letter {
         b's' | b'S' => Some(Action::Step),
         b'c' | b'C' => Some(Action::Go),
-        b'r' => {
-            let (first, end) = two_numbers(rest)?;
-            Some(Action::StepWithin(first, end))
-        }
+        b'r' => within(rest),
         _ => None,
     }
 }
@@ -44,15 +52,17 @@ fn lettered(letter: u8, rest: &[u8]) -> Option<Action>
 fn action_of(word: &[u8]) -> Option<Action>
     ensures { result ≡ action_of word.now }
 {
-    let (letter, rest) = word.split_first()?;
-    lettered(*letter, rest)
+    match word.split_first() {
+        None => None,
+        Some((letter, rest)) => lettered(*letter, rest),
+    }
 }
 
 /// Whether a text names that thread, or all of them.
 fn names(thread: u64, text: &[u8]) -> bool
     ensures { result ≡ names thread text.now }
 {
-    if text == b"-1".as_slice() {
+    if is_text(text, b"-1") {
         return true;
     }
     match number(text) {
@@ -67,8 +77,13 @@ fn asked_by(thread: u64, word: &[u8]) -> Option<Action>
 {
     match parted(word, b':') {
         None => action_of(word),
-        Some((action, text)) if names(thread, text) => action_of(action),
-        Some(_) => None,
+        Some((action, text)) => {
+            if names(thread, text) {
+                action_of(action)
+            } else {
+                None
+            }
+        }
     }
 }
 
@@ -88,7 +103,7 @@ pub fn action_for(words: &[&[u8]], thread: u64) -> Option<Action>
 fn is_thread(text: &[u8]) -> bool
     ensures { result ≡ is_thread text.now }
 {
-    if text == b"-1".as_slice() {
+    if is_text(text, b"-1") {
         return true;
     }
     match number(text) {

@@ -3,7 +3,7 @@
 ghost use Rattle.std.specs.Prelude.{◌≡◌};
 ghost use Rattle.gdb_protocol.specs.Asked.{alone, backward, by_letter, by_number, by_numbers, choice, chosen, chosen_thread, is_any, is_point, is_write, looked, moved, part, placed, plain_query, point, point_at, query, request_of, setting, talk, transfer, unchosen, verbose, watching};
 
-use crate::fields::{behind, number, two_numbers};
+use crate::fields::{behind, is_text, number, two_numbers};
 use crate::requests::{Look, Move, Object, Request, Watching};
 
 /// What has nothing behind it.
@@ -21,7 +21,7 @@ fn alone(asked: Request, rest: &[u8]) -> Request
 fn is_any(word: &[u8]) -> bool
     ensures { result ≡ is_any word.now }
 {
-    word == b"0".as_slice() || word == b"-1".as_slice()
+    is_text(word, b"0") || is_text(word, b"-1")
 }
 
 /// `H` of any thread, with its kind: by `c` none runs but the one that is shown.
@@ -156,13 +156,13 @@ fn transfer(object: &[u8]) -> Request
 fn plain_query(word: &[u8]) -> Request
     ensures { result ≡ plain_query word.now }
 {
-    if word == b"C".as_slice() {
+    if is_text(word, b"C") {
         return Request::Look(Look::CurrentThread);
     }
-    if word == b"fThreadInfo".as_slice() {
+    if is_text(word, b"fThreadInfo") {
         return Request::Look(Look::FirstThreads);
     }
-    if word == b"sThreadInfo".as_slice() {
+    if is_text(word, b"sThreadInfo") {
         return Request::Look(Look::MoreThreads);
     }
     match behind(word, b"Attached") {
@@ -191,7 +191,7 @@ fn query(word: &[u8]) -> Request
 fn verbose(word: &[u8]) -> Request
     ensures { result ≡ verbose word.now }
 {
-    if word == b"Cont?".as_slice() {
+    if is_text(word, b"Cont?") {
         return Request::Look(Look::Actions);
     }
     if let Some(_) = behind(word, b"Cont;") {
@@ -207,10 +207,10 @@ fn verbose(word: &[u8]) -> Request
 fn backward(word: &[u8]) -> Request
     ensures { result ≡ backward word.now }
 {
-    if word == b"s".as_slice() {
+    if is_text(word, b"s") {
         return Request::Move(Move::StepBack);
     }
-    if word == b"c".as_slice() {
+    if is_text(word, b"c") {
         return Request::Move(Move::GoBack);
     }
     Request::Look(Look::Unknown)
@@ -220,7 +220,7 @@ fn backward(word: &[u8]) -> Request
 fn setting(word: &[u8]) -> Request
     ensures { result ≡ setting word.now }
 {
-    if word == b"StartNoAckMode".as_slice() {
+    if is_text(word, b"StartNoAckMode") {
         Request::Look(Look::NoAcks)
     } else {
         Request::Look(Look::Unknown)

@@ -1,18 +1,28 @@
 //! Bytes in hexadecimal digits.
 
-ghost use Rattle.std.specs.Prelude.{◌≡◌, ◌++◌, OnOk};
+ghost use Rattle.std.specs.Prelude.{◌≡◌, ◌∷◌, ◌++◌, IfOk, OnOk};
 ghost use Rattle.gdb_protocol.specs.Replies.{pair_of, pairs_of};
 
 use crate::digits::digit;
-use std::alloc::AllocError;
+use std::alloc::{AllocError, Global};
 
 /// Writes a byte in two digits.
-fn put_pair(out: &mut Vec<u8>, byte: u8) -> Result<(), AllocError>
+pub(crate) fn put_pair(out: &mut Vec<u8>, byte: u8) -> Result<(), AllocError>
     ensures { OnOk result (out.new.items ≡ out.old.items ++ pair_of byte) }
 {
     out.push(digit(byte / 16))?;
     out.push(digit(byte % 16))?;
     Ok(())
+}
+
+/// A text behind a sign.
+pub(crate) fn behind_sign(alloc: Global, sign: u8, text: &[u8]) -> Result<Vec<u8>, AllocError>
+    ensures { IfOk result (λ v. v.items ≡ sign ∷ text.now) }
+{
+    let mut out = Vec::new(alloc);
+    out.push(sign)?;
+    out.extend_from_slice(text)?;
+    Ok(out)
 }
 
 /// Writes bytes in two digits each.

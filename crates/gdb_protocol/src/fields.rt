@@ -1,6 +1,6 @@
 //! The fields of a packet.
 
-ghost use Rattle.std.specs.Prelude.{◌≡◌, ◌<◌, Some, IfSome};
+ghost use Rattle.std.specs.Prelude.{◌≡◌, ◌<◌, Some, IfSome, bytes_eq};
 ghost use Rattle.std.specs.Option.{option_map};
 ghost use Rattle.gdb_protocol.specs.Packets.{value_of};
 ghost use Rattle.gdb_protocol.specs.Fields.{behind_prefix, number_of, parted_at, shifted, two_numbers};
@@ -11,8 +11,10 @@ use crate::digits::value;
 fn with_digit(number: u64, digit: u8) -> Option<u64>
     ensures { result ≡ shifted number (value_of digit) }
 {
-    let digit = u64::from(value(digit)?);
-    number.checked_mul(16)?.checked_add(digit)
+    match (number.checked_mul(16), value(digit)) {
+        (Some(shifted), Some(digit)) => shifted.checked_add(u64::from(digit)),
+        (_, _) => None,
+    }
 }
 
 /// The number below 2^64 that hexadecimal digits of either case write, one digit at least.
@@ -49,8 +51,20 @@ pub fn parted(word: &[u8], byte: u8) -> Option<(&[u8], &[u8])>
 pub fn two_numbers(word: &[u8]) -> Option<(u64, u64)>
     ensures { result ≡ two_numbers word.now }
 {
-    let (a, b) = parted(word, b',')?;
-    Some((number(a)?, number(b)?))
+    let Some((a, b)) = parted(word, b',') else {
+        return None;
+    };
+    match (number(a), number(b)) {
+        (Some(a), Some(b)) => Some((a, b)),
+        (_, _) => None,
+    }
+}
+
+/// Whether a word is that text.
+pub(crate) fn is_text(word: &[u8], text: &[u8]) -> bool
+    ensures { result ≡ bytes_eq word.now text.now }
+{
+    word == text
 }
 
 /// What stands behind a prefix.

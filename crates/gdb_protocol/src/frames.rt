@@ -2,9 +2,11 @@
 
 ghost use Rattle.std.specs.Prelude.{◌≡◌, ◌∷◌, ◌++◌, ℕ, List, false, IfOk, OnOk};
 ghost use Rattle.std.specs.Option.{option_map};
+ghost use Rattle.gdb_protocol.specs.Replies.{pair_of};
 ghost use Rattle.gdb_protocol.specs.Packets.{is_special, toggled, escaped, body_of, sum_of, framed_of, behind, spelled_by, payload_read};
 
-use crate::digits::{digit, value};
+use crate::bytes::put_pair;
+use crate::digits::value;
 use std::alloc::{AllocError, Global};
 
 /// Whether a byte stands in a packet by an escape alone.
@@ -56,18 +58,31 @@ pub fn checksum(body: &[u8]) -> u8
     sum
 }
 
+/// Writes a packet of that body, with that sum.
+fn put_body(out: &mut Vec<u8>, body: &[u8], sum: u8) -> Result<(), AllocError>
+    ensures { OnOk result (out.new.items ≡ out.old.items ++ 36 ∷ (body.now ++ 35 ∷ pair_of sum)) }
+{
+    out.push(b'$')?;
+    out.extend_from_slice(body)?;
+    out.push(b'#')?;
+    put_pair(out, sum)
+}
+
+/// Writes a payload in its packet.
+pub(crate) fn put_framed(alloc: Global, out: &mut Vec<u8>, payload: &[u8]) -> Result<(), AllocError>
+    ensures { OnOk result (out.new.items ≡ out.old.items ++ framed_of payload.now) }
+{
+    let body = body(alloc, payload)?;
+    let sum = checksum(&body);
+    put_body(out, &body, sum)
+}
+
 /// A payload in its packet.
 pub fn framed(alloc: Global, payload: &[u8]) -> Result<Vec<u8>, AllocError>
     ensures { IfOk result (λ v. v.items ≡ framed_of payload.now) }
 {
-    let body = body(alloc, payload)?;
-    let sum = checksum(&body);
     let mut out = Vec::new(alloc);
-    out.push(b'$')?;
-    out.extend_from_slice(&body)?;
-    out.push(b'#')?;
-    out.push(digit(sum / 16))?;
-    out.push(digit(sum % 16))?;
+    put_framed(alloc, &mut out, payload)?;
     Ok(out)
 }
 

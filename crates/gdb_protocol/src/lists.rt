@@ -4,6 +4,7 @@ ghost use Rattle.std.specs.Prelude.{◌≡◌, ◌+◌, ◌++◌, ◌≤◌, ◌
 ghost use Rattle.gdb_protocol.specs.Packets.{digit_of};
 ghost use Rattle.gdb_protocol.specs.Replies.{others_text, threads_text};
 
+use crate::bytes::behind_sign;
 use crate::digits::digit;
 use std::alloc::{AllocError, Global};
 
@@ -35,10 +36,9 @@ pub fn threads(alloc: Global, harts: u32) -> Result<Vec<u8>, AllocError>
     ensures { IfOk result (λ v. v.items ≡ threads_text harts) }
 {
     let others = others(alloc, harts)?;
-    let mut out = Vec::new(alloc);
-    out.push(b'm')?;
-    if !others.is_empty() {
-        out.extend_from_slice(&others[1..])?;
+    if others.is_empty() {
+        behind_sign(alloc, b'm', b"")
+    } else {
+        behind_sign(alloc, b'm', &others[1..])
     }
-    Ok(out)
 }

@@ -3,7 +3,7 @@
 ghost use Rattle.std.specs.Prelude.{◌≡◌, map, IfOk};
 ghost use Rattle.gdb_protocol.specs.Replies.{packets_of};
 
-use crate::frames::framed;
+use crate::frames::put_framed;
 use std::alloc::{AllocError, Global};
 
 /// Payloads one after another, each in its packet.
@@ -12,8 +12,7 @@ pub fn packets(alloc: Global, payloads: &[Vec<u8>]) -> Result<Vec<u8>, AllocErro
 {
     let mut out = Vec::new(alloc);
     for payload in payloads {
-        let packet = framed(alloc, payload)?;
-        out.extend_from_slice(&packet)?;
+        put_framed(alloc, &mut out, payload)?;
     }
     Ok(out)
 }

@@ -3,6 +3,7 @@
 ghost use Rattle.std.specs.Prelude.{◌≡◌, IfOk};
 ghost use Rattle.gdb_protocol.specs.Replies.{part_text};
 
+use crate::bytes::behind_sign;
 use std::alloc::{AllocError, Global};
 
 /// From an offset on so many bytes of an object, behind `m` where there are more and `l` where there are none.
@@ -11,13 +12,13 @@ pub fn part(alloc: Global, object: &[u8], offset: u64, count: u64) -> Result<Vec
 {
     let length = object.len() as u64;
     let first = if offset < length { offset } else { length };
-    let mut out = Vec::new(alloc);
     if count < length - first {
-        out.push(b'm')?;
-        out.extend_from_slice(&object[first as usize..(first + count) as usize])?;
+        behind_sign(
+            alloc,
+            b'm',
+            &object[first as usize..(first + count) as usize],
+        )
     } else {
-        out.push(b'l')?;
-        out.extend_from_slice(&object[first as usize..])?;
+        behind_sign(alloc, b'l', &object[first as usize..])
     }
-    Ok(out)
 }

@@ -1,4 +1,4 @@
-use Rattle.std.proofs.Common.{◌≡◌, ◌++◌}
+use Rattle.std.proofs.Common.{◌≡◌}
 use Rattle.gdb_protocol.specs.Replies.{others_text}
 use Rattle.gdb_protocol.proofs.lists.others.Given as goal
 

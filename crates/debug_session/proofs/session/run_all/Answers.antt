@@ -2,7 +2,7 @@ use Rattle.std.proofs.Common.{List, [], ◌∷◌, ◌++◌, sym, ap, ◌∙◌,
 use Rattle.std.specs.Vec.Iter.{into_iter_items}
 use Rattle.script_lang.specs.declared.line.Line.{Line}
 use Rattle.debug_session.proofs.Places.{noted_more}
-use Rattle.debug_session.proofs.session.begun.Goals as goal
+use Rattle.debug_session.proofs.session.run_all.Goals as goal
 
 pub loop-line-preserved : goal.loop-line-preserved
 loop-line-preserved g c =

@@ -5,7 +5,7 @@ use Rattle.bench_report.specs.Bench.{Bench, bench_with}
 use Rattle.debug_session.specs.Ats.{IsPlace}
 use Rattle.debug_session.specs.Lives.{IsSound, Shows}
 use Rattle.debug_session.specs.Backs.{FoundOf}
-use Rattle.debug_session.proofs.back.last_halt.Given as goal
+use Rattle.debug_session.proofs.back.last_halt_along.Given as goal
 
 abbrev pub invariant-loop-number : goal.invariant-loop-number
 invariant-loop-number g l = record {
