@@ -1,5 +1,5 @@
 -- Orders that run on from the board of another one, and stand as it does behind the turns that were put off.
-use Rattle.std.proofs.Common.{◌≡◌, ◌∙◌, ℕ, zero, suc, ◌+◌, ◌-◌, ◌<◌, ◌≤◌, nat_lt, Bool, true, false, if◌then◌else◌, List, [], ◌∷◌, ◌++◌, Option, None, length, take, drop, get_or, refl, sym, ap, subst, arith, append_assoc, length-append}
+use Rattle.std.proofs.Common.{◌≡◌, ◌∙◌, ◌⊎◌, inl, inr, ℕ, zero, suc, ◌+◌, ◌-◌, ◌<◌, ◌≤◌, nat_lt, Bool, true, false, if◌then◌else◌, List, [], ◌∷◌, ◌++◌, Option, Some, None, IfSome, length, take, drop, get_or, refl, sym, ap, subst, arith, append_assoc, length-append}
 use Rattle.std.proofs.Math.Seq.{take-add, take-append_seam, drop-append_seam}
 use Rattle.std.proofs.lemmas.List.{append-nil, length-drop, length-take-le, take-append-drop, take_all}
 use Rattle.board_model.specs.Shapes.{Size}
@@ -13,13 +13,15 @@ use Rattle.bench_orders.specs.Orders.{is_other, other_count}
 use Rattle.bench_orders.specs.Preempted.{is_of_another, kept_turns, others_first, part_row, parted, put_off}
 use Rattle.bench_live.specs.Lives.{IsAlike, IsSound, Shows}
 use Rattle.bench_live.specs.declared.live.LiveBench.{LiveBench}
-use Rattle.bench_schedules.specs.Aheads.{IsBase, IsBeside, IsCut, IsRunnable, StaysBeside, TurnsRan, rest_line}
+use Rattle.bench_schedules.specs.Aheads.{IsBase, IsBeside, IsCut, IsRunnable, RestEnds, StaysAs, StaysBeside, TurnsRan, rest_line}
+use Rattle.bench_schedules.specs.Boards.{BoardsStay}
 use Rattle.bench_schedules.specs.GoingOn.{CameTo, EndsSo, GoesAlike}
 use Rattle.bench_schedules.specs.Points.{rows_passed}
 use Rattle.bench_schedules.specs.Preemptions.{Basis}
 use Rattle.bench_schedules.specs.RunSoFar.{LineRan, RunSoFar}
 use Rattle.bench_schedules.specs.Schedules.{RanLike, other_answer}
-use Rattle.bench_schedules.specs.declared.aheads.Beside.{Beside}
+use Rattle.bench_schedules.specs.declared.aheads.Ahead.{Ahead}
+use Rattle.bench_schedules.specs.declared.boards.Boards.{Boards}
 use Rattle.bench_schedules.specs.declared.bases.Base.{Base}
 use Rattle.bench_schedules.specs.declared.runs.Difference.{Difference}
 use Rattle.bench_schedules.specs.declared.runs.Going.{Going}
@@ -144,94 +146,121 @@ abbrev pub shows_by : (size : Size) (from : Bench) (those : List Line) (said : L
 shows_by size from those said old new so_far stays =
     record { answers = so_far.answers; bench = so_far.bench; run = so_far.run; shows = stays so_far.bench so_far.shows; memory = so_far.memory; told = so_far.told }
 
-pub beside_made : (b : Basis) (order : List Line) (base : Base) (live copy ahead : LiveBench) (rest : ℕ) → IsBase b order base → rest ≡ rest_line base.line order → rest ≤ length order
-    → IsSound live → ((x : Bench) → Shows b.size x base.going.live → Shows b.size x live) → ((x : Bench) → Shows b.size x base.going.live → Shows b.size x copy) → IsSound ahead
-    → TurnsRan b.size (take (rest - base.line) (drop base.line order)) copy ahead
-    → IsBeside b order (record { base = record { going = record { live = live; place = base.going.place }; line = base.line }; ahead = record { live = ahead; place = base.going.place }; rest = rest })
-beside_made b order base live copy ahead rest is rest_is few sound stays copied ahead_sound turns =
-    let said = take base.going.place b.own in
-    let turned = turns (bench_with b.start) (take base.line order) said (shows_by b.size (bench_with b.start) (take base.line order) said base.going.live copy is.came copied) in
+-- turns of a copy are turns of what was copied
+pub turned_by : (size : Size) (ls : List Line) (old copy new : LiveBench) → ((x : Bench) → Shows size x old → Shows size x copy) → TurnsRan size ls copy new → TurnsRan size ls old new
+turned_by size ls old copy new copied turns = λ from before said so_far. turns from before said (shows_by size from before said old copy so_far copied)
+
+-- a base stays one
+abbrev pub base_stays : (b : Basis) (order : List Line) (base : Base) (live : LiveBench) → StaysAs b.size base.going.live live → IsBase b order base
+    → IsBase b order (record { going = record { live = live; place = base.going.place }; line = base.line })
+base_stays b order base live stays is = record {
+  sound = stays.0;
+  few = is.few;
+  within = is.within;
+  came = shows_by b.size (bench_with b.start) (take base.line order) (take base.going.place b.own) base.going.live live is.came stays.1;
+}
+
+pub beside_made : (b : Basis) (order : List Line) (base : Base) (live new : LiveBench) (rest : ℕ) → IsBase b order base → rest ≡ rest_line base.line order → rest ≤ length order
+    → StaysAs b.size base.going.live live → IsSound new → TurnsRan b.size (take (rest - base.line) (drop base.line order)) base.going.live new
+    → IsBeside b order (record { going = record { live = live; place = base.going.place }; line = base.line }) (record { live = new; rest = rest })
+beside_made b order base live new rest is rest_is few stays sound turns =
+    let turned = turns (bench_with b.start) (take base.line order) (take base.going.place b.own) is.came in
     record {
-      base = record { sound = sound; few = is.few; within = is.within; came = shows_by b.size (bench_with b.start) (take base.line order) said base.going.live live is.came stays };
+      base = base_stays b order base live stays is;
       rest = rest_is;
       few = few;
-      sound = ahead_sound;
-      place = refl;
+      sound = sound;
       bench = turned.0.bench;
       shows = turned.0.shows;
       armed = turned.1;
     }
 
 -- they stay, as later lines can tell
-pub stays_beside : (b : Basis) (order : List Line) (two : Beside) (live ahead : LiveBench)
-    → IsSound live → ((x : Bench) → Shows b.size x two.base.going.live → Shows b.size x live) → IsSound ahead → ((x : Bench) → Shows b.size x two.ahead.live → Shows b.size x ahead)
-    → StaysBeside b order two (record { base = record { going = record { live = live; place = two.base.going.place }; line = two.base.line }; ahead = record { live = ahead; place = two.ahead.place }; rest = two.rest })
-stays_beside b order two live ahead sound stays ahead_sound ahead_stays = (
+pub stays_beside : (b : Basis) (order : List Line) (base : Base) (ahead : Ahead) (live other : LiveBench) → StaysAs b.size base.going.live live → StaysAs b.size ahead.live other
+    → StaysBeside b order base ahead (record { going = record { live = live; place = base.going.place }; line = base.line }) (record { live = other; rest = ahead.rest })
+stays_beside b order base ahead live other stays other_stays = (
   λ is. record {
-    base = record {
-      sound = sound;
-      few = is.base.few;
-      within = is.base.within;
-      came = shows_by b.size (bench_with b.start) (take two.base.line order) (take two.base.going.place b.own) two.base.going.live live is.base.came stays;
-    };
+    base = base_stays b order base live stays is.base;
     rest = is.rest;
     few = is.few;
-    sound = ahead_sound;
-    place = is.place;
+    sound = other_stays.0;
     bench = is.bench;
-    shows = ahead_stays is.bench is.shows;
+    shows = other_stays.1 is.bench is.shows;
     armed = is.armed;
   },
-  λ ends start before came all. ends start before (shows_by b.size (bench_with start) before (take two.ahead.place b.own) two.ahead.live ahead came ahead_stays) all,
+  λ ends start before came all. ends start before (shows_by b.size (bench_with start) before (take base.going.place b.own) ahead.live other came other_stays.1) all,
 )
 
-pub rest_few : (b : Basis) (order : List Line) (two : Beside) (m : ℕ) → IsRunnable b order → IsBeside b order two → two.ahead.place + other_count (take m (drop two.rest order)) ≤ length b.own
-rest_few b order two m runnable is =
-    let i = two.base.line in
-    let order_is : i ≤ two.rest = omega (arith, is.rest) in
-    let window = ap other_count (sym (window_is i two.rest order order_is)) ∙ count_append (take i order) (take (two.rest - i) (drop i order)) in
-    omega (arith, is.place, counted b.size (bench_with b.start) (take i order) b.own two.base.going is.base.few is.base.came, window, split_count order two.rest, split_count (drop two.rest order) m, runnable.count)
+pub rest_few : (b : Basis) (order : List Line) (base : Base) (ahead : Ahead) (m : ℕ) → IsRunnable b order → IsBeside b order base ahead → base.going.place + other_count (take m (drop ahead.rest order)) ≤ length b.own
+rest_few b order base ahead m runnable is =
+    let i = base.line in
+    let order_is : i ≤ ahead.rest = omega (arith, is.rest) in
+    let window = ap other_count (sym (window_is i ahead.rest order order_is)) ∙ count_append (take i order) (take (ahead.rest - i) (drop i order)) in
+    omega (arith, counted b.size (bench_with b.start) (take i order) b.own base.going is.base.few is.base.came, window, split_count order ahead.rest, split_count (drop ahead.rest order) m, runnable.count)
+
+-- a board that shows what another one shows goes on as that does
+pub ends_as : (size : Size) (those : List Line) (own : List Answer) (place : ℕ) (old new : LiveBench) (differs : Option Difference) → ((x : Bench) → Shows size x old → Shows size x new)
+    → EndsSo size those own (record { live = new; place = place }) differs → EndsSo size those own (record { live = old; place = place }) differs
+ends_as size those own place old new differs stays ends = λ start before came all. ends start before (shows_by size (bench_with start) before (take place own) old new came stays) all
+
+-- what an order's last lines are
+pub ends_left : (size : Size) (order : List Line) (rest : ℕ) (own : List Answer) (going : Going) → EndsSo size (take (length order - rest) (drop rest order)) own going None → EndsSo size (drop rest order) own going None
+ends_left size order rest own going ends = let P : List Line → Type 0 = λ ls. EndsSo size ls own going None in subst P (left_is rest order) ends
+
+-- ---- the boards of an order
+pub boards_moved : (b : Basis) (order : List Line) (old : Boards) (base : Base) (ahead new : Ahead) → old.ahead ≡ Some ahead → StaysBeside b order old.base ahead base new
+    → BoardsStay b order old (record { base = base; is_own = old.is_own; ahead = Some new })
+boards_moved b order old base ahead new is stays =
+    let I : Option Ahead → Type 0 = λ a. IfSome a (IsBeside b order old.base) in
+    let R : Option Ahead → Type 0 = λ a. IfSome a (RestEnds b order old.base) in (
+      λ boards. let beside = stays.0 (subst I is boards.1) in (λ own. beside.base, beside),
+      λ ends. subst R (sym is) (stays.1 ends),
+      λ none. absurd (let no : ⊥ = cc (none, is) in no),
+    )
 
 -- ---- an order that ran beside another one, up to where the turns that were put off have run
-module _ (b : Basis) (order new : List Line) (two : Beside) (behind : ℕ) (copy child : LiveBench) (is : IsBeside b order two) (runnable : IsRunnable b new) (cut : IsCut two.base.line order new) (behind_is : behind ≡ length new - (length order - two.rest))
-    (copied : (x : Bench) → Shows b.size x two.base.going.live → Shows b.size x copy) (turns : TurnsRan b.size (take (behind - two.base.line) (drop two.base.line new)) copy child) where
+module _ (b : Basis) (order new : List Line) (base : Base) (ahead : Ahead) (behind : ℕ) (child : LiveBench) (is : IsBeside b order base ahead) (runnable : IsRunnable b new) (cut : IsCut base.line order new)
+    (behind_is : behind ≡ length new - (length order - ahead.rest)) (turns : TurnsRan b.size (take (behind - base.line) (drop base.line new)) base.going.live child) where
   abbrev before : List Line
-  before = take two.base.line order ++ take (behind - two.base.line) (drop two.base.line new)
+  before = take base.line order ++ take (behind - base.line) (drop base.line new)
 
   whole : before ++ drop behind new ≡ new
-  whole = cut_whole two.base.line two.rest behind order new is.base.within is.few is.rest cut behind_is
+  whole = cut_whole base.line ahead.rest behind order new is.base.within is.few is.rest cut behind_is
 
   all : length b.own ≡ other_count (before ++ drop behind new)
   all = runnable.count ∙ ap other_count (sym whole)
 
-  came : (so_far : RunSoFar b.size (bench_with b.start) before (take two.base.going.place b.own) child) × ArmedAlike is.base.came.bench so_far.bench
-  came =
-      let said = take two.base.going.place b.own in
-      turns (bench_with b.start) (take two.base.line order) said (shows_by b.size (bench_with b.start) (take two.base.line order) said two.base.going.live copy is.base.came copied)
+  came : (so_far : RunSoFar b.size (bench_with b.start) before (take base.going.place b.own) child) × ArmedAlike is.base.came.bench so_far.bench
+  came = turns (bench_with b.start) (take base.line order) (take base.going.place b.own) is.base.came
 
   -- it runs on alone
-  pub few_behind : (m : ℕ) → two.base.going.place + other_count (take m (drop behind new)) ≤ length b.own
+  pub few_behind : (m : ℕ) → base.going.place + other_count (take m (drop behind new)) ≤ length b.own
   few_behind m =
-      let going : Going = record { live = child; place = two.base.going.place } in
+      let going : Going = record { live = child; place = base.going.place } in
       omega (arith, counted b.size (bench_with b.start) before b.own going is.base.few came.0, all, count_append before (drop behind new), split_count (drop behind new) m)
 
-  pub ran_behind : (last : LiveBench) (differs : Option Difference) → ((x : Bench) → Shows b.size x child → Shows b.size x last)
-      → EndsSo b.size (take (length new - behind) (drop behind new)) b.own (record { live = last; place = two.base.going.place }) differs → RanLike b.size b.start new b.own differs
-  ran_behind last differs stays ends =
+  ran_behind : (differs : Option Difference) → EndsSo b.size (take (length new - behind) (drop behind new)) b.own (record { live = child; place = base.going.place }) differs → RanLike b.size b.start new b.own differs
+  ran_behind differs ends =
       let P : List Line → Type 0 = λ ls. RanLike b.size b.start ls b.own differs in
       let left : before ++ take (length new - behind) (drop behind new) ≡ before ++ drop behind new = ap (λ ls. before ++ ls) (left_is behind new) in
-      let here = shows_by b.size (bench_with b.start) before (take two.base.going.place b.own) child last came.0 stays in
-      subst P (left ∙ whole) (ends b.start before here (all ∙ ap other_count (sym left)))
+      subst P (left ∙ whole) (ends b.start before came.0 (all ∙ ap other_count (sym left)))
 
   -- or it stands as the other one, which goes on as the own run
-  pub ran_alike : (ahead : LiveBench) → IsAlike child two.ahead.live → ((x : Bench) → Shows b.size x two.ahead.live → Shows b.size x ahead)
-      → EndsSo b.size (drop two.rest order) b.own (record { live = ahead; place = two.ahead.place }) None → RanLike b.size b.start new b.own None
-  ran_alike ahead alike stays ends =
+  ran_alike : IsAlike child ahead.live → (other : LiveBench) → ((x : Bench) → Shows b.size x ahead.live → Shows b.size x other)
+      → EndsSo b.size (drop ahead.rest order) b.own (record { live = other; place = base.going.place }) None → RanLike b.size b.start new b.own None
+  ran_alike alike other stays ends =
       let bench = came.0.bench in
       let shows = stays bench (alike b.size bench is.bench came.0.shows is.shows (is.armed ∙ sym came.1)) in
-      let here : RunSoFar b.size (bench_with b.start) before (take two.base.going.place b.own) ahead =
+      let here : RunSoFar b.size (bench_with b.start) before (take base.going.place b.own) other =
       record { answers = came.0.answers; bench = bench; run = came.0.run; shows = shows; memory = came.0.memory; told = came.0.told } in
-      let rest : drop behind new ≡ drop two.rest order = cut_rest two.base.line two.rest behind order new is.base.within is.few is.rest cut behind_is in
-      let N : ℕ → Type 0 = λ n. RunSoFar b.size (bench_with b.start) before (take n b.own) ahead in
+      let rest : drop behind new ≡ drop ahead.rest order = cut_rest base.line ahead.rest behind order new is.base.within is.few is.rest cut behind_is in
       let P : List Line → Type 0 = λ ls. RanLike b.size b.start ls b.own None in
-      subst P (ap (λ ls. before ++ ls) (sym rest) ∙ whole) (ends b.start before (subst N (sym is.place) here) (all ∙ ap (λ ls. other_count (before ++ ls)) rest))
+      subst P (ap (λ ls. before ++ ls) (sym rest) ∙ whole) (ends b.start before here (all ∙ ap (λ ls. other_count (before ++ ls)) rest))
+
+  pub ran_on : (other : LiveBench) (differs : Option Difference) → ((x : Bench) → Shows b.size x ahead.live → Shows b.size x other)
+      → EndsSo b.size (take (length new - behind) (drop behind new)) b.own (record { live = child; place = base.going.place }) differs ⊎ ((differs ≡ None) × IsAlike child ahead.live)
+      → EndsSo b.size (drop ahead.rest order) b.own (record { live = other; place = base.going.place }) None → RanLike b.size b.start new b.own differs
+  ran_on other differs stays (inl alone) ends = ran_behind differs alone
+  ran_on other differs stays (inr (none, alike)) ends =
+      let P : Option Difference → Type 0 = λ d. RanLike b.size b.start new b.own d in
+      subst P (sym none) (ran_alike alike other stays ends)

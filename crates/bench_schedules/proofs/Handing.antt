@@ -7,6 +7,7 @@ use Rattle.jobs.proofs.Chunked.{chunks_handed}
 use Rattle.jobs.specs.declared.chunk.Chunk.{Chunk}
 use Rattle.jobs.specs.Handed.{AreRows, TakesAll, IsChunk, Handed}
 use Rattle.jobs.proofs.HandedOn.{rows_both}
+use Rattle.jobs.specs.Parts.{chunk_from, chunk_to}
 use Rattle.bench_schedules.specs.Handing.{IsNext, IsTold, TellsNext, TellsRun, ToldText, told_count}
 use Rattle.bench_schedules.specs.Points.{script_points}
 use Rattle.bench_schedules.specs.Preemptions.{Basis, OrderRun, OrderText, Tried, differs_text, points_text}
@@ -108,6 +109,13 @@ module _ {C W : Type 0} (contents : W → Option (List ℕ)) (b : Basis) (enough
       let all = go number handed.rows first last handed.each handed.taken (record { script = refl; same = refl; points = so_far }) in
       let P : ℕ → Type 0 = λ n. RanPoints b enough 0 ones counts (number + n) old (contents last.out.now) o d k last.search.orders last.search.differ last.search.kept.items in
       subst P handed.many all.points
+
+-- the orders of a chunk, where its bounds are known
+pub chunk_made : (is : ℕ → NextRun → Type 0) (from to each k a b : ℕ) (runs : List NextRun) → a ≡ chunk_from from each k → b ≡ chunk_to from to each k → (length runs ≡ b - a) × AreRows is a runs
+    → IsChunk is from to each k runs
+chunk_made is from to each k a b runs first last made =
+    let A : ℕ → Type 0 = λ n. AreRows is n runs in
+    record { many = made.0 ∙ ap (λ n. n - a) last ∙ ap (λ n. chunk_to from to each k - n) first; are = subst A first made.1 }
 
 -- chunks of orders, one behind another, are these orders
 pub runs_handed : {C W : Type 0} (contents : W → Option (List ℕ)) (b : Basis) (ones : List Preemption) (counts : List ℕ) (number points each chunks : ℕ) (first last : Report C W) → number + points - number ≤ chunks * each

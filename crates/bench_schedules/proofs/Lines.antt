@@ -17,7 +17,7 @@ use Rattle.bench_schedules.specs.declared.runs.Difference.{Difference}
 use Rattle.bench_schedules.specs.declared.runs.Going.{Going}
 use Rattle.bench_schedules.specs.Schedules.{other_answer, other_answers, Ran, RanLike, RanOwn, IsNumbered, Source}
 use Rattle.bench_schedules.specs.Compared.{IsDifference, IsNextPlace}
-use Rattle.bench_schedules.specs.GoingOn.{CameTo, EndsSo, GoesAlike, GoesApart}
+use Rattle.bench_schedules.specs.GoingOn.{CameTo, EndsSo, GoesAlike, GoesApart, WentSo}
 use Rattle.bench_schedules.specs.RunSoFar.{LineRan, RunSoFar}
 use Rattle.bench_schedules.proofs.OrderRows.{here_is}
 
@@ -133,7 +133,7 @@ goes_apart size ls k own old mid live line a d less is within goes ran apart = r
 }
 
 -- some answer is another one
-pub ends_apart : (size : Size) (ls : List Line) (own : List Answer) (old : Going) (d : Difference) (live : LiveBench) → GoesApart size ls own old d live → ((b : Bench) → Shows size b live → b.fault_state.own ≡ 0)
+ends_apart : (size : Size) (ls : List Line) (own : List Answer) (old : Going) (d : Difference) (live : LiveBench) → GoesApart size ls own old d live → ((b : Bench) → Shows size b live → b.fault_state.own ≡ 0)
     → EndsSo size ls own old (Some d)
 ends_apart size ls own old d live went disk = λ start before so_far all.
     let P : List Line → Type 0 = λ xs. RunSoFar size (bench_with start) xs (take d.place own ++ d.answer ∷ []) live in
@@ -155,7 +155,7 @@ ends_apart size ls own old d live went disk = λ start before so_far all.
     }
 
 -- none is
-pub ends_alike : (size : Size) (ls : List Line) (own : List Answer) (old new : Going) → new.place ≤ length own → GoesAlike size ls own old new → ((b : Bench) → Shows size b new.live → b.fault_state.own ≡ 0)
+ends_alike : (size : Size) (ls : List Line) (own : List Answer) (old new : Going) → new.place ≤ length own → GoesAlike size ls own old new → ((b : Bench) → Shows size b new.live → b.fault_state.own ≡ 0)
     → EndsSo size ls own old None
 ends_alike size ls own old new few goes disk = λ start before so_far all.
     let went = goes (bench_with start) before so_far in
@@ -169,6 +169,11 @@ ends_alike size ls own old new few goes disk = λ start before so_far all.
       ran = record { run = ran.run; memory = ran.memory; disk = disk ran.bench ran.shows };
       like = ran.told ∙ take_all new.place own (omega (arith, here, all));
     }
+
+pub ends_so : (size : Size) (ls : List Line) (own : List Answer) (old new : Going) (differs : Option Difference) → WentSo size ls own old new differs → ((b : Bench) → Shows size b new.live → b.fault_state.own ≡ 0)
+    → EndsSo size ls own old differs
+ends_so size ls own old new None went disk = ends_alike size ls own old new went.1 went.2 disk
+ends_so size ls own old new (Some d) went disk = ends_apart size ls own old d new.live went.1 disk
 
 -- ---- the own run, and what is drawn
 pub ran_own : (size : Size) (start : List (List ℕ)) (ls : List Line) (i : ℕ) (own : List Answer) (going : LiveBench) → length ls ≤ i → RunSoFar size (bench_with start) (take i ls) own going

@@ -14,7 +14,7 @@ use Rattle.bench_schedules.specs.Points.{rows_passed}
 use Rattle.bench_schedules.specs.Preemptions.{Basis, basis}
 use Rattle.bench_schedules.specs.RunSoFar.{RunSoFar}
 use Rattle.bench_schedules.specs.declared.bases.Base.{Base}
-use Rattle.bench_schedules.specs.declared.aheads.Beside.{Beside}
+use Rattle.bench_schedules.specs.declared.aheads.Ahead.{Ahead}
 use Rattle.bench_schedules.specs.declared.nodes.Runner.{Runner}
 
 abbrev pub basis_of : {C : Type 0} → Runner C → Basis
@@ -46,21 +46,25 @@ rest_line i order = i + 1 + rows_passed (drop i order)
 abbrev pub IsCut : ℕ → List Line → List Line → Type 0
 IsCut i order new = (between : List Line) × (new ≡ take i order ++ (between ++ drop (rest_line i order) order))
 
+-- whatever bench it stood for, it stands for it, and lines may follow
+abbrev pub StaysAs : Size → LiveBench → LiveBench → Type 0
+StaysAs size old new = IsSound new × ((b : Bench) → Shows size b old → Shows size b new)
+
 -- a base, and a board to which the row there and the rows of other harts behind it have come from it
-pub record IsBeside (b : Basis) (order : List Line) (two : Beside) : Type 0 where
-  pub base : IsBase b order two.base
-  pub rest : two.rest ≡ rest_line two.base.line order
-  pub few : two.rest ≤ length order
-  pub sound : IsSound two.ahead.live
-  pub place : two.ahead.place ≡ two.base.going.place
+pub record IsBeside (b : Basis) (order : List Line) (at : Base) (ahead : Ahead) : Type 0 where
+  pub base : IsBase b order at
+  pub rest : ahead.rest ≡ rest_line at.line order
+  pub few : ahead.rest ≤ length order
+  pub sound : IsSound ahead.live
   pub bench : Bench
-  pub shows : Shows b.size bench two.ahead.live
+  pub shows : Shows b.size bench ahead.live
   pub armed : ArmedAlike base.came.bench bench
 
 -- from there on the order answers as the own run does
-abbrev pub RestEnds : Basis → List Line → Beside → Type 0
-RestEnds b order two = EndsSo b.size (drop two.rest order) b.own two.ahead None
+abbrev pub RestEnds : Basis → List Line → Base → Ahead → Type 0
+RestEnds b order base ahead = EndsSo b.size (drop ahead.rest order) b.own (record { live = ahead.live; place = base.going.place }) None
 
 -- Both boards stay as they are, as later lines can tell.
-abbrev pub StaysBeside : Basis → List Line → Beside → Beside → Type 0
-StaysBeside b order old new = (IsBeside b order old → IsBeside b order new) × (RestEnds b order new → RestEnds b order old)
+abbrev pub StaysBeside : Basis → List Line → Base → Ahead → Base → Ahead → Type 0
+StaysBeside b order base ahead new_base new =
+    (IsBeside b order base ahead → IsBeside b order new_base new) × (RestEnds b order new_base new → RestEnds b order base ahead)

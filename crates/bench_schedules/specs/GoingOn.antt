@@ -1,5 +1,5 @@
 -- A run that goes on, whatever ran before: beside the script's own run, which answered the same up to there.
-use Rattle.std.specs.Prelude.{◌≡◌, ◌≢◌, ◌<◌, ◌≤◌, ◌++◌, ◌∷◌, [], ℕ, List, Option, length, take, get_or}
+use Rattle.std.specs.Prelude.{◌≡◌, ◌≢◌, ◌<◌, ◌≤◌, ◌++◌, ◌∷◌, [], ℕ, List, Option, None, Some, length, take, get_or}
 use Rattle.board_model.specs.Shapes.{Size}
 use Rattle.script_lang.specs.declared.line.Line.{Line}
 use Rattle.bench_report.specs.Bench.{Bench, bench_with}
@@ -11,8 +11,6 @@ use Rattle.bench_schedules.specs.RunSoFar.{RunSoFar}
 use Rattle.bench_schedules.specs.Schedules.{RanLike}
 use Rattle.bench_schedules.specs.declared.runs.Difference.{Difference}
 use Rattle.bench_schedules.specs.declared.runs.Going.{Going}
-use Rattle.bench_schedules.specs.declared.runs.Went.{Went}
-use Rattle.bench_schedules.specs.declared.runs.Went.TheVariants.{Alike, Apart}
 
 -- from that bench of the model on these lines ran up to here, and answered as the own run does up to its place
 abbrev pub CameTo : Size → Bench → List Line → List Answer → Going → Type 0
@@ -32,9 +30,10 @@ pub record GoesApart (size : Size) (those : List Line) (own : List Answer) (old 
   pub goes : (from : Bench) (before : List Line) → CameTo size from before own old
       → RunSoFar size from (before ++ take n those) (take d.place own ++ d.answer ∷ []) live
 
-abbrev pub WentSo : Size → List Line → List Answer → Going → Went → Type 0
-WentSo size those own old (Alike new) = IsSound new.live × (new.place ≤ length own) × GoesAlike size those own old new
-WentSo size those own old (Apart live d) = IsSound live × GoesApart size those own old d live
+-- these lines ran on, up to the first that answered other than the own run does
+abbrev pub WentSo : Size → List Line → List Answer → Going → Going → Option Difference → Type 0
+WentSo size those own old new None = IsSound new.live × (new.place ≤ length own) × GoesAlike size those own old new
+WentSo size those own old new (Some d) = IsSound new.live × GoesApart size those own old d new.live
 
 -- With these lines it ran to the end, and differs there from the own run, where it came from these payloads.
 abbrev pub EndsSo : Size → List Line → List Answer → Going → Option Difference → Type 0

@@ -1,12 +1,12 @@
 -- The orders that one more preemption makes of an order: run by their numbers, and told in that order.
-use Rattle.std.specs.Prelude.{IfSome, ◌≡◌, ◌⊎◌, ◌≤◌, ◌<◌, ◌+◌, ◌++◌, ◌∷◌, [], ⊤, ℕ, List, Option, None, Some, length, slice_index_or}
+use Rattle.std.specs.Prelude.{◌≡◌, ◌⊎◌, ◌≤◌, ◌<◌, ◌+◌, ◌++◌, ◌∷◌, [], ⊤, ℕ, List, Option, None, Some, length, slice_index_or}
 use Rattle.std.specs.Io.KnownBytes.{Appends}
 use Rattle.script_lang.specs.declared.line.Line.{Line}
 use Rattle.bench_orders.specs.Orders.{other_count}
 use Rattle.jobs.specs.Parts.{chunk_from}
-use Rattle.bench_schedules.specs.Aheads.{IsBase, IsBeside, RestEnds, basis_of}
-use Rattle.bench_schedules.specs.declared.aheads.Beside.{Beside}
-use Rattle.bench_schedules.specs.declared.bases.Base.{Base}
+use Rattle.bench_schedules.specs.Aheads.{basis_of}
+use Rattle.bench_schedules.specs.Boards.{BoardsStay, IsBoards, RestOfBoards}
+use Rattle.bench_schedules.specs.declared.boards.Boards.{Boards}
 use Rattle.bench_schedules.specs.Numbers.{place_of_other}
 use Rattle.bench_schedules.specs.Schedules.{RanLike}
 use Rattle.bench_schedules.specs.Told.{IsFirstApart, told_lines}
@@ -62,19 +62,15 @@ pub record IsNext (b : Basis) (ones : List Preemption) (counts : List ℕ) (numb
 abbrev pub IsNextOf : {C : Type 0} → NextRuns C → ℕ → NextRun → Type 0
 IsNextOf runs number run = IsNext (basis_of runs.runner.now) runs.node.now.ones.items runs.counts.now number run
 
--- ---- the boards of the order that is parted, where there are some
-abbrev pub IsBaseOf : {C : Type 0} → NextRuns C → Option Base → Type 0
-IsBaseOf runs base = IfSome base (IsBase (basis_of runs.runner.now) runs.node.now.lines.items)
+-- ---- the boards of the order that is parted
+abbrev pub IsBoardsOf : {C : Type 0} → NextRuns C → Boards → Type 0
+IsBoardsOf runs boards = IsBoards (basis_of runs.runner.now) runs.node.now.lines.items boards
 
-abbrev pub IsBesideOf : {C : Type 0} → NextRuns C → Option Beside → Type 0
-IsBesideOf runs two = IfSome two (IsBeside (basis_of runs.runner.now) runs.node.now.lines.items)
+abbrev pub RestEndsOf : {C : Type 0} → NextRuns C → Boards → Type 0
+RestEndsOf runs boards = RestOfBoards (basis_of runs.runner.now) runs.node.now.lines.items boards
 
-abbrev pub RestEndsOf : {C : Type 0} → NextRuns C → Option Beside → Type 0
-RestEndsOf runs two = IfSome two (RestEnds (basis_of runs.runner.now) runs.node.now.lines.items)
-
--- they stay as they are, as later lines can tell, and where there are none there are none
-abbrev pub StaysOf : {C : Type 0} → NextRuns C → Option Beside → Option Beside → Type 0
-StaysOf runs old new = (IsBesideOf runs old → IsBesideOf runs new) × (RestEndsOf runs new → RestEndsOf runs old) × (old ≡ None → new ≡ None)
+abbrev pub StaysOf : {C : Type 0} → NextRuns C → Boards → Boards → Type 0
+StaysOf runs old new = BoardsStay (basis_of runs.runner.now) runs.node.now.lines.items old new
 
 -- ---- how they are told
 -- how many orders differ of one

@@ -11,6 +11,7 @@ pub mod Compared
 pub mod RunSoFar
 pub mod GoingOn
 pub mod Aheads
+pub mod Boards
 pub mod Numbers
 pub mod Schedules
 pub mod Drawn

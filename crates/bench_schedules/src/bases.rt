@@ -5,11 +5,11 @@ ghost use Rattle.board_model.specs.declared.refusal.Refusal.TheVariants.{Memory}
 ghost use Rattle.script_lang.specs.Lines.{IsLineInRange};
 ghost use Rattle.script_lang.specs.declared.line.Line.{Line as Said};
 ghost use Rattle.bench_live.specs.Lives.{IsSound};
-ghost use Rattle.bench_schedules.specs.Aheads.{IsBase, IsRunnable, TurnsRan, basis_of};
+ghost use Rattle.bench_schedules.specs.Aheads.{IsBase, IsRunnable, StaysAs, TurnsRan, basis_of};
 
 use crate::line_runs::{is_other, run_line};
 use crate::nodes::Runner;
-use crate::runs::{Going, Went, go_on};
+use crate::runs::{Going, go_on};
 use bench_live::{LiveBench, turns_arm_nothing};
 use bench_report::Setting;
 use board_model::Refusal;
@@ -36,27 +36,29 @@ pub fn blank_base<C>(runner: &Runner<'_, C>) -> Result<Base, Refusal>
     })
 }
 
-/// The board before that line of an order, which runs on to there. None where it answers otherwise than the script's own run, or is past
-/// that line. Refused `Memory` alone.
+/// Has the board of an order run on to before that line. Answers whether it came there: not where it answers otherwise than the script's
+/// own run, or is past that line. Refused `Memory` alone.
 pub fn base_at<C: Crew>(
     runner: &Runner<'_, C>,
     order: &[Line],
-    base: Base,
+    base: &mut Base,
     line: usize,
-) -> Result<Option<Base>, Refusal>
+) -> Result<bool, Refusal>
     requires runnable { IsRunnable (basis_of runner.now) order.now }
-    requires base { IsBase (basis_of runner.now) order.now base }
+    requires base { IsBase (basis_of runner.now) order.now base.old }
     requires line { line ≤ length order.now }
-    ensures base { IfOk result (λ new. IfSome new (λ at. IsBase (basis_of runner.now) order.now at × (at.line ≡ line))) }
+    ensures base { IfOk result (λ came. came ≡ true → IsBase (basis_of runner.now) order.now base.new × (base.new.line ≡ line)) }
     ensures refused { IfErr result (λ e. e ≡ Memory) }
 {
     if line < base.line {
-        return Ok(None);
+        return Ok(false);
     }
     let between = &order[base.line..line];
-    match go_on(&runner.setting, between, runner.own, base.going)? {
-        Went::Alike(going) => Ok(Some(Base { going, line })),
-        Went::Apart(_, _) => Ok(None),
+    let differs = go_on(&runner.setting, between, runner.own, &mut base.going)?;
+    base.line = line;
+    match differs {
+        None => Ok(true),
+        Some(_) => Ok(false),
     }
 }
 
@@ -80,4 +82,23 @@ pub fn run_turns<C: Crew>(
         run_line(setting, line, live)?;
     }
     Ok(true)
+}
+
+/// A copy of a board, behind these rows of turns. None where one of the lines is no row. The board stays as it is. Refused `Memory` alone.
+pub fn turned_copy<C: Crew>(
+    setting: &Setting<'_, C>,
+    lines: &[Line],
+    live: &mut LiveBench,
+) -> Result<Option<LiveBench>, Refusal>
+    requires ranges { All (IsLineInRange setting.now.shape.now) lines.now }
+    requires sound { IsSound live.old }
+    ensures stays { StaysAs setting.now.shape.now live.old live.new }
+    ensures turned { IfOk result (λ copy. IfSome copy (λ new. IsSound new × TurnsRan setting.now.shape.now lines.now live.old new)) }
+    ensures refused { IfErr result (λ e. e ≡ Memory) }
+{
+    let mut copy = live.copy(setting.alloc)?;
+    if run_turns(setting, lines, &mut copy)? {
+        return Ok(Some(copy));
+    }
+    Ok(None)
 }

@@ -1,10 +1,12 @@
 //! Orders that one more preemption makes of an order, run by several threads: each makes a chunk of neighbouring ones.
 
-ghost use Rattle.std.specs.Prelude.{◌≤◌, ◌<◌};
-ghost use Rattle.bench_schedules.specs.Handing.{HasPointsOf};
+ghost use Rattle.std.specs.Prelude.{◌≡◌, ◌≤◌, ◌<◌, ◌-◌, true, length, IfErr, IfOk};
+ghost use Rattle.board_model.specs.declared.refusal.Refusal.TheVariants.{Memory};
+ghost use Rattle.jobs.specs.Handed.{AreRows};
+ghost use Rattle.bench_schedules.specs.Handing.{HasPointsOf, IsBoardsOf, IsNextOf};
 
-use crate::bases::blank_base;
-use crate::next_runs::{LineRuns, NextRun, NextRuns};
+use crate::boards::{Boards, blank_boards};
+use crate::next_runs::{NextRun, NextRuns};
 use crate::points::point_at;
 use board_model::Refusal;
 use crew::Crew;
@@ -48,11 +50,34 @@ impl<'a, 'b, C> ChunkRuns<'a, 'b, C> {
     }
 }
 
+impl<'a, 'b, C: Crew> ChunkRuns<'a, 'b, C> {
+    /// Runs the orders of the points of those numbers, line by line. The order itself runs on from one line to the next.
+    fn run_lines(&self, boards: &mut Boards, from: u64, to: u64) -> Result<Chunk<NextRun>, Refusal>
+        requires order { from ≤ to }
+        requires has { HasPointsOf self.now.next.now from to }
+        requires boards { IsBoardsOf self.now.next.now boards.old }
+        ensures made { IfOk result (λ made. made.whole ≡ true
+            → (length made.rows.items ≡ to - from) × AreRows (IsNextOf self.now.next.now) from made.rows.items) }
+        ensures refused { IfErr result (λ e. e ≡ Memory) }
+    {
+        let mut rows = Vec::new(self.next.runner.setting.alloc);
+        let mut at = from;
+        while at < to {
+            let end = self.line_end(at, to);
+            let Ok(mut runs) = self.next.run_line(boards, at, end) else {
+                return Ok(Chunk { rows, whole: false });
+            };
+            rows.append(&mut runs)?;
+            at = end;
+        }
+        Ok(Chunk { rows, whole: true })
+    }
+}
+
 impl<'a, 'b, C: Crew + Sync> Task for ChunkRuns<'a, 'b, C> {
-    ghost use Rattle.std.specs.Prelude.{◌≡◌, true};
     ghost use Rattle.std.specs.Thread.{IsSync};
     ghost use Rattle.jobs.specs.Handed.{IsChunk};
-    ghost use Rattle.bench_schedules.specs.Handing.{HasChunk, IsNextOf};
+    ghost use Rattle.bench_schedules.specs.Handing.{HasChunk};
 
     type Row = Chunk<NextRun>;
 
@@ -61,22 +86,10 @@ impl<'a, 'b, C: Crew + Sync> Task for ChunkRuns<'a, 'b, C> {
     ghost is_row = { λ runs k made. made.whole ≡ true
         → IsChunk (IsNextOf runs.next.now) runs.within.from runs.within.to runs.each k made.rows.items };
 
-    /// Runs the orders of the points of that chunk, line by line. The order itself runs on from one line to the next.
+    /// Runs the orders of the points of that chunk.
     fn row(&self, number: u64) -> Result<Chunk<NextRun>, Refusal> {
         let Window { from, to } = self.within.chunk(self.each, number);
-        let mut base = Some(blank_base(self.next.runner)?);
-        let mut rows = Vec::new(self.next.runner.setting.alloc);
-        let mut at = from;
-        while at < to {
-            let end = self.line_end(at, to);
-            let Ok(line) = self.next.run_line(base, at, end) else {
-                return Ok(Chunk { rows, whole: false });
-            };
-            let mut runs = line.runs;
-            rows.append(&mut runs)?;
-            base = line.base;
-            at = end;
-        }
-        Ok(Chunk { rows, whole: true })
+        let mut boards = blank_boards(self.next.runner)?;
+        self.run_lines(&mut boards, from, to)
     }
 }

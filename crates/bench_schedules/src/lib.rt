@@ -11,6 +11,7 @@
 mod aheads;
 mod bases;
 mod benches;
+mod boards;
 mod chunk_runs;
 mod counts;
 mod line_runs;

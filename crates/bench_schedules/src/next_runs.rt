@@ -4,14 +4,14 @@ ghost use Rattle.std.specs.Prelude.{◌≡◌, ◌-◌, ◌<◌, ◌≤◌, ◌+
 ghost use Rattle.board_model.specs.declared.refusal.Refusal.TheVariants.{Memory};
 ghost use Rattle.bench_orders.specs.Orders.{other_count};
 ghost use Rattle.jobs.specs.Handed.{AreRows};
-ghost use Rattle.bench_schedules.specs.Aheads.{IsCut, IsRunnable, basis_of};
-ghost use Rattle.bench_schedules.specs.Handing.{HasPointsOf, IsBaseOf, IsBesideOf, IsNextOf, IsTold, RestEndsOf, StaysOf};
+ghost use Rattle.bench_schedules.specs.Aheads.{IsCut, basis_of};
+ghost use Rattle.bench_schedules.specs.Handing.{HasPointsOf, IsBoardsOf, IsNextOf, IsTold, RestEndsOf, StaysOf};
 ghost use Rattle.bench_schedules.specs.SoFar.{IsMade};
 ghost use Rattle.bench_schedules.specs.Schedules.{RanLike};
 ghost use Rattle.bench_schedules.specs.Orders.{order_of};
 
-use crate::aheads::{Beside, beside_at, own_base, run_beside};
-use crate::bases::{Base, base_at};
+use crate::aheads::run_beside;
+use crate::boards::{Boards, rest_is_own, run_to};
 use crate::nodes::{Node, Runner, parted_node, run_node};
 use crate::numbers::number_of_other;
 use crate::points::{Preemption, point_at};
@@ -49,13 +49,6 @@ pub struct NextRuns<'a, 'b, C> {
     pub counts: &'a [u32],
 }
 
-/// The orders of points of one line that were run, and the order's board from which the next line's orders run on, where there is one.
-#[derive(Drop)]
-pub struct LineRuns {
-    pub base: Option<Base>,
-    pub runs: Vec<NextRun>,
-}
-
 /// Where an order differs, as its line tells it. Refused `Memory` alone.
 fn told_of<C>(
     runner: &Runner<'_, C>,
@@ -82,45 +75,46 @@ fn told_of<C>(
 }
 
 impl<'a, 'b, C: Crew> NextRuns<'a, 'b, C> {
-    /// Runs an order that a preemption at that place makes, beside the order where the base stands there. Refused `Memory` alone.
+    /// Runs an order that a preemption at that place makes, beside the order where its boards stand there. Refused `Memory` alone.
     fn run_next(
         &self,
-        two: &mut Option<Beside>,
+        boards: &mut Boards,
         place: usize,
         next: &Node,
     ) -> Result<Option<Difference>, Refusal>
         requires count { length self.now.runner.now.own.now ≡ other_count self.now.runner.now.lines.now }
         requires made { IsMade (basis_of self.now.runner.now) next.now.lines.items next.now.ones.items next.now.from }
         requires cut { IsCut place self.now.node.now.lines.items next.now.lines.items }
-        requires beside { IsBesideOf self.now two.old }
-        ensures stays { OnOk result (StaysOf self.now two.old two.new) }
-        ensures ran { IfOk result (λ differs. RestEndsOf self.now two.new
+        requires boards { IsBoardsOf self.now boards.old }
+        ensures stays { StaysOf self.now boards.old boards.new }
+        ensures ran { IfOk result (λ differs. RestEndsOf self.now boards.new
             → RanLike self.now.runner.now.setting.shape.now self.now.runner.now.payloads.now
             (order_of self.now.runner.now.lines.now next.now.ones.items) self.now.runner.now.own.now differs) }
         ensures refused { IfErr result (λ e. e ≡ Memory) }
     {
-        match two {
-            Some(two) if two.base.line == place => run_beside(
+        match &mut boards.ahead {
+            Some(ahead) if boards.base.line == place => run_beside(
                 self.runner,
                 &self.node.lines,
                 &next.lines,
-                two,
+                &mut boards.base,
+                ahead,
             ),
             _ => run_node(self.runner, next),
         }
     }
 
     /// Runs the order that a preemption makes at the point of that number. Refused `Memory` alone.
-    fn run_at(&self, two: &mut Option<Beside>, number: u64) -> Result<NextRun, Refusal>
+    fn run_at(&self, boards: &mut Boards, number: u64) -> Result<NextRun, Refusal>
         requires has { HasPointsOf self.now number (number + 1) }
-        requires beside { IsBesideOf self.now two.old }
-        ensures stays { OnOk result (StaysOf self.now two.old two.new) }
-        ensures next { IfOk result (λ run. RestEndsOf self.now two.new → IsNextOf self.now number run) }
+        requires boards { IsBoardsOf self.now boards.old }
+        ensures stays { OnOk result (StaysOf self.now boards.old boards.new) }
+        ensures next { IfOk result (λ run. RestEndsOf self.now boards.new → IsNextOf self.now number run) }
         ensures refused { IfErr result (λ e. e ≡ Memory) }
     {
         let one = point_at(self.counts, number);
         let next = parted_node(self.runner, self.node, self.counts, one)?;
-        let differs = self.run_next(two, one.place, &next)?;
+        let differs = self.run_next(boards, one.place, &next)?;
         let told = told_of(self.runner, &next, differs)?;
         Ok(NextRun {
             ones: next.ones,
@@ -129,68 +123,41 @@ impl<'a, 'b, C: Crew> NextRuns<'a, 'b, C> {
     }
 
     /// Runs the orders of the points of those numbers. Refused `Memory` alone.
-    fn run_points(
-        &self,
-        two: &mut Option<Beside>,
-        from: u64,
-        to: u64,
-    ) -> Result<Vec<NextRun>, Refusal>
+    fn run_points(&self, boards: &mut Boards, from: u64, to: u64) -> Result<Vec<NextRun>, Refusal>
         requires has { HasPointsOf self.now from to }
         requires order { from ≤ to }
-        requires beside { IsBesideOf self.now two.old }
-        ensures stays { OnOk result (StaysOf self.now two.old two.new) }
-        ensures next { IfOk result (λ runs. RestEndsOf self.now two.new → AreRows (IsNextOf self.now) from runs.items) }
+        requires boards { IsBoardsOf self.now boards.old }
+        ensures stays { OnOk result (StaysOf self.now boards.old boards.new) }
+        ensures next { IfOk result (λ runs. RestEndsOf self.now boards.new → AreRows (IsNextOf self.now) from runs.items) }
         ensures many { IfOk result (λ runs. length runs.items ≡ to - from) }
         ensures refused { IfErr result (λ e. e ≡ Memory) }
     {
         let mut runs = Vec::new(self.runner.setting.alloc);
         for number in from..to {
-            let run = self.run_at(two, number)?;
+            let run = self.run_at(boards, number)?;
             runs.push(run)?;
         }
         Ok(runs)
     }
 
-    /// The boards beside which the orders of points of a line run. None where there are none. Refused `Memory` alone.
-    fn beside(&self, base: Option<Base>, line: usize) -> Result<Option<Beside>, Refusal>
-        requires few { length self.now.node.now.lines.items ≤ 100000 }
-        requires runnable { IsRunnable (basis_of self.now.runner.now) self.now.node.now.lines.items }
-        requires base { IsBaseOf self.now base }
-        requires line { line < length self.now.node.now.lines.items }
-        ensures beside { IfOk result (IsBesideOf self.now) }
-        ensures refused { IfErr result (λ e. e ≡ Memory) }
-    {
-        let Some(base) = base else {
-            return Ok(None);
-        };
-        match base_at(self.runner, &self.node.lines, base, line)? {
-            Some(base) => beside_at(self.runner, &self.node.lines, base),
-            None => Ok(None),
-        }
-    }
-
     /// Runs the orders of the points of those numbers, which lie in one line, beside the order. Where it does not go on as the script's own
     /// run, they are run again, each alone. Refused `Memory` alone.
-    pub fn run_line(&self, base: Option<Base>, from: u64, to: u64) -> Result<LineRuns, Refusal>
+    pub fn run_line(&self, boards: &mut Boards, from: u64, to: u64) -> Result<Vec<NextRun>, Refusal>
         requires has { HasPointsOf self.now from to }
         requires some { from < to }
-        requires base { IsBaseOf self.now base }
-        ensures base { IfOk result (λ made. IsBaseOf self.now made.base) }
-        ensures next { IfOk result (λ made. AreRows (IsNextOf self.now) from made.runs.items) }
-        ensures many { IfOk result (λ made. length made.runs.items ≡ to - from) }
+        requires boards { IsBoardsOf self.now boards.old }
+        ensures boards { OnOk result (IsBoardsOf self.now boards.new) }
+        ensures next { IfOk result (λ runs. AreRows (IsNextOf self.now) from runs.items) }
+        ensures many { IfOk result (λ runs. length runs.items ≡ to - from) }
         ensures refused { IfErr result (λ e. e ≡ Memory) }
     {
         let line = point_at(self.counts, from).place;
-        let mut two = self.beside(base, line)?;
-        let runs = self.run_points(&mut two, from, to)?;
-        let Some(two) = two else {
-            return Ok(LineRuns { base: None, runs });
-        };
-        if let Some(base) = own_base(self.runner, &self.node.lines, two)? {
-            let base = Some(base);
-            return Ok(LineRuns { base, runs });
+        run_to(self.runner, &self.node.lines, boards, line)?;
+        let runs = self.run_points(boards, from, to)?;
+        if rest_is_own(self.runner, &self.node.lines, boards)? {
+            return Ok(runs);
         }
-        let runs = self.run_points(&mut None, from, to)?;
-        Ok(LineRuns { base: None, runs })
+        let runs = self.run_points(boards, from, to)?;
+        Ok(runs)
     }
 }

@@ -54,7 +54,7 @@ fn next_place(
     })
 }
 
-/// A run that answered as the script's own run so far.
+/// A run that answered as the script's own run so far, or that ended where it did not.
 #[derive(Drop)]
 pub struct Going {
     pub live: LiveBench,
@@ -62,38 +62,28 @@ pub struct Going {
     pub place: usize,
 }
 
-/// How a run went on.
-#[derive(Drop)]
-pub enum Went {
-    /// It answered as the script's own run.
-    Alike(Going),
-    /// It did so up to a line that answered otherwise, and ended there.
-    Apart(LiveBench, Difference),
-}
-
-/// Runs lines on, up to the first that answers other than in the script's own run; `turn` lines are not compared. Refused `Memory`
-/// alone.
+/// Runs lines on, up to the first that answers other than in the script's own run; `turn` lines are not compared. Answers where that
+/// is. Refused `Memory` alone.
 pub fn go_on<C: Crew>(
     setting: &Setting<'_, C>,
     lines: &[Line],
     own: &[Answer],
-    going: Going,
-) -> Result<Went, Refusal>
+    going: &mut Going,
+) -> Result<Option<Difference>, Refusal>
     requires ranges { All (IsLineInRange setting.now.shape.now) lines.now }
-    requires sound { IsSound going.live }
-    requires count { going.place + other_count lines.now ≤ length own.now }
-    ensures went { IfOk result (λ went. WentSo setting.now.shape.now lines.now own.now going went) }
+    requires sound { IsSound going.old.live }
+    requires count { going.old.place + other_count lines.now ≤ length own.now }
+    ensures went { IfOk result (WentSo setting.now.shape.now lines.now own.now going.old going.new) }
     ensures refused { IfErr result (λ e. e ≡ Memory) }
 {
-    let mut going = going;
     for line in lines {
         let answer = run_line(setting, line, &mut going.live)?;
         match next_place(own, going.place, line, answer) {
             Ok(next) => going.place = next,
-            Err(difference) => return Ok(Went::Apart(going.live, difference)),
+            Err(difference) => return Ok(Some(difference)),
         }
     }
-    Ok(Went::Alike(going))
+    Ok(None)
 }
 
 /// Runs lines on to the end, or up to the first that answers other than in the script's own run. Refused `Memory` alone: where the run
@@ -110,16 +100,10 @@ pub fn run_to_end<C: Crew>(
     ensures ran { IfOk result (λ differs. EndsSo setting.now.shape.now lines.now own.now going differs) }
     ensures refused { IfErr result (λ e. e ≡ Memory) }
 {
-    match go_on(setting, lines, own, going)? {
-        Went::Alike(end) => {
-            end_run(end.live, setting.shape)?;
-            Ok(None)
-        }
-        Went::Apart(live, difference) => {
-            end_run(live, setting.shape)?;
-            Ok(Some(difference))
-        }
-    }
+    let mut going = going;
+    let differs = go_on(setting, lines, own, &mut going)?;
+    end_run(going.live, setting.shape)?;
+    Ok(differs)
 }
 
 /// Runs lines, with these payloads in the slots, up to the first that answers other than in the script's own run; `turn`

@@ -8,5 +8,5 @@ abbrev pub invariant-loop-line : goal.invariant-loop-line
 invariant-loop-line g l = record {
   sound : IsSound l.going.live;
   few : l.going.place + other_count (drop l.line-index l.lines) ≤ length l.own;
-  goes : GoesAlike l.setting.shape.now (take l.line-index l.lines) l.own l.fn.going l.going;
+  goes : GoesAlike l.setting.shape.now (take l.line-index l.lines) l.own l.initial.going l.going;
 }

@@ -1,27 +1,15 @@
-use Rattle.std.proofs.Common.{◌≡◌, ◌+◌, ◌-◌, ◌++◌, ℕ, List, length, ap, sym, subst, arith}
-use Rattle.std.proofs.lemmas.List.{length-append}
-use Rattle.jobs.proofs.HandedOn.{rows_both}
-use Rattle.jobs.specs.Handed.{AreRows}
+use Rattle.std.proofs.lemmas.Result.{IfOk-weaker}
 use Rattle.bench_schedules.specs.Handing.{IsNextOf}
-use Rattle.bench_schedules.specs.declared.next_runs.NextRun.{NextRun}
+use Rattle.bench_schedules.proofs.Handing.{chunk_made}
 use Rattle.bench_schedules.proofs.chunk_runs.ChunkRunsTask.row.Goals as goal
 
-pub loop-at-preserved : goal.loop-at-preserved
-loop-at-preserved g c =
-    let i = c.loop-at.invariant in
-    let is = IsNextOf c.args.self.now.next.now in
-    let from = c.chunk-from.result.from in
-    let at = c.loop-at.at in
-    let made = c.loop-at.rows.items in
-    let runs = c.in-Ok.line.runs.items in
-    let A : List NextRun → Type 0 = λ all. AreRows is from all in
-    let N : ℕ → Type 0 = λ n. AreRows is n runs in
-    let here : at ≡ from + (at - from) = omega (arith, i.past) in
-    let many : length c.append.new.self.items ≡ length (made ++ runs) = ap length c.in_ok-append.ensures.items in
-    record {
-      past = omega (arith, i.past, c.line_end-end.ensures.some);
-      few = c.line_end-end.ensures.few;
-      base = c.in-Ok.ensures.base;
-      many = omega (arith, many, length-append made runs, i.many, i.past, c.in-Ok.ensures.many, c.line_end-end.ensures.some);
-      next = subst A (sym c.in_ok-append.ensures.items) (rows_both is from (at - from) made runs i.many i.next (subst N here c.in-Ok.ensures.next));
-    }
+pub run_lines-requires-clause-boards : goal.run_lines-requires-clause-boards
+run_lines-requires-clause-boards g c κs within = c.in_ok-boards.ensures.boards c.args.self.now.next.now.node.now.lines.items
+
+pub returns-clause-row : goal.returns-clause-row
+returns-clause-row g c =
+    let runs = c.args.self.now in
+    IfOk-weaker c.run_lines.result _ _
+    (λ made rows whole. chunk_made (IsNextOf runs.next.now) runs.within.from runs.within.to runs.each c.args.number c.chunk-from.result.from c.chunk-from.result.to made.rows.items
+    c.chunk-from.ensures.from c.chunk-from.ensures.to (rows whole))
+    c.run_lines.ensures.made

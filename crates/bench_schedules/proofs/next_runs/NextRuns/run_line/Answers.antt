@@ -1,26 +1,36 @@
-use Rattle.std.proofs.Common.{List, Option, refl, sym, subst, arith}
+use Rattle.std.proofs.Common.{◌<◌, IfSome, List, Option, length, sym, subst, arith}
 use Rattle.script_lang.specs.declared.line.Line.{Line}
 use Rattle.bench_schedules.specs.Aheads.{RestEnds, basis_of}
-use Rattle.bench_schedules.specs.Handing.{RestEndsOf}
-use Rattle.bench_schedules.specs.declared.aheads.Beside.{Beside}
+use Rattle.bench_schedules.specs.Boards.{IsBoards, RestOfBoards}
+use Rattle.bench_schedules.specs.declared.aheads.Ahead.{Ahead}
 use Rattle.bench_schedules.proofs.MadeOrders.{counts_length}
 use Rattle.bench_schedules.proofs.next_runs.NextRuns.run_line.Goals as goal
 
-pub beside-requires-clause-line : goal.beside-requires-clause-line
-beside-requires-clause-line g c κs within =
+pub run_to-requires-clause-line : goal.run_to-requires-clause-line
+run_to-requires-clause-line g c κs within =
     let r = c.args.self.now.runner.now in
+    let L : List Line → Type 0 = λ ls. c.point_at-line.result.place < length ls in
     let long = counts_length r.setting.shape.now r.payloads.now c.args.self.now.node.now.lines.items c.args.self.now.counts.now c.requires.has.asked in
-    omega (arith, long, c.point_at-line.ensures.place)
+    subst L (sym c.deref.ensures.value) (omega (arith, long, c.point_at-line.ensures.place))
 
-pub returns-in-Some-2-clause-next : goal.returns-in-Some-2-clause-next
-returns-in-Some-2-clause-next g c =
-    let two = c.in-Some.two in
-    let R : Option Beside → Type 0 = λ left. RestEndsOf c.args.self.now left in
-    let L : List Line → Type 0 = λ ls. RestEnds (basis_of c.args.self.now.runner.now) ls two in
-    let own = rw c.in-Some-2.is at c.in_ok-base.ensures.own in
-    c.in_ok-runs.ensures.next (subst R (sym c.in-Some.is) (subst L c.deref.ensures.value own.1))
+pub rest_is_own-requires-clause-boards : goal.rest_is_own-requires-clause-boards
+rest_is_own-requires-clause-boards g c κs within =
+    let b = basis_of c.args.self.now.runner.now in
+    let B : List Line → Type 0 = λ ls. IsBoards b ls c.run_to.new.boards in
+    let P : List Line → Type 0 = λ ls. IsBoards b ls c.run_points.new.boards in
+    subst P (sym c.deref-2.ensures.value) (c.in_ok-runs.ensures.stays.0 (subst B c.deref.ensures.value c.in_ok-run_to.ensures.boards))
+
+pub returns-then-branch-clause-next : goal.returns-then-branch-clause-next
+returns-then-branch-clause-next g c =
+    let R : List Line → Type 0 = λ ls. RestOfBoards (basis_of c.args.self.now.runner.now) ls c.run_points.new.boards in
+    c.in_ok-runs.ensures.next (subst R c.deref-2.ensures.value (c.in_ok-rest_is_own.ensures.own c.if-branch.true))
+
+pub returns-clause-boards : goal.returns-clause-boards
+returns-clause-boards g c =
+    let B : List Line → Type 0 = λ ls. IsBoards (basis_of c.args.self.now.runner.now) ls c.rest_is_own.new.boards in
+    c.in_ok-runs-2.ensures.stays.0 (subst B c.deref-2.ensures.value c.in_ok-rest_is_own.ensures.boards)
 
 pub returns-clause-next : goal.returns-clause-next
 returns-clause-next g c =
-    let R : Option Beside → Type 0 = λ two. RestEndsOf c.args.self.now two in
-    c.in_ok-runs-2.ensures.next (subst R (sym (c.in_ok-runs-2.ensures.stays.2 refl)) tt)
+    let R : Option Ahead → Type 0 = λ ahead. IfSome ahead (RestEnds (basis_of c.args.self.now.runner.now) c.args.self.now.node.now.lines.items c.run_points-2.new.boards.base) in
+    c.in_ok-runs-2.ensures.next (subst R (sym (c.in_ok-runs-2.ensures.stays.2 c.in_ok-rest_is_own.ensures.none)) tt)

@@ -11,8 +11,8 @@ loop-number-init g c =
     let none : length c.new-runs.result.items ≡ 0 = ap (λ (runs : List NextRun). length runs) c.new-runs.ensures.items in
     record { stays = (λ is. is, λ ends. ends, λ none. none); many = omega (arith, none); next = λ ends. subst A (sym c.new-runs.ensures.items) tt }
 
-pub run_at-requires-clause-beside : goal.run_at-requires-clause-beside
-run_at-requires-clause-beside g c κs within = c.loop-number.invariant.stays.0 c.requires.beside
+pub run_at-requires-clause-boards : goal.run_at-requires-clause-boards
+run_at-requires-clause-boards g c κs within = c.loop-number.invariant.stays.0 c.requires.boards
 
 pub loop-number-preserved : goal.loop-number-preserved
 loop-number-preserved g c =

@@ -6,7 +6,7 @@ use Rattle.bench_schedules.proofs.next_runs.NextRuns.run_points.Given as goal
 -- the orders of the points so far were run
 abbrev pub invariant-loop-number : goal.invariant-loop-number
 invariant-loop-number g l = record {
-  stays : StaysOf l.self l.initial.two l.two;
+  stays : StaysOf l.self l.initial.boards l.boards;
   many : length l.runs.items ≡ l.number - l.from;
-  next : RestEndsOf l.self l.two → AreRows (IsNextOf l.self) l.from l.runs.items;
+  next : RestEndsOf l.self l.boards → AreRows (IsNextOf l.self) l.from l.runs.items;
 }
