@@ -10,9 +10,12 @@ use Rattle.report_lines.specs.declared.printed.Printed.TheVariants as printed
 use Rattle.report_lines.specs.contracts.printed.PrintedPartialEq.TheImpl as line
 use Rattle.report_lines.specs.contracts.printed.AnswerPartialEq.TheImpl as answer
 
+never : {X : Type 0} → false ≡ true → X
+never e = absurd (let no : ⊥ = cc in no)
+
 both : (x y : Bool) → (x && y) ≡ true → (x ≡ true) × (y ≡ true)
 both true y e = (refl, e)
-both false y e = absurd (let no : ⊥ = cc in no)
+both false y e = never e
 
 equal-printed : (a b : Printed) → line.ghosts.eq a b ≡ true → a ≡ b
 equal-printed (printed.Board h p l n) (printed.Board i q m k) same = search (rules, same)
@@ -33,7 +36,7 @@ equal-printed (printed.Inspected x) (printed.Inspected y) same = search (rules, 
 equal-printed (printed.InspectRefused n) (printed.InspectRefused m) same = search (rules, same)
 equal-printed printed.Woken printed.Woken same = refl
 equal-printed (printed.WakeRefused n) (printed.WakeRefused m) same = search (rules, same)
-equal-printed a b same = absurd (let no : ⊥ = cc in no)
+equal-printed a b same = never same
 
 durable_same : (a b : Durable) → durable.ghosts.eq a b ≡ true → a ≡ b
 durable_same a b same = search (rules, same)
@@ -41,7 +44,7 @@ durable_same a b same = search (rules, same)
 found_same : (f g : Option Durable) (l m : Printed) → answer.ghosts.eq (record { found = f; line = l }) (record { found = g; line = m }) ≡ true → f ≡ g
 found_same None None l m same = refl
 found_same (Some d) (Some e) l m same = ap Some (durable_same d e (both _ _ same).0)
-found_same f g l m same = absurd (let no : ⊥ = cc in no)
+found_same f g l m same = never same
 
 pub equal-answer : (a b : Answer) → answer.ghosts.eq a b ≡ true → a ≡ b
 equal-answer a b same =
