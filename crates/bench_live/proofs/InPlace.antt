@@ -22,7 +22,7 @@ use Rattle.bench_report.specs.Views.{SimBoard, SimStore, store_in, machine_in}
 use Rattle.bench_report.proofs.Came.{turns}
 use Rattle.bench_report.proofs.Commanded.{Running}
 use Rattle.bench_report.proofs.Lines.{stands_by}
-use Rattle.bench_live.specs.declared.rows.Row.TheVariants as rows
+use Rattle.bench_live.specs.declared.rows.TurnRow.TheVariants as rows
 use Rattle.bench_live.specs.Rows.{RowMoves, row_answer}
 use Rattle.bench_live.proofs.Turns.{Struck, Went, loss_of, moves_of, trimmed, went_step}
 use Rattle.bench_live.specs.Lives.{WentInPlace}

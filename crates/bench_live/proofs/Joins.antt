@@ -4,8 +4,8 @@ use Rattle.board_model.specs.Shapes.{Size}
 use Rattle.sbi.specs.Words.{ends}
 use Rattle.sbi.specs.declared.words.Word.{Word}
 use Rattle.bench_report.specs.Bench.{Bench}
-use Rattle.bench_live.specs.declared.rows.Row.{Row}
-use Rattle.bench_live.specs.declared.rows.Row.TheVariants as rows
+use Rattle.bench_live.specs.declared.rows.TurnRow.{TurnRow}
+use Rattle.bench_live.specs.declared.rows.TurnRow.TheVariants as rows
 use Rattle.bench_live.specs.Rows.{RowMoves, RowsJoin}
 use Rattle.bench_live.proofs.Turns.{went_in, lost_in, moves_of, loss_of, merged}
 
@@ -15,7 +15,7 @@ counted size h n m word b new e moves = subst (λ (x : ℕ). RowMoves size h (ro
 counted_loss : (size : Size) (h n m : ℕ) (b new : Bench) → n ≡ m → RowMoves size h (rows.Lost n) b new → RowMoves size h (rows.Lost m) b new
 counted_loss size h n m b new e moves = subst (λ (x : ℕ). RowMoves size h (rows.Lost x) b new) e moves
 
-from_here : (size : Size) (h : ℕ) (next : Row) (b mid new : Bench) → mid ≡ b → RowMoves size h next mid new → RowMoves size h next b new
+from_here : (size : Size) (h : ℕ) (next : TurnRow) (b mid new : Bench) → mid ≡ b → RowMoves size h next mid new → RowMoves size h next b new
 from_here size h next b mid new same moves = subst (λ (x : Bench). RowMoves size h next x new) same moves
 
 -- a first row, before another of turns

@@ -19,8 +19,8 @@ use Rattle.bench_report.specs.Steps.{Moves}
 use Rattle.bench_report.specs.declared.power.Power.{Power}
 use Rattle.bench_report.specs.declared.power.Power.TheVariants.{Off, On}
 use Rattle.bench_live.specs.Rows.{RowMoves, row_answer}
-use Rattle.bench_live.specs.declared.rows.Row.{Row}
-use Rattle.bench_live.specs.declared.rows.Row.TheVariants as rows
+use Rattle.bench_live.specs.declared.rows.TurnRow.{TurnRow}
+use Rattle.bench_live.specs.declared.rows.TurnRow.TheVariants as rows
 use Rattle.bench_live.proofs.InPlace.{lost_of, row_of, step_of}
 use Rattle.report_lines.specs.declared.printed.Answer.{Answer}
 use Rattle.bench_live.specs.Lives.{IsAfter, IsCutIn, IsSettled, LineDid, PowerShows, WentInPlace, stays_on}
@@ -91,7 +91,7 @@ module _ (size : Size) (h n made : ℕ) (word : Word) (b : Bench) (start : Optio
   went : WentInPlace size h n b made word after
   went = goes was.0
 
-  abbrev Rowed : Row → Option Power → List (List ℕ) → Type 0
+  abbrev Rowed : TurnRow → Option Power → List (List ℕ) → Type 0
   Rowed row end slots = (x : Bench) × RowMoves size h row b x × Moves size (lines.Turn h n) b (row_answer h row) x × PowerShows size x end slots × CountsNone after b x
 
   pub still_row : stays_on word ≡ true → ((x : Bench) → Agrees size x after → x.fault_state.struck ≡ false) → Rowed (rows.Made made word) (Some after) old

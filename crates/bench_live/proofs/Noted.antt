@@ -15,8 +15,8 @@ use Rattle.bench_report.specs.Bench.{Bench}
 use Rattle.bench_report.specs.Steps.{Moves}
 use Rattle.bench_report.specs.Agree.{fills_after}
 use Rattle.bench_report.proofs.RunLines.{fills_snoc, run_snoc}
-use Rattle.bench_live.specs.declared.rows.Row.{Row}
-use Rattle.bench_live.specs.declared.rows.Row.TheVariants as rows
+use Rattle.bench_live.specs.declared.rows.TurnRow.{TurnRow}
+use Rattle.bench_live.specs.declared.rows.TurnRow.TheVariants as rows
 use Rattle.bench_live.specs.Rows.{RowMoves, made_in, goes_on, is_off, IsWithin}
 use Rattle.bench_live.specs.Notes.{AreInRange, Joins, Leaves}
 use Rattle.bench_live.proofs.Joins.{went_then, lost_then}
@@ -94,7 +94,7 @@ lost_noted size start h k true old new b after (inr (may, (before, n, is, e, few
     subst P (sym e) (leaves_more size start before mid (lines.Turn h (n + k)) _ after row.0 one)
 
 -- turns that were made are noted
-pub row_noted : (size : Size) (start : Bench) (h : ℕ) (row : Row) (joins : Bool) (old new : List Line) (b after : Bench) → (row ≡ rows.Off → ⊥) → IsAdded h (made_in row) joins old new → Leaves size start old b → Joins size start joins old b → RowMoves size h row b after
+pub row_noted : (size : Size) (start : Bench) (h : ℕ) (row : TurnRow) (joins : Bool) (old new : List Line) (b after : Bench) → (row ≡ rows.Off → ⊥) → IsAdded h (made_in row) joins old new → Leaves size start old b → Joins size start joins old b → RowMoves size h row b after
     → Leaves size start new after × Joins size start (goes_on row) new after
 row_noted size start h rows.Off joins old new b after some added leaves was moves = absurd (some refl)
 row_noted size start h (rows.Made n word) joins old new b after some added leaves was moves =
@@ -104,10 +104,10 @@ row_noted size start h (rows.Lost n) joins old new b after some added leaves was
     (lost_noted size start h n joins old new b after added leaves was moves, tt)
 
 -- and where none were, nothing is
-pub nothing_noted : (size : Size) (start : Bench) (h : ℕ) (row : Row) (joins : Bool) (past : List Line) (b after : Bench) → row ≡ rows.Off → Leaves size start past b → Joins size start joins past b → RowMoves size h row b after
+pub nothing_noted : (size : Size) (start : Bench) (h : ℕ) (row : TurnRow) (joins : Bool) (past : List Line) (b after : Bench) → row ≡ rows.Off → Leaves size start past b → Joins size start joins past b → RowMoves size h row b after
     → Leaves size start past after × Joins size start joins past after
 nothing_noted size start h row joins past b after off leaves was moves =
-    let P : Row → Type 0 = λ r. RowMoves size h r b after in
+    let P : TurnRow → Type 0 = λ r. RowMoves size h r b after in
     let same : after ≡ b = subst P off moves in
     let Q : Bench → Type 0 = λ x. Leaves size start past x × Joins size start joins past x in
     subst Q (sym same) (leaves, was)
@@ -128,15 +128,15 @@ added_fills h k joins old new fill (inr (may, (before, n, is, e, most))) =
     ap (λ (xs : List Line). fills_after xs fill) e ∙ fills_snoc before (lines.Turn h (n + k)) fill ∙ sym (fills_snoc before (lines.Turn h n) fill) ∙ ap (λ (xs : List Line). fills_after xs fill) (sym is)
 
 -- as many as a line may have
-pub within_made : (most : ℕ) (row : Row) → (row ≡ rows.Off → ⊥) → IsWithin most row → (1 ≤ made_in row) × (made_in row ≤ most)
+pub within_made : (most : ℕ) (row : TurnRow) → (row ≡ rows.Off → ⊥) → IsWithin most row → (1 ≤ made_in row) × (made_in row ≤ most)
 within_made most rows.Off some within = absurd (some refl)
 within_made most (rows.Made n word) some within = within
 within_made most (rows.Lost n) some within = within
 
-pub not_off : (row : Row) → is_off row ≡ false → row ≡ rows.Off → ⊥
+pub not_off : (row : TurnRow) → is_off row ≡ false → row ≡ rows.Off → ⊥
 not_off row made e = let no : true ≡ false = sym (ap is_off e) ∙ made in let never : ⊥ = cc in never
 
-pub off_is : (row : Row) → is_off row ≡ true → row ≡ rows.Off
+pub off_is : (row : TurnRow) → is_off row ≡ true → row ≡ rows.Off
 off_is rows.Off e = refl
 off_is (rows.Made n word) e = absurd (let never : ⊥ = cc in never)
 off_is (rows.Lost n) e = absurd (let never : ⊥ = cc in never)

@@ -9,8 +9,8 @@ use Rattle.script_lang.specs.declared.line.Line.TheVariants as lines
 use Rattle.report_lines.specs.declared.printed.Answer.{Answer}
 use Rattle.bench_report.specs.Bench.{Bench}
 use Rattle.bench_report.specs.Steps.{Run}
-use Rattle.bench_live.specs.declared.rows.Row.{Row}
-use Rattle.bench_live.specs.declared.rows.Row.TheVariants as rows
+use Rattle.bench_live.specs.declared.rows.TurnRow.{TurnRow}
+use Rattle.bench_live.specs.declared.rows.TurnRow.TheVariants as rows
 use Rattle.bench_live.specs.Rows.{RowMoves}
 
 -- these lines may leave the bench, where they begin with that one
@@ -29,7 +29,7 @@ abbrev pub AreInRange : Size → List Line → Type 0
 AreInRange size past = All (IsLineInRange size) past
 
 -- The history could leave a bench; with these turns noted in it, it can leave the bench that comes after them.
-abbrev pub NotesRow : Size → ℕ → Row → Bool → Bool → List Line → List Line → Type 0
+abbrev pub NotesRow : Size → ℕ → TurnRow → Bool → Bool → List Line → List Line → Type 0
 NotesRow size h row joins next old new =
     (start b after : Bench) → Leaves size start old b → Joins size start joins old b → RowMoves size h row b after
     → Leaves size start new after × Joins size start next new after

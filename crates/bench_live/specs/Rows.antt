@@ -13,23 +13,23 @@ use Rattle.report_lines.specs.declared.printed.Answer.{Answer}
 use Rattle.bench_report.specs.Bench.{Bench}
 use Rattle.bench_report.specs.Happens.{says, shows}
 use Rattle.bench_report.specs.Steps.{Moves}
-use Rattle.bench_live.specs.declared.rows.Row.{Row}
-use Rattle.bench_live.specs.declared.rows.Row.TheVariants as rows
+use Rattle.bench_live.specs.declared.rows.TurnRow.{TurnRow}
+use Rattle.bench_live.specs.declared.rows.TurnRow.TheVariants as rows
 
 -- what the line `turn` of hart h answers
-abbrev pub row_answer : ℕ → Row → Answer
+abbrev pub row_answer : ℕ → TurnRow → Answer
 row_answer h rows.Off = shows shown.Off
 row_answer h (rows.Made n word) = shows (shown.Turn h n word)
 row_answer h (rows.Lost n) = says printed.PowerLost
 
 -- no turn was made
-abbrev pub is_off : Row → Bool
+abbrev pub is_off : TurnRow → Bool
 is_off rows.Off = true
 is_off (rows.Made n word) = false
 is_off (rows.Lost n) = false
 
 -- how many turns were made
-abbrev pub made_in : Row → ℕ
+abbrev pub made_in : TurnRow → ℕ
 made_in rows.Off = 0
 made_in (rows.Made n word) = n
 made_in (rows.Lost n) = n
@@ -45,49 +45,49 @@ is_idle (words.Over end) = false
 
 -- A line `turn` of as many turns as were made may answer so. Where the board is off, or lacks the hart, no turn was made, and
 -- nothing changed.
-abbrev pub RowMoves : Size → ℕ → Row → Bench → Bench → Type 0
+abbrev pub RowMoves : Size → ℕ → TurnRow → Bench → Bench → Type 0
 RowMoves size h rows.Off b new = new ≡ b
 RowMoves size h (rows.Made n word) b new = Moves size (lines.Turn h n) b (shows (shown.Turn h n word)) new
 RowMoves size h (rows.Lost n) b new = Moves size (lines.Turn h n) b (says printed.PowerLost) new
 
 -- as many were made as a line may have
-abbrev pub IsWithin : ℕ → Row → Type 0
+abbrev pub IsWithin : ℕ → TurnRow → Type 0
 IsWithin most rows.Off = ⊤
 IsWithin most (rows.Made n word) = (1 ≤ n) × (n ≤ most)
 IsWithin most (rows.Lost n) = (1 ≤ n) × (n ≤ most)
 
-abbrev pub is_idle_row : Row → Bool
+abbrev pub is_idle_row : TurnRow → Bool
 is_idle_row rows.Off = false
 is_idle_row (rows.Made n word) = is_idle word
 is_idle_row (rows.Lost n) = false
 
 -- a further turn of the hart belongs to this row
-abbrev pub goes_on : Row → Bool
+abbrev pub goes_on : TurnRow → Bool
 goes_on rows.Off = false
 goes_on (rows.Made n word) = not (ends word)
 goes_on (rows.Lost n) = false
 
 -- the last of these turns alone
-abbrev pub last_of : Row → Row
+abbrev pub last_of : TurnRow → TurnRow
 last_of rows.Off = rows.Off
 last_of (rows.Made n word) = rows.Made 1 word
 last_of (rows.Lost n) = rows.Lost 1
 
 -- these turns, and then those, as one row
-abbrev pub row_then : Row → Row → Row
+abbrev pub row_then : TurnRow → TurnRow → TurnRow
 row_then first rows.Off = first
 row_then first (rows.Made n word) = rows.Made (made_in first + n) word
 row_then first (rows.Lost n) = rows.Lost (made_in first + n)
 
 -- no turn was made yet, or the row goes on
-abbrev pub IsOpenRow : Row → Type 0
+abbrev pub IsOpenRow : TurnRow → Type 0
 IsOpenRow rows.Off = ⊤
 IsOpenRow (rows.Made n word) = ends word ≡ false
 IsOpenRow (rows.Lost n) = ⊥
 
 -- two rows of turns of a hart, one after the other, are one row, unless the first has ended
 abbrev pub RowsJoin : Type 0
-RowsJoin = (size : Size) (h : ℕ) (first next : Row) (b mid new : Bench) → IsOpenRow first
+RowsJoin = (size : Size) (h : ℕ) (first next : TurnRow) (b mid new : Bench) → IsOpenRow first
     → RowMoves size h first b mid → RowMoves size h next mid new → RowMoves size h (row_then first next) b new
 
 -- an idle turn leaves the bench as it was

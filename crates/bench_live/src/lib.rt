@@ -17,4 +17,4 @@ pub use laws::{alike_benches_run_alike, idle_turns_change_nothing, rows_join, tu
 pub use live::LiveBench;
 pub use notes::note;
 pub use past::History;
-pub use rows::{Row, is_idle};
+pub use rows::{TurnRow, is_idle};

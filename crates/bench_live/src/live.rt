@@ -21,7 +21,7 @@ ghost use Rattle.store.specs.Leaves.{IsIdle};
 use crate::cuts::settled;
 use crate::in_place::{in_place, is_still_on};
 use crate::memory::was_refused;
-use crate::rows::Row;
+use crate::rows::TurnRow;
 use bench_report::{
     Answer, BenchBoard, OffDisk, Power, Setting, copy_power, disk_left, is_power_as,
     line_with_cuts, refused_suspension,
@@ -107,7 +107,7 @@ impl LiveBench {
 
     /// Up to so many turns of a hart, one after another: what the line `turn` does, and many times as fast, since
     /// a board that stays on is not moved.
-    pub fn turns<C: Crew>(&mut self, setting: &Setting<'_, C>, hart: HartId, count: u32) -> Row
+    pub fn turns<C: Crew>(&mut self, setting: &Setting<'_, C>, hart: HartId, count: u32) -> TurnRow
         requires some { 1 ≤ count }
         requires sound { IsSound self.old }
         ensures reported { (size : Size) (b : Bench) → Shows size b self.old → (new : Bench)
@@ -123,19 +123,19 @@ impl LiveBench {
         ensures fill { self.new.fill ≡ self.old.fill }
     {
         let Some(power) = &mut self.power else {
-            return Row::Off;
+            return TurnRow::Off;
         };
         let Some((made, word)) = in_place(setting, power, hart, count) else {
-            return Row::Off;
+            return TurnRow::Off;
         };
         self.refused = refused_suspension(power);
         if is_still_on(power, word) {
-            return Row::Made(made, word);
+            return TurnRow::Made(made, word);
         }
         if self.settle(word) {
-            Row::Lost(made)
+            TurnRow::Lost(made)
         } else {
-            Row::Made(made, word)
+            TurnRow::Made(made, word)
         }
     }
 

@@ -9,7 +9,7 @@ use machine::{Did, MachineLine, Word};
 
 /// What a row of turns of a hart did.
 #[derive(Clone, Copy, PartialEq, Eq, Drop)]
-pub enum Row {
+pub enum TurnRow {
     /// The board is off, or has no such hart, and nothing was done.
     Off,
     /// So many turns were made. The word says what the last one did.
@@ -18,15 +18,15 @@ pub enum Row {
     Lost(u32),
 }
 
-impl Row {
+impl TurnRow {
     /// What the line `turn` of these turns answers.
     pub fn answer(self, hart: HartId) -> Answer
         ensures { result ≡ row_answer hart self }
     {
         let line = match self {
-            Row::Off => Printed::Shown(MachineLine::Off),
-            Row::Made(count, word) => Printed::Shown(MachineLine::Turn(hart, count, word)),
-            Row::Lost(_) => Printed::PowerLost,
+            TurnRow::Off => Printed::Shown(MachineLine::Off),
+            TurnRow::Made(count, word) => Printed::Shown(MachineLine::Turn(hart, count, word)),
+            TurnRow::Lost(_) => Printed::PowerLost,
         };
         Answer { found: None, line }
     }
@@ -36,8 +36,8 @@ impl Row {
         ensures { result ≡ is_off self }
     {
         match self {
-            Row::Off => true,
-            Row::Made(_, _) | Row::Lost(_) => false,
+            TurnRow::Off => true,
+            TurnRow::Made(_, _) | TurnRow::Lost(_) => false,
         }
     }
 
@@ -46,8 +46,8 @@ impl Row {
         ensures { result ≡ is_idle_row self }
     {
         match self {
-            Row::Made(_, word) => is_idle(word),
-            Row::Off | Row::Lost(_) => false,
+            TurnRow::Made(_, word) => is_idle(word),
+            TurnRow::Off | TurnRow::Lost(_) => false,
         }
     }
 
@@ -56,31 +56,31 @@ impl Row {
         ensures { result ≡ goes_on self }
     {
         match self {
-            Row::Made(_, word) => !word.ends_row(),
-            Row::Off | Row::Lost(_) => false,
+            TurnRow::Made(_, word) => !word.ends_row(),
+            TurnRow::Off | TurnRow::Lost(_) => false,
         }
     }
 
     /// The last of these turns alone.
-    pub fn last(self) -> Row
+    pub fn last(self) -> TurnRow
         ensures { result ≡ last_of self }
     {
         match self {
-            Row::Off => Row::Off,
-            Row::Made(_, word) => Row::Made(1, word),
-            Row::Lost(_) => Row::Lost(1),
+            TurnRow::Off => TurnRow::Off,
+            TurnRow::Made(_, word) => TurnRow::Made(1, word),
+            TurnRow::Lost(_) => TurnRow::Lost(1),
         }
     }
 
     /// This row and the next one, as one row.
-    pub fn then(self, next: Row) -> Row
+    pub fn then(self, next: TurnRow) -> TurnRow
         requires { made_in self + made_in next < 2 ^ 32 }
         ensures { result ≡ row_then self next }
     {
         match next {
-            Row::Off => self,
-            Row::Made(count, word) => Row::Made(self.made() + count, word),
-            Row::Lost(count) => Row::Lost(self.made() + count),
+            TurnRow::Off => self,
+            TurnRow::Made(count, word) => TurnRow::Made(self.made() + count, word),
+            TurnRow::Lost(count) => TurnRow::Lost(self.made() + count),
         }
     }
 
@@ -89,8 +89,8 @@ impl Row {
         ensures { result ≡ made_in self }
     {
         match self {
-            Row::Off => 0,
-            Row::Made(count, _) | Row::Lost(count) => count,
+            TurnRow::Off => 0,
+            TurnRow::Made(count, _) | TurnRow::Lost(count) => count,
         }
     }
 }

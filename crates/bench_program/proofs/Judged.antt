@@ -7,7 +7,7 @@ use Rattle.bench_sweep.specs.declared.plan.Plan.{Plan}
 use Rattle.bench_sweep.specs.Swept.{IsBenchOf, IsRecoveredBenchOf}
 use Rattle.bench_sweep.specs.declared.sweeps.Recovered.{Recovered}
 use Rattle.bench_sweep.specs.Shown.{IsRowOf}
-use Rattle.bench_sweep.specs.declared.points.Bench.{Bench}
+use Rattle.bench_sweep.specs.declared.points.BenchKind.{BenchKind}
 use Rattle.bench_sweep.specs.declared.recovery.RecoveryFile.{RecoveryFile}
 use Rattle.script_lang.specs.Scripts.{script_of, Script as Said}
 use Rattle.bench_schedules.specs.Numbers.{numbers_of}
@@ -104,7 +104,7 @@ pub not_refused : {A T : Type 0} (x : T) (e f : Refusal) → ◌≡◌ {A = Resu
 not_refused x e f (inl is) = absurd (let no : ⊥ = cc in no)
 not_refused x e f (inr is) = absurd (let no : ⊥ = cc in no)
 
-pub row_on : (bench : Bench) (number : ℕ) (start : List (List ℕ)) (script : List ℕ) (recovery : Option RecoveryFile) (a b c : Option (List ℕ)) → IsRowOf bench number start script recovery a b → Keeps b c
+pub row_on : (bench : BenchKind) (number : ℕ) (start : List (List ℕ)) (script : List ℕ) (recovery : Option RecoveryFile) (a b c : Option (List ℕ)) → IsRowOf bench number start script recovery a b → Keeps b c
     → IsRowOf bench number start script recovery a c
 row_on bench number start script recovery a b c (said, behind, is, after, row) keeps = (
   said,

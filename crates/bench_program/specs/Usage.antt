@@ -18,8 +18,8 @@ use Rattle.command_line.specs.Programs.{named_app}
 use Rattle.command_line.specs.declared.NoWork.{NoWork}
 use Rattle.jobs.specs.declared.part.Part.{Part}
 use Rattle.bench_sweep.specs.Swept.{whole}
-use Rattle.bench_sweep.specs.declared.points.Bench.{Bench}
-use Rattle.bench_sweep.specs.declared.points.Bench.TheVariants.{Cuts, Fails}
+use Rattle.bench_sweep.specs.declared.points.BenchKind.{BenchKind}
+use Rattle.bench_sweep.specs.declared.points.BenchKind.TheVariants.{Cuts, Fails}
 use Rattle.bench_program.specs.declared.usage.Options.{Options}
 use Rattle.bench_program.specs.declared.usage.Work.{Work}
 use Rattle.bench_program.specs.declared.usage.Work.TheVariants.{Report, Judge, Recover, ShowRow, ShowRecovered, Compare, Show, Shrink, Preempt, ShowOrder}
@@ -124,7 +124,7 @@ abbrev pub number_up_to : ℕ → Option ℕ → Option ℕ
 number_up_to most None = None
 number_up_to most (Some n) = if nat_lt n 1 then None else (if nat_lt most n then None else Some n)
 
-abbrev pub row_numbered : Bench → Option ℕ → Option Work
+abbrev pub row_numbered : BenchKind → Option ℕ → Option Work
 row_numbered bench None = None
 row_numbered bench (Some r) = Some (ShowRow (record { bench = bench; number = r }))
 

@@ -4,7 +4,7 @@ use Rattle.board_model.specs.declared.refusal.Refusal.{Refusal}
 use Rattle.board_model.specs.declared.refusal.Refusal.TheVariants.{BadShape, Memory, Output, NotPlain}
 use Rattle.std.specs.Io.KnownBytes.{Appends}
 use Rattle.script_lang.specs.Scripts.{script_of, Script as Said}
-use Rattle.bench_report.specs.Bench.{Bench as ModelBench}
+use Rattle.bench_report.specs.Bench.{Bench}
 use Rattle.bench_report.specs.Prefix.{KeepsPrefixLaw}
 use Rattle.report_lines.specs.Texts.{report_text}
 use Rattle.bench_report.specs.Reports.{AreByFirmware, IsReportWith}
@@ -38,7 +38,7 @@ use Rattle.bench_program.specs.declared.usage.Work.TheVariants.{Report, Judge, R
 -- what was written is a report of the script that begins with these payloads, and nothing else; where no line is a poke,
 -- it keeps the prefix law
 abbrev pub IsReported : List (List ℕ) → List ℕ → Option (List ℕ) → Option (List ℕ) → Type 0
-IsReported payloads script old now = (said : Said) × (answers : List Answer) × (end : ModelBench)
+IsReported payloads script old now = (said : Said) × (answers : List Answer) × (end : Bench)
     × (script_of script ≡ Ok said) × IsReportWith payloads said answers end × Appends old now (report_text answers)
     × (AreByFirmware said.lines → KeepsPrefixLaw said.lines answers)
 

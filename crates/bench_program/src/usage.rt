@@ -11,7 +11,7 @@ ghost use Rattle.bench_sweep.specs.Swept.{whole};
 ghost use Rattle.bench_program.specs.Usage.{bench_or_row, number_up_to, count_rule, crew_rule, jobs_rule, part_between, part_named, parted, work_of_flags, schedules_named, preempt_or_show, preemptions_named, without_options, savers_of, sbibench, script_rule, seed_of, Flags, IsBounded, compare_or_show, quietly, tested, without_benches, with_manners, with_part, with_preemptions, with_quiet, with_schedules, with_recovery, with_tap, work_asked, work_by, work_without, IsFlag, IsNamedBy, NamesConflict, NamesNoWork};
 
 use bench_schedules::{Plan as Schedules, Wanted, Within};
-use bench_sweep::{Bench, Plan, WantedRow};
+use bench_sweep::{BenchKind, Plan, WantedRow};
 use board_model::refusal_lines;
 use clap::builder::ValueParser;
 use clap::error::ErrorKind;
@@ -397,7 +397,7 @@ fn schedules_named(
 }
 
 /// The whole of a bench.
-fn whole(bench: Bench) -> Plan
+fn whole(bench: BenchKind) -> Plan
     ensures { result ≡ whole bench }
 {
     Plan {
@@ -414,8 +414,8 @@ fn work_of_flags(sweep: bool, faults: bool, savers: Savers) -> Option<Work>
 {
     match (sweep, faults) {
         (true, true) => None,
-        (true, false) => Some(Work::Judge(whole(Bench::Cuts))),
-        (false, true) => Some(Work::Judge(whole(Bench::Fails))),
+        (true, false) => Some(Work::Judge(whole(BenchKind::Cuts))),
+        (false, true) => Some(Work::Judge(whole(BenchKind::Fails))),
         (false, false) => Some(Work::Report(savers)),
     }
 }

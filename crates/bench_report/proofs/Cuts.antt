@@ -21,12 +21,12 @@ abbrev pub Ran : Size → Line → Bench → Result Answer Refusal → Power →
 Ran size line b r after payloads =
     MatchResult r (λ answer. (new : Bench) × Step size line b answer new × Matches size new after payloads) (λ e. (e ≡ Memory) × Matches size b after payloads)
 
-abbrev pub Told : Size → Line → Fill → Bench → Answer → Power → List (List ℕ) → Type 0
-Told size line fill b answer left payloads = (new : Bench) × Moves size line b answer new × EndsBy size line fill b answer left × IsBench size new left payloads
+abbrev pub LineAnswered : Size → Line → Fill → Bench → Answer → Power → List (List ℕ) → Type 0
+LineAnswered size line fill b answer left payloads = (new : Bench) × Moves size line b answer new × EndsBy size line fill b answer left × IsBench size new left payloads
 
 pub told_cut : (size : Size) (line : Line) (fill : Fill) (b : Bench) (r : Result Answer Refusal) (after left : Power) (payloads : List (List ℕ)) (disk : SimDisk) (answer : Answer)
     → Ran size line b r after payloads → ((new : Bench) → Agrees size new after → new.fault_state.struck ≡ true) → ((new : Bench) → Agrees size new after → Agrees size (unpowered new) left)
-    → b.fault_state.struck ≡ false → HasDisk after disk → IsCutBy fill disk left → answer ≡ says printed.PowerLost → Told size line fill b answer left payloads
+    → b.fault_state.struck ≡ false → HasDisk after disk → IsCutBy fill disk left → answer ≡ says printed.PowerLost → LineAnswered size line fill b answer left payloads
 told_cut size line fill b (Ok would) after left payloads disk answer did hit cuts calm has by is = (
   unpowered did.0,
   inr (would, did.0, did.1, hit did.0 did.2.0, is, refl),
@@ -37,7 +37,7 @@ told_cut size line fill b (Err e) after left payloads disk answer did hit cuts c
 
 pub told_whole : (size : Size) (line : Line) (fill : Fill) (b : Bench) (r : Result Answer Refusal) (after : Power) (payloads : List (List ℕ)) → Ran size line b r after payloads
     → ((new : Bench) → Agrees size new after → new.fault_state.struck ≡ false)
-    → MatchResult r (λ answer. Told size line fill b answer after payloads) (λ e. (e ≡ Memory) × Matches size b after payloads)
+    → MatchResult r (λ answer. LineAnswered size line fill b answer after payloads) (λ e. (e ≡ Memory) × Matches size b after payloads)
 told_whole size line fill b (Ok answer) after payloads did calm =
     let quiet = calm did.0 did.2.0 in
     (did.0, inl (did.1, quiet), inl (did.0, did.1, quiet), (did.2.0, did.2.1, quiet))

@@ -174,11 +174,11 @@ turn_one one h life b word also new last (m, did, t, x) (other, did2, t2, y) =
     comes_one did h (has_machine m life) (on_with (has_machine m life) b) word also new last x (subst Q (sym e.1) (subst P (sym e.0) y))
 
 -- what a row of turns says
-pub record Row : Type 0 where
+pub record TurnsSaid : Type 0 where
   pub made : ℕ
   pub word : Word
 
-abbrev pub row : ℕ → Word → Row
+abbrev pub row : ℕ → Word → TurnsSaid
 row made word = record { made = made; word = word }
 
 pub truth : {A : Type 0} (x y : Bool) → x ≡ y → x ≡ true → y ≡ false → A
@@ -208,7 +208,7 @@ more_one : (rest others : ℕ) (word also : Word) (made other : ℕ) (new last :
 more_one rest others word also made other new last e f (inl s) = inl s
 more_one rest others word also made other new last e f (inr (inl s)) = inr (inl s)
 more_one rest others word also made other new last e f (inr (inr x)) =
-    inr (inr (rows made other word also (e ∙ ap (λ (r : Row). suc r.made) x.0 ∙ sym f) (ap (λ (r : Row). r.word) x.0), x.1))
+    inr (inr (rows made other word also (e ∙ ap (λ (r : TurnsSaid). suc r.made) x.0 ∙ sym f) (ap (λ (r : TurnsSaid). r.word) x.0), x.1))
 
 pub turns_one : IsOneTurn → (h n : ℕ) (b : Bench) (made other : ℕ) (word also : Word) (new last : Bench) → GuestTurns h n b made word new → GuestTurns h n b other also last → Agree (row made word) (row other also) new last
 turns_one one h zero b made other word also new last x y = absurd x

@@ -24,7 +24,7 @@ use Rattle.bench_report.specs.Steps.{console_reported, FormatStep, OnStep, Conso
 use Rattle.bench_report.specs.Reports.{AreByFirmware, IsReportWith}
 use Rattle.bench_report.proofs.Asks.{firmware_alone}
 use Rattle.bench_report.proofs.Inspected.{ContentLaws, inspect_at}
-use Rattle.bench_report.proofs.Guests.{IsOneTurn, Row, row, comes_fair, comes_one, truth, turns_fair, turns_one}
+use Rattle.bench_report.proofs.Guests.{IsOneTurn, TurnsSaid, row, comes_fair, comes_one, truth, turns_fair, turns_one}
 use Rattle.bench_report.proofs.Determined.{some_inj, HasFailed, DiskHasFailed, IsCalm, Fair, fair_to, fair_then, unmoved, spoils, fails, starved, issued_fair, Agree, same, issued, formats_fair, formats, powers_fair, powers}
 use Rattle.script_lang.specs.declared.looks.Look.{Look}
 use Rattle.script_lang.specs.declared.looks.Look.TheVariants as looks
@@ -137,7 +137,7 @@ console_at c (Some life) b a z new last x y = by_word (λ o. console_reported c 
 turn_at : IsOneTurn → (p : Option BenchLife) (h n : ℕ) (b : Bench) (a z : Answer) (new last : Bench) → TurnStep p h n b a new → TurnStep p h n b z last → Agree a z new last
 turn_at one None h n b a z new last x y = same a z _ new last b x.0 y.0 x.1 y.1
 turn_at one (Some life) h n b a z new last (inl (has, made, word, x, e)) (inl (has2, other, also, y, e2)) =
-    by_word (λ (r : Row). shows (shown_lines.Turn h r.made r.word)) (row made word) (row other also) a z new last e e2 (turns_one one h n b made other word also new last x y)
+    by_word (λ (r : TurnsSaid). shows (shown_lines.Turn h r.made r.word)) (row made word) (row other also) a z new last e e2 (turns_one one h n b made other word also new last x y)
 turn_at one (Some life) h n b a z new last (inl x) (inr y) = absurd (y.0 x.0)
 turn_at one (Some life) h n b a z new last (inr x) (inl y) = absurd (x.0 y.0)
 turn_at one (Some life) h n b a z new last (inr x) (inr y) = same a z _ new last b x.1 y.1 x.2 y.2

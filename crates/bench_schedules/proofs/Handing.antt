@@ -14,12 +14,12 @@ use Rattle.bench_schedules.specs.Preemptions.{Basis, OrderRun, OrderText, Tried,
 use Rattle.bench_schedules.specs.SoFar.{IsOpen, RanPoints}
 use Rattle.bench_schedules.specs.declared.next_runs.NextRun.{NextRun}
 use Rattle.bench_schedules.specs.declared.reports.Report.{Report}
-use Rattle.bench_schedules.specs.declared.next_runs.Told.{Told}
+use Rattle.bench_schedules.specs.declared.next_runs.DifferingOrder.{DifferingOrder}
 use Rattle.bench_schedules.specs.declared.nodes.Search.{Search}
 use Rattle.bench_schedules.specs.declared.points.Preemption.{Preemption}
 use Rattle.bench_schedules.proofs.RanOrders.{leaf, one_more, point_more}
 
-told_order : (b : Basis) (ones : List Preemption) (d : Option Difference) (told : Option Told) (text : List ℕ) → IsTold b ones d told → ToldText b.numbers told text → OrderText b ones d text
+told_order : (b : Basis) (ones : List Preemption) (d : Option Difference) (told : Option DifferingOrder) (text : List ℕ) → IsTold b ones d told → ToldText b.numbers told text → OrderText b ones d text
 told_order b ones None None text is wrote = wrote
 told_order b ones None (Some told) text is wrote = absurd is
 told_order b ones (Some d) None text is wrote = absurd is
@@ -32,7 +32,7 @@ told_order b ones (Some d) (Some told) text is wrote =
           ∙ ap (λ n. differs_text (points_text b.numbers (script_points b.those ones)) n wrote.1 wrote.0) is.2,
     )
 
-told_differs : (b : Basis) (ones : List Preemption) (d : Option Difference) (told : Option Told) → IsTold b ones d told → told_count told ≡ differing (d ∷ [])
+told_differs : (b : Basis) (ones : List Preemption) (d : Option Difference) (told : Option DifferingOrder) → IsTold b ones d told → told_count told ≡ differing (d ∷ [])
 told_differs b ones None None is = refl
 told_differs b ones None (Some told) is = absurd is
 told_differs b ones (Some d) None is = absurd is

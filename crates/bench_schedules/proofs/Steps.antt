@@ -7,11 +7,11 @@ use Rattle.script_lang.specs.declared.line.Line.TheVariants as lines
 use Rattle.report_lines.specs.declared.printed.Answer.{Answer}
 use Rattle.bench_report.specs.Bench.{Bench}
 use Rattle.bench_report.specs.Steps.{Moves}
-use Rattle.bench_live.specs.declared.rows.Row.{Row}
+use Rattle.bench_live.specs.declared.rows.TurnRow.{TurnRow}
 use Rattle.bench_schedules.specs.Stepped.{BusyTurns, LineDid, Stepped, TurnMoves, is_busy}
 
 -- one turn more that does something
-pub busy_more : (size : Size) (h n : ℕ) (b mid new : Bench) (row : Row) → BusyTurns size h n b mid → TurnMoves size h row mid new → is_busy row ≡ true
+pub busy_more : (size : Size) (h n : ℕ) (b mid new : Bench) (row : TurnRow) → BusyTurns size h n b mid → TurnMoves size h row mid new → is_busy row ≡ true
     → BusyTurns size h (n + 1) b new
 busy_more size h zero b mid new row is moves busy =
     let P : Bench → Type 0 = λ x. TurnMoves size h row x new in (new, row, subst P is moves, busy, refl)

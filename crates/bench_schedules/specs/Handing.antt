@@ -19,7 +19,7 @@ use Rattle.bench_schedules.specs.Stepped.{RanByTurns}
 use Rattle.bench_schedules.specs.declared.next_runs.NextRun.{NextRun}
 use Rattle.bench_schedules.specs.declared.reports.Report.{Report}
 use Rattle.bench_schedules.specs.declared.next_runs.NextRuns.{NextRuns}
-use Rattle.bench_schedules.specs.declared.next_runs.Told.{Told}
+use Rattle.bench_schedules.specs.declared.next_runs.DifferingOrder.{DifferingOrder}
 use Rattle.bench_schedules.specs.declared.points.Preemption.{Preemption}
 
 -- The order has the points from that number on up to another one, behind the preemptions that made it.
@@ -40,7 +40,7 @@ abbrev pub HasChunk : {C : Type 0} → NextRuns C → ℕ → ℕ → ℕ → �
 HasChunk runs first last each k = HasPointsOf runs first last × (chunk_from first each k < last)
 
 -- where the order of these preemptions differs, as it is told
-abbrev pub IsTold : Basis → List Preemption → Option Difference → Option Told → Type 0
+abbrev pub IsTold : Basis → List Preemption → Option Difference → Option DifferingOrder → Type 0
 IsTold b ones None None = ⊤
 IsTold b ones (Some d) (Some told) =
     (told.difference ≡ d) × (told.points.items ≡ script_points b.those ones)
@@ -74,12 +74,12 @@ StaysOf runs old new = BoardsStay (basis_of runs.runner.now) runs.node.now.lines
 
 -- ---- how they are told
 -- how many orders differ of one
-abbrev pub told_count : Option Told → ℕ
+abbrev pub told_count : Option DifferingOrder → ℕ
 told_count None = 0
 told_count (Some told) = 1
 
 -- what is written of one
-abbrev pub ToldText : List ℕ → Option Told → List ℕ → Type 0
+abbrev pub ToldText : List ℕ → Option DifferingOrder → List ℕ → Type 0
 ToldText numbers None text = text ≡ []
 ToldText numbers (Some told) text =
     (own said : List ℕ) × IsFirstApart (told_lines told.difference.own) (told_lines told.difference.answer) own said

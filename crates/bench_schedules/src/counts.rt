@@ -8,7 +8,7 @@ ghost use Rattle.bench_live.specs.Lives.{IsSound, Shows};
 ghost use Rattle.bench_schedules.specs.Stepped.{LineDid, RanByTurns, RowDid, is_busy};
 
 use crate::line_runs::{end_run, run_line};
-use bench_live::{LiveBench, Row, is_idle};
+use bench_live::{LiveBench, TurnRow, is_idle};
 use bench_report::Setting;
 use board::Payloads;
 use board_model::{HartId, Refusal};
@@ -16,13 +16,13 @@ use crew::Crew;
 use script_lang::Line;
 
 /// Whether a turn that was asked alone did something.
-fn is_busy(row: Row) -> bool
+fn is_busy(row: TurnRow) -> bool
     ensures { result ≡ is_busy row }
 {
     match row {
-        Row::Off => false,
-        Row::Made(_, word) => !is_idle(word),
-        Row::Lost(_) => true,
+        TurnRow::Off => false,
+        TurnRow::Made(_, word) => !is_idle(word),
+        TurnRow::Lost(_) => true,
     }
 }
 

@@ -22,7 +22,7 @@ use crew::Crew;
 
 /// Where an order answers other than the script's own run, as its line tells it.
 #[derive(Drop)]
-pub struct Told {
+pub struct DifferingOrder {
     /// The points of the script at which it was parted.
     pub points: Vec<Preemption>,
     /// The number of the script's line at which it first differs.
@@ -36,7 +36,7 @@ pub struct NextRun {
     /// Its preemptions.
     pub ones: Vec<Preemption>,
     /// Where it differs.
-    pub told: Option<Told>,
+    pub told: Option<DifferingOrder>,
 }
 
 /// The orders that one more preemption makes of an order, by the numbers of its points.
@@ -54,7 +54,7 @@ fn told_of<C>(
     runner: &Runner<'_, C>,
     node: &Node,
     differs: Option<Difference>,
-) -> Result<Option<Told>, Refusal>
+) -> Result<Option<DifferingOrder>, Refusal>
     requires few { (length runner.now.lines.now ≤ 65535) × (length node.now.ones.items ≤ 3) }
     requires made { IsMade (basis_of runner.now) node.now.lines.items node.now.ones.items node.now.from }
     ensures told { IfOk result (λ told. IsTold (basis_of runner.now) node.now.ones.items differs told) }
@@ -65,7 +65,7 @@ fn told_of<C>(
         Some(difference) => {
             let points = script_points(runner.setting.alloc, runner.lines, &node.ones)?;
             let number = number_of_other(runner.numbers, runner.lines, difference.place);
-            Ok(Some(Told {
+            Ok(Some(DifferingOrder {
                 points,
                 number,
                 difference,

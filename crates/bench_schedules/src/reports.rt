@@ -12,7 +12,7 @@ ghost use Rattle.bench_schedules.specs.Stepped.{RanByTurns};
 ghost use Rattle.bench_schedules.specs.declared.points.Preemption.{Preemption as Once};
 
 use crate::chunk_runs::{ChunkRuns, chunk_size};
-use crate::next_runs::{NextRun, NextRuns, Told};
+use crate::next_runs::{NextRun, NextRuns, DifferingOrder};
 use crate::nodes::{Runner, Search, is_enough};
 use crate::points::Preemption;
 use crate::preempted_lines::write_order;
@@ -27,7 +27,7 @@ use std::thread::Threads;
 fn write_told<W: Write>(
     alloc: Global,
     numbers: &[u64],
-    told: &Option<Told>,
+    told: &Option<DifferingOrder>,
     out: &mut W,
 ) -> Result<u64, Refusal>
     ensures ok { IfOk result (λ m. (text : List ℕ) × ToldText numbers.now told.now text

@@ -12,7 +12,7 @@ use Rattle.bench_report.specs.Bench.{Bench}
 use Rattle.bench_report.specs.Steps.{Run}
 use Rattle.bench_sweep.specs.declared.ledgers.Ledger.{Ledger}
 use Rattle.bench_sweep.specs.declared.moments.Moment.{Moment}
-use Rattle.bench_sweep.specs.declared.points.Bench.{Bench as Kind}
+use Rattle.bench_sweep.specs.declared.points.BenchKind.{BenchKind}
 use Rattle.bench_sweep.specs.declared.points.Caller.{Caller}
 use Rattle.bench_sweep.specs.declared.rows.Row.{Row}
 use Rattle.bench_sweep.specs.declared.site.Site.{Site}
@@ -92,7 +92,7 @@ came_again size b lines first old new told count ledger runs same =
     }
 
 -- ---- a row from there
-pub along : (size : Size) (kind : Kind) (site : Site) (before : ℕ) (b : Bench) (lines ls : List Line) (rest : Compared) (moment : Moment) (told : CameTold size b lines site moment) (d : SimDisk) (caller : Caller) (made : ℕ)
+pub along : (size : Size) (kind : BenchKind) (site : Site) (before : ℕ) (b : Bench) (lines ls : List Line) (rest : Compared) (moment : Moment) (told : CameTold size b lines site moment) (d : SimDisk) (caller : Caller) (made : ℕ)
     → HasDisk moment.going.power d → MadeCalls site.off.disk d caller made → ls ≡ drop moment.count lines → (row : Row) → row.caller ≡ caller → RunsRow size kind (before + made) told.came.at ls rest row → RunsAlong size kind caller site before b lines rest row
 along size kind site before b lines ls rest moment told d caller made has counts is row who runs =
     let c = told.came in

@@ -14,8 +14,8 @@ use Rattle.bench_report.specs.Happens.{off, unpowered, armed_with}
 use Rattle.bench_report.specs.Steps.{Run}
 use Rattle.bench_report.specs.Views.{fault_state}
 use Rattle.bench_sweep.specs.declared.ledgers.Ledger.{Ledger}
-use Rattle.bench_sweep.specs.declared.points.Bench.{Bench as Kind}
-use Rattle.bench_sweep.specs.declared.points.Bench.TheVariants.{Cuts, Fails}
+use Rattle.bench_sweep.specs.declared.points.BenchKind.{BenchKind}
+use Rattle.bench_sweep.specs.declared.points.BenchKind.TheVariants.{Cuts, Fails}
 use Rattle.bench_sweep.specs.declared.points.Caller.{Caller}
 use Rattle.bench_sweep.specs.declared.points.Point.{Point}
 use Rattle.bench_sweep.specs.declared.rows.Row.{Row}
@@ -31,7 +31,7 @@ use Rattle.bench_sweep.specs.Took.{RunTook}
 use Rattle.bench_sweep.proofs.Took.{took_both}
 
 -- ---- a run with a fault armed
-module _ (size : Size) (kind : Kind) (at : Point) (b : Bench) (lines : List Line) (count : ℕ) (power : Power) (slots : List (List ℕ)) (first ledger : Ledger) (few : count ≤ length lines) (ran : RanTo size (armed_with (fault_at kind at.caller at.call) b) (take count lines) power slots first ledger) where
+module _ (size : Size) (kind : BenchKind) (at : Point) (b : Bench) (lines : List Line) (count : ℕ) (power : Power) (slots : List (List ℕ)) (first ledger : Ledger) (few : count ≤ length lines) (ran : RanTo size (armed_with (fault_at kind at.caller at.call) b) (take count lines) power slots first ledger) where
   made : (rest : Compared) (row : Row) → row.caller ≡ at.caller → row.number ≡ at.number → unpowered ran.bench ≡ unpowered ran.end → EndsAs kind lines count ran.answers ran.end → ran.bench.fault_state.own ≡ 0 → IsLeft size (off ran.bench) rest row → RunsRow size kind at.before b lines rest row
   made rest row caller number same ends none ((after, said), finds, recovered) =
       let P : Bench → Type 0 = λ x. LooksAt size x row.left after in
@@ -215,7 +215,7 @@ took_on size lines rest n m old mid new is first second =
     subst L (take_plus n m lines) (took_both size (take n lines) (take m (drop n lines)) old mid new first (subst R is second))
 
 -- a row behind so many lines, and behind some of the life under way
-pub row_of : (size : Size) (kind : Kind) (caller : Caller) (before : ℕ) (origin : SimDisk) (first : Bench) (lines rest : List Line) (n : ℕ) (at : Site) → rest ≡ drop n lines → (f : SoFar size first (take n lines) at) → RunTook size (take n lines) origin at.off.disk
+pub row_of : (size : Size) (kind : BenchKind) (caller : Caller) (before : ℕ) (origin : SimDisk) (first : Bench) (lines rest : List Line) (n : ℕ) (at : Site) → rest ≡ drop n lines → (f : SoFar size first (take n lines) at) → RunTook size (take n lines) origin at.off.disk
     → MadeCalls origin at.off.disk caller before → (then : Compared) (row : Row) → RunsAlong size kind caller at before (unpowered f.bench) rest then row → IsRow size kind origin first lines then row
 row_of size kind caller before origin first lines rest n at is f took counts then row r =
     let M : Caller → Type 0 = λ x. MadeCalls origin r.disk x (before + r.made) in

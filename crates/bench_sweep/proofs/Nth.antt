@@ -3,8 +3,8 @@ use Rattle.std.proofs.Common.{◌≡◌, ◌≤◌, ◌<◌, ◌+◌, ◌*◌, �
 use Rattle.std.proofs.lemmas.Bool.{cases_lt}
 use Rattle.std.proofs.lemmas.List.{take_all}
 use Rattle.disk.specs.Facts.{counted}
-use Rattle.bench_sweep.specs.declared.points.Bench.{Bench}
-use Rattle.bench_sweep.specs.declared.points.Bench.TheVariants.{Cuts, Fails}
+use Rattle.bench_sweep.specs.declared.points.BenchKind.{BenchKind}
+use Rattle.bench_sweep.specs.declared.points.BenchKind.TheVariants.{Cuts, Fails}
 use Rattle.bench_sweep.specs.declared.points.Caller.{Caller}
 use Rattle.simdisk.specs.declared.fill.Fill.{Fill}
 use Rattle.bench_sweep.specs.Shown.{fill_at, runs_each, HasFewer, IsNthRun}
@@ -37,7 +37,7 @@ at_as : (cells : List Cell) (m n : ℕ) (run : Cell) → m ≡ n → At cells m 
 at_as cells m n run e a = subst (λ k. At cells k run) e a
 
 -- ---- of a point
-of_point : (kind : Bench) (caller : Caller) (number r : ℕ) → r < runs_each kind → At (runs_of kind caller number) r (cell caller number (fill_at kind r))
+of_point : (kind : BenchKind) (caller : Caller) (number r : ℕ) → r < runs_each kind → At (runs_of kind caller number) r (cell caller number (fill_at kind r))
 of_point Cuts caller number zero less = record { before = []; later = _; all = refl; at = refl }
 of_point Cuts caller number (suc zero) less = record { before = cell caller number (fill_at Cuts 0) ∷ []; later = _; all = refl; at = refl }
 of_point Cuts caller number (suc (suc zero)) less = record { before = cell caller number (fill_at Cuts 0) ∷ cell caller number (fill_at Cuts 1) ∷ []; later = _; all = refl; at = refl }
@@ -48,18 +48,18 @@ of_point Cuts caller number (suc (suc (suc (suc (suc r))))) less = absurd (omega
 of_point Fails caller number zero less = record { before = []; later = []; all = refl; at = refl }
 of_point Fails caller number (suc r) less = absurd (omega (arith, less))
 
-point_long : (kind : Bench) (caller : Caller) (number : ℕ) → length (runs_of kind caller number) ≡ runs_each kind
+point_long : (kind : BenchKind) (caller : Caller) (number : ℕ) → length (runs_of kind caller number) ≡ runs_each kind
 point_long Cuts caller number = refl
 point_long Fails caller number = refl
 
 -- ---- of a caller
-caller_long : (kind : Bench) (caller : Caller) (first n : ℕ) → length (runs_from kind caller first n) ≡ n * runs_each kind
+caller_long : (kind : BenchKind) (caller : Caller) (first n : ℕ) → length (runs_from kind caller first n) ≡ n * runs_each kind
 caller_long kind caller first zero = let none : 0 ≡ 0 * runs_each kind = omega arith in none
 caller_long kind caller first (suc n) =
     length-append (runs_from kind caller first n) (runs_of kind caller (counted first n)) ∙ ap (λ k. k + length (runs_of kind caller (counted first n))) (caller_long kind caller first n)
     ∙ ap (λ k. n * runs_each kind + k) (point_long kind caller (counted first n)) ∙ (let more : n * runs_each kind + runs_each kind ≡ suc n * runs_each kind = omega arith in more)
 
-of_caller : (kind : Bench) (caller : Caller) (first n q r : ℕ) → q < n → r < runs_each kind → At (runs_from kind caller first n) (q * runs_each kind + r) (cell caller (counted first q) (fill_at kind r))
+of_caller : (kind : BenchKind) (caller : Caller) (first n q r : ℕ) → q < n → r < runs_each kind → At (runs_from kind caller first n) (q * runs_each kind + r) (cell caller (counted first q) (fill_at kind r))
 of_caller kind caller first zero q r less within = absurd (omega (arith, less))
 of_caller kind caller first (suc n) q r less within = by (λ below. of_caller kind caller first n q r below within) (cases_lt q n)
   where
@@ -74,7 +74,7 @@ of_caller kind caller first (suc n) q r less within = by (λ below. of_caller ki
         subst (λ k. At (runs_from kind caller first (suc n)) (k * runs_each kind + r) (cell caller (counted first k) (fill_at kind r))) same here
 
 -- ---- of all
-all_long : (kind : Bench) (cs : List Caller) (ns : List ℕ) → length ns ≡ length cs → length (all_runs kind cs ns) ≡ total ns * runs_each kind
+all_long : (kind : BenchKind) (cs : List Caller) (ns : List ℕ) → length ns ≡ length cs → length (all_runs kind cs ns) ≡ total ns * runs_each kind
 all_long kind [] [] same = let none : 0 ≡ 0 * runs_each kind = omega arith in none
 all_long kind [] (n ∷ ns) same = absurd (omega (arith, same))
 all_long kind (c ∷ cs) [] same = absurd (omega (arith, same))
@@ -82,7 +82,7 @@ all_long kind (c ∷ cs) (n ∷ ns) same =
     length-append (runs_from kind c 1 n) (all_runs kind cs ns) ∙ ap (λ k. k + length (all_runs kind cs ns)) (caller_long kind c 1 n)
     ∙ ap (λ k. n * runs_each kind + k) (all_long kind cs ns (omega (arith, same))) ∙ (let more : n * runs_each kind + total ns * runs_each kind ≡ (n + total ns) * runs_each kind = omega arith in more)
 
-of_all : (kind : Bench) (cs : List Caller) (ns : List ℕ) (i q r : ℕ) (d : Caller) → length ns ≡ length cs → i < length cs → q < get_or ns i 0 → r < runs_each kind
+of_all : (kind : BenchKind) (cs : List Caller) (ns : List ℕ) (i q r : ℕ) (d : Caller) → length ns ≡ length cs → i < length cs → q < get_or ns i 0 → r < runs_each kind
     → At (all_runs kind cs ns) ((total (take i ns) + q) * runs_each kind + r) (cell (get_or cs i d) (counted 1 q) (fill_at kind r))
 of_all kind [] ns i q r d same less below within = absurd (omega (arith, less))
 of_all kind (c ∷ cs) [] i q r d same less below within = absurd (omega (arith, same))
@@ -94,7 +94,7 @@ of_all kind (c ∷ cs) (n ∷ ns) (suc i) q r d same less below within =
 
 -- ---- by its number
 -- it is one of the caller of that place, and so many points stand before it
-pub nth_run : (kind : Bench) (counts : List ℕ) (number place i at : ℕ) (caller d : Caller) (fill : Option Fill) → length counts ≡ 5 → i < 5 → caller ≡ get_or callers i d → fill ≡ fill_at kind place → number ≡ (total (take i counts) + at) * runs_each kind + place + 1 → place < runs_each kind
+pub nth_run : (kind : BenchKind) (counts : List ℕ) (number place i at : ℕ) (caller d : Caller) (fill : Option Fill) → length counts ≡ 5 → i < 5 → caller ≡ get_or callers i d → fill ≡ fill_at kind place → number ≡ (total (take i counts) + at) * runs_each kind + place + 1 → place < runs_each kind
     → at < get_or counts i 0 → at + 1 < 2 ^ 64 → IsNthRun kind counts number (cell caller (at + 1) fill)
 nth_run kind counts number place i at caller d fill five less is is_fill nth within below small =
     let found = of_all kind callers counts i at place d five less below within in
@@ -106,7 +106,7 @@ nth_run kind counts number place i at caller d fill five less is is_fill nth wit
     record { before = a.before; later = a.later; all = a.all; nth = nth ∙ ap (λ k. k + 1) (sym a.at) }
 
 -- there are fewer
-pub fewer_runs : (kind : Bench) (counts : List ℕ) (number all rest place i : ℕ) → length counts ≡ 5 → 5 ≤ i → all ≡ total (take i counts) + rest → number ≡ all * runs_each kind + place + 1 → HasFewer kind counts number
+pub fewer_runs : (kind : BenchKind) (counts : List ℕ) (number all rest place i : ℕ) → length counts ≡ 5 → 5 ≤ i → all ≡ total (take i counts) + rest → number ≡ all * runs_each kind + place + 1 → HasFewer kind counts number
 fewer_runs kind counts number all rest place i five end is nth =
     let whole : total (take i counts) ≡ total counts = ap total (take_all i counts (omega (arith, five, end))) in
     let long = all_long kind callers counts five in

@@ -9,7 +9,7 @@ use Rattle.bench_report.specs.Bench.{Bench}
 use Rattle.bench_report.specs.Happens.{unpowered}
 use Rattle.jobs.specs.Handed.{AreRows, TakesAll, Handed}
 use Rattle.bench_sweep.specs.declared.judging.PointRows.{PointRows}
-use Rattle.bench_sweep.specs.declared.points.Bench.{Bench as Kind}
+use Rattle.bench_sweep.specs.declared.points.BenchKind.{BenchKind}
 use Rattle.bench_sweep.specs.declared.points.Caller.{Caller}
 use Rattle.bench_sweep.specs.declared.rows.Row.{Row}
 use Rattle.bench_sweep.specs.declared.site.Site.{Site}
@@ -51,7 +51,7 @@ judged_as Is rows xs ys e j = record { each = j.each; cells = j.cells ∙ e; run
 pub judged_weaker : (Is So : Row → Type 0) (rows : PointRows) (cells : List Cell) → ((row : Row) → Is row → So row) → Judged Is rows cells → Judged So rows cells
 judged_weaker Is So rows cells then j = record { each = All-weaker Is So then rows.rows.items j.each; cells = j.cells; runs = j.runs; right = j.right }
 
-pub judged_at : (kind : Kind) (caller : Caller) (number : ℕ) (Is So : Row → Type 0) (rows : PointRows) → ((row : Row) → row.caller ≡ caller → row.number ≡ number → Is row → So row) → Judged Is rows (runs_of kind caller number)
+pub judged_at : (kind : BenchKind) (caller : Caller) (number : ℕ) (Is So : Row → Type 0) (rows : PointRows) → ((row : Row) → row.caller ≡ caller → row.number ≡ number → Is row → So row) → Judged Is rows (runs_of kind caller number)
     → Judged So rows (runs_of kind caller number)
 judged_at kind caller number Is So rows then j = record { each = each_at kind caller number Is So rows.rows.items then j.cells j.each; cells = j.cells; runs = j.runs; right = j.right }
 
@@ -63,7 +63,7 @@ differ_more : (m n k : ℕ) → n ≡ counted m k → GoesOn m n k
 differ_more m n k same i e = omega (arith, same, e)
 
 -- the rows of one point
-pub reports_point : {W : Type 0} (contents : W → Option (List ℕ)) (kind : Kind) (Is : Row → Type 0) (old new : Report W) (rows : PointRows) (caller : Caller) (number : ℕ)
+pub reports_point : {W : Type 0} (contents : W → Option (List ℕ)) (kind : BenchKind) (Is : Row → Type 0) (old new : Report W) (rows : PointRows) (caller : Caller) (number : ℕ)
     → Judged Is rows (runs_of kind caller number) → TakesPoint contents old rows new → Reports contents kind Is old new (spot caller number ∷ [])
 reports_point contents kind Is old new rows caller number j t = record {
   same = t.same;
@@ -81,7 +81,7 @@ reports_point contents kind Is old new rows caller number j t = record {
 }
 
 -- the points of calls in a row, of which so many are passed over
-module _ {W : Type 0} (contents : W → Option (List ℕ)) (size : Size) (kind : Kind) (caller : Caller) (before from : ℕ) (lines : List Line) (rest : Compared) (site : Site) (b : Bench) (r : RunsAt size b site) (first : Report W) where
+module _ {W : Type 0} (contents : W → Option (List ℕ)) (size : Size) (kind : BenchKind) (caller : Caller) (before from : ℕ) (lines : List Line) (rest : Compared) (site : Site) (b : Bench) (r : RunsAt size b site) (first : Report W) where
   abbrev Is : Row → Type 0
   Is = RunsAlong size kind caller site before (unpowered b) lines rest
 

@@ -17,15 +17,15 @@ use Rattle.bench_report.specs.Bench.{Bench}
 use Rattle.bench_report.specs.Happens.{armed_with}
 use Rattle.bench_report.specs.declared.power.Power.{Power}
 use Rattle.bench_sweep.specs.declared.ledgers.Ledger.{Ledger}
-use Rattle.bench_sweep.specs.declared.points.Bench.{Bench as Kind}
-use Rattle.bench_sweep.specs.declared.points.Bench.TheVariants.{Cuts, Fails}
+use Rattle.bench_sweep.specs.declared.points.BenchKind.{BenchKind}
+use Rattle.bench_sweep.specs.declared.points.BenchKind.TheVariants.{Cuts, Fails}
 use Rattle.bench_sweep.specs.Points.{cut_fill, fault_at}
 use Rattle.bench_sweep.specs.Runs.{RanTo}
 use Rattle.bench_sweep.specs.Shown.{arming, cut_part, row_lines, HasRun, IsEnded, RunsArmed, ShowsFrom, ShowsNone, WroteScript}
 use Rattle.bench_sweep.specs.Swept.{Cell}
 
 -- a run with that armed, by how it ended
-pub runs_armed : (size : Size) (kind : Kind) (run : Cell) (b : Bench) (those : List Line) (count : ℕ) (power : Power) (slots : List (List ℕ)) (first ledger : Ledger) → count ≤ length those → (ran : RanTo size (armed_with (fault_at kind run.caller run.number) b) (take count those) power slots first ledger)
+pub runs_armed : (size : Size) (kind : BenchKind) (run : Cell) (b : Bench) (those : List Line) (count : ℕ) (power : Power) (slots : List (List ℕ)) (first ledger : Ledger) → count ≤ length those → (ran : RanTo size (armed_with (fault_at kind run.caller run.number) b) (take count those) power slots first ledger)
     → IsEnded kind count (length those) ran.bench → RunsArmed size kind run b those count
 runs_armed size Cuts run b those count power slots first ledger few ran (hit, none) =
     let s = ran.struck hit in record {
@@ -47,11 +47,11 @@ runs_armed size Fails run b those count power slots first ledger few ran (all, c
     }
 
 -- ---- the lines of a row
-cut_in_range : (size : Size) (kind : Kind) → All (IsLineInRange size) (cut_part kind)
+cut_in_range : (size : Size) (kind : BenchKind) → All (IsLineInRange size) (cut_part kind)
 cut_in_range size Cuts = All-nil (IsLineInRange size)
 cut_in_range size Fails = All-cons (IsLineInRange size) (lines.Cut (cut_fill None)) [] tt (All-nil (IsLineInRange size))
 
-pub row_in_range : (size : Size) (kind : Kind) (front back behind : List Line) (armed : Arming) → All (IsLineInRange size) front → IsArmingInRange size armed → All (IsLineInRange size) back → All (IsLineInRange size) behind
+pub row_in_range : (size : Size) (kind : BenchKind) (front back behind : List Line) (armed : Arming) → All (IsLineInRange size) front → IsArmingInRange size armed → All (IsLineInRange size) back → All (IsLineInRange size) behind
     → All (IsLineInRange size) (row_lines kind front armed back behind)
 row_in_range size kind front back behind armed in_front arms in_back in_behind =
     let In : Line → Type 0 = IsLineInRange size in
@@ -94,14 +94,14 @@ refused_row F G H (Err e) then (inr (inl output)) = inr (inl output)
 refused_row F G H (Err e) then (inr (inr none)) = inr (inr (inr (inr (inr (none.0, then none.1)))))
 
 -- the row of a run that is found and written
-pub shows_from : {K : Kind} (size : Size) (origin : SimDisk) (b : Bench) (front those behind : List Line) (number count : ℕ) (run : Cell) (arms : Arming) (old now : Option (List ℕ)) → HasRun K size origin b those number run → RunsArmed size K run b those count → arms ≡ arming K run
+pub shows_from : {K : BenchKind} (size : Size) (origin : SimDisk) (b : Bench) (front those behind : List Line) (number count : ℕ) (run : Cell) (arms : Arming) (old now : Option (List ℕ)) → HasRun K size origin b those number run → RunsArmed size K run b those count → arms ≡ arming K run
     → WroteScript (record { size = size; lines = row_lines K front arms (take count those) behind }) old now → ShowsFrom K size origin b front those behind number old now
 shows_from {K = K} size origin b front those behind number count run arms old now has armed is wrote =
     let W : Arming → Type 0 = λ a. WroteScript (record { size = size; lines = row_lines K front a (take count those) behind }) old now in
     record { run = run; has = has; count = count; armed = armed; written = subst W is wrote }
 
 -- or it is not
-pub shows_none : {K : Kind} (size : Size) (origin : SimDisk) (b : Bench) (front those behind : List Line) (number count : ℕ) (run : Cell) (arms : Arming) → HasRun K size origin b those number run → RunsArmed size K run b those count → arms ≡ arming K run
+pub shows_none : {K : BenchKind} (size : Size) (origin : SimDisk) (b : Bench) (front those behind : List Line) (number count : ℕ) (run : Cell) (arms : Arming) → HasRun K size origin b those number run → RunsArmed size K run b those count → arms ≡ arming K run
     → 65535 < length (row_lines K front arms (take count those) behind) → ShowsNone K size origin b front those behind number
 shows_none {K = K} size origin b front those behind number count run arms has armed is long =
     let L : Arming → Type 0 = λ a. 65535 < length (row_lines K front a (take count those) behind) in

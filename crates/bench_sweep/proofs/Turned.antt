@@ -57,13 +57,13 @@ use Rattle.bench_sweep.proofs.Followed.{follows_same}
 use Rattle.bench_sweep.proofs.Told.{issued_tells}
 
 -- ---- what comes of what a hart did
-abbrev Told : Size → List ℕ → Bench → Word → Bench → Type 0
-Told size memory b word new = HartTold size word memory b.kept new.kept × (new.disk_state ≡ b.disk_state)
+abbrev TurnTold : Size → List ℕ → Bench → Word → Bench → Type 0
+TurnTold size memory b word new = HartTold size word memory b.kept new.kept × (new.disk_state ≡ b.disk_state)
 
-told_by : (size : Size) (memory : List ℕ) (b : Bench) (word x : Word) (new n : Bench) → word ≡ x → new ≡ n → Told size memory b x n → Told size memory b word new
+told_by : (size : Size) (memory : List ℕ) (b : Bench) (word x : Word) (new n : Bench) → word ≡ x → new ≡ n → TurnTold size memory b x n → TurnTold size memory b word new
 told_by size memory b word x new n e f h =
-    let P : Word → Type 0 = λ w. Told size memory b w new in
-    let Q : Bench → Type 0 = λ m. Told size memory b x m in
+    let P : Word → Type 0 = λ w. TurnTold size memory b w new in
+    let Q : Bench → Type 0 = λ m. TurnTold size memory b x m in
     subst P (sym e) (subst Q (sym f) h)
 
 module _ (size : Size) (h : ℕ) (life : BenchLife) (b : Bench) (word : Word) (new : Bench) (sound : GoesOn b.kept b.power) (on : b.power ≡ Some life) (sized : life.machine.size ≡ size) where
@@ -71,7 +71,7 @@ module _ (size : Size) (h : ℕ) (life : BenchLife) (b : Bench) (word : Word) (n
   memory = life.machine.memory
 
   -- a hart that was answered goes on
-  refuses : (e : SbiError) (life2 : BenchLife) (mid : Bench) → HartTold size (words.Goes Next) memory b.kept mid.kept → mid.disk_state ≡ b.disk_state → AnswersError e h life2 mid word new → Told size memory b word new
+  refuses : (e : SbiError) (life2 : BenchLife) (mid : Bench) → HartTold size (words.Goes Next) memory b.kept mid.kept → mid.disk_state ≡ b.disk_state → AnswersError e h life2 mid word new → TurnTold size memory b word new
   refuses e life2 mid tells same x = told_by size memory b word (words.Goes Next) new (on_with (refused h e life2) mid) x.0 x.1 (tells, same)
 
   -- its command was refused
@@ -79,7 +79,7 @@ module _ (size : Size) (h : ℕ) (life : BenchLife) (b : Bench) (word : Word) (n
   hides c n old now of_hart (inl x) = inl x.1
   hides c n old now of_hart (inr x) = inr (refl, c, of_hart, inr (refl, x.1, x.2, x.3))
 
-  reset : (kind : ResetType) (r : Reason) (o : Result ℕ ℕ) (mid : Bench) → Issued (Reset r) life b o mid → HartCommand o (life_ends.Reset kind) h mid word new → Told size memory b word new
+  reset : (kind : ResetType) (r : Reason) (o : Result ℕ ℕ) (mid : Bench) → Issued (Reset r) life b o mid → HartCommand o (life_ends.Reset kind) h mid word new → TurnTold size memory b word new
   reset kind r (Ok n) mid issued x =
       let t = issued_tells (Reset r) life b (Ok n) mid sound on issued in
       told_by size memory b word (words.Over (life_ends.Reset kind)) new (off mid) x.0 x.1 ((r, t.0), t.1)
@@ -87,14 +87,14 @@ module _ (size : Size) (h : ℕ) (life : BenchLife) (b : Bench) (word : Word) (n
       let t = issued_tells (Reset r) life b (Err n) mid sound on issued in
       refuses Failed life2 mid (hides (Reset r) n b.kept mid.kept tt t.0) t.1 x
 
-  resets : (asked : Result (ResetType × Reason) SbiError) → Resets asked h life b word new → Told size memory b word new
+  resets : (asked : Result (ResetType × Reason) SbiError) → Resets asked h life b word new → TurnTold size memory b word new
   resets (Err e) x = refuses e life b (inl refl) refl x
   resets (Ok reset_it) (o, mid, issued, x) = reset reset_it.0 reset_it.1 o mid issued x
 
   long : (id site : ℕ) → FitsBoard life.machine.size memory id site → length memory ≡ ram_bytes_of size
   long id site fits = fits.0 ∙ ap ram_bytes_of sized
 
-  slept : (id site opaque : ℕ) (o : Result ℕ ℕ) (mid : Bench) → FitsBoard life.machine.size memory id site → Issued (Suspend id site opaque memory) life b o mid → HartCommand o life_ends.Asleep h mid word new → Told size memory b word new
+  slept : (id site opaque : ℕ) (o : Result ℕ ℕ) (mid : Bench) → FitsBoard life.machine.size memory id site → Issued (Suspend id site opaque memory) life b o mid → HartCommand o life_ends.Asleep h mid word new → TurnTold size memory b word new
   slept id site opaque (Ok n) mid fits issued x =
       let t = issued_tells (Suspend id site opaque memory) life b (Ok n) mid sound on issued in
       told_by size memory b word (words.Over life_ends.Asleep) new (off mid) x.0 x.1 ((id, site, opaque, long id site fits, t.0), t.1)
@@ -103,33 +103,33 @@ module _ (size : Size) (h : ℕ) (life : BenchLife) (b : Bench) (word : Word) (n
       refuses Failed life2 mid (hides (Suspend id site opaque memory) n b.kept mid.kept (refl, long id site fits) t.0) t.1 x
 
   -- a suspension that never came to the disk
-  awake : (n : ℕ) (o : Result ℕ ℕ) (mid as_was : Bench) → o ≡ Err n → mid ≡ as_was → as_was.kept ≡ b.kept → as_was.disk_state ≡ b.disk_state → HartCommand o life_ends.Asleep h mid word new → Told size memory b word new
+  awake : (n : ℕ) (o : Result ℕ ℕ) (mid as_was : Bench) → o ≡ Err n → mid ≡ as_was → as_was.kept ≡ b.kept → as_was.disk_state ≡ b.disk_state → HartCommand o life_ends.Asleep h mid word new → TurnTold size memory b word new
   awake n o mid as_was e is kept same x =
       let P : Result ℕ ℕ → Type 0 = λ r. HartCommand r life_ends.Asleep h mid word new in
       let y = subst P e x in
       refuses Failed y.0 mid (inl (ap (λ (m : Bench). m.kept) is ∙ kept)) (ap (λ (m : Bench). m.disk_state) is ∙ same) y.2
 
   -- to RAM nothing is asked of the disk
-  falls : (sleep : Sleep) (site opaque : ℕ) → BenchFallsAsleep sleep site opaque h life b word new → Told size memory b word new
+  falls : (sleep : Sleep) (site opaque : ℕ) → BenchFallsAsleep sleep site opaque h life b word new → TurnTold size memory b word new
   falls ToRam site opaque x = told_by size memory b word (word_of_sleep ToRam) new (on_with (dozes h site opaque life) b) x.0 x.1 (inl refl, refl)
   falls ToDisk site opaque (o, mid, inl x, y) = slept (hart_at life.machine h).id site opaque o mid x.0 x.1 y
   falls ToDisk site opaque (o, mid, inr (inl x), y) = awake 11 o mid (out_of_memory b) x.1 x.2 refl refl y
   falls ToDisk site opaque (o, mid, inr (inr x), y) = awake 3 o mid b x.1 x.2 refl refl y
 
-  sleeps : (sleep : Sleep) (site opaque : ℕ) → BenchSleeps sleep site opaque h life b word new → Told size memory b word new
+  sleeps : (sleep : Sleep) (site opaque : ℕ) → BenchSleeps sleep site opaque h life b word new → TurnTold size memory b word new
   sleeps sleep site opaque (inl x) = refuses Denied life b (inl refl) refl x.1
   sleeps sleep site opaque (inr x) = falls sleep site opaque x.1
 
-  sleeps_by : (asked : Result (Sleep × ℕ) SbiError) (opaque : ℕ) → BenchSleepsBy asked opaque h life b word new → Told size memory b word new
+  sleeps_by : (asked : Result (Sleep × ℕ) SbiError) (opaque : ℕ) → BenchSleepsBy asked opaque h life b word new → TurnTold size memory b word new
   sleeps_by (Err e) opaque x = refuses e life b (inl refl) refl x
   sleeps_by (Ok asked) opaque x = sleeps asked.0 asked.1 opaque x
 
-  makes : (call : Call) → BenchMakesCall call h life b word new → Told size memory b word new
+  makes : (call : Call) → BenchMakesCall call h life b word new → TurnTold size memory b word new
   makes (calls.SystemReset kind reason) x = resets (reset_of kind reason) x
   makes (calls.SystemSuspend kind address opaque) (asked, checked, x) = sleeps_by asked opaque x
   makes call x = refuses NotSupported life b (inl refl) refl x
 
-  came_to : (did : Turned) → ComesTo did h life b word new → Told size memory b word new
+  came_to : (did : Turned) → ComesTo did h life b word new → TurnTold size memory b word new
   came_to Durable x = makes (call_of (hart_at life.machine h)) x
   came_to (Made did) x = told_by size memory b word (words.Goes did) new b x.0 x.1 (inl refl, refl)
 

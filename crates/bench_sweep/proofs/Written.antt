@@ -14,15 +14,15 @@ use Rattle.jobs.proofs.Pieces.{window_at, window_cut, window_more, joined_all}
 use Rattle.bench_sweep.specs.declared.plan.Plan.{Plan}
 use Rattle.std.specs.Io.KnownBytes.{Appends, Keeps}
 use Rattle.disk.specs.Facts.{counted}
-use Rattle.bench_sweep.specs.declared.points.Bench.{Bench}
-use Rattle.bench_sweep.specs.declared.points.Bench.TheVariants.{Cuts, Fails}
+use Rattle.bench_sweep.specs.declared.points.BenchKind.{BenchKind}
+use Rattle.bench_sweep.specs.declared.points.BenchKind.TheVariants.{Cuts, Fails}
 use Rattle.bench_sweep.specs.declared.points.Caller.{Caller}
 use Rattle.simdisk.specs.declared.SimDisk.{SimDisk}
 use Rattle.simdisk.specs.declared.fill.Fill.{Fill}
 use Rattle.simdisk.specs.declared.fill.Fill.TheVariants.{Byte, Alternating, Old, New}
 use Rattle.board_model.specs.Shapes.{Size}
 use Rattle.script_lang.specs.declared.line.Line.{Line}
-use Rattle.bench_report.specs.Bench.{Bench as ModelBench}
+use Rattle.bench_report.specs.Bench.{Bench}
 use Rattle.bench_report.specs.Happens.{off, unpowered}
 use Rattle.report_lines.proofs.Written.{appended, unwritten}
 use Rattle.bench_sweep.specs.Made.{IsFormatted, IsPlainRun, IsUncut, IsRunOf}
@@ -128,7 +128,7 @@ pub writes_weaker : (quiet : Bool) (Is So : Row → Type 0) (a b : Option (List 
 writes_weaker quiet Is So a b s t xs n then w = record { rows = w.rows; each = All-weaker Is So then w.rows w.each; text = w.text; cells = w.cells; points = w.points; runs = w.runs; right = w.right; differ = w.differ }
 
 -- rows of one point
-pub each_at : (bench : Bench) (caller : Caller) (number : ℕ) (Is So : Row → Type 0) (rows : List Row) → ((row : Row) → row.caller ≡ caller → row.number ≡ number → Is row → So row) → map cell_of rows ≡ runs_of bench caller number → All Is rows → All So rows
+pub each_at : (bench : BenchKind) (caller : Caller) (number : ℕ) (Is So : Row → Type 0) (rows : List Row) → ((row : Row) → row.caller ≡ caller → row.number ≡ number → Is row → So row) → map cell_of rows ≡ runs_of bench caller number → All Is rows → All So rows
 each_at bench caller number Is So rows then cells each = by rows (subst (λ (xs : List Cell). All At xs) (sym cells) (all bench)) each
   where
     At : Cell → Type 0
@@ -138,7 +138,7 @@ each_at bench caller number Is So rows then cells each = by rows (subst (λ (xs 
     fills [] = All-nil At
     fills (fill ∷ fs) = All-cons At (cell caller number (Some fill)) (map (λ (f : Fill). cell caller number (Some f)) fs) (refl, refl) (fills fs)
 
-    all : (kind : Bench) → All At (runs_of kind caller number)
+    all : (kind : BenchKind) → All At (runs_of kind caller number)
     all Cuts = fills (Byte 0 ∷ Byte 255 ∷ Alternating ∷ Old ∷ New ∷ [])
     all Fails = All-cons At (cell caller number None) [] (refl, refl) (All-nil At)
 
@@ -256,23 +256,23 @@ next_caller items i caller d counts n from to a b less is long order e f =
     ∙ ap (λ cs. all_points cs (counts ++ n ∷ [])) (sym (take_more items i d less)))
 
 -- ---- runs of points
-pub runs_more : (bench : Bench) (xs ys : List Spot) → runs_at bench (xs ++ ys) ≡ runs_at bench xs ++ runs_at bench ys
+pub runs_more : (bench : BenchKind) (xs ys : List Spot) → runs_at bench (xs ++ ys) ≡ runs_at bench xs ++ runs_at bench ys
 runs_more bench xs ys = flat_map-append (λ (s : Spot). runs_of bench s.caller s.number) xs ys
 
-runs_of_points : (bench : Bench) (caller : Caller) (first n : ℕ) → runs_at bench (points_from caller first n) ≡ runs_from bench caller first n
+runs_of_points : (bench : BenchKind) (caller : Caller) (first n : ℕ) → runs_at bench (points_from caller first n) ≡ runs_from bench caller first n
 runs_of_points bench caller first zero = refl
 runs_of_points bench caller first (suc n) =
     runs_more bench (points_from caller first n) (spot caller (counted first n) ∷ []) ∙ ap (λ zs. zs ++ runs_at bench (spot caller (counted first n) ∷ [])) (runs_of_points bench caller first n)
     ∙ ap (λ zs. runs_from bench caller first n ++ zs) (append-nil (runs_of bench caller (counted first n)))
 
-runs_of_all : (bench : Bench) (cs : List Caller) (ns : List ℕ) → runs_at bench (all_points cs ns) ≡ all_runs bench cs ns
+runs_of_all : (bench : BenchKind) (cs : List Caller) (ns : List ℕ) → runs_at bench (all_points cs ns) ≡ all_runs bench cs ns
 runs_of_all bench [] ns = refl
 runs_of_all bench (c ∷ cs) [] = refl
 runs_of_all bench (c ∷ cs) (n ∷ ns) =
     runs_more bench (points_from c 1 n) (all_points cs ns) ∙ ap (λ zs. zs ++ runs_at bench (all_points cs ns)) (runs_of_points bench c 1 n) ∙ ap (λ zs. runs_from bench c 1 n ++ zs) (runs_of_all bench cs ns)
 
 -- those of a part, or of all
-pub runs_of_own : (bench : Bench) (part : Option Part) (counts : List ℕ) → runs_at bench (own_of part (all_points callers counts)) ≡ own_runs bench part counts
+pub runs_of_own : (bench : BenchKind) (part : Option Part) (counts : List ℕ) → runs_at bench (own_of part (all_points callers counts)) ≡ own_runs bench part counts
 runs_of_own bench None counts = runs_of_all bench callers counts
 runs_of_own bench (Some part) counts = refl
 
@@ -281,17 +281,17 @@ own_long None counts five = all_long callers counts (sym five)
 own_long (Some part) counts five = refl
 
 -- the parts make the whole
-joined_part : (bench : Bench) (k of : ℕ) (counts : List ℕ) → joined_runs bench k of counts ≡ runs_at bench (joined k of (all_points callers counts))
+joined_part : (bench : BenchKind) (k of : ℕ) (counts : List ℕ) → joined_runs bench k of counts ≡ runs_at bench (joined k of (all_points callers counts))
 joined_part bench zero of counts = refl
 joined_part bench (suc k) of counts =
     ap (λ zs. zs ++ runs_at bench (piece (suc k) of (all_points callers counts))) (joined_part bench k of counts)
     ∙ sym (runs_more bench (joined k of (all_points callers counts)) (piece (suc k) of (all_points callers counts)))
 
-pub parts_join : (bench : Bench) (of : ℕ) (counts : List ℕ) → 0 < of → joined_runs bench of of counts ≡ all_runs bench callers counts
+pub parts_join : (bench : BenchKind) (of : ℕ) (counts : List ℕ) → 0 < of → joined_runs bench of of counts ≡ all_runs bench callers counts
 parts_join bench of counts some = joined_part bench of of counts ∙ ap (runs_at bench) (joined_all of (all_points callers counts) some) ∙ runs_of_all bench callers counts
 
 -- all rows
-pub wrote_rows : (plan : Plan) (size : Size) (start : List (List ℕ)) (lines after : List Line) (numbers : List ℕ) (a b : Option (List ℕ)) (s t : Recovered) (begin : ℕ) (first : ModelBench) (origin ended : SimDisk) (counts : List ℕ) (own : List Printed) → s.sweep.points ≡ 0 → s.sweep.runs ≡ 0 → s.sweep.wrong ≡ 0
+pub wrote_rows : (plan : Plan) (size : Size) (start : List (List ℕ)) (lines after : List Line) (numbers : List ℕ) (a b : Option (List ℕ)) (s t : Recovered) (begin : ℕ) (first : Bench) (origin ended : SimDisk) (counts : List ℕ) (own : List Printed) → s.sweep.points ≡ 0 → s.sweep.runs ≡ 0 → s.sweep.wrong ≡ 0
     → s.differ ≡ 0 → IsFormatted size start (take begin lines) first → StandsOn size (off first) origin → IsPlainRun size (unpowered first) (drop begin lines) → IsUncut size (unpowered first) (drop begin lines) after own → RunTook size (drop begin lines) origin ended
     → AllZip (MadeCalls origin ended) callers counts
     → Writes plan.quiet (λ row. IsRunOf size plan.bench origin row.caller row.number (unpowered first) (drop begin lines) (record { lines = after; numbers = numbers; own = own }) row.left row.recovered) a b s t
@@ -321,7 +321,7 @@ wrote_rows plan size start lines after numbers a b s t begin first origin ended 
 }
 
 -- a recovery without lines says nothing
-nothing_said : (size : Size) (first : ModelBench) (lines : List Line) (own : List Printed) → IsUncut size first lines [] own → own ≡ []
+nothing_said : (size : Size) (first : Bench) (lines : List Line) (own : List Printed) → IsUncut size first lines [] own → own ≡ []
 nothing_said size first lines own uncut = uncut.recovers.says
 
 -- without a recovery, and then the last line

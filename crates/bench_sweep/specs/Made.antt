@@ -17,8 +17,8 @@ use Rattle.bench_report.specs.Bench.{Bench, bench_with, no_payloads}
 use Rattle.bench_report.specs.Happens.{says, off, unpowered, settled, armed_with}
 use Rattle.bench_report.specs.PowerOns.{PowersOn}
 use Rattle.bench_report.specs.Steps.{Run}
-use Rattle.bench_sweep.specs.declared.points.Bench.{Bench as Kind}
-use Rattle.bench_sweep.specs.declared.points.Bench.TheVariants.{Cuts, Fails}
+use Rattle.bench_sweep.specs.declared.points.BenchKind.{BenchKind}
+use Rattle.bench_sweep.specs.declared.points.BenchKind.TheVariants.{Cuts, Fails}
 use Rattle.bench_sweep.specs.declared.points.Caller.{Caller}
 use Rattle.bench_sweep.specs.Points.{fault_at, MadeCalls}
 use Rattle.bench_sweep.specs.Recovers.{Compared, looks_of, TellsFirst}
@@ -113,14 +113,14 @@ IsRecovered size end rest left differs = IsToldOf rest.own size (unpowered end) 
 
 -- A run with a cut ends with the line within which it struck. One with a failure ends with the script, and nothing is armed any
 -- more: the call failed, since the disk never failed by itself.
-abbrev pub EndsAs : Kind → List Line → ℕ → List Answer → Bench → Type 0
+abbrev pub EndsAs : BenchKind → List Line → ℕ → List Answer → Bench → Type 0
 EndsAs Cuts lines count answers end = (before : List Answer) × (answers ≡ before ++ says printed.PowerLost ∷ [])
 EndsAs Fails lines count answers end = (count ≡ length lines) × (end.fault_state.armed ≡ Unarmed)
 
 -- Lines are run on a bench, on or off, on whose disk that is armed: at the call of that caller that has that number, where so
 -- many were made before. No memory is refused. Then power is cut, and a power-on that keeps the image says that:
 -- it found a state.
-pub record RunsWith (size : Size) (kind : Kind) (caller : Caller) (made number : ℕ) (b : Bench) (lines : List Line) (rest : Compared)
+pub record RunsWith (size : Size) (kind : BenchKind) (caller : Caller) (made number : ℕ) (b : Bench) (lines : List Line) (rest : Compared)
     (left : Answer) (differs : Option Differs) : Type 0 where
   pub call : ℕ
   pub counts : number ≡ made + call
@@ -139,7 +139,7 @@ pub record RunsWith (size : Size) (kind : Kind) (caller : Caller) (made number :
 -- A row that says that is such a run: some first lines are run as they are, and so are so many of the life under way, and those
 -- behind them with that armed. The number of its call is counted from the origin, the disk in front of the first line: in these first
 -- lines the disk of the board that they were run on counted those made before.
-pub record IsRunOf (size : Size) (kind : Kind) (origin : SimDisk) (caller : Caller) (number : ℕ) (first : Bench) (lines : List Line)
+pub record IsRunOf (size : Size) (kind : BenchKind) (origin : SimDisk) (caller : Caller) (number : ℕ) (first : Bench) (lines : List Line)
     (rest : Compared) (left : Answer) (differs : Option Differs) : Type 0 where
   pub before : ℕ
   pub bench : Bench

@@ -7,8 +7,8 @@ use Rattle.simdisk.specs.declared.SimDisk.{SimDisk}
 use Rattle.simdisk.specs.declared.fill.Fill.{Fill}
 use Rattle.simdisk.specs.declared.fill.Fill.TheVariants.{Byte}
 use Rattle.bench_report.specs.Views.{facts}
-use Rattle.bench_sweep.specs.declared.points.Bench.{Bench}
-use Rattle.bench_sweep.specs.declared.points.Bench.TheVariants.{Cuts, Fails}
+use Rattle.bench_sweep.specs.declared.points.BenchKind.{BenchKind}
+use Rattle.bench_sweep.specs.declared.points.BenchKind.TheVariants.{Cuts, Fails}
 use Rattle.bench_sweep.specs.declared.points.Caller.{Caller}
 use Rattle.bench_sweep.specs.declared.points.Caller.TheVariants.{Disk, Lane}
 
@@ -31,7 +31,7 @@ abbrev pub failure_of : Caller → ℕ → ArmedFault
 failure_of Disk n = FailAt n
 failure_of (Lane i) n = FailLane i n
 
-abbrev pub fault_at : Bench → Caller → ℕ → ArmedFault
+abbrev pub fault_at : BenchKind → Caller → ℕ → ArmedFault
 fault_at Cuts caller n = cut_of caller n
 fault_at Fails caller n = failure_of caller n
 

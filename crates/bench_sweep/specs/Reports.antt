@@ -14,7 +14,7 @@ use Rattle.bench_report.specs.Examined.{OpensOf}
 use Rattle.bench_report.specs.Happens.{off, unpowered}
 use Rattle.bench_report.specs.Steps.{Run}
 use Rattle.bench_report.specs.Views.{facts, sim_log_of}
-use Rattle.bench_sweep.specs.declared.points.Bench.{Bench as Kind}
+use Rattle.bench_sweep.specs.declared.points.BenchKind.{BenchKind}
 use Rattle.bench_sweep.specs.declared.points.Caller.{Caller}
 use Rattle.bench_sweep.specs.declared.rows.Row.{Row}
 use Rattle.bench_sweep.specs.declared.judging.PointRows.{PointRows}
@@ -35,7 +35,7 @@ use Rattle.jobs.specs.declared.part.Part.{Part}
 
 -- The report goes on in the same writer: the runs at these points were made, what the bench says of each was written, and each
 -- was counted. None was wrong, and of each row that holds.
-pub record Reports {W : Type 0} (contents : W → Option (List ℕ)) (kind : Kind) (Is : Row → Type 0) (old new : Report W) (made : List Spot) : Type 0 where
+pub record Reports {W : Type 0} (contents : W → Option (List ℕ)) (kind : BenchKind) (Is : Row → Type 0) (old new : Report W) (made : List Spot) : Type 0 where
   pub same : new.out.ghost_name ≡ old.out.ghost_name
   pub quiet : new.quiet ≡ old.quiet
   pub wrote : Writes old.quiet Is (contents old.out.now) (contents new.out.now) old.done new.done (runs_at kind made) (length made)
@@ -71,13 +71,13 @@ pub record IsLeftBy (size : Size) (end : Bench) (disk : SimDisk) (rest : Compare
   pub over : ToldOver rest.own size (cut_content disk (cut_fill row.fill)) rest row.recovered
 
 -- a row whose run begins at that bench, where its caller had made so many calls
-abbrev pub RunsRow : Size → Kind → ℕ → Bench → List Line → Compared → Row → Type 0
+abbrev pub RunsRow : Size → BenchKind → ℕ → Bench → List Line → Compared → Row → Type 0
 RunsRow size kind made b lines rest row = RunsWith size kind row.caller made row.number b lines rest row.left row.recovered
 
 -- A row of that caller whose run goes on behind some of those lines, which are run as they are from that bench on, where a board
 -- stands. So many calls were made up to the site, and in these lines, run on from its disk, the disk of the board then counted those
 -- behind it too.
-pub record RunsAlong (size : Size) (kind : Kind) (caller : Caller) (site : Site) (before : ℕ) (b : Bench) (lines : List Line)
+pub record RunsAlong (size : Size) (kind : BenchKind) (caller : Caller) (site : Site) (before : ℕ) (b : Bench) (lines : List Line)
     (rest : Compared) (row : Row) : Type 0 where
   pub who : row.caller ≡ caller
   pub more : ℕ
@@ -92,7 +92,7 @@ pub record RunsAlong (size : Size) (kind : Kind) (caller : Caller) (site : Site)
   pub runs : RunsRow size kind (before + made) at (drop more lines) rest row
 
 -- a row of a bench over those lines, of which the first begin at that bench, and from that disk on
-abbrev pub IsRow : Size → Kind → SimDisk → Bench → List Line → Compared → Row → Type 0
+abbrev pub IsRow : Size → BenchKind → SimDisk → Bench → List Line → Compared → Row → Type 0
 IsRow size kind origin first lines rest row = IsRunOf size kind origin row.caller row.number first lines rest row.left row.recovered
 
 -- ---- the rows of a point, before they are written
@@ -122,7 +122,7 @@ pub record HasChunk (size : Size) (lines after : List Line) (count : ℕ) (site 
   pub room : before + to < 2 ^ 64
 
 -- those are the rows of the call before which so many were made from the site on
-abbrev pub IsOfCall : Size → Kind → Caller → ℕ → List Line → Compared → Site → ℕ → PointRows → Type 0
+abbrev pub IsOfCall : Size → BenchKind → Caller → ℕ → List Line → Compared → Site → ℕ → PointRows → Type 0
 IsOfCall size kind caller before lines rest site done rows =
     (b : Bench) → RunsAt size b site
     → Judged (RunsAlong size kind caller site before (unpowered b) lines rest) rows (runs_of kind caller (before + done + 1))
@@ -140,7 +140,7 @@ pub record TakesPoint {W : Type 0} (contents : W → Option (List ℕ)) (old : R
 -- ---- all rows
 -- All lines from that bench on are run as they are, from that disk on, and then the runs at the points of each caller are made, or at
 -- those of a part: it has as many as it made calls in the lines.
-pub record ReportsAll {W : Type 0} (contents : W → Option (List ℕ)) (size : Size) (kind : Kind) (part : Option Part) (origin : SimDisk)
+pub record ReportsAll {W : Type 0} (contents : W → Option (List ℕ)) (size : Size) (kind : BenchKind) (part : Option Part) (origin : SimDisk)
     (first : Bench) (lines : List Line) (after : List Line) (numbers : List ℕ) (old new : Report W) : Type 0 where
   pub plain : IsPlainRun size first lines
   pub ended : SimDisk
@@ -152,7 +152,7 @@ pub record ReportsAll {W : Type 0} (contents : W → Option (List ℕ)) (size : 
   pub runs : Reports contents kind (IsRow size kind origin first lines (record { lines = after; numbers = numbers; own = own })) old new (own_of part (all_points callers counts))
 
 -- the same of the lines of a script behind its first format, where it begins with these payloads
-pub record ReportsScript {W : Type 0} (contents : W → Option (List ℕ)) (size : Size) (kind : Kind) (part : Option Part) (start : List (List ℕ)) (lines : List Line)
+pub record ReportsScript {W : Type 0} (contents : W → Option (List ℕ)) (size : Size) (kind : BenchKind) (part : Option Part) (start : List (List ℕ)) (lines : List Line)
     (after : List Line) (numbers : List ℕ) (old new : Report W) : Type 0 where
   pub begin : ℕ
   pub first : Bench

@@ -25,7 +25,7 @@ use Rattle.bench_report.specs.Views.{SimStore, SimBoard, machine_in, fault_state
 use Rattle.bench_sweep.specs.Judged.{IsRight}
 use Rattle.bench_sweep.specs.Ledgers.{Tells}
 use Rattle.bench_sweep.specs.declared.ledgers.Ledger.{Ledger}
-use Rattle.bench_sweep.specs.declared.points.Bench.TheVariants.{Cuts}
+use Rattle.bench_sweep.specs.declared.points.BenchKind.TheVariants.{Cuts}
 use Rattle.bench_sweep.specs.declared.moments.Moment.{Moment}
 use Rattle.bench_sweep.specs.declared.site.Going.{Going}
 use Rattle.bench_sweep.specs.declared.site.Site.{Site}

@@ -21,8 +21,8 @@ use Rattle.report_lines.specs.declared.printed.Answer.{Answer}
 use Rattle.bench_report.specs.Bench.{Bench}
 use Rattle.bench_report.specs.Happens.{off, unpowered, armed_with}
 use Rattle.bench_report.specs.Steps.{Run}
-use Rattle.bench_sweep.specs.declared.points.Bench.{Bench as Kind}
-use Rattle.bench_sweep.specs.declared.points.Bench.TheVariants.{Cuts, Fails}
+use Rattle.bench_sweep.specs.declared.points.BenchKind.{BenchKind}
+use Rattle.bench_sweep.specs.declared.points.BenchKind.TheVariants.{Cuts, Fails}
 use Rattle.bench_sweep.specs.declared.points.Caller.{Caller}
 use Rattle.bench_sweep.specs.declared.points.Caller.TheVariants.{Disk, Lane}
 use Rattle.bench_sweep.specs.declared.recovery.RecoveryFile.{RecoveryFile}
@@ -35,17 +35,17 @@ use Rattle.bench_sweep.specs.Took.{RunTook, StandsOn}
 
 -- ---- which run it is
 -- how many runs are made at each point
-abbrev pub runs_each : Kind → ℕ
+abbrev pub runs_each : BenchKind → ℕ
 runs_each Cuts = 5
 runs_each Fails = 1
 
 -- what the cut leaves in the run of that place at a point, from 0
-abbrev pub fill_at : Kind → ℕ → Option Fill
+abbrev pub fill_at : BenchKind → ℕ → Option Fill
 fill_at Cuts place = Some (get_or (Byte 0 ∷ Byte 255 ∷ Alternating ∷ Old ∷ New ∷ []) place (Byte 0))
 fill_at Fails place = None
 
 -- Where the callers make so many calls, the run of that number, from 1, is that one.
-pub record IsNthRun (kind : Kind) (counts : List ℕ) (number : ℕ) (run : Cell) : Type 0 where
+pub record IsNthRun (kind : BenchKind) (counts : List ℕ) (number : ℕ) (run : Cell) : Type 0 where
   pub before : List Cell
   pub later : List Cell
   pub all : all_runs kind callers counts ≡ before ++ run ∷ later
@@ -55,18 +55,18 @@ abbrev pub run_cell : RunAt → Cell
 run_cell run = cell run.caller run.call run.fill
 
 -- there is none of that number
-abbrev pub HasFewer : Kind → List ℕ → ℕ → Type 0
+abbrev pub HasFewer : BenchKind → List ℕ → ℕ → Type 0
 HasFewer kind counts number = (number ≡ 0) ⊎ (length (all_runs kind callers counts) < number)
 
 -- ---- its script
 -- what the line arms: at that call, with that fill
-abbrev pub arming_of : Kind → Caller → ℕ → Option Fill → Arming
+abbrev pub arming_of : BenchKind → Caller → ℕ → Option Fill → Arming
 arming_of Cuts Disk call fill = CutAt call (cut_fill fill)
 arming_of Cuts (Lane lane) call fill = CutLane lane call (cut_fill fill)
 arming_of Fails Disk call fill = FailAt call
 arming_of Fails (Lane lane) call fill = FailLane lane call
 
-abbrev pub arming : Kind → Cell → Arming
+abbrev pub arming : BenchKind → Cell → Arming
 arming kind run = arming_of kind run.caller run.number run.fill
 
 -- a line names that call of the caller, for a board of that size
@@ -78,12 +78,12 @@ abbrev pub IsNamed : Size → Caller → ℕ → Type 0
 IsNamed size caller call = HasCaller size caller × (call ≤ 1000000)
 
 -- behind a run with a failure power is cut
-abbrev pub cut_part : Kind → List Line
+abbrev pub cut_part : BenchKind → List Line
 cut_part Cuts = []
 cut_part Fails = lines.Cut (cut_fill None) ∷ []
 
 -- the lines in front of what is armed, those that then run, and those behind its end
-abbrev pub row_lines : Kind → List Line → Arming → List Line → List Line → List Line
+abbrev pub row_lines : BenchKind → List Line → Arming → List Line → List Line → List Line
 row_lines kind front armed back behind = front ++ lines.Arm armed ∷ back ++ cut_part kind ++ behind
 
 -- what runs behind a row: the lines of a recovery that a bench takes, or a power-on that keeps the image
@@ -95,7 +95,7 @@ IsBehind size (Some file) behind =
 
 -- With what the bench does in that run armed, so many lines run, and no memory is refused: with a cut up to the one within which
 -- it strikes, with a failure all.
-pub record RunsArmed (size : Size) (kind : Kind) (run : Cell) (b : Bench) (those : List Line) (count : ℕ) : Type 0 where
+pub record RunsArmed (size : Size) (kind : BenchKind) (run : Cell) (b : Bench) (those : List Line) (count : ℕ) : Type 0 where
   pub few : count ≤ length those
   pub answers : List Answer
   pub end : Bench
@@ -104,7 +104,7 @@ pub record RunsArmed (size : Size) (kind : Kind) (run : Cell) (b : Bench) (those
   pub refused_none : WasRefusedNoMemory end
 
 -- a run of so many lines, of all, ended at that bench, where power is still to be taken
-abbrev pub IsEnded : Kind → ℕ → ℕ → Bench → Type 0
+abbrev pub IsEnded : BenchKind → ℕ → ℕ → Bench → Type 0
 IsEnded Cuts count all b = (b.fault_state.struck ≡ true) × (b.fault_state.own ≡ 0)
 IsEnded Fails count all b = (count ≡ all) × (b.fault_state.struck ≡ false) × (b.fault_state.own ≡ 0) × (b.fault_state.armed ≡ Unarmed)
 
@@ -115,7 +115,7 @@ pub record WroteScript (script : Script) (old new : Option (List ℕ)) : Type 0 
   pub text : Appends old new (script_text script ++ 10 ∷ [])
 
 -- The lines run as they are, from that disk on; by the calls that the callers made in them, the run of that number is that one.
-pub record HasRun (kind : Kind) (size : Size) (origin : SimDisk) (b : Bench) (those : List Line) (number : ℕ) (run : Cell) : Type 0 where
+pub record HasRun (kind : BenchKind) (size : Size) (origin : SimDisk) (b : Bench) (those : List Line) (number : ℕ) (run : Cell) : Type 0 where
   pub plain : IsPlainRun size b those
   pub ended : SimDisk
   pub took : RunTook size those origin ended
@@ -124,7 +124,7 @@ pub record HasRun (kind : Kind) (size : Size) (origin : SimDisk) (b : Bench) (th
   pub nth : IsNthRun kind counts number run
 
 -- there is none of that number
-pub record HasNoRun (kind : Kind) (size : Size) (origin : SimDisk) (b : Bench) (those : List Line) (number : ℕ) : Type 0 where
+pub record HasNoRun (kind : BenchKind) (size : Size) (origin : SimDisk) (b : Bench) (those : List Line) (number : ℕ) : Type 0 where
   pub plain : IsPlainRun size b those
   pub ended : SimDisk
   pub took : RunTook size those origin ended
@@ -133,7 +133,7 @@ pub record HasNoRun (kind : Kind) (size : Size) (origin : SimDisk) (b : Bench) (
   pub fewer : HasFewer kind counts number
 
 -- The row of that number was written: its lines in front of it, those from that bench on that then run, and those behind its end.
-pub record ShowsFrom (kind : Kind) (size : Size) (origin : SimDisk) (b : Bench) (front those behind : List Line) (number : ℕ)
+pub record ShowsFrom (kind : BenchKind) (size : Size) (origin : SimDisk) (b : Bench) (front those behind : List Line) (number : ℕ)
     (old new : Option (List ℕ)) : Type 0 where
   pub run : Cell
   pub has : HasRun kind size origin b those number run
@@ -142,26 +142,26 @@ pub record ShowsFrom (kind : Kind) (size : Size) (origin : SimDisk) (b : Bench) 
   pub written : WroteScript (record { size = size; lines = row_lines kind front (arming kind run) (take count those) behind }) old new
 
 -- the row has more lines than a script may have
-pub record IsTooLong (kind : Kind) (size : Size) (b : Bench) (front those behind : List Line) (run : Cell) : Type 0 where
+pub record IsTooLong (kind : BenchKind) (size : Size) (b : Bench) (front those behind : List Line) (run : Cell) : Type 0 where
   pub count : ℕ
   pub armed : RunsArmed size kind run b those count
   pub long : 65535 < length (row_lines kind front (arming kind run) (take count those) behind)
 
 -- such a run is not written: no line of a script arms its call, or it is too long
-pub record IsNotWritten (kind : Kind) (size : Size) (origin : SimDisk) (b : Bench) (front those behind : List Line) (number : ℕ)
+pub record IsNotWritten (kind : BenchKind) (size : Size) (origin : SimDisk) (b : Bench) (front those behind : List Line) (number : ℕ)
     : Type 0 where
   pub run : Cell
   pub has : HasRun kind size origin b those number run
   pub why : (IsArmingInRange size (arming kind run) → ⊥) ⊎ IsTooLong kind size b front those behind run
 
 -- there is no such row to write: the bench has fewer runs, or that run is not written
-abbrev pub ShowsNone : Kind → Size → SimDisk → Bench → List Line → List Line → List Line → ℕ → Type 0
+abbrev pub ShowsNone : BenchKind → Size → SimDisk → Bench → List Line → List Line → List Line → ℕ → Type 0
 ShowsNone kind size origin b front those behind number =
     HasNoRun kind size origin b those number ⊎ IsNotWritten kind size origin b front those behind number
 
 -- `--show`: the row of that number was written, behind the lines of which the last formatted the disk. Its call, and those of the
 -- script's own run behind them, are counted from the origin, the disk of the board there.
-pub record ShownRow (kind : Kind) (size : Size) (start : List (List ℕ)) (those behind : List Line) (number : ℕ) (old new : Option (List ℕ))
+pub record ShownRow (kind : BenchKind) (size : Size) (start : List (List ℕ)) (those behind : List Line) (number : ℕ) (old new : Option (List ℕ))
     : Type 0 where
   pub begin : ℕ
   pub first : Bench
@@ -170,7 +170,7 @@ pub record ShownRow (kind : Kind) (size : Size) (start : List (List ℕ)) (those
   pub stands : StandsOn size (off first) origin
   pub shows : ShowsFrom kind size origin (unpowered first) (take begin those) (drop begin those) behind number old new
 
-pub record NoRow (kind : Kind) (size : Size) (start : List (List ℕ)) (those behind : List Line) (number : ℕ) : Type 0 where
+pub record NoRow (kind : BenchKind) (size : Size) (start : List (List ℕ)) (those behind : List Line) (number : ℕ) : Type 0 where
   pub begin : ℕ
   pub first : Bench
   pub format : IsFormatted size start (take begin those) first
@@ -184,12 +184,12 @@ NoneBehind size None e = ⊥
 NoneBehind size (Some file) e = (e ≡ NotPlain) ⊎ IsFaulty size file.bytes.now e
 
 -- of a script that has no fault, with that recovery behind the row
-abbrev pub IsRowOf : Kind → ℕ → List (List ℕ) → List ℕ → Option RecoveryFile → Option (List ℕ) → Option (List ℕ) → Type 0
+abbrev pub IsRowOf : BenchKind → ℕ → List (List ℕ) → List ℕ → Option RecoveryFile → Option (List ℕ) → Option (List ℕ) → Type 0
 IsRowOf kind number start script recovery old new =
     (said : Script) × (behind : List Line) × (script_of script ≡ Ok said) × IsBehind said.size recovery behind
     × ShownRow kind said.size start said.lines behind number old new
 
-abbrev pub NoRowOf : Kind → ℕ → List (List ℕ) → List ℕ → Option RecoveryFile → Type 0
+abbrev pub NoRowOf : BenchKind → ℕ → List (List ℕ) → List ℕ → Option RecoveryFile → Type 0
 NoRowOf kind number start script recovery =
     (said : Script) × (behind : List Line) × (script_of script ≡ Ok said) × IsBehind said.size recovery behind
     × NoRow kind said.size start said.lines behind number

@@ -14,13 +14,13 @@ use Rattle.board_model.specs.declared.refusal.Refusal.TheVariants.{NotPlain}
 use Rattle.script_lang.specs.Lines.{IsLineInRange}
 use Rattle.script_lang.specs.Scripts.{script_of, Script}
 use Rattle.script_lang.specs.declared.line.Line.{Line}
-use Rattle.bench_report.specs.Bench.{Bench as ModelBench}
+use Rattle.bench_report.specs.Bench.{Bench}
 use Rattle.bench_report.specs.Happens.{off, unpowered}
 use Rattle.bench_report.specs.Deeds.{ArmFault, CutPower, WritePast, Deed, Format, Beside, deed_of}
 use Rattle.bench_sweep.specs.declared.judges.Sweep.{Sweep}
 use Rattle.bench_sweep.specs.declared.plan.Plan.{Plan}
-use Rattle.bench_sweep.specs.declared.points.Bench.{Bench}
-use Rattle.bench_sweep.specs.declared.points.Bench.TheVariants.{Cuts, Fails}
+use Rattle.bench_sweep.specs.declared.points.BenchKind.{BenchKind}
+use Rattle.bench_sweep.specs.declared.points.BenchKind.TheVariants.{Cuts, Fails}
 use Rattle.bench_sweep.specs.declared.points.Caller.{Caller}
 use Rattle.bench_sweep.specs.declared.points.Caller.TheVariants.{Disk, Lane}
 use Rattle.bench_sweep.specs.declared.rows.Row.{Row}
@@ -75,13 +75,13 @@ abbrev pub cell_of : Row → Cell
 cell_of r = cell r.caller r.number r.fill
 
 -- the runs of a point, in order
-abbrev pub runs_of : Bench → Caller → ℕ → List Cell
+abbrev pub runs_of : BenchKind → Caller → ℕ → List Cell
 runs_of Cuts caller number =
     map (λ (fill : Fill). cell caller number (Some fill)) (Byte 0 ∷ Byte 255 ∷ Alternating ∷ Old ∷ New ∷ [])
 runs_of Fails caller number = cell caller number None ∷ []
 
 -- the runs of so many points of a caller, the first of which has that number
-abbrev pub runs_from : Bench → Caller → ℕ → ℕ → List Cell
+abbrev pub runs_from : BenchKind → Caller → ℕ → ℕ → List Cell
 runs_from bench caller first zero = []
 runs_from bench caller first (suc n) = runs_from bench caller first n ++ runs_of bench caller (counted first n)
 
@@ -90,7 +90,7 @@ abbrev pub callers : List Caller
 callers = Disk ∷ Lane 0 ∷ Lane 1 ∷ Lane 2 ∷ Lane 3 ∷ []
 
 -- the runs at the points of these callers, of each so many, from number 1 on
-abbrev pub all_runs : Bench → List Caller → List ℕ → List Cell
+abbrev pub all_runs : BenchKind → List Caller → List ℕ → List Cell
 all_runs bench [] ns = []
 all_runs bench (caller ∷ more) [] = []
 all_runs bench (caller ∷ more) (n ∷ ns) = runs_from bench caller 1 n ++ all_runs bench more ns
@@ -116,7 +116,7 @@ all_points (caller ∷ more) [] = []
 all_points (caller ∷ more) (n ∷ ns) = points_from caller 1 n ++ all_points more ns
 
 -- the runs of these points, in order
-abbrev pub runs_at : Bench → List Spot → List Cell
+abbrev pub runs_at : BenchKind → List Spot → List Cell
 runs_at bench spots = flat_map (λ (s : Spot). runs_of bench s.caller s.number) spots
 
 -- ---- what was written
@@ -144,7 +144,7 @@ total [] = 0
 total (n ∷ ns) = n + total ns
 
 -- which runs a bench makes where the callers make so many calls: those of all points, or of the points of a part alone
-abbrev pub own_runs : Bench → Option Part → List ℕ → List Cell
+abbrev pub own_runs : BenchKind → Option Part → List ℕ → List Cell
 own_runs bench None counts = all_runs bench callers counts
 own_runs bench (Some part) counts = runs_at bench (part_of part (all_points callers counts))
 
@@ -154,12 +154,12 @@ own_total None counts = total counts
 own_total (Some part) counts = length (part_of part (all_points callers counts))
 
 -- the rows of the first k parts of so many, one part behind another
-abbrev pub joined_runs : Bench → ℕ → ℕ → List ℕ → List Cell
+abbrev pub joined_runs : BenchKind → ℕ → ℕ → List ℕ → List Cell
 joined_runs bench zero of counts = []
 joined_runs bench (suc k) of counts = joined_runs bench k of counts ++ runs_at bench (piece (suc k) of (all_points callers counts))
 
 -- the whole of a bench
-abbrev pub whole : Bench → Plan
+abbrev pub whole : BenchKind → Plan
 whole bench = record { bench = bench; part = None; quiet = false }
 
 -- Of each caller as many points as it made calls in the script's own run behind its first format, from the origin, the disk of the
@@ -168,7 +168,7 @@ whole bench = record { bench = bench; part = None; quiet = false }
 pub record WroteAll (plan : Plan) (size : Size) (start : List (List ℕ)) (lines : List Line) (old now : Option (List ℕ)) (sweep : Sweep)
     : Type 0 where
   pub begin : ℕ
-  pub first : ModelBench
+  pub first : Bench
   pub format : IsFormatted size start (take begin lines) first
   pub plain : IsPlainRun size (unpowered first) (drop begin lines)
   pub origin : SimDisk
@@ -191,7 +191,7 @@ pub record WroteAll (plan : Plan) (size : Size) (start : List (List ℕ)) (lines
 pub record WroteRows (plan : Plan) (size : Size) (start : List (List ℕ)) (lines after : List Line) (numbers : List ℕ)
     (old now : Option (List ℕ)) (done : Recovered) : Type 0 where
   pub begin : ℕ
-  pub first : ModelBench
+  pub first : Bench
   pub format : IsFormatted size start (take begin lines) first
   pub plain : IsPlainRun size (unpowered first) (drop begin lines)
   pub own : List Printed

@@ -2,7 +2,7 @@
 
 ghost use Rattle.std.specs.Prelude.{◌≡◌, ◌≤◌, ◌<◌, ◌+◌, ◌^◌, length, IfOk, IfErr};
 ghost use Rattle.board_model.specs.declared.refusal.Refusal.TheVariants.{Memory};
-ghost use Rattle.bench_report.specs.Bench.{Bench as ModelBench};
+ghost use Rattle.bench_report.specs.Bench.{Bench};
 ghost use Rattle.bench_sweep.specs.Recovers.{compared};
 ghost use Rattle.bench_sweep.specs.Reports.{Judged, RunsAlong};
 ghost use Rattle.bench_sweep.specs.Along.{CameTold};
@@ -45,8 +45,8 @@ fn mark_next<C: Crew>(
     requires lines { AreSwept runner.now.setting.shape.now runner.now.lines.now }
     requires order { moment.count ≤ to }
     requires few { to ≤ length runner.now.lines.now }
-    requires sits { (b : ModelBench) × CameTold runner.now.setting.shape.now b runner.now.lines.now site.now moment }
-    ensures sits { IfOk result (λ at. (b : ModelBench)
+    requires sits { (b : Bench) × CameTold runner.now.setting.shape.now b runner.now.lines.now site.now moment }
+    ensures sits { IfOk result (λ at. (b : Bench)
         × CameTold runner.now.setting.shape.now b runner.now.lines.now site.now at) }
     ensures few { IfOk result (λ at. at.count ≤ to) }
     ensures refused { IfErr result (λ e. e ≡ Memory) }
@@ -121,11 +121,11 @@ impl<'a, 'b, C: Crew> RunsAtCalls<'a, 'b, C> {
         requires lines { AreSwept self.now.runner.now.setting.shape.now self.now.runner.now.lines.now }
         requires recovery { AreSwept self.now.runner.now.setting.shape.now self.now.runner.now.recovery.lines.now }
         requires room { self.now.before + done + 1 < 2 ^ 64 }
-        requires sits { (b : ModelBench) × CameTold self.now.runner.now.setting.shape.now b self.now.runner.now.lines.now self.now.site.now moment.old }
-        ensures stays { (b : ModelBench) → CameTold self.now.runner.now.setting.shape.now b self.now.runner.now.lines.now self.now.site.now moment.old
+        requires sits { (b : Bench) × CameTold self.now.runner.now.setting.shape.now b self.now.runner.now.lines.now self.now.site.now moment.old }
+        ensures stays { (b : Bench) → CameTold self.now.runner.now.setting.shape.now b self.now.runner.now.lines.now self.now.site.now moment.old
             → CameTold self.now.runner.now.setting.shape.now b self.now.runner.now.lines.now self.now.site.now moment.new }
         ensures count { moment.new.count ≡ moment.old.count }
-        ensures judged { IfOk result (λ made. (b : ModelBench)
+        ensures judged { IfOk result (λ made. (b : Bench)
             → CameTold self.now.runner.now.setting.shape.now b self.now.runner.now.lines.now self.now.site.now moment.old
             → Judged (RunsAlong self.now.runner.now.setting.shape.now self.now.runner.now.bench self.now.caller self.now.site.now self.now.before b
             self.now.runner.now.lines.now (compared self.now.runner.now.recovery)) made
@@ -160,12 +160,12 @@ impl<'a, 'b, C: Crew> RunsAtCalls<'a, 'b, C> {
         requires lines { AreSwept self.now.runner.now.setting.shape.now self.now.runner.now.lines.now }
         requires recovery { AreSwept self.now.runner.now.setting.shape.now self.now.runner.now.recovery.lines.now }
         requires room { self.now.before + done + 1 < 2 ^ 64 }
-        requires sits { (b : ModelBench) × CameTold self.now.runner.now.setting.shape.now b self.now.runner.now.lines.now self.now.site.now moment }
+        requires sits { (b : Bench) × CameTold self.now.runner.now.setting.shape.now b self.now.runner.now.lines.now self.now.site.now moment }
         ensures few { IfOk result (λ did. did.0.count ≤ self.now.count) }
-        ensures came { IfOk result (λ did. (b : ModelBench)
+        ensures came { IfOk result (λ did. (b : Bench)
             → CameTold self.now.runner.now.setting.shape.now b self.now.runner.now.lines.now self.now.site.now moment
             → CameTold self.now.runner.now.setting.shape.now b self.now.runner.now.lines.now self.now.site.now did.0) }
-        ensures judged { IfOk result (λ did. (b : ModelBench)
+        ensures judged { IfOk result (λ did. (b : Bench)
             → CameTold self.now.runner.now.setting.shape.now b self.now.runner.now.lines.now self.now.site.now moment
             → Judged (RunsAlong self.now.runner.now.setting.shape.now self.now.runner.now.bench self.now.caller self.now.site.now self.now.before b
             self.now.runner.now.lines.now (compared self.now.runner.now.recovery)) did.1

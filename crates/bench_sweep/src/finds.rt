@@ -31,7 +31,7 @@ use store::{Store, whole_images_load};
 
 /// The state found with its memory, where it was found and its image loaded; and what the power-on said.
 #[derive(Drop)]
-struct Found {
+struct FoundPlain {
     plain: Option<Plain>,
     left: Answer,
 }
@@ -135,7 +135,7 @@ fn sizes(shape: &Shape)
 
 /// Powers a board on that keeps its image, and looks what was found. Its slots are empty, whatever the script's are:
 /// it makes no turn, and is not refused for a payload that is longer than RAM. Refused `Memory` alone.
-fn look_at(alloc: Global, shape: &Shape, off: OffDisk) -> Result<Found, Refusal>
+fn look_at(alloc: Global, shape: &Shape, off: OffDisk) -> Result<FoundPlain, Refusal>
     ensures finds { IfOk result (λ found. (b : Bench) (slots : List (List ℕ)) (ledger : Ledger)
         → LeftOff shape.now b off slots ledger → Finds ledger found.plain found.left) }
     ensures says { IfOk result (λ found. (b : Bench) → OffIs shape.now b off.disk
@@ -147,7 +147,7 @@ fn look_at(alloc: Global, shape: &Shape, off: OffDisk) -> Result<Found, Refusal>
     let empty = Payloads::new(alloc);
     let (power, left, _now) = power_on(alloc, BootMode::Keep, off, &empty);
     let plain = found_by(alloc, power, left.found, left.line)?;
-    Ok(Found { plain, left })
+    Ok(FoundPlain { plain, left })
 }
 
 /// Counts a run that left that disk, and answers what the power-on after it said. Refused `Memory` alone.

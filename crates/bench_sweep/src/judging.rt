@@ -9,7 +9,7 @@ ghost use Rattle.bench_report.specs.Views.{sim_log_of};
 ghost use Rattle.bench_sweep.specs.declared.rows.Row.{Row as RowOf};
 ghost use Rattle.board_model.specs.Shapes.{Size};
 ghost use Rattle.board_model.specs.declared.refusal.Refusal.TheVariants.{Memory};
-ghost use Rattle.bench_report.specs.Bench.{Bench as ModelBench};
+ghost use Rattle.bench_report.specs.Bench.{Bench};
 ghost use Rattle.bench_report.specs.Happens.{off};
 ghost use Rattle.bench_sweep.specs.Runs.{Runs, RunsAt, RunsCalm, Sits, SitsCalm};
 ghost use Rattle.bench_sweep.specs.Swept.{AreSwept, cell, runs_of};
@@ -21,7 +21,7 @@ ghost use Rattle.bench_report.specs.Examined.{OpensOf};
 
 use crate::finds::count_run;
 use crate::judges::Sweep;
-use crate::points::{Bench, FILLS, Point, cut_fill};
+use crate::points::{BenchKind, FILLS, Point, cut_fill};
 use crate::recovery::Differs;
 use crate::rows::Row;
 use crate::runner::Runner;
@@ -69,7 +69,7 @@ fn recovered<C: Crew>(
     requires lines { AreSwept runner.now.setting.shape.now runner.now.recovery.lines.now }
     requires sits { Sits runner.now.setting.shape.now site.now }
     requires exact { OpensOf (cut_content site.now.off.disk fill) left.now }
-    ensures tells { IfOk result (λ differs. (b : ModelBench)
+    ensures tells { IfOk result (λ differs. (b : Bench)
         → RunsAt runner.now.setting.shape.now b site.now
         → IsRecovered runner.now.setting.shape.now b (compared runner.now.recovery) left.now differs) }
     ensures over { IfOk result (λ differs. ToldOver runner.now.recovery.own.now runner.now.setting.shape.now
@@ -99,7 +99,7 @@ fn judge_run<C: Crew>(
 ) -> Result<(), Refusal>
     requires lines { AreSwept runner.now.setting.shape.now runner.now.recovery.lines.now }
     requires sits { Sits runner.now.setting.shape.now site.now }
-    ensures kept { OnOk result ((b : ModelBench)
+    ensures kept { OnOk result ((b : Bench)
         → RunsAt runner.now.setting.shape.now b site.now
         → Keeps (IsLeftBy runner.now.setting.shape.now b site.now.off.disk (compared runner.now.recovery)) made.old made.new (cell point.caller point.number fill)) }
     ensures refused { IfErr result (λ e. e ≡ Memory) }
@@ -147,10 +147,10 @@ fn judge_fill<C: Crew>(
 ) -> Result<(), Refusal>
     requires lines { AreSwept runner.now.setting.shape.now runner.now.recovery.lines.now }
     requires sits { Sits runner.now.setting.shape.now site.now }
-    requires judged { (b : ModelBench)
+    requires judged { (b : Bench)
         → RunsAt runner.now.setting.shape.now b site.now
         → All (IsLeftBy runner.now.setting.shape.now b site.now.off.disk (compared runner.now.recovery)) made.old.rows.items }
-    ensures kept { OnOk result ((b : ModelBench)
+    ensures kept { OnOk result ((b : Bench)
         → RunsAt runner.now.setting.shape.now b site.now
         → Keeps (IsLeftBy runner.now.setting.shape.now b site.now.off.disk (compared runner.now.recovery)) made.old made.new (cell point.caller point.number (Some fill))) }
     ensures refused { IfErr result (λ e. e ≡ Memory) }
@@ -177,9 +177,9 @@ fn judge_each_fill<C: Crew>(
 ) -> Result<PointRows, Refusal>
     requires lines { AreSwept runner.now.setting.shape.now runner.now.recovery.lines.now }
     requires sits { Sits runner.now.setting.shape.now site.now }
-    ensures judged { IfOk result (λ made. (b : ModelBench)
+    ensures judged { IfOk result (λ made. (b : Bench)
         → RunsAt runner.now.setting.shape.now b site.now
-        → Judged (IsLeftBy runner.now.setting.shape.now b site.now.off.disk (compared runner.now.recovery)) made (runs_of Bench.Cuts point.caller point.number)) }
+        → Judged (IsLeftBy runner.now.setting.shape.now b site.now.off.disk (compared runner.now.recovery)) made (runs_of BenchKind.Cuts point.caller point.number)) }
     ensures refused { IfErr result (λ e. e ≡ Memory) }
 {
     let mut made = PointRows::none(runner.setting.alloc);
@@ -199,13 +199,13 @@ fn run_to_cut<C: Crew>(
     requires lines { AreSwept runner.now.setting.shape.now runner.now.lines.now }
     requires recovery { AreSwept runner.now.setting.shape.now runner.now.recovery.lines.now }
     requires sits { SitsCalm runner.now.setting.shape.now from }
-    ensures judged { IfOk result (λ made. (b : ModelBench)
+    ensures judged { IfOk result (λ made. (b : Bench)
         → RunsCalm runner.now.setting.shape.now b from.power from.payloads from.ledger
-        → Judged (RunsRow runner.now.setting.shape.now Bench.Cuts point.before b runner.now.lines.now (compared runner.now.recovery)) made
-        (runs_of Bench.Cuts point.caller point.number)) }
+        → Judged (RunsRow runner.now.setting.shape.now BenchKind.Cuts point.before b runner.now.lines.now (compared runner.now.recovery)) made
+        (runs_of BenchKind.Cuts point.caller point.number)) }
     ensures refused { IfErr result (λ e. e ≡ Memory) }
 {
-    let armed = from.armed(Bench::Cuts, point);
+    let armed = from.armed(BenchKind::Cuts, point);
     let went = run_lines(&runner.setting, runner.lines, false, armed)?;
     // The plain run made the call. Only one that was refused memory can have missed it.
     let left = turn_off(went.going, true)?;
@@ -221,13 +221,13 @@ fn run_past_failure<C: Crew>(
     requires lines { AreSwept runner.now.setting.shape.now runner.now.lines.now }
     requires recovery { AreSwept runner.now.setting.shape.now runner.now.recovery.lines.now }
     requires sits { SitsCalm runner.now.setting.shape.now from }
-    ensures judged { IfOk result (λ made. (b : ModelBench)
+    ensures judged { IfOk result (λ made. (b : Bench)
         → RunsCalm runner.now.setting.shape.now b from.power from.payloads from.ledger
-        → Judged (RunsRow runner.now.setting.shape.now Bench.Fails point.before b runner.now.lines.now (compared runner.now.recovery)) made
-        (runs_of Bench.Fails point.caller point.number)) }
+        → Judged (RunsRow runner.now.setting.shape.now BenchKind.Fails point.before b runner.now.lines.now (compared runner.now.recovery)) made
+        (runs_of BenchKind.Fails point.caller point.number)) }
     ensures refused { IfErr result (λ e. e ≡ Memory) }
 {
-    let armed = from.armed(Bench::Fails, point);
+    let armed = from.armed(BenchKind::Fails, point);
     let went = run_lines(&runner.setting, runner.lines, false, armed)?;
     let left = turn_off_failed(went, runner.lines.len())?;
     let mut made = PointRows::none(runner.setting.alloc);
@@ -238,7 +238,7 @@ fn run_past_failure<C: Crew>(
 /// Turns the board off behind lines in which an armed cut struck, or none did, as is said. Refused `Memory` where that is
 /// not so, or where the disk's record found none.
 pub fn turn_off(going: Going, struck: bool) -> Result<Site, Refusal>
-    ensures runs { IfOk result (λ site. (size : Size) (b : ModelBench)
+    ensures runs { IfOk result (λ site. (size : Size) (b : Bench)
         → Runs size b going.power going.payloads going.ledger
         → (b.fault_state.struck ≡ struck) × (b.fault_state.own ≡ 0) × RunsAt size (off b) site) }
     ensures disk { IfOk result (λ site. site.off.disk ≡ disk_at going.power) }
@@ -258,7 +258,7 @@ pub fn turn_off(going: Going, struck: bool) -> Result<Site, Refusal>
 /// is. As with a cut, only a run that was refused memory can have missed the call.
 pub fn turn_off_failed(went: Went, all: usize) -> Result<Site, Refusal>
     ensures whole { OnOk result (all ≤ went.count) }
-    ensures runs { IfOk result (λ site. (size : Size) (b : ModelBench)
+    ensures runs { IfOk result (λ site. (size : Size) (b : Bench)
         → Runs size b went.going.power went.going.payloads went.going.ledger
         → (b.fault_state.struck ≡ false) × (b.fault_state.own ≡ 0) × (b.fault_state.armed ≡ Unarmed) × RunsAt size (off b) site) }
     ensures refused { IfErr result (λ e. e ≡ Memory) }
@@ -286,14 +286,14 @@ pub fn run_at_point<C: Crew>(
     requires lines { AreSwept runner.now.setting.shape.now runner.now.lines.now }
     requires recovery { AreSwept runner.now.setting.shape.now runner.now.recovery.lines.now }
     requires sits { SitsCalm runner.now.setting.shape.now from }
-    ensures judged { IfOk result (λ made. (b : ModelBench)
+    ensures judged { IfOk result (λ made. (b : Bench)
         → RunsCalm runner.now.setting.shape.now b from.power from.payloads from.ledger
         → Judged (RunsRow runner.now.setting.shape.now runner.now.bench point.before b runner.now.lines.now (compared runner.now.recovery)) made
         (runs_of runner.now.bench point.caller point.number)) }
     ensures refused { IfErr result (λ e. e ≡ Memory) }
 {
     match runner.bench {
-        Bench::Cuts => {
+        BenchKind::Cuts => {
             let front = Runner {
                 setting: runner.setting,
                 bench: runner.bench,
@@ -302,6 +302,6 @@ pub fn run_at_point<C: Crew>(
             };
             run_to_cut(&front, from, point)
         }
-        Bench::Fails => run_past_failure(runner, from, point),
+        BenchKind::Fails => run_past_failure(runner, from, point),
     }
 }

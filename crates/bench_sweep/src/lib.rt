@@ -30,7 +30,7 @@ pub use apart::line_apart;
 pub use judges::{Sweep, judge};
 pub use ledgers::Ledger;
 pub use plan::Plan;
-pub use points::Bench;
+pub use points::BenchKind;
 pub use recovery::RecoveryFile;
 pub use shown::{WantedRow, show_row};
 pub use sweeps::{Recovered, parts_make_a_bench, run_bench, run_bench_recovered};

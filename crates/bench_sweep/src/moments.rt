@@ -14,7 +14,7 @@ ghost use Rattle.bench_sweep.specs.Swept.{AreSwept};
 ghost use Rattle.script_lang.specs.declared.line.Line.{Line as ScriptLine};
 ghost use Rattle.simdisk.specs.declared.SimDisk.{SimDisk};
 
-use crate::points::{Bench as Kind, Caller, Point};
+use crate::points::{BenchKind, Caller, Point};
 use crate::site::{Going, Site};
 use crate::sites::run_lines;
 use bench_report::{Setting, arm_power, copy_power, disk_of};
@@ -55,7 +55,7 @@ impl Going {
     }
 
     /// The run with what a bench of that kind does at the point armed on its disk.
-    pub fn armed(self, bench: Kind, point: Point) -> Going
+    pub fn armed(self, bench: BenchKind, point: Point) -> Going
         ensures runs { (size : Size) (b : Bench) → RunsCalm size b self.power self.payloads self.ledger
             → RunsCalm size (armed_with (fault_at bench point.caller point.call) b) result.power result.payloads result.ledger }
         ensures ledger { result.ledger ≡ self.ledger }

@@ -47,21 +47,21 @@ impl Caller {
 
 /// What is done at each point.
 #[derive(Clone, Copy, Drop)]
-pub enum Bench {
+pub enum BenchKind {
     /// Power is cut.
     Cuts,
     /// The call fails, and power stays.
     Fails,
 }
 
-impl Bench {
+impl BenchKind {
     /// What the bench does at the caller's call of that number from now on.
     pub fn fault_at(self, caller: Caller, call: u64) -> ArmedFault
         ensures { result ≡ fault_at self caller call }
     {
         match self {
-            Bench::Cuts => caller.cut_at(call),
-            Bench::Fails => caller.fail_at(call),
+            BenchKind::Cuts => caller.cut_at(call),
+            BenchKind::Fails => caller.fail_at(call),
         }
     }
 }

@@ -8,7 +8,7 @@ ghost use Rattle.board_model.specs.declared.refusal.Refusal.TheVariants.{BadShap
 ghost use Rattle.script_lang.specs.Armings.{IsArmingInRange};
 ghost use Rattle.script_lang.specs.Lines.{IsLineInRange};
 ghost use Rattle.script_lang.specs.Scripts.{script_of, Script as Said};
-ghost use Rattle.bench_report.specs.Bench.{Bench as ModelBench};
+ghost use Rattle.bench_report.specs.Bench.{Bench};
 ghost use Rattle.bench_report.specs.Happens.{unpowered};
 ghost use Rattle.bench_sweep.specs.Points.{MadeCalls};
 ghost use Rattle.bench_sweep.specs.Runs.{Runs, RunsAt, Sits};
@@ -17,7 +17,7 @@ ghost use Rattle.bench_sweep.specs.Swept.{callers, AreSwept, IsNotPlain, IsPlain
 
 use crate::begins::run_to_format;
 use crate::judging::{turn_off, turn_off_failed};
-use crate::points::{Bench, CALLERS, Caller, FILLS, Point, RunAt, cut_fill};
+use crate::points::{BenchKind, CALLERS, Caller, FILLS, Point, RunAt, cut_fill};
 use crate::recovery::{Recovery, RecoveryFile, numbers_of_looks, recovery_lines};
 use crate::runner::Runner;
 use crate::site::{Going, Site};
@@ -43,30 +43,30 @@ const LAST_CALL: u64 = 1_000_000;
 /// Which row of a bench is written as a script.
 #[derive(Clone, Copy, Drop)]
 pub struct WantedRow {
-    pub bench: Bench,
+    pub bench: BenchKind,
     /// Its number among the runs of the report, from 1 on.
     pub number: u64,
 }
 
 /// At which point of a bench the run of that place is, and which of the point's it is, both from 0 on.
-fn point_of(bench: Bench, place: u64) -> (u64, u64)
+fn point_of(bench: BenchKind, place: u64) -> (u64, u64)
     ensures value { place ≡ result.0 * runs_each bench + result.1 }
     ensures range { result.1 < runs_each bench }
 {
     match bench {
-        Bench::Cuts => (place / 5, place % 5),
-        Bench::Fails => (place, 0),
+        BenchKind::Cuts => (place / 5, place % 5),
+        BenchKind::Fails => (place, 0),
     }
 }
 
 /// What the cut leaves in the run of that place at a point. A run with a failure has no fill.
-fn fill_at(bench: Bench, place: u64) -> Option<Fill>
+fn fill_at(bench: BenchKind, place: u64) -> Option<Fill>
     requires { place < runs_each bench }
     ensures { result ≡ fill_at bench place }
 {
     match bench {
-        Bench::Cuts => Some(FILLS[place as usize]),
-        Bench::Fails => None,
+        BenchKind::Cuts => Some(FILLS[place as usize]),
+        BenchKind::Fails => None,
     }
 }
 
@@ -84,7 +84,7 @@ fn counts_of(alloc: Global, from: &Site, to: &Site) -> Result<Vec<u64>, Refusal>
 }
 
 /// The run of that number, where the callers made so many calls.
-fn run_of_number(bench: Bench, counts: &[u64], number: u64) -> Option<RunAt>
+fn run_of_number(bench: BenchKind, counts: &[u64], number: u64) -> Option<RunAt>
     requires { length counts.now ≡ 5 }
     ensures { MatchOption result (HasFewer bench counts.now number) (λ run. IsNthRun bench counts.now number (run_cell run)) }
 {
@@ -109,10 +109,10 @@ fn run_of_number(bench: Bench, counts: &[u64], number: u64) -> Option<RunAt>
 fn find_run<C: Crew>(runner: &Runner<'_, C>, site: &Site, number: u64) -> Result<RunAt, Refusal>
     requires lines { AreSwept runner.now.setting.shape.now runner.now.lines.now }
     requires sits { Sits runner.now.setting.shape.now site.now }
-    ensures found { IfOk result (λ run. (b : ModelBench)
+    ensures found { IfOk result (λ run. (b : Bench)
         → RunsAt runner.now.setting.shape.now b site.now
         → HasRun runner.now.bench runner.now.setting.shape.now site.now.off.disk (unpowered b) runner.now.lines.now number (run_cell run)) }
-    ensures refused { IfErr result (λ e. (e ≡ Memory) ⊎ ((e ≡ BadShape) × ((b : ModelBench)
+    ensures refused { IfErr result (λ e. (e ≡ Memory) ⊎ ((e ≡ BadShape) × ((b : Bench)
         → RunsAt runner.now.setting.shape.now b site.now
         → HasNoRun runner.now.bench runner.now.setting.shape.now site.now.off.disk (unpowered b) runner.now.lines.now number))) }
 {
@@ -139,7 +139,7 @@ fn is_named(shape: &Shape, run: RunAt) -> bool
 }
 
 /// What the line arms in that run, of a board of that shape.
-fn arming_at(shape: &Shape, bench: Bench, run: RunAt) -> Arming
+fn arming_at(shape: &Shape, bench: BenchKind, run: RunAt) -> Arming
     requires size { IsSize shape.now }
     requires named { IsNamed shape.now run.caller run.call }
     ensures { result ≡ arming bench (run_cell run) }
@@ -148,11 +148,11 @@ fn arming_at(shape: &Shape, bench: Bench, run: RunAt) -> Arming
     let call = run.call as u32;
     let fill = cut_fill(run.fill);
     match bench {
-        Bench::Cuts => match run.caller {
+        BenchKind::Cuts => match run.caller {
             Caller::Disk => Arming::CutAt(call, fill),
             Caller::Lane(lane) => Arming::CutLane(lane as u32, call, fill),
         },
-        Bench::Fails => match run.caller {
+        BenchKind::Fails => match run.caller {
             Caller::Disk => Arming::FailAt(call),
             Caller::Lane(lane) => Arming::FailLane(lane as u32, call),
         },
@@ -160,7 +160,7 @@ fn arming_at(shape: &Shape, bench: Bench, run: RunAt) -> Arming
 }
 
 /// What a line arms in that run. Refused `BadShape` where none does.
-fn arming_of(shape: &Shape, bench: Bench, run: RunAt) -> Result<Arming, Refusal>
+fn arming_of(shape: &Shape, bench: BenchKind, run: RunAt) -> Result<Arming, Refusal>
     ensures arms { IfOk result (λ a. (a ≡ arming bench (run_cell run)) × IsArmingInRange shape.now a) }
     ensures refused { IfErr result (λ e. (e ≡ BadShape) × (IsArmingInRange shape.now (arming bench (run_cell run)) → ⊥)) }
 {
@@ -173,18 +173,18 @@ fn arming_of(shape: &Shape, bench: Bench, run: RunAt) -> Result<Arming, Refusal>
 
 /// Refused `Memory` where a run of all those lines did not end as one of that bench does: a cut struck, or all lines ran and the call
 /// failed.
-fn check_ended(bench: Bench, went: Went, all: usize) -> Result<(), Refusal>
+fn check_ended(bench: BenchKind, went: Went, all: usize) -> Result<(), Refusal>
     requires few { went.count ≤ all }
-    ensures ended { OnOk result ((size : Size) (b : ModelBench)
+    ensures ended { OnOk result ((size : Size) (b : Bench)
         → Runs size b went.going.power went.going.payloads went.going.ledger → IsEnded bench went.count all b) }
     ensures refused { IfErr result (λ e. e ≡ Memory) }
 {
     match bench {
-        Bench::Cuts => {
+        BenchKind::Cuts => {
             turn_off(went.going, true)?;
             Ok(())
         }
-        Bench::Fails => {
+        BenchKind::Fails => {
             turn_off_failed(went, all)?;
             Ok(())
         }
@@ -196,7 +196,7 @@ fn check_ended(bench: Bench, went: Went, all: usize) -> Result<(), Refusal>
 fn count_armed<C: Crew>(runner: &Runner<'_, C>, site: &Site, run: RunAt) -> Result<usize, Refusal>
     requires lines { AreSwept runner.now.setting.shape.now runner.now.lines.now }
     requires sits { Sits runner.now.setting.shape.now site.now }
-    ensures armed { IfOk result (λ count. (b : ModelBench)
+    ensures armed { IfOk result (λ count. (b : Bench)
         → RunsAt runner.now.setting.shape.now b site.now
         → RunsArmed runner.now.setting.shape.now runner.now.bench (run_cell run) (unpowered b) runner.now.lines.now count) }
     ensures few { IfOk result (λ count. count ≤ length runner.now.lines.now) }
@@ -220,7 +220,7 @@ fn count_armed<C: Crew>(runner: &Runner<'_, C>, site: &Site, run: RunAt) -> Resu
 /// The lines of a row.
 #[derive(Drop)]
 struct RowLines<'a> {
-    bench: Bench,
+    bench: BenchKind,
     /// Those in front of what is armed, the last of which formatted the disk.
     front: &'a [Line],
     arming: Arming,
@@ -250,8 +250,8 @@ fn script_lines(alloc: Global, row: &RowLines<'_>) -> Result<Vec<Line>, AllocErr
     lines.push(Line::Arm(row.arming))?;
     add_lines(alloc, &mut lines, row.back)?;
     match row.bench {
-        Bench::Cuts => {}
-        Bench::Fails => lines.push(Line::Cut(cut_fill(None)))?,
+        BenchKind::Cuts => {}
+        BenchKind::Fails => lines.push(Line::Cut(cut_fill(None)))?,
     }
     add_lines(alloc, &mut lines, row.behind)?;
     Ok(lines)
@@ -327,11 +327,11 @@ fn show_from<'a, C: Crew, W: Write>(
     requires sits { Sits runner.now.setting.shape.now site.now }
     requires front { All (IsLineInRange runner.now.setting.shape.now) front.now }
     requires behind { All (IsLineInRange runner.now.setting.shape.now) behind.now }
-    ensures shown { OnOk result ((b : ModelBench)
+    ensures shown { OnOk result ((b : Bench)
         → RunsAt runner.now.setting.shape.now b site.now
         → ShowsFrom runner.now.bench runner.now.setting.shape.now site.now.off.disk (unpowered b) front.now runner.now.lines.now behind.now number
         (W.contents out.old) (W.contents out.new)) }
-    ensures refused { IfErr result (λ e. (e ≡ Memory) ⊎ (e ≡ Output) ⊎ ((e ≡ BadShape) × ((b : ModelBench)
+    ensures refused { IfErr result (λ e. (e ≡ Memory) ⊎ (e ≡ Output) ⊎ ((e ≡ BadShape) × ((b : Bench)
         → RunsAt runner.now.setting.shape.now b site.now
         → ShowsNone runner.now.bench runner.now.setting.shape.now site.now.off.disk (unpowered b) front.now runner.now.lines.now behind.now number))) }
     ensures none { result ≡ Err BadShape → W.contents out.new ≡ W.contents out.old }

@@ -6,10 +6,10 @@ ghost use Rattle.board_model.specs.declared.refusal.Refusal.{Refusal};
 ghost use Rattle.board_model.specs.declared.refusal.Refusal.TheVariants.{Memory, Output, NotPlain};
 ghost use Rattle.script_lang.specs.Lines.{IsLineInRange};
 ghost use Rattle.script_lang.specs.Scripts.{script_of, Script as Said};
-ghost use Rattle.bench_report.specs.Bench.{Bench as ModelBench};
+ghost use Rattle.bench_report.specs.Bench.{Bench};
 ghost use Rattle.bench_report.specs.Happens.{off, unpowered};
 ghost use Rattle.bench_sweep.specs.Points.{calls_of, MadeCalls};
-ghost use Rattle.bench_sweep.specs.declared.points.Bench.{Bench as Kind};
+ghost use Rattle.bench_sweep.specs.declared.points.BenchKind.{BenchKind};
 ghost use Rattle.bench_sweep.specs.Runs.{RunsAt, Sits, IsEnd, IsLife};
 ghost use Rattle.bench_sweep.specs.Swept.{IsPlainLine, IsNoFormat, IsNotPlain, NoBenchRuns, NoRecoveryRuns, AreSwept, all_points, all_runs, callers, joined_runs, points_from, total, WroteRows, IsBenchOf, IsRecoveredBenchOf};
 ghost use Rattle.bench_sweep.specs.Recovers.{compared};
@@ -114,7 +114,7 @@ fn run_at_calls<R: Threads + Sync, P: Progress, C: Crew + Sync, W: Write>(
     requires lines { AreSwept runner.now.setting.shape.now runner.now.lines.now }
     requires recovery { AreSwept runner.now.setting.shape.now runner.now.recovery.lines.now }
     requires sits { Sits runner.now.setting.shape.now site.now }
-    ensures wrote { OnOk result ((b : ModelBench)
+    ensures wrote { OnOk result ((b : Bench)
         → RunsAt runner.now.setting.shape.now b site.now
         → Reports W.contents runner.now.bench (RunsAlong runner.now.setting.shape.now runner.now.bench calls.caller site.now calls.made (unpowered b) runner.now.lines.now (compared runner.now.recovery))
         report.old report.new (window within.from within.to (points_from calls.caller (calls.made + 1) calls.count))) }
@@ -144,7 +144,7 @@ fn run_at_calls<R: Threads + Sync, P: Progress, C: Crew + Sync, W: Write>(
 
 /// Lines of the plain run up to the next moment at which the board is off.
 #[derive(Drop)]
-struct Stretch {
+struct LifeSpan {
     /// How many lines they are.
     count: usize,
     /// The board then.
@@ -152,13 +152,13 @@ struct Stretch {
 }
 
 /// The lines of the plain run from that site up to the next moment at which the board is off. Refused `Memory` alone.
-fn stretch_of<C: Crew>(runner: &Runner<'_, C>, site: &Site) -> Result<Stretch, Refusal>
+fn stretch_of<C: Crew>(runner: &Runner<'_, C>, site: &Site) -> Result<LifeSpan, Refusal>
     requires lines { AreSwept runner.now.setting.shape.now runner.now.lines.now }
     requires sits { Sits runner.now.setting.shape.now site.now }
     ensures few { IfOk result (λ did. did.count ≤ length runner.now.lines.now) }
     ensures some { IfOk result (λ did. 0 < length runner.now.lines.now → 0 < did.count) }
     ensures sits { IfOk result (λ did. Sits runner.now.setting.shape.now did.next) }
-    ensures lives { IfOk result (λ did. (b : ModelBench)
+    ensures lives { IfOk result (λ did. (b : Bench)
         → RunsAt runner.now.setting.shape.now b site.now
         → IsLife runner.now.setting.shape.now b runner.now.lines.now did.count did.next) }
     ensures took { IfOk result (λ did. RunTook runner.now.setting.shape.now (take did.count runner.now.lines.now)
@@ -170,7 +170,7 @@ fn stretch_of<C: Crew>(runner: &Runner<'_, C>, site: &Site) -> Result<Stretch, R
     let went = run_lines(&runner.setting, runner.lines, true, plain)?;
     let count = went.count;
     let next = turn_off(went.going, false)?;
-    Ok(Stretch { count, next })
+    Ok(LifeSpan { count, next })
 }
 
 /// How many calls of that caller were made from the one site to the other. A disk never counts back.
@@ -208,18 +208,18 @@ fn sweep_stretch<R: Threads + Sync, P: Progress, C: Crew + Sync, W: Write>(
     ensures calls { IfOk result (λ did. calls_of caller site.new.off.disk ≡ calls_of caller site.old.off.disk + did.1) }
     ensures below { OnOk result (calls_of caller site.new.off.disk < 2 ^ 64) }
     ensures sits { OnOk result (Sits runner.now.setting.shape.now site.new) }
-    ensures lives { IfOk result (λ did. (b : ModelBench)
+    ensures lives { IfOk result (λ did. (b : Bench)
         → RunsAt runner.now.setting.shape.now b site.old
         → IsLife runner.now.setting.shape.now b runner.now.lines.now did.0 site.new) }
     ensures took { IfOk result (λ did. RunTook runner.now.setting.shape.now (take did.0 runner.now.lines.now)
         site.old.off.disk site.new.off.disk) }
-    ensures wrote { IfOk result (λ did. (b : ModelBench)
+    ensures wrote { IfOk result (λ did. (b : Bench)
         → RunsAt runner.now.setting.shape.now b site.old
         → Reports W.contents runner.now.bench (RunsAlong runner.now.setting.shape.now runner.now.bench caller site.old made (unpowered b) runner.now.lines.now (compared runner.now.recovery))
         report.old report.new (window within.from within.to (points_from caller (made + 1) did.1))) }
     ensures refused { IfErr result (λ e. (e ≡ Memory) ⊎ (e ≡ Output)) }
 {
-    let Stretch { count, next } = stretch_of(runner, site)?;
+    let LifeSpan { count, next } = stretch_of(runner, site)?;
     let made_here = calls_between(caller, site, &next)?;
     let calls = Calls {
         caller,
@@ -244,7 +244,7 @@ fn sweep_caller<R: Threads + Sync, P: Progress, C: Crew + Sync, W: Write>(
     requires lines { AreSwept runner.now.setting.shape.now runner.now.lines.now }
     requires recovery { AreSwept runner.now.setting.shape.now runner.now.recovery.lines.now }
     requires sits { Sits runner.now.setting.shape.now begin.now }
-    ensures wrote { IfOk result (λ n. (b : ModelBench)
+    ensures wrote { IfOk result (λ n. (b : Bench)
         → RunsAt runner.now.setting.shape.now b begin.now
         → Reports W.contents runner.now.bench (IsRow runner.now.setting.shape.now runner.now.bench begin.now.off.disk (unpowered b) runner.now.lines.now (compared runner.now.recovery))
         report.old report.new (window within.from within.to (points_from caller 1 n))) }
@@ -274,7 +274,7 @@ fn sweep_caller<R: Threads + Sync, P: Progress, C: Crew + Sync, W: Write>(
 pub fn run_plain<C: Crew>(runner: &Runner<'_, C>, begin: &Site) -> Result<Site, Refusal>
     requires lines { AreSwept runner.now.setting.shape.now runner.now.lines.now }
     requires sits { Sits runner.now.setting.shape.now begin.now }
-    ensures ends { IfOk result (λ end. (b : ModelBench)
+    ensures ends { IfOk result (λ end. (b : Bench)
         → RunsAt runner.now.setting.shape.now b begin.now
         → IsEnd runner.now.setting.shape.now (unpowered b) runner.now.lines.now end) }
     ensures took { IfOk result (λ end. RunTook runner.now.setting.shape.now runner.now.lines.now begin.now.off.disk end.off.disk) }
@@ -289,7 +289,7 @@ pub fn run_plain<C: Crew>(runner: &Runner<'_, C>, begin: &Site) -> Result<Site, 
             lines: &runner.lines[from..],
             recovery: runner.recovery,
         };
-        let Stretch { count, next } = stretch_of(&rest, &site)?;
+        let LifeSpan { count, next } = stretch_of(&rest, &site)?;
         from += count;
         site = next;
     }
@@ -330,7 +330,7 @@ fn sweep_all_callers<R: Threads + Sync, P: Progress, C: Crew + Sync, W: Write>(
     requires lines { AreSwept runner.now.setting.shape.now runner.now.lines.now }
     requires recovery { AreSwept runner.now.setting.shape.now runner.now.recovery.lines.now }
     requires sits { Sits runner.now.setting.shape.now site.now }
-    ensures wrote { OnOk result ((b : ModelBench)
+    ensures wrote { OnOk result ((b : Bench)
         → RunsAt runner.now.setting.shape.now b site.now
         → (counts : List ℕ) × AllZip (MadeCalls site.now.off.disk end.now.off.disk) callers counts
         × Reports W.contents runner.now.bench (IsRow runner.now.setting.shape.now runner.now.bench site.now.off.disk (unpowered b) runner.now.lines.now (compared runner.now.recovery))
@@ -362,7 +362,7 @@ fn sweep_site<R: Threads + Sync, P: Progress, C: Crew + Sync, W: Write>(
     requires lines { AreSwept runner.now.setting.shape.now runner.now.lines.now }
     requires recovery { AreSwept runner.now.setting.shape.now runner.now.recovery.lines.now }
     requires sits { Sits runner.now.setting.shape.now site.now }
-    ensures wrote { OnOk result ((b : ModelBench)
+    ensures wrote { OnOk result ((b : Bench)
         → RunsAt runner.now.setting.shape.now b site.now
         → ReportsAll W.contents runner.now.setting.shape.now runner.now.bench part site.now.off.disk (unpowered b) runner.now.lines.now
         runner.now.recovery.lines.now runner.now.recovery.numbers.now report.old report.new) }
@@ -539,7 +539,7 @@ fn sweep_plain_script<R: Threads + Sync, P: Progress, W: Write>(
 /// The parts of a bench make the whole: their rows, one part behind another, are those of the bench without parts.
 #[tactic(auto, using(crate::proofs::Written::parts_join))]
 pub fn parts_make_a_bench()
-    ensures { (bench : Kind) (of : ℕ) (counts : List ℕ) → 0 < of → joined_runs bench of of counts ≡ all_runs bench callers counts }
+    ensures { (bench : BenchKind) (of : ℕ) (counts : List ℕ) → 0 < of → joined_runs bench of of counts ≡ all_runs bench callers counts }
 {}
 
 /// A bench (docs/SCRIPT.md, "The benches") over the script that begins with these payloads: a slot boots its own until a

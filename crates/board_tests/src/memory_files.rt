@@ -187,9 +187,9 @@ impl Answers for Page {
 
 /// Where faults are told, which is no terminal.
 #[derive(Drop)]
-pub struct Told(pub Vec<u8>);
+pub struct FaultOutput(pub Vec<u8>);
 
-impl Write for Told {
+impl Write for FaultOutput {
     ghost contents = { λ told. Some told.0.items };
 
     fn write(&mut self, buf: &[u8]) -> io::Result<usize> {
@@ -202,7 +202,7 @@ impl Write for Told {
     }
 }
 
-impl IsTerminal for Told {
+impl IsTerminal for FaultOutput {
     fn is_terminal(&self) -> bool {
         false
     }

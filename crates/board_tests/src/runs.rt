@@ -2,7 +2,7 @@
 //! given, and what has to come of them (docs/CONSOLE.md, "Statuses and faults").
 
 use crate::fixtures::same;
-use crate::memory_files::{Broken, MemoryFiles, Page, Told};
+use crate::memory_files::{Broken, MemoryFiles, Page, FaultOutput};
 use board_files::MemoryDisk;
 use board_program::{FileLeft, Operated, operate_on};
 use board_session::Streams;
@@ -65,12 +65,12 @@ fn operated<R: Threads + Wait + Sync>(
     rt: &R,
     files: &MemoryFiles,
     run: &Run,
-) -> (Operated<MemoryDisk, MemoryFile, Page>, Told) {
+) -> (Operated<MemoryDisk, MemoryFile, Page>, FaultOutput) {
     let streams = Streams {
         input: run.lines,
         out: Page::new(files.alloc, run.room),
     };
-    let mut faults = Told(Vec::new(files.alloc));
+    let mut faults = FaultOutput(Vec::new(files.alloc));
     let ended = operate_on(files.alloc, rt, files, run.words, streams, &mut faults);
     (ended, faults)
 }
@@ -94,7 +94,7 @@ fn is_told(run: &Run, told: &[u8]) -> bool {
 fn examined(rt: &impl Abort, files: &MemoryFiles, run: &Run) -> Result<(), Fail> {
     let page = Page::new(files.alloc, run.room);
     let mut out = BufWriter::new(files.alloc, Pipe::new(page))?;
-    let mut faults = Told(Vec::new(files.alloc));
+    let mut faults = FaultOutput(Vec::new(files.alloc));
     let status = examine_on(files.alloc, files, run.words, &mut out, &mut faults);
     compare(rt, run, status, &out.get_ref().get_ref().text, &faults.0);
     Ok(())

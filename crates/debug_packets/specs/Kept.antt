@@ -8,18 +8,18 @@ use Rattle.debug_session.specs.declared.stops.Stops.{Stops}
 use Rattle.debug_session.specs.declared.stops.Watch.{Watch}
 use Rattle.debug_session.specs.declared.stops.WatchKind.{WatchKind}
 use Rattle.debug_session.specs.declared.stops.WatchKind.TheVariants as kinds
-use Rattle.gdb_protocol.specs.declared.requests.Look.{Look}
-use Rattle.gdb_protocol.specs.declared.requests.Look.TheVariants as looks
+use Rattle.gdb_protocol.specs.declared.requests.GdbLook.{GdbLook}
+use Rattle.gdb_protocol.specs.declared.requests.GdbLook.TheVariants as looks
 use Rattle.gdb_protocol.specs.declared.requests.Watching.{Watching}
 use Rattle.gdb_protocol.specs.declared.requests.Watching.TheVariants as watching
-use Rattle.gdb_protocol.specs.declared.requests.Request.{Request}
-use Rattle.gdb_protocol.specs.declared.requests.Request.TheVariants as asks
+use Rattle.gdb_protocol.specs.declared.requests.GdbRequest.{GdbRequest}
+use Rattle.gdb_protocol.specs.declared.requests.GdbRequest.TheVariants as asks
 use Rattle.debug_packets.specs.declared.talk.Talk.{Talk}
 use Rattle.debug_packets.specs.Replies.{hart_named}
 use Rattle.debug_packets.specs.Talks.{acknowledges_in, is_over_in, last_in, runner_in, session_in, takes_in}
 
 -- the breakpoints behind it
-abbrev pub points_after : Look → List ℕ → List ℕ
+abbrev pub points_after : GdbLook → List ℕ → List ℕ
 points_after (looks.SetPoint address) points = with_point address points
 points_after (looks.ClearPoint address) points = without_point address points
 points_after look points = points
@@ -34,13 +34,13 @@ abbrev pub watch_of : Watching → ℕ → ℕ → Watch
 watch_of what address count = record { kind = kind_of what; address = address; count = count }
 
 -- the watchpoints behind it
-abbrev pub watches_after : Look → List Watch → List Watch
+abbrev pub watches_after : GdbLook → List Watch → List Watch
 watches_after (looks.SetWatch what address count) watches = with_watch (watch_of what address count) watches
 watches_after (looks.ClearWatch what address count) watches = without_watch (watch_of what address count) watches
 watches_after look watches = watches
 
 -- both lists behind a request; one that moves the board leaves them
-abbrev pub Listed : Request → Stops → Stops → Type 0
+abbrev pub Listed : GdbRequest → Stops → Stops → Type 0
 Listed (asks.Look look) old new =
     (new.points.items ≡ points_after look old.points.items) × (new.watches.items ≡ watches_after look old.watches.items)
 Listed (asks.Move move) old new = new ≡ old
@@ -50,24 +50,24 @@ abbrev pub named_or : Option ℕ → Option ℕ → Option ℕ
 named_or None runner = runner
 named_or (Some h) runner = Some h
 
-abbrev pub runner_after : Look → Size → Option ℕ → Option ℕ
+abbrev pub runner_after : GdbLook → Size → Option ℕ → Option ℕ
 runner_after (looks.Run thread) size runner = named_or (hart_named size thread) runner
 runner_after looks.RunShown size runner = None
 runner_after look size runner = runner
 
 -- packets are acknowledged until GDB asks that they are not
-abbrev pub acknowledges_after : Look → Bool → Bool
+abbrev pub acknowledges_after : GdbLook → Bool → Bool
 acknowledges_after looks.NoAcks acknowledges = false
 acknowledges_after look acknowledges = acknowledges
 
 -- the talk is over once the debugger leaves
-abbrev pub is_over_after : Look → Bool → Bool
+abbrev pub is_over_after : GdbLook → Bool → Bool
 is_over_after looks.Detach over = true
 is_over_after looks.Kill over = true
 is_over_after look over = over
 
 -- GDB says in one request alone whether it takes `swbreak`
-abbrev pub TakesAs : Look → Bool → Bool → Type 0
+abbrev pub TakesAs : GdbLook → Bool → Bool → Type 0
 TakesAs looks.Supports old new = ⊤
 TakesAs look old new = new ≡ old
 
@@ -82,7 +82,7 @@ abbrev pub StaysOpen : {C : Type 0} → Talk C → Talk C → Type 0
 StaysOpen old new = IsTalk (last_in old) (runner_in old) (takes_in old) (acknowledges_in old) (is_over_in old) new
 
 -- the talk behind it
-pub record IsKept {C : Type 0} (look : Look) (old new : Talk C) : Type 0 where
+pub record IsKept {C : Type 0} (look : GdbLook) (old new : Talk C) : Type 0 where
   pub last : last_in new ≡ last_in old
   pub runner : runner_in new ≡ runner_after look (size_of (session_in old)) (runner_in old)
   pub takes : TakesAs look (takes_in old) (takes_in new)
@@ -90,6 +90,6 @@ pub record IsKept {C : Type 0} (look : Look) (old new : Talk C) : Type 0 where
   pub over : is_over_in new ≡ is_over_after look (is_over_in old)
 
 -- the same of any request: one that moves the board leaves all but the stop and the hart that is shown
-abbrev pub Keeps : {C : Type 0} → Request → Talk C → Talk C → Type 0
+abbrev pub Keeps : {C : Type 0} → GdbRequest → Talk C → Talk C → Type 0
 Keeps (asks.Look look) old new = IsKept look old new
 Keeps (asks.Move move) old new = IsTalk (last_in new) (runner_in old) (takes_in old) (acknowledges_in old) (is_over_in old) new

@@ -26,12 +26,12 @@ use Rattle.debug_session.specs.declared.stops.Stops.{Stops}
 use Rattle.debug_session.specs.Ats.{Ran}
 use Rattle.debug_session.specs.declared.timeline.Timeline.{Timeline}
 use Rattle.gdb_protocol.specs.Fields.{behind_prefix}
-use Rattle.debug_packets.specs.declared.asked.Asked.{Asked}
-use Rattle.debug_packets.specs.declared.asked.Asked.TheVariants as asked
+use Rattle.debug_packets.specs.declared.asked.VCont.{VCont}
+use Rattle.debug_packets.specs.declared.asked.VCont.TheVariants as asked
 use Rattle.gdb_protocol.specs.declared.requests.Move.{Move}
 use Rattle.gdb_protocol.specs.declared.requests.Move.TheVariants as moves
-use Rattle.gdb_protocol.specs.declared.requests.Request.{Request}
-use Rattle.gdb_protocol.specs.declared.requests.Request.TheVariants as asks
+use Rattle.gdb_protocol.specs.declared.requests.GdbRequest.{GdbRequest}
+use Rattle.gdb_protocol.specs.declared.requests.GdbRequest.TheVariants as asks
 use Rattle.script_lang.specs.Scripts.{Script, script_of}
 use Rattle.script_lang.specs.Words.{decoded, number_of}
 use Rattle.script_lang.specs.declared.line.Line.{Line}
@@ -83,7 +83,7 @@ IsUntold old new = (last_in new ≡ last_in old) × (hart_in new ≡ hart_in old
 -- ---- vCont
 
 -- what is asked was done, and nothing else
-abbrev pub WentAs : {C : Type 0} → Asked → Talk C → Talk C → List ℕ → Type 0
+abbrev pub WentAs : {C : Type 0} → VCont → Talk C → Talk C → List ℕ → Type 0
 WentAs asked.Nothing old new text = (timeline_of (session_in new) ≡ timeline_of (session_in old)) × (text ≡ codes "E01") × IsUntold old new
 WentAs (asked.Step h) old new text = IsTold old new text × SteppedOnce h (last_in new) (session_in old) (session_in new)
 WentAs (asked.StepWithin h first end) old new text =
@@ -91,7 +91,7 @@ WentAs (asked.StepWithin h first end) old new text =
 WentAs (asked.Go harts) old new text = IsTold old new text × WentOn harts (last_in new) (session_in old) (session_in new)
 
 abbrev pub ResumedBy : {C : Type 0} → Option (List ℕ) → Talk C → Talk C → List ℕ → Type 0
-ResumedBy actions old new text = (what : Asked) × IsAskedBy (size_of (session_in old)) actions what × WentAs what old new text
+ResumedBy actions old new text = (what : VCont) × IsAskedBy (size_of (session_in old)) actions what × WentAs what old new text
 
 -- ---- monitor
 
@@ -189,7 +189,7 @@ MovedBy moves.Monitor packet old new told text =
     (timeline_of (session_in old)) (timeline_of (session_in new)) told text
 
 -- What looks changes neither the bench nor its history. What moves the board tells the console first, and its stop last.
-abbrev pub Moved : {C : Type 0} → Request → List ℕ → Talk C → Talk C → List (List ℕ) → Type 0
+abbrev pub Moved : {C : Type 0} → GdbRequest → List ℕ → Talk C → Talk C → List (List ℕ) → Type 0
 Moved (asks.Look look) packet old new payloads = timeline_of (session_in new) ≡ timeline_of (session_in old)
 Moved (asks.Move move) packet old new payloads =
     (told : List (List ℕ)) × (text : List ℕ) × (payloads ≡ told ++ text ∷ []) × MovedBy move packet old new told text

@@ -9,12 +9,12 @@ use Rattle.gdb_protocol.specs.Packets.{digit_of}
 use Rattle.debug_packets.specs.Talks.{hart_or}
 use Rattle.debug_packets.specs.Texts.{threads_object}
 use Rattle.gdb_protocol.specs.Replies.{memory_map_text, pairs_of, part_text, register_text, registers_text, threads_text}
-use Rattle.gdb_protocol.specs.declared.requests.Look.{Look}
-use Rattle.gdb_protocol.specs.declared.requests.Look.TheVariants as looks
+use Rattle.gdb_protocol.specs.declared.requests.GdbLook.{GdbLook}
+use Rattle.gdb_protocol.specs.declared.requests.GdbLook.TheVariants as looks
 use Rattle.gdb_protocol.specs.declared.requests.Object.{Object}
 use Rattle.gdb_protocol.specs.declared.requests.Object.TheVariants as objects
-use Rattle.gdb_protocol.specs.declared.requests.Request.{Request}
-use Rattle.gdb_protocol.specs.declared.requests.Request.TheVariants as asks
+use Rattle.gdb_protocol.specs.declared.requests.GdbRequest.{GdbRequest}
+use Rattle.gdb_protocol.specs.declared.requests.GdbRequest.TheVariants as asks
 use lib.Chars.{codes}
 
 -- the hart of a thread, whose number is one more
@@ -58,7 +58,7 @@ features_text =
     codes "PacketSize=" ++ (digits 16 false 16384 ++ codes ";QStartNoAckMode+;qXfer:features:read+;qXfer:memory-map:read+;qXfer:threads:read+;ReverseStep+;ReverseContinue+;vContSupported+;swbreak+")
 
 -- what a request that moves nothing is replied, where `stands` is the stop reply of why nothing runs
-abbrev pub IsLookReply : Look → Size → ℕ → DebuggedBench → List ℕ → Option (List ℕ) → Type 0
+abbrev pub IsLookReply : GdbLook → Size → ℕ → DebuggedBench → List ℕ → Option (List ℕ) → Type 0
 IsLookReply looks.Reason size h b stands out = Says stands out
 IsLookReply looks.Registers size h b stands out = Says (registers_text 42 (λ n. register_in h n (machine_of b))) out
 IsLookReply (looks.Register n) size h b stands out = Says (register_reply n (register_in h n (machine_of b))) out
@@ -87,21 +87,21 @@ IsLookReply looks.Malformed size h b stands out = Says (codes "E01") out
 IsLookReply looks.Unknown size h b stands out = Says [] out
 
 -- it is one payload, or none
-abbrev pub IsReply : Look → Size → ℕ → DebuggedBench → List ℕ → List (List ℕ) → Type 0
+abbrev pub IsReply : GdbLook → Size → ℕ → DebuggedBench → List ℕ → List (List ℕ) → Type 0
 IsReply look size h b stands [] = IsLookReply look size h b stands None
 IsReply look size h b stands (text ∷ more) = (more ≡ []) × IsLookReply look size h b stands (Some text)
 
 -- the payloads that a request is replied with; those of one that moves the board are the console's and the stop's
-abbrev pub Replied : Request → Size → ℕ → DebuggedBench → List ℕ → List (List ℕ) → Type 0
+abbrev pub Replied : GdbRequest → Size → ℕ → DebuggedBench → List ℕ → List (List ℕ) → Type 0
 Replied (asks.Look look) size h b stands out = IsReply look size h b stands out
 Replied (asks.Move move) size h b stands out = ⊤
 
 -- the hart that is shown behind a request that moves nothing
-abbrev pub hart_shown : Look → Size → ℕ → ℕ
+abbrev pub hart_shown : GdbLook → Size → ℕ → ℕ
 hart_shown (looks.Show thread) size h = hart_or (hart_named size thread) h
 hart_shown look size h = h
 
 -- the same of any request; of one that moves the board it is the stop's
-abbrev pub Shown : Request → Size → ℕ → ℕ → Type 0
+abbrev pub Shown : GdbRequest → Size → ℕ → ℕ → Type 0
 Shown (asks.Look look) size old new = new ≡ hart_shown look size old
 Shown (asks.Move move) size old new = ⊤

@@ -2,8 +2,8 @@
 use Rattle.std.specs.Prelude.{◌≡◌, ℕ, ◌+◌, ◌<◌, Bool, true, false, List, [], ◌∷◌, Option, Some, None, ◌==◌}
 use Rattle.std.specs.List.{slice_split}
 use Rattle.board_model.specs.Shapes.{Size}
-use Rattle.debug_packets.specs.declared.asked.Asked.{Asked}
-use Rattle.debug_packets.specs.declared.asked.Asked.TheVariants as asked
+use Rattle.debug_packets.specs.declared.asked.VCont.{VCont}
+use Rattle.debug_packets.specs.declared.asked.VCont.TheVariants as asked
 use Rattle.gdb_protocol.specs.Actions.{are_known, first_asked}
 use Rattle.gdb_protocol.specs.declared.actions.Action.{Action}
 use Rattle.gdb_protocol.specs.declared.actions.Action.TheVariants.{Step, StepWithin, Go}
@@ -35,13 +35,13 @@ abbrev pub NoneSteps : ℕ → List (List ℕ) → Type 0
 NoneSteps n words = (h : ℕ) → h < n → steps (first_asked (h + 1) words) ≡ false
 
 -- The words ask it of a board of that size: a hart of the board that is to step steps, or where none is those go on that are to.
-abbrev pub IsAskedIn : Size → List (List ℕ) → Asked → Type 0
+abbrev pub IsAskedIn : Size → List (List ℕ) → VCont → Type 0
 IsAskedIn size words asked.Nothing = are_known words ≡ false
 IsAskedIn size words (asked.Step h) = (h < size.harts) × (first_asked (h + 1) words ≡ Some Step)
 IsAskedIn size words (asked.StepWithin h first end) = (h < size.harts) × (first_asked (h + 1) words ≡ Some (StepWithin first end))
 IsAskedIn size words (asked.Go harts) = NoneSteps size.harts words × (harts ≡ goers_by words)
 
 -- the words are those of a packet, between semicolons
-abbrev pub IsAskedBy : Size → Option (List ℕ) → Asked → Type 0
+abbrev pub IsAskedBy : Size → Option (List ℕ) → VCont → Type 0
 IsAskedBy size None what = what ≡ asked.Nothing
 IsAskedBy size (Some actions) what = IsAskedIn size (slice_split (λ b. b == 59) actions) what

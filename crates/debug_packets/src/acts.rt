@@ -9,7 +9,7 @@ ghost use Rattle.debug_packets.specs.Talks.{runs_in};
 ghost use Rattle.gdb_protocol.specs.Fields.{behind_prefix};
 
 use crate::answers::Payloads;
-use crate::asked::Asked;
+use crate::asked::VCont;
 use crate::resumes::asked_by;
 use crate::stops::{idle_text, stop_text, told_of};
 use crate::talk::Talk;
@@ -109,12 +109,12 @@ impl<'a, C: Crew> Talk<'a, C> {
     {
         let asked = asked_by(self.alloc(), self.session.setting().shape, packet)?;
         match asked {
-            Asked::Nothing => self.said(b"E01"),
-            Asked::Step(hart) => self.step(hart, out),
-            Asked::StepWithin(hart, first, end) => {
+            VCont::Nothing => self.said(b"E01"),
+            VCont::Step(hart) => self.step(hart, out),
+            VCont::StepWithin(hart, first, end) => {
                 self.step_within(hart, first, end, interrupt, out)
             }
-            Asked::Go(harts) => self.go(self.hart, &harts, interrupt, out),
+            VCont::Go(harts) => self.go(self.hart, &harts, interrupt, out),
         }
     }
 

@@ -9,14 +9,14 @@ ghost use Rattle.debug_packets.specs.Moved.{Moved};
 ghost use Rattle.debug_packets.specs.Stops.{stop_text};
 ghost use Rattle.debug_packets.specs.Talks.{acknowledges_in, hart_in, is_over_in, last_in, runner_in, sent_in, session_in, takes_in};
 ghost use Rattle.gdb_protocol.specs.Asked.{request_of};
-ghost use Rattle.gdb_protocol.specs.declared.requests.Look.{Look};
-ghost use Rattle.gdb_protocol.specs.declared.requests.Request.TheVariants as asks;
+ghost use Rattle.gdb_protocol.specs.declared.requests.GdbLook.{GdbLook};
+ghost use Rattle.gdb_protocol.specs.declared.requests.GdbRequest.TheVariants as asks;
 
 use crate::talk::Talk;
 use board_model::Refusal;
 use crew::Crew;
 use debug_session::{Halt, Session, Stop};
-use gdb_protocol::{Look, Move, Request, request_of};
+use gdb_protocol::{GdbLook, Move, GdbRequest, request_of};
 use std::alloc::Global;
 use std::sync::atomic::AtomicBool;
 
@@ -62,7 +62,7 @@ impl<'a, C: Crew> Talk<'a, C> {
         ensures at { OnOk result (IsAt (size_of (session_in self.new)) (timeline_of (session_in self.new))) }
         ensures size { size_of (session_in self.new) ≡ size_of (session_in self.old) }
         // Looking disturbs nothing: whatever is no step, no way on or back and no line leaves bench and history.
-        ensures looks { (look : Look) → request_of packet.now ≡ asks.Look look
+        ensures looks { (look : GdbLook) → request_of packet.now ≡ asks.Look look
             → timeline_of (session_in self.new) ≡ timeline_of (session_in self.old) }
         // What is shown is the board's.
         ensures replied { IfOk result (λ out. Replied (request_of packet.now) (size_of (session_in self.old)) (hart_in self.old)
@@ -81,13 +81,13 @@ impl<'a, C: Crew> Talk<'a, C> {
         ensures plan { plan_of (session_in self.new) ≡ plan_of (session_in self.old) }
     {
         match request_of(packet) {
-            Request::Look(asked) => self.answer_look(asked, packet),
-            Request::Move(asked) => self.answer_move(asked, packet, interrupt),
+            GdbRequest::Look(asked) => self.answer_look(asked, packet),
+            GdbRequest::Move(asked) => self.answer_move(asked, packet, interrupt),
         }
     }
 
     /// Answers what looks: one payload, or none.
-    fn answer_look(&mut self, asked: Look, packet: &[u8]) -> Result<Payloads, Refusal>
+    fn answer_look(&mut self, asked: GdbLook, packet: &[u8]) -> Result<Payloads, Refusal>
         ensures same { timeline_of self.new.session ≡ timeline_of self.old.session }
         ensures size { size_of self.new.session ≡ size_of self.old.session }
         ensures shown { OnOk result (self.new.hart ≡ hart_shown asked (size_of self.old.session) self.old.hart) }

@@ -4,7 +4,7 @@ use board_model::HartId;
 
 /// What a `vCont` asks.
 #[derive(Clone, Copy, Drop)]
-pub enum Asked {
+pub enum VCont {
     /// Nothing, since an action is not known, or a thread is none.
     Nothing,
     /// That hart makes one turn.

@@ -13,7 +13,7 @@ use crate::talk::Talk;
 use board_model::Refusal;
 use crew::Crew;
 use debug_session::{Watch, WatchKind};
-use gdb_protocol::{Look, Watching, behind, parts};
+use gdb_protocol::{GdbLook, Watching, behind, parts};
 
 /// The watchpoint that a packet names. A watch on writes sees changes.
 fn watch_of(what: Watching, address: u64, count: u64) -> Watch
@@ -33,7 +33,7 @@ fn watch_of(what: Watching, address: u64, count: u64) -> Watch
 
 impl<'a, C: Crew> Talk<'a, C> {
     /// Answers a request that moves nothing: none where nothing is to be sent.
-    pub(crate) fn look(&mut self, asked: Look, packet: &[u8]) -> Result<Option<Vec<u8>>, Refusal>
+    pub(crate) fn look(&mut self, asked: GdbLook, packet: &[u8]) -> Result<Option<Vec<u8>>, Refusal>
         ensures same { timeline_of self.new.session ≡ timeline_of self.old.session }
         ensures size { size_of self.new.session ≡ size_of self.old.session }
         ensures shown { OnOk result (self.new.hart ≡ hart_shown asked (size_of self.old.session) self.old.hart) }
@@ -56,7 +56,7 @@ impl<'a, C: Crew> Talk<'a, C> {
     }
 
     /// Does what a request that moves nothing changes: the debugger's lists, and the talk.
-    fn follow(&mut self, asked: Look, packet: &[u8]) -> Result<(), Refusal>
+    fn follow(&mut self, asked: GdbLook, packet: &[u8]) -> Result<(), Refusal>
         ensures same { timeline_of self.new.session ≡ timeline_of self.old.session }
         ensures size { size_of self.new.session ≡ size_of self.old.session }
         ensures shown { OnOk result (self.new.hart ≡ hart_shown asked (size_of self.old.session) self.old.hart) }
@@ -66,54 +66,54 @@ impl<'a, C: Crew> Talk<'a, C> {
         ensures kept { OnOk result (IsKept asked self.old self.new) }
     {
         match asked {
-            Look::Show(thread) => {
+            GdbLook::Show(thread) => {
                 self.show(thread);
                 Ok(())
             }
-            Look::Run(thread) => {
+            GdbLook::Run(thread) => {
                 self.choose(thread);
                 Ok(())
             }
-            Look::RunShown => {
+            GdbLook::RunShown => {
                 self.runner = None;
                 Ok(())
             }
-            Look::SetPoint(address) => self.session.set_point(address),
-            Look::ClearPoint(address) => {
+            GdbLook::SetPoint(address) => self.session.set_point(address),
+            GdbLook::ClearPoint(address) => {
                 self.session.clear_point(address);
                 Ok(())
             }
-            Look::SetWatch(what, address, count) => {
+            GdbLook::SetWatch(what, address, count) => {
                 self.session.set_watch(watch_of(what, address, count))
             }
-            Look::ClearWatch(what, address, count) => {
+            GdbLook::ClearWatch(what, address, count) => {
                 self.session.clear_watch(watch_of(what, address, count));
                 Ok(())
             }
-            Look::Supports => self.hear_offers(packet),
-            Look::NoAcks => {
+            GdbLook::Supports => self.hear_offers(packet),
+            GdbLook::NoAcks => {
                 self.acknowledges = false;
                 Ok(())
             }
-            Look::Detach | Look::Kill => {
+            GdbLook::Detach | GdbLook::Kill => {
                 self.is_over = true;
                 Ok(())
             }
-            Look::Reason
-            | Look::Registers
-            | Look::Register(_)
-            | Look::Memory(_, _)
-            | Look::AnyThread
-            | Look::IsAlive(_)
-            | Look::Write
-            | Look::Part(_, _, _)
-            | Look::CurrentThread
-            | Look::IsAttached
-            | Look::FirstThreads
-            | Look::MoreThreads
-            | Look::Actions
-            | Look::Malformed
-            | Look::Unknown => Ok(()),
+            GdbLook::Reason
+            | GdbLook::Registers
+            | GdbLook::Register(_)
+            | GdbLook::Memory(_, _)
+            | GdbLook::AnyThread
+            | GdbLook::IsAlive(_)
+            | GdbLook::Write
+            | GdbLook::Part(_, _, _)
+            | GdbLook::CurrentThread
+            | GdbLook::IsAttached
+            | GdbLook::FirstThreads
+            | GdbLook::MoreThreads
+            | GdbLook::Actions
+            | GdbLook::Malformed
+            | GdbLook::Unknown => Ok(()),
         }
     }
 

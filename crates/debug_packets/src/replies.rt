@@ -15,7 +15,7 @@ use board_model::{HartId, Refusal, Shape};
 use crew::Crew;
 use debug_session::{REGISTERS, Session, Stop};
 use gdb_protocol::{
-    DESCRIPTION, Look, Object, digit, memory_map, part, put_hex, put_register, threads,
+    DESCRIPTION, GdbLook, Object, digit, memory_map, part, put_hex, put_register, threads,
 };
 use std::alloc::Global;
 
@@ -140,7 +140,7 @@ pub(crate) fn reply_of<C: Crew>(
     hart: HartId,
     last: Stop,
     takes_swbreak: bool,
-    asked: Look,
+    asked: GdbLook,
 ) -> Result<Option<Vec<u8>>, Refusal>
     ensures same { session.new ≡ session.old }
     ensures replied { IfOk result (λ out. IsLookReply asked (size_of session.old) hart (bench_of session.old)
@@ -149,30 +149,30 @@ pub(crate) fn reply_of<C: Crew>(
     let alloc = session.setting().alloc;
     let shape = session.setting().shape;
     match asked {
-        Look::Reason => Ok(Some(stop_text(alloc, last, takes_swbreak)?)),
-        Look::Registers => Ok(Some(registers(session, hart)?)),
-        Look::Register(number) => Ok(Some(register(session, hart, number)?)),
-        Look::Memory(address, count) => Ok(Some(memory(session, address, count)?)),
-        Look::Show(thread) | Look::Run(thread) | Look::IsAlive(thread) => {
+        GdbLook::Reason => Ok(Some(stop_text(alloc, last, takes_swbreak)?)),
+        GdbLook::Registers => Ok(Some(registers(session, hart)?)),
+        GdbLook::Register(number) => Ok(Some(register(session, hart, number)?)),
+        GdbLook::Memory(address, count) => Ok(Some(memory(session, address, count)?)),
+        GdbLook::Show(thread) | GdbLook::Run(thread) | GdbLook::IsAlive(thread) => {
             Ok(Some(alive(alloc, shape, thread)?))
         }
-        Look::Supports => Ok(Some(features(alloc)?)),
-        Look::Part(object, offset, count) => Ok(Some(part_of(session, object, offset, count)?)),
-        Look::CurrentThread => Ok(Some(current(alloc, hart)?)),
-        Look::IsAttached => Ok(Some(Vec::from_slice(alloc, b"1")?)),
-        Look::FirstThreads => Ok(Some(threads(alloc, shape.harts())?)),
-        Look::MoreThreads => Ok(Some(Vec::from_slice(alloc, b"l")?)),
-        Look::Actions => Ok(Some(Vec::from_slice(alloc, b"vCont;c;C;s;S;r")?)),
-        Look::RunShown
-        | Look::AnyThread
-        | Look::SetPoint(_)
-        | Look::ClearPoint(_)
-        | Look::SetWatch(_, _, _)
-        | Look::ClearWatch(_, _, _)
-        | Look::NoAcks
-        | Look::Detach => Ok(Some(Vec::from_slice(alloc, b"OK")?)),
-        Look::Write | Look::Malformed => Ok(Some(Vec::from_slice(alloc, b"E01")?)),
-        Look::Unknown => Ok(Some(Vec::new(alloc))),
-        Look::Kill => Ok(None),
+        GdbLook::Supports => Ok(Some(features(alloc)?)),
+        GdbLook::Part(object, offset, count) => Ok(Some(part_of(session, object, offset, count)?)),
+        GdbLook::CurrentThread => Ok(Some(current(alloc, hart)?)),
+        GdbLook::IsAttached => Ok(Some(Vec::from_slice(alloc, b"1")?)),
+        GdbLook::FirstThreads => Ok(Some(threads(alloc, shape.harts())?)),
+        GdbLook::MoreThreads => Ok(Some(Vec::from_slice(alloc, b"l")?)),
+        GdbLook::Actions => Ok(Some(Vec::from_slice(alloc, b"vCont;c;C;s;S;r")?)),
+        GdbLook::RunShown
+        | GdbLook::AnyThread
+        | GdbLook::SetPoint(_)
+        | GdbLook::ClearPoint(_)
+        | GdbLook::SetWatch(_, _, _)
+        | GdbLook::ClearWatch(_, _, _)
+        | GdbLook::NoAcks
+        | GdbLook::Detach => Ok(Some(Vec::from_slice(alloc, b"OK")?)),
+        GdbLook::Write | GdbLook::Malformed => Ok(Some(Vec::from_slice(alloc, b"E01")?)),
+        GdbLook::Unknown => Ok(Some(Vec::new(alloc))),
+        GdbLook::Kill => Ok(None),
     }
 }

@@ -5,13 +5,13 @@ ghost use Rattle.debug_packets.specs.Resumes.{goers_by, is_going, steps, IsAsked
 ghost use Rattle.gdb_protocol.specs.Actions.{first_asked};
 ghost use Rattle.gdb_protocol.specs.Fields.{behind_prefix};
 
-use crate::asked::Asked;
+use crate::asked::VCont;
 use board_model::{Refusal, Shape};
 use gdb_protocol::{Action, action_for, are_known, behind, parts};
 use std::alloc::Global;
 
 /// The step that a hart is to make, if it is to make one.
-fn step_of(shape: &Shape, words: &[&[u8]], number: u64) -> Option<Asked>
+fn step_of(shape: &Shape, words: &[&[u8]], number: u64) -> Option<VCont>
     requires { number < shape.now.harts }
     ensures some { IfSome result (IsAskedIn shape.now (map (λ w. w.now) words.now)) }
     ensures none { IfNone result (steps (first_asked (number + 1) (map (λ w. w.now) words.now)) ≡ false) }
@@ -20,13 +20,13 @@ fn step_of(shape: &Shape, words: &[&[u8]], number: u64) -> Option<Asked>
     match action_for(words, number + 1) {
         None => None,
         Some(Action::Go) => None,
-        Some(Action::Step) => Some(Asked::Step(hart)),
-        Some(Action::StepWithin(first, end)) => Some(Asked::StepWithin(hart, first, end)),
+        Some(Action::Step) => Some(VCont::Step(hart)),
+        Some(Action::StepWithin(first, end)) => Some(VCont::StepWithin(hart, first, end)),
     }
 }
 
 /// The step of the first hart that is to make one.
-fn first_step(shape: &Shape, words: &[&[u8]]) -> Option<Asked>
+fn first_step(shape: &Shape, words: &[&[u8]]) -> Option<VCont>
     ensures some { IfSome result (IsAskedIn shape.now (map (λ w. w.now) words.now)) }
     ensures none { IfNone result (NoneSteps shape.now.harts (map (λ w. w.now) words.now)) }
 {
@@ -66,24 +66,24 @@ fn goers(words: &[&[u8]]) -> [bool; 8]
 }
 
 /// What these words ask: the step of the first hart that is to make one, or else that those go on that are to.
-fn asked_in(shape: &Shape, words: &[&[u8]]) -> Asked
+fn asked_in(shape: &Shape, words: &[&[u8]]) -> VCont
     ensures { IsAskedIn shape.now (map (λ w. w.now) words.now) result }
 {
     if !are_known(words) {
-        return Asked::Nothing;
+        return VCont::Nothing;
     }
     match first_step(shape, words) {
         Some(asked) => asked,
-        None => Asked::Go(goers(words)),
+        None => VCont::Go(goers(words)),
     }
 }
 
 /// What the packet of a `vCont` asks.
-pub(crate) fn asked_by(alloc: Global, shape: &Shape, packet: &[u8]) -> Result<Asked, Refusal>
+pub(crate) fn asked_by(alloc: Global, shape: &Shape, packet: &[u8]) -> Result<VCont, Refusal>
     ensures { IfOk result (IsAskedBy shape.now (behind_prefix (codes "vCont;") packet.now)) }
 {
     let Some(actions) = behind(packet, b"vCont;") else {
-        return Ok(Asked::Nothing);
+        return Ok(VCont::Nothing);
     };
     let words = parts(alloc, actions)?;
     Ok(asked_in(shape, &words))

@@ -14,8 +14,8 @@ use Rattle.script_lang.specs.declared.line.Line.{Line}
 use Rattle.script_lang.specs.declared.line.Line.TheVariants as lines
 use Rattle.bench_live.specs.Pasts.{moments}
 use Rattle.bench_report.specs.Bench.{Bench}
-use Rattle.bench_live.specs.declared.rows.Row.{Row}
-use Rattle.bench_live.specs.declared.rows.Row.TheVariants as rows
+use Rattle.bench_live.specs.declared.rows.TurnRow.{TurnRow}
+use Rattle.bench_live.specs.declared.rows.TurnRow.TheVariants as rows
 use Rattle.bench_live.specs.Rows.{IsWithin, RowMoves, last_of, made_in}
 use Rattle.debug_session.specs.declared.timeline.Timeline.{Timeline}
 use Rattle.debug_session.specs.Ats.{IsLeft}
@@ -130,7 +130,7 @@ module _ (size : Size) (stops : Stops) where
   made_ran h word None b new false false e s moves same = (new, (word, moves, e, s, same), refl)
 
   -- the row of one turn, or of none
-  pub one_ran : (h : ℕ) (row : Row) (rests : Bool) (changed : Option Watch) (b new : Bench) → IsWithin 1 row → RowMoves size h row b new → (made_in row ≡ 0 → changed ≡ None)
+  pub one_ran : (h : ℕ) (row : TurnRow) (rests : Bool) (changed : Option Watch) (b new : Bench) → IsWithin 1 row → RowMoves size h row b new → (made_in row ≡ 0 → changed ≡ None)
       → (made_in row ≡ 1 → Touches stops h b new changed)
       → RanTo size stops h (halt_seen (halt_after row rests (is_at_point stops h new)) changed) (replicate (made_in row) h) b new
   one_ran h rows.Off true changed b new one moves none same = let P : Option Watch → Type 0 = λ c. RanTo size stops h (halt_seen None c) [] b new in subst P (sym (none refl)) moves
@@ -173,17 +173,17 @@ module _ (size : Size) (stops : Stops) where
       let P : List ℕ → Type 0 = λ xs. PassAll size stops xs b new in
       subst P (replicate_snoc n h) (pass_more (replicate n h) (h ∷ []) b mid new (passes_ran none h n b mid passed) one)
 
-  last_after : (row : Row) (rests stands : Bool) → halt_after (last_of row) rests stands ≡ halt_after row rests stands
+  last_after : (row : TurnRow) (rests stands : Bool) → halt_after (last_of row) rests stands ≡ halt_after row rests stands
   last_after rows.Off rests stands = refl
   last_after (rows.Made n word) rests stands = refl
   last_after (rows.Lost n) rests stands = refl
 
-  last_within : (row : Row) → IsWithin 1 (last_of row)
+  last_within : (row : TurnRow) → IsWithin 1 (last_of row)
   last_within rows.Off = tt
   last_within (rows.Made n word) = (omega arith, omega arith)
   last_within (rows.Lost n) = (omega arith, omega arith)
 
-  last_made : (most : ℕ) (row : Row) → IsWithin most row → made_in row - 1 + made_in (last_of row) ≡ made_in row
+  last_made : (most : ℕ) (row : TurnRow) → IsWithin most row → made_in row - 1 + made_in (last_of row) ≡ made_in row
   last_made most rows.Off within = refl
   last_made most (rows.Made n word) within = omega (arith, within)
   last_made most (rows.Lost n) within = omega (arith, within)
@@ -200,7 +200,7 @@ module _ (size : Size) (stops : Stops) where
   seen_none (Some halts.Interrupted) = refl
   seen_none (Some halts.Begin) = refl
 
-  row_ran : stops.watches.items ≡ [] → (h most : ℕ) (row : Row) (rests : Bool) (b new : Bench) → IsWithin most row → GoesTo size h stops.points.items row b new
+  row_ran : stops.watches.items ≡ [] → (h most : ℕ) (row : TurnRow) (rests : Bool) (b new : Bench) → IsWithin most row → GoesTo size h stops.points.items row b new
       → RanTo size stops h (halt_after row rests (is_at_point stops h new)) (replicate (made_in row) h) b new
   row_ran none h most row rests b new within (mid, passed, last) =
       let stands = is_at_point stops h new in

@@ -16,8 +16,8 @@ use Rattle.bench_report.specs.Bench.{Bench, BenchLife, DiskState}
 use Rattle.bench_report.specs.Views.{SimBoard}
 use Rattle.bench_report.specs.declared.power.Power.{Power}
 use Rattle.bench_report.specs.declared.power.Power.TheVariants.{Off, On}
-use Rattle.bench_live.specs.declared.rows.Row.{Row}
-use Rattle.bench_live.specs.declared.rows.Row.TheVariants as rows
+use Rattle.bench_live.specs.declared.rows.TurnRow.{TurnRow}
+use Rattle.bench_live.specs.declared.rows.TurnRow.TheVariants as rows
 use Rattle.bench_live.specs.Rows.{IsOpenRow, IsWithin, RowMoves, RowsJoin, is_off, made_in, row_answer, row_then}
 use Rattle.bench_live.specs.Lives.{PowerShows}
 use Rattle.bench_live.specs.declared.live.LiveBench.{LiveBench}
@@ -51,22 +51,22 @@ off_lacks size h n b new (inl (step, calm)) = at b.power step
         let no : printed.Shown shown.Off ≡ printed.Shown (shown.Turn h made word) = ap (λ (a : Answer). a.line) e in absurd (let never : ⊥ = cc in never)
     at (Some life) (inr (lacks, e, same)) = none_at h life.machine lacks
 
-pub off_row : (size : Size) (h n : ℕ) (row : Row) (b : Bench) (after : LiveBench) → row ≡ rows.Off
+pub off_row : (size : Size) (h n : ℕ) (row : TurnRow) (b : Bench) (after : LiveBench) → row ≡ rows.Off
     → (new : Bench) × RowMoves size h row b new × Moves size (lines.Turn h n) b (row_answer h row) new × live.Shows size new after → pc_in h (machine_on after.power) ≡ None
 off_row size h n row b after is (new, moves, line, shows) =
-    let P : Row → Type 0 = λ r. RowMoves size h r b new × Moves size (lines.Turn h n) b (row_answer h r) new in
+    let P : TurnRow → Type 0 = λ r. RowMoves size h r b new × Moves size (lines.Turn h n) b (row_answer h r) new in
     let off = subst P is (moves, line) in
     ap (pc_in h) (shown_machine size new after.power after.payloads shows) ∙ ap (λ (x : Bench). pc_in h (machine_left x.power)) off.0 ∙ off_lacks size h n b new off.1
 
 -- ---- one turn more
-pub within_less : (most k : ℕ) (row : Row) → most ≤ k → IsWithin most row → IsWithin k row
+pub within_less : (most k : ℕ) (row : TurnRow) → most ≤ k → IsWithin most row → IsWithin k row
 within_less most k rows.Off less within = tt
 within_less most k (rows.Made n word) less within = (omega (arith, within), omega (arith, within, less))
 within_less most k (rows.Lost n) less within = (omega (arith, within), omega (arith, within, less))
 
 module _ (size : Size) (h : ℕ) (points : List ℕ) where
   -- another turn may follow a row that is open and left the hart at none of the addresses
-  passes_of : (row : Row) (b new : Bench) → IsOpenRow row → IsWithin 1000000 row → RowMoves size h row b new → GoesTo size h points row b new
+  passes_of : (row : TurnRow) (b new : Bench) → IsOpenRow row → IsWithin 1000000 row → RowMoves size h row b new → GoesTo size h points row b new
       → (is_off row ≡ false → stands_in points (pc_in h (machine_left new.power)) ≡ false) → Passes size h points (made_in row) b new
   passes_of rows.Off b new runs within moves goes still = moves
   passes_of (rows.Lost n) b new runs within moves goes still = absurd runs
@@ -75,7 +75,7 @@ module _ (size : Size) (h : ℕ) (points : List ℕ) where
       let P : ℕ → Type 0 = λ k. Passes size h points k b new in
       subst P more (mid, passed, (word, last, runs, still refl))
 
-  pub goes_more : (row next : Row) (b mid new : Bench) → IsOpenRow row → IsWithin 1000000 row → RowMoves size h row b mid → GoesTo size h points row b mid
+  pub goes_more : (row next : TurnRow) (b mid new : Bench) → IsOpenRow row → IsWithin 1000000 row → RowMoves size h row b mid → GoesTo size h points row b mid
       → (is_off row ≡ false → stands_in points (pc_in h (machine_left mid.power)) ≡ false) → IsWithin 1 next → RowMoves size h next mid new → GoesTo size h points (row_then row next) b new
   goes_more row rows.Off b mid new runs within moves goes still one step =
       let P : Bench → Type 0 = λ x. GoesTo size h points row b x in subst P (sym step) goes
@@ -93,8 +93,8 @@ module _ (size : Size) (h : ℕ) (points : List ℕ) where
       (mid, subst P count (passes_of row b mid runs within moves goes still), subst Q single step)
 
   -- a row with one turn more, as the bench's own row and turn by turn
-  pub more_done : (join : RowsJoin) (row next all : Row) (b mid new : Bench) → all ≡ row_then row next → IsOpenRow row → IsWithin 1000000 row → RowMoves size h row b mid → GoesTo size h points row b mid
+  pub more_done : (join : RowsJoin) (row next all : TurnRow) (b mid new : Bench) → all ≡ row_then row next → IsOpenRow row → IsWithin 1000000 row → RowMoves size h row b mid → GoesTo size h points row b mid
       → (is_off row ≡ false → stands_in points (pc_in h (machine_left mid.power)) ≡ false) → IsWithin 1 next → RowMoves size h next mid new → RowMoves size h all b new × GoesTo size h points all b new
   more_done join row next all b mid new is runs within moves goes still one step =
-      let P : Row → Type 0 = λ r. RowMoves size h r b new × GoesTo size h points r b new in
+      let P : TurnRow → Type 0 = λ r. RowMoves size h r b new × GoesTo size h points r b new in
       subst P (sym is) (join size h row next b mid new runs moves step, goes_more row next b mid new runs within moves goes still one step)

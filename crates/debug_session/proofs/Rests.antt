@@ -7,13 +7,13 @@ use Rattle.machine.specs.Machine.{Machine}
 use Rattle.bench_report.specs.Bench.{Bench}
 use Rattle.bench_report.specs.Happens.{shows}
 use Rattle.bench_report.specs.Steps.{Moves}
-use Rattle.bench_live.specs.declared.rows.Row.{Row}
-use Rattle.bench_live.specs.declared.rows.Row.TheVariants as rows
+use Rattle.bench_live.specs.declared.rows.TurnRow.{TurnRow}
+use Rattle.bench_live.specs.declared.rows.TurnRow.TheVariants as rows
 use Rattle.bench_live.specs.Rows.{IdleTurnStays, IsWithin, RowMoves, goes_on, is_idle_row, row_then}
 use Rattle.debug_session.specs.Lives.{HasHalted, Rests, pc_in, stands_in}
 
 -- an idle turn left the bench as it was
-pub idle_stays : (stays : IdleTurnStays) (size : Size) (h : ℕ) (next : Row) (mid new : Bench) → is_idle_row next ≡ true → IsWithin 1 next → RowMoves size h next mid new → (new ≡ mid) × Rests size h true mid
+pub idle_stays : (stays : IdleTurnStays) (size : Size) (h : ℕ) (next : TurnRow) (mid new : Bench) → is_idle_row next ≡ true → IsWithin 1 next → RowMoves size h next mid new → (new ≡ mid) × Rests size h true mid
 idle_stays stays size h rows.Off mid new idle one moves = absurd (let never : ⊥ = cc in never)
 idle_stays stays size h (rows.Lost n) mid new idle one moves = absurd (let never : ⊥ = cc in never)
 idle_stays stays size h (rows.Made n word) mid new idle one moves =
@@ -29,7 +29,7 @@ not_true true h = absurd (let never : ⊥ = cc in never)
 not_true false h = refl
 
 -- why no other follows
-pub halted : (h : ℕ) (points : List ℕ) (row next : Row) (machine : Option Machine) → (next ≡ rows.Off → pc_in h machine ≡ None)
+pub halted : (h : ℕ) (points : List ℕ) (row next : TurnRow) (machine : Option Machine) → (next ≡ rows.Off → pc_in h machine ≡ None)
     → (goes_on next ≡ false) ⊎ (stands_in points (pc_in h machine) ≡ true) → HasHalted h points (row_then row next) machine
 halted h points row rows.Off machine off why = inr (off refl)
 halted h points row (rows.Made n word) machine off why = inl (refl, why)

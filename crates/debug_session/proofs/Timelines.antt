@@ -9,8 +9,8 @@ use Rattle.script_lang.specs.declared.line.Line.TheVariants as lines
 use Rattle.report_lines.specs.declared.printed.Answer.{Answer}
 use Rattle.bench_report.specs.Bench.{Bench, bench_with}
 use Rattle.bench_report.specs.Steps.{Moves}
-use Rattle.bench_live.specs.declared.rows.Row.{Row}
-use Rattle.bench_live.specs.declared.rows.Row.TheVariants as rows
+use Rattle.bench_live.specs.declared.rows.TurnRow.{TurnRow}
+use Rattle.bench_live.specs.declared.rows.TurnRow.TheVariants as rows
 use Rattle.bench_live.specs.Rows.{RowMoves, goes_on, made_in}
 use Rattle.bench_live.specs.Notes.{Joins, Leaves, NotesRow}
 use Rattle.bench_live.proofs.Noted.{leaves_more}
@@ -29,7 +29,7 @@ abbrev pub Left : Size → List (List ℕ) → List Line → Bool → DebuggedBe
 Left size begins past joins live b = Leaves size (bench_with begins) past b × Joins size (bench_with begins) joins past b × Shows size b live
 
 -- a row of turns was made and noted
-pub row_left : (size : Size) (h : ℕ) (row : Row) (begins : List (List ℕ)) (was now : List Line) (joined joins : Bool) (before after : DebuggedBench) (Also : Bench → Bench → Type 0)
+pub row_left : (size : Size) (h : ℕ) (row : TurnRow) (begins : List (List ℕ)) (was now : List Line) (joined joins : Bool) (before after : DebuggedBench) (Also : Bench → Bench → Type 0)
     → NotesRow size h row joined joins was now
     → ((b : Bench) → Shows size b before → (x : Bench) × RowMoves size h row b x × Also b x × Shows size x after)
     → (b : Bench) → Left size begins was joined before b → (x : Bench) × RowMoves size h row b x × Also b x × Left size begins now joins after x
@@ -51,7 +51,7 @@ no_true : false ≡ true → ⊥
 no_true e = let never : ⊥ = cc in never
 
 -- a row of which all turns were made, and that goes on
-pub goes_by : (size : Size) (h n : ℕ) (row : Row) (b new : Bench) (joins : Bool) → (joins ≡ true → goes_on row ≡ true) → (joins ≡ true → made_in row ≡ n) → RowMoves size h row b new → GoesOnBy size joins (lines.Turn h n) b new
+pub goes_by : (size : Size) (h n : ℕ) (row : TurnRow) (b new : Bench) (joins : Bool) → (joins ≡ true → goes_on row ≡ true) → (joins ≡ true → made_in row ≡ n) → RowMoves size h row b new → GoesOnBy size joins (lines.Turn h n) b new
 goes_by size h n row b new false goes all moves = tt
 goes_by size h n rows.Off b new true goes all moves = absurd (no_true (goes refl))
 goes_by size h n (rows.Lost k) b new true goes all moves = absurd (no_true (goes refl))

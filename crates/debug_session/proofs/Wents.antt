@@ -7,8 +7,8 @@ use Rattle.board_model.specs.Shapes.{Size}
 use Rattle.script_lang.specs.declared.line.Line.{Line}
 use Rattle.script_lang.specs.declared.line.Line.TheVariants as lines
 use Rattle.bench_live.specs.Pasts.{moments}
-use Rattle.bench_live.specs.declared.rows.Row.{Row}
-use Rattle.bench_live.specs.declared.rows.Row.TheVariants as rows
+use Rattle.bench_live.specs.declared.rows.TurnRow.{TurnRow}
+use Rattle.bench_live.specs.declared.rows.TurnRow.TheVariants as rows
 use Rattle.bench_live.specs.Rows.{IsWithin, made_in}
 use Rattle.debug_session.specs.declared.timeline.Timeline.{Timeline}
 use Rattle.bench_report.specs.Bench.{Bench}
@@ -56,7 +56,7 @@ went_more May Next n k size first mid last may one two = record {
 -- ---- turns of one hart
 
 -- one turn comes to any address
-one_turn : (size : Size) (h : ℕ) (points : List ℕ) (row : Row) (b new : Bench) → IsWithin 1 row → GoesTo size h points row b new → GoesTo size h [] row b new
+one_turn : (size : Size) (h : ℕ) (points : List ℕ) (row : TurnRow) (b new : Bench) → IsWithin 1 row → GoesTo size h points row b new → GoesTo size h [] row b new
 one_turn size h points rows.Off b new within goes = goes
 one_turn size h points (rows.Made n word) b new within (mid, passed, last) =
     let none : n - 1 ≡ 0 = omega (arith, within) in
@@ -70,7 +70,7 @@ one_turn size h points (rows.Lost n) b new within (mid, passed, last) =
     (mid, subst Q (sym none) (subst P none passed), last)
 
 -- one turn, as a step
-step_ends : (row : Row) (rests : Bool) (pc : Option ℕ) (made : ℕ) (halt : Option Halt) → IsWithin 1 row → made ≡ made_in row → HaltsBy row rests pc halt → EndsStep row rests pc (halt_step halt made)
+step_ends : (row : TurnRow) (rests : Bool) (pc : Option ℕ) (made : ℕ) (halt : Option Halt) → IsWithin 1 row → made ≡ made_in row → HaltsBy row rests pc halt → EndsStep row rests pc (halt_step halt made)
 step_ends rows.Off true pc made halt within count by =
     let P : Option Halt → Type 0 = λ x. halt_step x made ≡ halts.Idle in
     let Q : ℕ → Type 0 = λ k. halt_step None k ≡ halts.Idle in
@@ -96,7 +96,7 @@ pub few_of : (size : Size) (h most made : ℕ) (points : List ℕ) (rests : Bool
     → made ≤ most
 few_of size h most made points rests halt old new (row, turns, e, within, why, is) = few row e within
   where
-    few : (r : Row) → made ≡ made_in r → IsWithin most r → made ≤ most
+    few : (r : TurnRow) → made ≡ made_in r → IsWithin most r → made ≤ most
     few rows.Off e within = omega (arith, e)
     few (rows.Made n word) e within = omega (arith, e, within)
     few (rows.Lost n) e within = omega (arith, e, within)

@@ -7,8 +7,8 @@ use Rattle.machine.specs.Machine.{Machine}
 use Rattle.script_lang.specs.declared.line.Line.{Line}
 use Rattle.bench_live.specs.Pasts.{moments}
 use Rattle.bench_report.specs.Bench.{Bench}
-use Rattle.bench_live.specs.declared.rows.Row.{Row}
-use Rattle.bench_live.specs.declared.rows.Row.TheVariants as rows
+use Rattle.bench_live.specs.declared.rows.TurnRow.{TurnRow}
+use Rattle.bench_live.specs.declared.rows.TurnRow.TheVariants as rows
 use Rattle.bench_live.specs.Rows.{IsWithin, RowMoves, is_off, made_in}
 use Rattle.debug_session.specs.declared.timeline.Timeline.{Timeline}
 use Rattle.debug_session.specs.Ats.{IsLeft, MadeTurns}
@@ -34,7 +34,7 @@ behind_turn false false (Some w) = refl
 or_never : (P : Type 0) → (◌≡◌ {A = ℕ} 1 0) ⊎ P → P
 or_never P either = elim either [ inl never ↦ absurd (omega (arith, never)) | inr p ↦ p ]
 
-halts_by : (row : Row) (rests stands : Bool) (pc : Option ℕ) (changed : Option Watch) (halt : Option Halt) → halt ≡ halt_seen (halt_after row rests stands) changed → (made_in row ≡ 0 → changed ≡ None)
+halts_by : (row : TurnRow) (rests stands : Bool) (pc : Option ℕ) (changed : Option Watch) (halt : Option Halt) → halt ≡ halt_seen (halt_after row rests stands) changed → (made_in row ≡ 0 → changed ≡ None)
     → (is_off row ≡ true → rests ≡ false → (◌≡◌ {A = ℕ} 1 0) ⊎ (pc ≡ None)) → HaltsBy row rests pc halt
 halts_by rows.Off true stands pc changed halt is none why = is ∙ ap (halt_seen None) (none refl)
 halts_by rows.Off false stands pc changed halt is none why = (is, or_never (pc ≡ None) (why refl refl))
@@ -43,7 +43,7 @@ halts_by (rows.Made n word) rests stands pc changed halt is none why =
 halts_by (rows.Lost n) rests stands pc changed halt is none why = is
 
 pub made_one : (size : Size) (h made : ℕ) (points : List ℕ) (rests : Bool) (at halt : Option Halt) (changed : Option Watch) (old new : Timeline) → Stretched size h 1 points made rests at old new → halt ≡ halt_seen at changed → (made ≡ 0 → changed ≡ None)
-    → (row : Row) × MadeTurns size h points row rests old new × IsWithin 1 row × (made ≡ made_in row) × HaltsBy row rests (pc_in h (machine_of new.bench)) halt
+    → (row : TurnRow) × MadeTurns size h points row rests old new × IsWithin 1 row × (made ≡ made_in row) × HaltsBy row rests (pc_in h (machine_of new.bench)) halt
 made_one size h made points rests at halt changed old new (row, turns, count, within, why, is) seen none =
     (row, turns, within, count, halts_by row rests _ (pc_in h (machine_of new.bench)) changed halt (seen ∙ ap (λ (x : Option Halt). halt_seen x changed) is) (λ e. none (count ∙ e)) why)
 
@@ -101,7 +101,7 @@ module _ (size : Size) (within : Within) (h : ℕ) where
 
   module _ (n : ℕ) (points : List ℕ) (part : Part) (first mid last : Timeline) (stayed : StayedWithin size within h n first mid) where
     -- a turn was made
-    once_grew : (row : Row) → MadeTurns size h points row part.rests mid last → made_in row ≡ 1 → moments last.history ≡ moments first.history ++ replicate (n + 1) (one_turn h)
+    once_grew : (row : TurnRow) → MadeTurns size h points row part.rests mid last → made_in row ≡ 1 → moments last.history ≡ moments first.history ++ replicate (n + 1) (one_turn h)
     once_grew row turns one =
         let P : ℕ → Type 0 = λ j. moments last.history ≡ moments first.history ++ replicate (n + j) (one_turn h) in
         subst P one (joined n (made_in row) first mid last stayed.grew turns.grew)
@@ -114,7 +114,7 @@ module _ (size : Size) (within : Within) (h : ℕ) where
     }
 
     -- and is the last
-    once_left : (row : Row) (halt : Halt) → MadeTurns size h points row part.rests mid last → made_in row ≡ 1 → ((b : Bench) → IsLeft size last b → LeftBy within h halt b) → StepsWithin size within h halt first last
+    once_left : (row : TurnRow) (halt : Halt) → MadeTurns size h points row part.rests mid last → made_in row ≡ 1 → ((b : Bench) → IsLeft size last b → LeftBy within h halt b) → StepsWithin size within h halt first last
     once_left row halt turns one why = record {
       count = n + 1;
       grew = once_grew row turns one;

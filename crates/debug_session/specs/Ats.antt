@@ -11,8 +11,8 @@ use Rattle.report_lines.specs.declared.printed.Answer.{Answer}
 use Rattle.bench_report.specs.Bench.{Bench, bench_with}
 use Rattle.bench_report.specs.Agree.{fills_after}
 use Rattle.bench_report.specs.Steps.{Moves}
-use Rattle.bench_live.specs.declared.rows.Row.{Row}
-use Rattle.bench_live.specs.declared.rows.Row.TheVariants as rows
+use Rattle.bench_live.specs.declared.rows.TurnRow.{TurnRow}
+use Rattle.bench_live.specs.declared.rows.TurnRow.TheVariants as rows
 use Rattle.bench_live.specs.Rows.{IsWithin, RowMoves, is_idle_row, made_in, row_answer}
 use Rattle.bench_live.specs.Notes.{AreInRange, Joins, Leaves}
 use Rattle.debug_session.specs.declared.timeline.Timeline.{Timeline}
@@ -42,7 +42,7 @@ pub record IsAt (size : Size) (t : Timeline) : Type 0 where
 -- A line became part of the history; a row of turns with as many as its answer says.
 abbrev pub IsNoted : Line → Answer → List Line → List Line → Type 0
 IsNoted (lines.Turn h n) answer old new =
-    (row : Row) × IsWithin n row × (answer ≡ row_answer h row)
+    (row : TurnRow) × IsWithin n row × (answer ≡ row_answer h row)
     × (moments new ≡ moments old ++ replicate (made_in row) (lines.Turn h 1))
 IsNoted line answer old new = new ≡ old ++ line ∷ []
 
@@ -53,7 +53,7 @@ pub record Ran (size : Size) (line : Line) (answer : Answer) (old new : Timeline
 
 -- A row of turns of hart h became part of the history, and nothing else; none before the last ended the row, or left the
 -- hart at one of these addresses. The last is not idle, and behind it the next turn may rest.
-pub record MadeTurns (size : Size) (h : ℕ) (points : List ℕ) (row : Row) (rests : Bool) (old new : Timeline) : Type 0 where
+pub record MadeTurns (size : Size) (h : ℕ) (points : List ℕ) (row : TurnRow) (rests : Bool) (old new : Timeline) : Type 0 where
   pub moves : (b : Bench) → IsLeft size old b → (after : Bench) × RowMoves size h row b after × IsLeft size new after
       × Rests size h rests after × GoesTo size h points row b after
   pub grew : moments new.history ≡ moments old.history ++ replicate (made_in row) (lines.Turn h 1)

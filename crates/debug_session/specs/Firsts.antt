@@ -10,8 +10,8 @@ use Rattle.script_lang.specs.declared.line.Line.{Line}
 use Rattle.script_lang.specs.declared.line.Line.TheVariants as lines
 use Rattle.bench_live.specs.Pasts.{moments}
 use Rattle.bench_report.specs.Bench.{Bench}
-use Rattle.bench_live.specs.declared.rows.Row.{Row}
-use Rattle.bench_live.specs.declared.rows.Row.TheVariants as rows
+use Rattle.bench_live.specs.declared.rows.TurnRow.{TurnRow}
+use Rattle.bench_live.specs.declared.rows.TurnRow.TheVariants as rows
 use Rattle.bench_live.specs.Rows.{IsWithin, RowMoves, is_off, made_in}
 use Rattle.debug_session.specs.declared.timeline.Timeline.{Timeline}
 use Rattle.debug_session.specs.Ats.{IsLeft, MadeTurns}
@@ -77,7 +77,7 @@ abbrev pub halts_all : Word → Bool
 halts_all (words.Goes did) = is_dozing did
 halts_all (words.Over end) = true
 
-abbrev pub ends_all : Row → Bool
+abbrev pub ends_all : TurnRow → Bool
 ends_all rows.Off = false
 ends_all (rows.Made n word) = halts_all word
 ends_all (rows.Lost n) = true
@@ -117,7 +117,7 @@ is_of_turn halts.Point = true
 is_of_turn (halts.Watched w) = true
 is_of_turn halt = false
 
-abbrev pub IsWhy : Halt → Stops → ℕ → Row → Bench → Bench → Type 0
+abbrev pub IsWhy : Halt → Stops → ℕ → TurnRow → Bench → Bench → Type 0
 IsWhy halts.Ended stops h row b new = ends_all row ≡ true
 IsWhy halts.Point stops h row b new = is_at_point stops h new ≡ true
 IsWhy (halts.Watched w) stops h row b new = Touches stops h b new (Some w)
@@ -128,7 +128,7 @@ IsWhy halt stops h row b new = ⊥
 abbrev pub RanBy : Bool → Size → Stops → ℕ → Halt → List ℕ → Bench → Bench → Type 0
 RanBy false size stops h halt harts b new = PassAll size stops harts b new
 RanBy true size stops h halt harts b new =
-    (before : List ℕ) × (mid : Bench) × (row : Row) × (harts ≡ before ++ h ∷ []) × PassAll size stops before b mid
+    (before : List ℕ) × (mid : Bench) × (row : TurnRow) × (harts ≡ before ++ h ∷ []) × PassAll size stops before b mid
     × (made_in row ≡ 1) × RowMoves size h row mid new × IsWhy halt stops h row mid new
 
 abbrev pub RanTo : Size → Stops → ℕ → Option Halt → List ℕ → Bench → Bench → Type 0
@@ -146,7 +146,7 @@ pub record ToHalt (size : Size) (stops : Stops) (h : ℕ) (halt : Option Halt) (
 
 -- ---- how the code finds it
 -- behind a row, by where the hart stands then
-abbrev pub halt_after : Row → Bool → Bool → Option Halt
+abbrev pub halt_after : TurnRow → Bool → Bool → Option Halt
 halt_after rows.Off rests stands = if rests then None else Some halts.Off
 halt_after (rows.Lost n) rests stands = Some halts.Ended
 halt_after (rows.Made n word) rests stands =
@@ -184,6 +184,6 @@ TellsTouched m watches before =
 -- a row of a hart to the first that halts there
 abbrev pub Stretched : Size → ℕ → ℕ → List ℕ → ℕ → Bool → Option Halt → Timeline → Timeline → Type 0
 Stretched size h most points made rests halt old new =
-    (row : Row) × MadeTurns size h points row rests old new × (made ≡ made_in row) × IsWithin most row
+    (row : TurnRow) × MadeTurns size h points row rests old new × (made ≡ made_in row) × IsWithin most row
     × (is_off row ≡ true → rests ≡ false → (most ≡ 0) ⊎ (pc_in h (machine_of new.bench) ≡ None))
     × (halt ≡ halt_after row rests (stands_in points (pc_in h (machine_of new.bench))))

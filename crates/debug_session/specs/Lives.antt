@@ -18,7 +18,7 @@ use Rattle.bench_report.specs.Bench.{Bench}
 use Rattle.bench_report.specs.Happens.{shows}
 use Rattle.bench_report.specs.Steps.{Moves}
 use Rattle.bench_report.specs.Views.{machine_in}
-use Rattle.bench_live.specs.declared.rows.Row.{Row}
+use Rattle.bench_live.specs.declared.rows.TurnRow.{TurnRow}
 use Rattle.bench_live.specs.Rows.{goes_on, is_idle, is_off}
 use Rattle.bench_live.specs.Lives as live
 use Rattle.debug_session.specs.declared.debugged.DebuggedBench.{DebuggedBench}
@@ -97,7 +97,7 @@ Rests size h true b = (word : Word) × (is_idle word ≡ true) × Moves size (li
 
 -- Why a hart makes no more turns: some were made, and the last ended the row or left the hart at one of the addresses;
 -- or the board is off, or lacks the hart.
-abbrev pub HasHalted : ℕ → List ℕ → Row → Option Machine → Type 0
+abbrev pub HasHalted : ℕ → List ℕ → TurnRow → Option Machine → Type 0
 HasHalted h points row machine =
     ((is_off row ≡ false) × ((goes_on row ≡ false) ⊎ (stands_in points (pc_in h machine) ≡ true)))
     ⊎ (pc_in h machine ≡ None)

@@ -5,8 +5,8 @@ use Rattle.machine.specs.Machine.{Machine}
 use Rattle.sbi.specs.Words.{ends}
 use Rattle.sbi.specs.declared.words.Word.{Word}
 use Rattle.bench_report.specs.Bench.{Bench, BenchLife}
-use Rattle.bench_live.specs.declared.rows.Row.{Row}
-use Rattle.bench_live.specs.declared.rows.Row.TheVariants as rows
+use Rattle.bench_live.specs.declared.rows.TurnRow.{TurnRow}
+use Rattle.bench_live.specs.declared.rows.TurnRow.TheVariants as rows
 use Rattle.bench_live.specs.Rows.{RowMoves, last_of, made_in}
 use Rattle.debug_session.specs.Lives.{pc_in, stands_in}
 
@@ -27,6 +27,6 @@ Passes size h points zero b new = new ≡ b
 Passes size h points (suc n) b new = (mid : Bench) × Passes size h points n b mid × PassesOne size h points mid new
 
 -- The turns of a row, one by one: another may follow each but the last.
-abbrev pub GoesTo : Size → ℕ → List ℕ → Row → Bench → Bench → Type 0
+abbrev pub GoesTo : Size → ℕ → List ℕ → TurnRow → Bench → Bench → Type 0
 GoesTo size h points row b new =
     (mid : Bench) × Passes size h points (made_in row - 1) b mid × RowMoves size h (last_of row) mid new

@@ -5,8 +5,8 @@ use Rattle.script_lang.specs.declared.line.Line.{Line}
 use Rattle.script_lang.specs.declared.line.Line.TheVariants as lines
 use Rattle.bench_live.specs.Pasts.{moments}
 use Rattle.report_lines.specs.declared.printed.Answer.{Answer}
-use Rattle.bench_live.specs.declared.rows.Row.{Row}
-use Rattle.bench_live.specs.declared.rows.Row.TheVariants as rows
+use Rattle.bench_live.specs.declared.rows.TurnRow.{TurnRow}
+use Rattle.bench_live.specs.declared.rows.TurnRow.TheVariants as rows
 use Rattle.bench_live.specs.Rows.{IsWithin}
 use Rattle.debug_session.specs.declared.timeline.Timeline.{Timeline}
 use Rattle.debug_session.specs.Ats.{IsAt, IsNoted, MadeTurns}
@@ -22,7 +22,7 @@ AreNoted (line ∷ more) old new = (answer : Answer) × (mid : List Line) × IsN
 
 -- Why a step ends so, by what came of its turn, whether the next one is idle, and the pc behind it: the turn was made, and may be
 -- why all halts; or none was, since the hart has nothing to do, or the board is off or lacks the hart.
-abbrev pub EndsStep : Row → Bool → Option ℕ → Halt → Type 0
+abbrev pub EndsStep : TurnRow → Bool → Option ℕ → Halt → Type 0
 EndsStep rows.Off true pc halt = halt ≡ halts.Idle
 EndsStep rows.Off false pc halt = (halt ≡ halts.Off) × (pc ≡ None)
 EndsStep (rows.Made n word) rests pc halt = (halt ≡ halts.Stepped) ⊎ (is_of_turn halt ≡ true)
@@ -31,7 +31,7 @@ EndsStep (rows.Lost n) rests pc halt = halt ≡ halts.Ended
 -- One turn of hart h became part of the history, and nothing else; or none did. The step ends so.
 abbrev pub IsStep : Size → ℕ → Halt → Timeline → Timeline → Type 0
 IsStep size h halt old new =
-    (row : Row) × (rests : Bool) × IsWithin 1 row × MadeTurns size h [] row rests old new
+    (row : TurnRow) × (rests : Bool) × IsWithin 1 row × MadeTurns size h [] row rests old new
     × EndsStep row rests (pc_in h (machine_of new.bench)) halt
 
 -- why it ends so where all halts, or nothing does and so many turns were made

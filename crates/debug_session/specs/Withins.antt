@@ -3,8 +3,8 @@ use Rattle.std.specs.Prelude.{◌≡◌, ◌⊎◌, ℕ, zero, suc, ◌+◌, Boo
 use Rattle.board_model.specs.Shapes.{Size}
 use Rattle.bench_live.specs.Pasts.{moments}
 use Rattle.bench_report.specs.Bench.{Bench}
-use Rattle.bench_live.specs.declared.rows.Row.{Row}
-use Rattle.bench_live.specs.declared.rows.Row.TheVariants as rows
+use Rattle.bench_live.specs.declared.rows.TurnRow.{TurnRow}
+use Rattle.bench_live.specs.declared.rows.TurnRow.TheVariants as rows
 use Rattle.bench_live.specs.Rows.{IsWithin, RowMoves, made_in}
 use Rattle.debug_session.specs.declared.timeline.Timeline.{Timeline}
 use Rattle.debug_session.specs.Ats.{IsLeft, MadeTurns}
@@ -32,7 +32,7 @@ is_pc_in within h b = is_in within (pc_in h (machine_left b.power))
 
 -- one turn of hart h
 abbrev pub TurnsOnce : Size → ℕ → Bench → Bench → Type 0
-TurnsOnce size h b new = (row : Row) × (made_in row ≡ 1) × RowMoves size h row b new
+TurnsOnce size h b new = (row : TurnRow) × (made_in row ≡ 1) × RowMoves size h row b new
 
 -- so many, of which each left the pc within the addresses
 abbrev pub StaysWithin : Size → Within → ℕ → ℕ → Bench → Bench → Type 0
@@ -73,7 +73,7 @@ pub record StayedWithin (size : Size) (within : Within) (h count : ℕ) (old new
 
 -- ---- one turn at most
 -- why all halts behind it, if it does
-abbrev pub HaltsBy : Row → Bool → Option ℕ → Option Halt → Type 0
+abbrev pub HaltsBy : TurnRow → Bool → Option ℕ → Option Halt → Type 0
 HaltsBy rows.Off true pc halt = halt ≡ None
 HaltsBy rows.Off false pc halt = (halt ≡ Some halts.Off) × (pc ≡ None)
 HaltsBy (rows.Made n word) rests pc halt = IfSome halt (λ x. is_of_turn x ≡ true)
@@ -81,5 +81,5 @@ HaltsBy (rows.Lost n) rests pc halt = halt ≡ Some halts.Ended
 
 abbrev pub MadeOne : Size → ℕ → List ℕ → Part → Timeline → Timeline → Type 0
 MadeOne size h points part old new =
-    (row : Row) × MadeTurns size h points row part.rests old new × IsWithin 1 row × (part.made ≡ made_in row)
+    (row : TurnRow) × MadeTurns size h points row part.rests old new × IsWithin 1 row × (part.made ≡ made_in row)
     × HaltsBy row part.rests (pc_in h (machine_of new.bench)) part.halt

@@ -13,7 +13,7 @@ ghost use Rattle.script_lang.specs.Lines.{IsLineInRange};
 ghost use Rattle.script_lang.specs.declared.line.Line.TheVariants as lines;
 ghost use Rattle.simdisk.specs.declared.fill.Fill.TheVariants as fills;
 
-use bench_live::{LiveBench, Row, idle_turns_change_nothing, rows_join};
+use bench_live::{LiveBench, TurnRow, idle_turns_change_nothing, rows_join};
 use bench_report::{Answer, Power, Setting};
 use board::Payloads;
 use board_model::{HartId, Refusal, Shape};
@@ -69,7 +69,7 @@ impl DebuggedBench {
     }
 
     /// Up to so many turns of a hart, one after another: what the line `turn` does.
-    pub fn turns<C: Crew>(&mut self, setting: &Setting<'_, C>, hart: HartId, count: u32) -> Row
+    pub fn turns<C: Crew>(&mut self, setting: &Setting<'_, C>, hart: HartId, count: u32) -> TurnRow
         requires some { 1 ≤ count }
         requires sound { IsSound self.old }
         ensures reported { (size : Size) (b : Bench) → Shows size b self.old → (new : Bench)
@@ -77,7 +77,7 @@ impl DebuggedBench {
             × Shows size new self.new }
         ensures range { IsWithin count result }
         // None are made only where the board is off, or lacks the hart.
-        ensures off { result ≡ Row.Off → (size : Size) (b : Bench) → Shows size b self.old
+        ensures off { result ≡ TurnRow.Off → (size : Size) (b : Bench) → Shows size b self.old
             → pc_in hart (machine_of self.new) ≡ None }
         ensures sound { IsSound self.new }
         ensures fill { self.new.live.fill ≡ self.old.live.fill }
@@ -90,9 +90,9 @@ impl DebuggedBench {
         &mut self,
         setting: &Setting<'_, C>,
         hart: HartId,
-        row: Row,
+        row: TurnRow,
         points: &[u64],
-    ) -> (Row, Next)
+    ) -> (TurnRow, Next)
         requires goes { IsOpenRow row }
         requires busy { is_idle_row row ≡ false }
         requires few { made_in row < 1000000 }
@@ -136,7 +136,7 @@ impl DebuggedBench {
         hart: HartId,
         most: u32,
         points: &[u64],
-    ) -> (Row, bool)
+    ) -> (TurnRow, bool)
         requires most { most ≤ 1000000 }
         requires sound { IsSound self.old }
         ensures reported { (size : Size) (b : Bench) → Shows size b self.old → (new : Bench)
@@ -150,7 +150,7 @@ impl DebuggedBench {
         ensures sound { IsSound self.new }
         ensures fill { self.new.live.fill ≡ self.old.live.fill }
     {
-        let mut row = Row::Off;
+        let mut row = TurnRow::Off;
         let mut made = 0;
         while made < most {
             let (longer, next) = self.one_more(setting, hart, row, points);

@@ -2,7 +2,7 @@
 
 ghost use Rattle.std.specs.Prelude.{◌≡◌, ◌⊎◌, ◌≤◌, ◌<◌, ◌+◌, ℕ, Bool, true, false, slice_index_or, map, None, Some, IfOk, IfErr, IfSome, OnOk};
 ghost use Rattle.board_model.specs.declared.refusal.Refusal.TheVariants.{Memory};
-ghost use Rattle.bench_live.specs.declared.rows.Row.{Row};
+ghost use Rattle.bench_live.specs.declared.rows.TurnRow.{TurnRow};
 ghost use Rattle.bench_live.specs.Rows.{IsWithin, is_off, made_in};
 ghost use Rattle.debug_session.specs.Ats.{IsAt, MadeTurns};
 ghost use Rattle.debug_session.specs.Steps.{IsStep, Went, halt_step};
@@ -15,7 +15,7 @@ use crate::halts::{Halt, Stop};
 use crate::loads::Load;
 use crate::stops::{Seen, Stops, Watch, first_touched};
 use crate::timeline::Timeline;
-use bench_live::Row;
+use bench_live::TurnRow;
 use bench_report::{Answer, Setting};
 use board_model::{HartId, Refusal, Shape};
 use crew::Crew;
@@ -126,16 +126,16 @@ fn halt_behind(
     timeline: &Timeline,
     points: &[u64],
     hart: HartId,
-    row: Row,
+    row: TurnRow,
     rests: bool,
 ) -> Option<Halt>
     ensures { result ≡ halt_after row rests (stands_in points.now (pc_in hart (machine_of timeline.now.bench))) }
 {
     match row {
-        Row::Off if rests => None,
-        Row::Off => Some(Halt::Off),
-        Row::Lost(_) => Some(Halt::Ended),
-        Row::Made(_, word) => {
+        TurnRow::Off if rests => None,
+        TurnRow::Off => Some(Halt::Off),
+        TurnRow::Lost(_) => Some(Halt::Ended),
+        TurnRow::Made(_, word) => {
             if halts_all(word) {
                 Some(Halt::Ended)
             } else if timeline.bench().stands_at(hart, points) {

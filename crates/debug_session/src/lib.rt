@@ -18,7 +18,7 @@ mod session;
 mod stops;
 mod timeline;
 
-pub use bench_live::Row;
+pub use bench_live::TurnRow;
 pub use debugged::DebuggedBench;
 pub use halts::{Halt, Stop};
 pub use loads::Load;

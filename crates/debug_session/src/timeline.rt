@@ -17,7 +17,7 @@ ghost use Rattle.script_lang.specs.declared.line.Line.TheVariants as lines;
 use crate::debugged::DebuggedBench;
 use crate::loads::Load;
 use crate::replays::replayed;
-use bench_live::{History, Row, note};
+use bench_live::{History, TurnRow, note};
 use bench_report::{Answer, Setting};
 use board::Payloads;
 use board_model::{HartId, Refusal, Shape};
@@ -110,7 +110,7 @@ impl Timeline {
         setting: &Setting<'_, C>,
         hart: HartId,
         count: u32,
-    ) -> Result<Row, Refusal>
+    ) -> Result<TurnRow, Refusal>
         requires at { IsAt setting.now.shape.now self.old }
         requires hart { hart < setting.now.shape.now.harts }
         requires count { (1 ≤ count) × (count ≤ 1000000) }
@@ -134,7 +134,7 @@ impl Timeline {
         hart: HartId,
         most: u32,
         points: &[u64],
-    ) -> Result<(Row, bool), Refusal>
+    ) -> Result<(TurnRow, bool), Refusal>
         requires at { IsAt setting.now.shape.now self.old }
         requires hart { hart < setting.now.shape.now.harts }
         requires most { most ≤ 1000000 }

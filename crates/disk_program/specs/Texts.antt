@@ -5,7 +5,7 @@ use Rattle.board_console.specs.Texts.{state_text}
 use Rattle.board_model.specs.declared.durable.ImageHead.{ImageHead}
 use Rattle.examined.specs.Texts.{inspection_text}
 use Rattle.machine.specs.Texts.{hex_text}
-use Rattle.examined.specs.declared.sees.Found.{Found}
+use Rattle.examined.specs.declared.sees.FoundState.{FoundState}
 use Rattle.examined.specs.declared.sees.Seen.{Seen}
 use lib.Chars.{codes}
 
@@ -21,7 +21,7 @@ image_text pages None = []
 image_text pages (Some head) = codes "image " ++ head_text head ++ codes " pages " ++ decimal pages ++ codes "\n"
 
 -- the lines of what an open finds
-abbrev pub found_text : Option Found → List ℕ
+abbrev pub found_text : Option FoundState → List ℕ
 found_text None = []
 found_text (Some f) = codes "found " ++ state_text f.state ++ codes "\n" ++ image_text f.pages f.state.image
 

@@ -8,7 +8,7 @@ ghost use Rattle.disk_program.specs.Texts.{head_text, image_text, found_text, se
 use board_console::StateText;
 use board_model::{ImageHead, Refusal};
 use command_line::write_to_end;
-use examined::{Found, InspectionText, Seen};
+use examined::{FoundState, InspectionText, Seen};
 use machine::Value;
 use std::fmt;
 use std::io::{BufWriter, Write};
@@ -49,7 +49,7 @@ impl fmt::Display for ImageText {
 
 /// The lines of what an open finds, or nothing where it finds none.
 #[derive(Drop)]
-struct FoundText(Option<Found>);
+struct FoundText(Option<FoundState>);
 
 impl fmt::Display for FoundText {
     ghost output = { λ t. Some (found_text t.0) };

@@ -9,11 +9,11 @@ use Rattle.disk.specs.Facts.{Content, Facts, Failed}
 use Rattle.store.specs.Inspects.{IsInspected}
 use Rattle.store.specs.Opens.{IsBoard, ReadsAs}
 use Rattle.store.specs.Standing.{StandsFor}
-use Rattle.examined.specs.declared.sees.Found.{Found}
+use Rattle.examined.specs.declared.sees.FoundState.{FoundState}
 use Rattle.examined.specs.declared.sees.Seen.{Seen}
 
 -- that state stands on it, of a board of so many pages; or the selected record is in no form
-abbrev pub Finds : Content → Option Found → Type 0
+abbrev pub Finds : Content → Option FoundState → Type 0
 Finds c (Some f) =
     (size : Size) × (s : DurableState) × StandsFor c size s × (f.state ≡ durable_of s) × (f.pages ≡ size.pages)
 Finds c None = ReadsAs c BadRecord
@@ -32,6 +32,6 @@ SeeRefused disk Memory new = (size : Size) × IsBoard size disk.content
 SeeRefused disk e new = ⊥
 
 -- what a refusal of an open tells: that of the record is none, since there is nothing to find
-abbrev pub unrecorded : Refusal → Result (Option Found) Refusal
+abbrev pub unrecorded : Refusal → Result (Option FoundState) Refusal
 unrecorded BadRecord = Ok None
 unrecorded e = Err e

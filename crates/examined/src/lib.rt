@@ -10,4 +10,4 @@ mod sees;
 pub use laws::every_content;
 pub use line::InspectionText;
 pub use memory::{image_memory, write_memory};
-pub use sees::{Found, Seen, see_disk};
+pub use sees::{FoundState, Seen, see_disk};

@@ -13,7 +13,7 @@ use store::{Inspection, Store, inspect};
 
 /// The durable state that an open finds, and how many pages its board has.
 #[derive(Clone, Copy, Drop)]
-pub struct Found {
+pub struct FoundState {
     /// The state.
     pub state: Durable,
     /// The pages of the board, and so of the state's image, 1 to 256.
@@ -26,11 +26,11 @@ pub struct Seen {
     /// What `store::inspect` says of its records and its image.
     pub inspection: Inspection,
     /// What an open finds. None where the selected record is in no form, which an open refuses with 4.
-    pub found: Option<Found>,
+    pub found: Option<FoundState>,
 }
 
 /// What an examiner makes of the refusal of an open. A bad record is no refusal here: there is just no state to find.
-fn unrecorded(refusal: Refusal) -> Result<Option<Found>, Refusal>
+fn unrecorded(refusal: Refusal) -> Result<Option<FoundState>, Refusal>
     ensures { result ≡ unrecorded refusal }
 {
     match refusal {
@@ -41,7 +41,7 @@ fn unrecorded(refusal: Refusal) -> Result<Option<Found>, Refusal>
 
 /// What an open of the disk finds. None where the selected record is in no form. The disk is given back as the open leaves
 /// it.
-fn find<D: Disk + Drop>(alloc: Global, disk: D) -> (D, Result<Option<Found>, Refusal>)
+fn find<D: Disk + Drop>(alloc: Global, disk: D) -> (D, Result<Option<FoundState>, Refusal>)
     requires none_out { IsIdle (D.facts disk) }
     ensures found { IfOk result.1 (Finds (D.facts disk).content) }
     ensures refused { IfErr result.1 (λ e. SeeRefused (D.facts disk) e (D.facts result.0)) }
@@ -51,7 +51,7 @@ fn find<D: Disk + Drop>(alloc: Global, disk: D) -> (D, Result<Option<Found>, Ref
         Ok(store) => {
             let state = store.found();
             let pages = store.shape().pages();
-            (store.into_disk(), Ok(Some(Found { state, pages })))
+            (store.into_disk(), Ok(Some(FoundState { state, pages })))
         }
         Err((disk, refusal)) => (disk, unrecorded(refusal)),
     }

@@ -9,7 +9,7 @@ ghost use Rattle.file_disk.specs.Files.{AreMarks, EverAllowed, IfKnown, IfKnown-
 ghost use Rattle.std.proofs.Props.{props};
 
 use crate::file::SectorFile;
-use crate::pushing::{Stretch, mark, push};
+use crate::pushing::{SectorRange, mark, push};
 use disk::{ArmedFault, Disk, Fault, Lane, Sector};
 use simdisk::{Logged, SimDisk, SimLane, exactly_the_model};
 use std::alloc::{AllocError, Global};
@@ -27,7 +27,7 @@ pub struct FileDisk<F: SectorFile + Drop> {
     memory: SimDisk,
     file: F,
     marks: Vec<bool>,
-    lent: Stretch,
+    lent: SectorRange,
     failed: u64,
     ghost few: { failed < 2 ^ 64 },
     ghost marked: { AreMarks marks.items lent.first lent.count (⟦<SimDisk as Disk>⟧.facts memory)
@@ -51,7 +51,7 @@ impl<F: SectorFile + Drop> FileDisk<F> {
             memory,
             file,
             marks,
-            lent: Stretch { first: 0, count: 0 },
+            lent: SectorRange { first: 0, count: 0 },
             failed: 0,
         })
     }
@@ -105,7 +105,7 @@ impl<F: SectorFile + Drop> Disk for FileDisk<F> {
         let Ok(()) = self.memory.write(first, sectors) else {
             return Err(Fault);
         };
-        mark(&mut self.marks, Stretch { first, count });
+        mark(&mut self.marks, SectorRange { first, count });
         Ok(())
     }
 
@@ -143,7 +143,7 @@ impl<F: SectorFile + Drop> Disk for FileDisk<F> {
         let Ok(out) = self.memory.split(first, lanes, each) else {
             return Err(AllocError);
         };
-        self.lent = Stretch { first, count };
+        self.lent = SectorRange { first, count };
         Ok(out)
     }
 
@@ -165,7 +165,7 @@ impl<F: SectorFile + Drop> Disk for FileDisk<F> {
         exactly_the_model(&self.memory);
         self.memory.join(lanes);
         mark(&mut self.marks, self.lent);
-        self.lent = Stretch { first: 0, count: 0 };
+        self.lent = SectorRange { first: 0, count: 0 };
     }
 
     fn failures(&self) -> u64 {

@@ -8,13 +8,13 @@ use std::io;
 
 /// So many sectors in a row, from the first on.
 #[derive(Clone, Copy)]
-pub struct Stretch {
+pub struct SectorRange {
     pub first: usize,
     pub count: usize,
 }
 
 /// Marks these sectors as written in memory, and not in the file.
-pub fn mark(marks: &mut [bool], stretch: Stretch)
+pub fn mark(marks: &mut [bool], stretch: SectorRange)
     requires { stretch.first + stretch.count ≤ length marks.old }
     ensures { Marks stretch.first stretch.count marks.old marks.new }
 {

@@ -4,8 +4,8 @@ use Rattle.std.specs.Prelude.{◌==◌, ◌||◌, ⊤, nat_le}
 use Rattle.std.specs.Option.{option_to_list}
 use Rattle.std.proofs.lemmas.Bool.{eqb-true, or_cases, or_parts, lt-leb}
 use Rattle.std.proofs.lemmas.List.{append_assoc, append-nil, length-append}
-use Rattle.gdb_protocol.specs.declared.heard.Heard.{Heard}
-use Rattle.gdb_protocol.specs.declared.heard.Heard.TheVariants as heards
+use Rattle.gdb_protocol.specs.declared.heard.PacketEvent.{PacketEvent}
+use Rattle.gdb_protocol.specs.declared.heard.PacketEvent.TheVariants as heards
 use Rattle.gdb_protocol.specs.declared.heard.Place.{Place}
 use Rattle.gdb_protocol.specs.declared.heard.Place.TheVariants.{Between, Body, Sum, LastDigit}
 use Rattle.gdb_protocol.specs.Packets.{is_special, toggled, body_of, sum_of, digit_of, framed_of, payload_read}
@@ -72,7 +72,7 @@ body_is_none true y = refl
 body_is_none false true = refl
 body_is_none false false = refl
 
-ended_packet : (found : Option (List ℕ)) (what : Heard) → EndsPacket found what → payload_in what ≡ found
+ended_packet : (found : Option (List ℕ)) (what : PacketEvent) → EndsPacket found what → payload_in what ≡ found
 ended_packet (Some payload) (heards.Packet packet) is = ap Some is
 ended_packet (Some payload) heards.Nothing never = absurd never
 ended_packet (Some payload) heards.Damaged never = absurd never
@@ -82,13 +82,13 @@ ended_packet (Some payload) heards.Interrupt never = absurd never
 ended_packet None what is = ap payload_in is
 
 -- a byte completes a packet just where the packets of the bytes have it
-completed : (place : Place) (body : List ℕ) (b : ℕ) (what : Heard) → Completes place body b what → payload_in what ≡ packet_told place body b
+completed : (place : Place) (body : List ℕ) (b : ℕ) (what : PacketEvent) → Completes place body b what → payload_in what ≡ packet_told place body b
 completed Between body b what is = ap payload_in is ∙ sign_is_none (b == 43) (b == 45) (b == 3)
 completed Body body b what is = ap payload_in is ∙ body_is_none ((b == 36) || (b == 35)) (nat_le 65536 (length body))
 completed Sum body b what is = ap payload_in is
 completed (LastDigit high) body b what is = ended_packet (payload_read body high b) what is
 
-pub packets_heard : (now last : Standing) (bytes : List ℕ) (heard : List Heard) → Hears now bytes heard last → packets_in heard ≡ packets_read now.place now.body bytes
+pub packets_heard : (now last : Standing) (bytes : List ℕ) (heard : List PacketEvent) → Hears now bytes heard last → packets_in heard ≡ packets_read now.place now.body bytes
 packets_heard now last [] [] is = refl
 packets_heard now last [] (what ∷ more) never = absurd never
 packets_heard now last (b ∷ bytes) [] never = absurd never

@@ -3,8 +3,8 @@ use Rattle.std.specs.Prelude.{◌≡◌, ℕ, List, [], ◌∷◌, ◌++◌, Opt
 use Rattle.std.specs.List.{flat_map}
 use Rattle.std.specs.Option.{option_to_list}
 use Rattle.gdb_protocol.specs.Packets.{payload_read}
-use Rattle.gdb_protocol.specs.declared.heard.Heard.{Heard}
-use Rattle.gdb_protocol.specs.declared.heard.Heard.TheVariants as heards
+use Rattle.gdb_protocol.specs.declared.heard.PacketEvent.{PacketEvent}
+use Rattle.gdb_protocol.specs.declared.heard.PacketEvent.TheVariants as heards
 use Rattle.gdb_protocol.specs.declared.heard.Place.{Place}
 use Rattle.gdb_protocol.specs.declared.heard.Place.TheVariants.{Between, Body, Sum, LastDigit}
 
@@ -30,7 +30,7 @@ packet_told Body body b = None
 packet_told Sum body b = None
 packet_told (LastDigit high) body b = payload_read body high b
 
-abbrev pub payload_in : Heard → Option (List ℕ)
+abbrev pub payload_in : PacketEvent → Option (List ℕ)
 payload_in heards.Nothing = None
 payload_in (heards.Packet payload) = Some payload.items
 payload_in heards.Damaged = None
@@ -39,17 +39,17 @@ payload_in heards.Again = None
 payload_in heards.Interrupt = None
 
 -- what a byte between packets says alone
-abbrev pub sign_of : ℕ → Heard
+abbrev pub sign_of : ℕ → PacketEvent
 sign_of b = if b == 43 then heards.Received else (if b == 45 then heards.Again else (if b == 3 then heards.Interrupt else heards.Nothing))
 
 -- that packet was heard, or a damaged one where there is none
-abbrev pub EndsPacket : Option (List ℕ) → Heard → Type 0
+abbrev pub EndsPacket : Option (List ℕ) → PacketEvent → Type 0
 EndsPacket (Some payload) (heards.Packet packet) = packet.items ≡ payload
 EndsPacket (Some payload) heard = ⊥
 EndsPacket None heard = heard ≡ heards.Damaged
 
 -- What a byte completes: all that a reader hears, and where. Behind # it is a packet with the sum that the two digits say.
-abbrev pub Completes : Place → List ℕ → ℕ → Heard → Type 0
+abbrev pub Completes : Place → List ℕ → ℕ → PacketEvent → Type 0
 Completes Between body b heard = heard ≡ sign_of b
 Completes Body body b heard =
     heard ≡ (if (b == 36) || (b == 35) then heards.Nothing else (if nat_le 65536 (length body) then heards.Damaged else heards.Nothing))
@@ -57,7 +57,7 @@ Completes Sum body b heard = heard ≡ heards.Nothing
 Completes (LastDigit high) body b heard = EndsPacket (payload_read body high b) heard
 
 -- what these bytes complete, one after another, for a reader that stands there, and then stands there
-abbrev pub Hears : Standing → List ℕ → List Heard → Standing → Type 0
+abbrev pub Hears : Standing → List ℕ → List PacketEvent → Standing → Type 0
 Hears now [] [] last = now ≡ last
 Hears now [] (what ∷ more) last = ⊥
 Hears now (b ∷ bytes) [] last = ⊥
@@ -65,7 +65,7 @@ Hears now (b ∷ bytes) (what ∷ more) last =
     Completes now.place now.body b what × Hears (standing_after now.place now.body b) bytes more last
 
 -- the payloads of the packets among what was heard
-abbrev pub packets_in : List Heard → List (List ℕ)
+abbrev pub packets_in : List PacketEvent → List (List ℕ)
 packets_in heard = flat_map (λ what. option_to_list (payload_in what)) heard
 
 -- the payloads of the packets in a stream of bytes

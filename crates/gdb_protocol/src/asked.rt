@@ -4,16 +4,16 @@ ghost use Rattle.std.specs.Prelude.{◌≡◌};
 ghost use Rattle.gdb_protocol.specs.Asked.{alone, backward, by_letter, by_number, by_numbers, choice, chosen, chosen_thread, is_any, is_point, is_write, looked, moved, part, placed, plain_query, point, point_at, query, request_of, setting, talk, transfer, unchosen, verbose, watching};
 
 use crate::fields::{behind, is_text, number, two_numbers};
-use crate::requests::{Look, Move, Object, Request, Watching};
+use crate::requests::{GdbLook, Move, Object, GdbRequest, Watching};
 
 /// What has nothing behind it.
-fn alone(asked: Request, rest: &[u8]) -> Request
+fn alone(asked: GdbRequest, rest: &[u8]) -> GdbRequest
     ensures { result ≡ alone asked rest.now }
 {
     if rest.is_empty() {
         asked
     } else {
-        Request::Look(Look::Unknown)
+        GdbRequest::Look(GdbLook::Unknown)
     }
 }
 
@@ -25,46 +25,46 @@ fn is_any(word: &[u8]) -> bool
 }
 
 /// `H` of any thread, with its kind: by `c` none runs but the one that is shown.
-fn unchosen(kind: u8) -> Request
+fn unchosen(kind: u8) -> GdbRequest
     ensures { result ≡ unchosen kind }
 {
     if kind == b'c' {
-        Request::Look(Look::RunShown)
+        GdbRequest::Look(GdbLook::RunShown)
     } else {
-        Request::Look(Look::AnyThread)
+        GdbRequest::Look(GdbLook::AnyThread)
     }
 }
 
 /// `H` of a thread, with its kind: by `g` it is shown from then on, and by `c` it runs.
-fn chosen_thread(kind: u8, thread: u64) -> Request
+fn chosen_thread(kind: u8, thread: u64) -> GdbRequest
     ensures { result ≡ chosen_thread kind thread }
 {
     match kind {
-        b'g' => Request::Look(Look::Show(thread)),
-        b'c' => Request::Look(Look::Run(thread)),
-        _ => Request::Look(Look::IsAlive(thread)),
+        b'g' => GdbRequest::Look(GdbLook::Show(thread)),
+        b'c' => GdbRequest::Look(GdbLook::Run(thread)),
+        _ => GdbRequest::Look(GdbLook::IsAlive(thread)),
     }
 }
 
 /// `H` with its kind.
-fn chosen(kind: u8, thread: &[u8]) -> Request
+fn chosen(kind: u8, thread: &[u8]) -> GdbRequest
     ensures { result ≡ chosen kind thread.now }
 {
     if is_any(thread) {
         return unchosen(kind);
     }
     match number(thread) {
-        None => Request::Look(Look::Malformed),
+        None => GdbRequest::Look(GdbLook::Malformed),
         Some(thread) => chosen_thread(kind, thread),
     }
 }
 
 /// `H`
-fn choice(rest: &[u8]) -> Request
+fn choice(rest: &[u8]) -> GdbRequest
     ensures { result ≡ choice rest.now }
 {
     match rest.split_first() {
-        None => Request::Look(Look::Unknown),
+        None => GdbRequest::Look(GdbLook::Unknown),
         Some((kind, thread)) => chosen(*kind, thread),
     }
 }
@@ -89,55 +89,55 @@ fn watching(kind: u8) -> Option<Watching>
 }
 
 /// A point that is set, or cleared.
-fn point_at(sets: bool, kind: u8, address: u64, count: u64) -> Request
+fn point_at(sets: bool, kind: u8, address: u64, count: u64) -> GdbRequest
     ensures { result ≡ point_at sets kind address count }
 {
     match (watching(kind), sets) {
-        (Some(what), true) => Request::Look(Look::SetWatch(what, address, count)),
-        (Some(what), false) => Request::Look(Look::ClearWatch(what, address, count)),
-        (None, true) => Request::Look(Look::SetPoint(address)),
-        (None, false) => Request::Look(Look::ClearPoint(address)),
+        (Some(what), true) => GdbRequest::Look(GdbLook::SetWatch(what, address, count)),
+        (Some(what), false) => GdbRequest::Look(GdbLook::ClearWatch(what, address, count)),
+        (None, true) => GdbRequest::Look(GdbLook::SetPoint(address)),
+        (None, false) => GdbRequest::Look(GdbLook::ClearPoint(address)),
     }
 }
 
 /// A point of that kind at its place.
-fn placed(sets: bool, kind: u8, place: &[u8]) -> Request
+fn placed(sets: bool, kind: u8, place: &[u8]) -> GdbRequest
     ensures { result ≡ placed sets kind place.now }
 {
     if !is_point(kind) {
-        return Request::Look(Look::Unknown);
+        return GdbRequest::Look(GdbLook::Unknown);
     }
     match two_numbers(place) {
-        None => Request::Look(Look::Malformed),
+        None => GdbRequest::Look(GdbLook::Malformed),
         Some((address, count)) => point_at(sets, kind, address, count),
     }
 }
 
 /// `Z` and `z`.
-fn point(sets: bool, rest: &[u8]) -> Request
+fn point(sets: bool, rest: &[u8]) -> GdbRequest
     ensures { result ≡ point sets rest.now }
 {
     let Some((kind, rest)) = rest.split_first() else {
-        return Request::Look(Look::Unknown);
+        return GdbRequest::Look(GdbLook::Unknown);
     };
     match behind(rest, b",") {
-        None => Request::Look(Look::Unknown),
+        None => GdbRequest::Look(GdbLook::Unknown),
         Some(place) => placed(sets, *kind, place),
     }
 }
 
 /// A part of an object: `OFFSET,LENGTH`.
-fn part(object: Object, place: &[u8]) -> Request
+fn part(object: Object, place: &[u8]) -> GdbRequest
     ensures { result ≡ part object place.now }
 {
     match two_numbers(place) {
-        None => Request::Look(Look::Malformed),
-        Some((offset, count)) => Request::Look(Look::Part(object, offset, count)),
+        None => GdbRequest::Look(GdbLook::Malformed),
+        Some((offset, count)) => GdbRequest::Look(GdbLook::Part(object, offset, count)),
     }
 }
 
 /// `qXfer`
-fn transfer(object: &[u8]) -> Request
+fn transfer(object: &[u8]) -> GdbRequest
     ensures { result ≡ transfer object.now }
 {
     if let Some(place) = behind(object, b"features:read:target.xml:") {
@@ -147,110 +147,110 @@ fn transfer(object: &[u8]) -> Request
         return part(Object::MemoryMap, place);
     }
     match behind(object, b"threads:read::") {
-        None => Request::Look(Look::Unknown),
+        None => GdbRequest::Look(GdbLook::Unknown),
         Some(place) => part(Object::Threads, place),
     }
 }
 
 /// `q` of a word without arguments, of which `qAttached` may have one.
-fn plain_query(word: &[u8]) -> Request
+fn plain_query(word: &[u8]) -> GdbRequest
     ensures { result ≡ plain_query word.now }
 {
     if is_text(word, b"C") {
-        return Request::Look(Look::CurrentThread);
+        return GdbRequest::Look(GdbLook::CurrentThread);
     }
     if is_text(word, b"fThreadInfo") {
-        return Request::Look(Look::FirstThreads);
+        return GdbRequest::Look(GdbLook::FirstThreads);
     }
     if is_text(word, b"sThreadInfo") {
-        return Request::Look(Look::MoreThreads);
+        return GdbRequest::Look(GdbLook::MoreThreads);
     }
     match behind(word, b"Attached") {
-        None => Request::Look(Look::Unknown),
-        Some(_) => Request::Look(Look::IsAttached),
+        None => GdbRequest::Look(GdbLook::Unknown),
+        Some(_) => GdbRequest::Look(GdbLook::IsAttached),
     }
 }
 
 /// `q`
-fn query(word: &[u8]) -> Request
+fn query(word: &[u8]) -> GdbRequest
     ensures { result ≡ query word.now }
 {
     if let Some(_) = behind(word, b"Supported") {
-        return Request::Look(Look::Supports);
+        return GdbRequest::Look(GdbLook::Supports);
     }
     if let Some(object) = behind(word, b"Xfer:") {
         return transfer(object);
     }
     match behind(word, b"Rcmd,") {
         None => plain_query(word),
-        Some(_) => Request::Move(Move::Monitor),
+        Some(_) => GdbRequest::Move(Move::Monitor),
     }
 }
 
 /// `v`
-fn verbose(word: &[u8]) -> Request
+fn verbose(word: &[u8]) -> GdbRequest
     ensures { result ≡ verbose word.now }
 {
     if is_text(word, b"Cont?") {
-        return Request::Look(Look::Actions);
+        return GdbRequest::Look(GdbLook::Actions);
     }
     if let Some(_) = behind(word, b"Cont;") {
-        return Request::Move(Move::Resume);
+        return GdbRequest::Move(Move::Resume);
     }
     match behind(word, b"Kill") {
-        None => Request::Look(Look::Unknown),
-        Some(_) => Request::Look(Look::Detach),
+        None => GdbRequest::Look(GdbLook::Unknown),
+        Some(_) => GdbRequest::Look(GdbLook::Detach),
     }
 }
 
 /// `b`
-fn backward(word: &[u8]) -> Request
+fn backward(word: &[u8]) -> GdbRequest
     ensures { result ≡ backward word.now }
 {
     if is_text(word, b"s") {
-        return Request::Move(Move::StepBack);
+        return GdbRequest::Move(Move::StepBack);
     }
     if is_text(word, b"c") {
-        return Request::Move(Move::GoBack);
+        return GdbRequest::Move(Move::GoBack);
     }
-    Request::Look(Look::Unknown)
+    GdbRequest::Look(GdbLook::Unknown)
 }
 
 /// `Q`
-fn setting(word: &[u8]) -> Request
+fn setting(word: &[u8]) -> GdbRequest
     ensures { result ≡ setting word.now }
 {
     if is_text(word, b"StartNoAckMode") {
-        Request::Look(Look::NoAcks)
+        GdbRequest::Look(GdbLook::NoAcks)
     } else {
-        Request::Look(Look::Unknown)
+        GdbRequest::Look(GdbLook::Unknown)
     }
 }
 
 /// The letters that ask for what stands, or else that other request.
-fn looked(letter: u8, rest: &[u8], other: Request) -> Request
+fn looked(letter: u8, rest: &[u8], other: GdbRequest) -> GdbRequest
     ensures { result ≡ looked letter rest.now other }
 {
     match letter {
-        b'?' => alone(Request::Look(Look::Reason), rest),
-        b'g' => alone(Request::Look(Look::Registers), rest),
+        b'?' => alone(GdbRequest::Look(GdbLook::Reason), rest),
+        b'g' => alone(GdbRequest::Look(GdbLook::Registers), rest),
         b'p' => {
             match number(rest) {
-                None => Request::Look(Look::Malformed),
-                Some(number) => Request::Look(Look::Register(number)),
+                None => GdbRequest::Look(GdbLook::Malformed),
+                Some(number) => GdbRequest::Look(GdbLook::Register(number)),
             }
         }
         b'm' => {
             match two_numbers(rest) {
-                None => Request::Look(Look::Malformed),
-                Some((address, count)) => Request::Look(Look::Memory(address, count)),
+                None => GdbRequest::Look(GdbLook::Malformed),
+                Some((address, count)) => GdbRequest::Look(GdbLook::Memory(address, count)),
             }
         }
         b'H' => choice(rest),
         b'T' => {
             match number(rest) {
-                None => Request::Look(Look::Malformed),
-                Some(thread) => Request::Look(Look::IsAlive(thread)),
+                None => GdbRequest::Look(GdbLook::Malformed),
+                Some(thread) => GdbRequest::Look(GdbLook::IsAlive(thread)),
             }
         }
         _ => other,
@@ -258,12 +258,12 @@ fn looked(letter: u8, rest: &[u8], other: Request) -> Request
 }
 
 /// The letters that move the board, or else that other request.
-fn moved(letter: u8, rest: &[u8], other: Request) -> Request
+fn moved(letter: u8, rest: &[u8], other: GdbRequest) -> GdbRequest
     ensures { result ≡ moved letter rest.now other }
 {
     match letter {
-        b's' => alone(Request::Move(Move::Step), rest),
-        b'c' => alone(Request::Move(Move::Go), rest),
+        b's' => alone(GdbRequest::Move(Move::Step), rest),
+        b'c' => alone(GdbRequest::Move(Move::Go), rest),
         b'b' => backward(rest),
         _ => other,
     }
@@ -277,37 +277,37 @@ fn is_write(letter: u8) -> bool
 }
 
 /// The letters of the talk itself.
-fn talk(letter: u8, rest: &[u8]) -> Request
+fn talk(letter: u8, rest: &[u8]) -> GdbRequest
     ensures { result ≡ talk letter rest.now }
 {
     match letter {
         b'Z' => point(true, rest),
         b'z' => point(false, rest),
-        b'D' => Request::Look(Look::Detach),
-        b'k' => Request::Look(Look::Kill),
+        b'D' => GdbRequest::Look(GdbLook::Detach),
+        b'k' => GdbRequest::Look(GdbLook::Kill),
         b'q' => query(rest),
         b'v' => verbose(rest),
         b'Q' => setting(rest),
-        _ => Request::Look(Look::Unknown),
+        _ => GdbRequest::Look(GdbLook::Unknown),
     }
 }
 
 /// What a packet asks that begins with that letter.
-fn by_letter(letter: u8, rest: &[u8]) -> Request
+fn by_letter(letter: u8, rest: &[u8]) -> GdbRequest
     ensures { result ≡ by_letter letter rest.now }
 {
     if is_write(letter) {
-        return Request::Look(Look::Write);
+        return GdbRequest::Look(GdbLook::Write);
     }
     looked(letter, rest, moved(letter, rest, talk(letter, rest)))
 }
 
 /// What a packet asks.
-pub fn request_of(packet: &[u8]) -> Request
+pub fn request_of(packet: &[u8]) -> GdbRequest
     ensures { result ≡ request_of packet.now }
 {
     match packet.split_first() {
-        None => Request::Look(Look::Unknown),
+        None => GdbRequest::Look(GdbLook::Unknown),
         Some((letter, rest)) => by_letter(*letter, rest),
     }
 }

@@ -1,7 +1,7 @@
 //! Bytes as they come, read as packets.
 
 use crate::frames::payload_of;
-use crate::heard::{Heard, Place};
+use crate::heard::{PacketEvent, Place};
 use crate::signs::sign;
 use std::alloc::{AllocError, Global};
 use std::marker::Model;
@@ -50,20 +50,20 @@ impl Decoder {
     }
 
     /// A byte between packets.
-    fn outside(&mut self, byte: u8) -> Heard
+    fn outside(&mut self, byte: u8) -> PacketEvent
         requires { self.old.place ≡ places.Between }
         ensures standing { self.new ≡ standing_after places.Between self.old.body byte }
         ensures told { Completes places.Between self.old.body byte result }
     {
         if byte == b'$' {
             self.begin();
-            return Heard::Nothing;
+            return PacketEvent::Nothing;
         }
         sign(byte)
     }
 
     /// A byte behind `$`. One more `$` begins anew.
-    fn inside(&mut self, byte: u8) -> Result<Heard, AllocError>
+    fn inside(&mut self, byte: u8) -> Result<PacketEvent, AllocError>
         requires { self.old.place ≡ places.Body }
         ensures standing { IfOk result (λ _. self.new ≡ standing_after places.Body self.old.body byte) }
         ensures told { IfOk result (λ heard. Completes places.Body self.old.body byte heard) }
@@ -74,27 +74,27 @@ impl Decoder {
             self.place = Place::Sum;
         } else if LONGEST <= self.body.len() {
             self.place = Place::Between;
-            return Ok(Heard::Damaged);
+            return Ok(PacketEvent::Damaged);
         } else {
             self.body.push(byte)?;
         }
-        Ok(Heard::Nothing)
+        Ok(PacketEvent::Nothing)
     }
 
     /// The last digit of a packet whose first is `high`.
-    fn end(&mut self, high: u8, low: u8) -> Result<Heard, AllocError>
+    fn end(&mut self, high: u8, low: u8) -> Result<PacketEvent, AllocError>
         ensures standing { IfOk result (λ _. self.new ≡ standing_after (places.LastDigit high) self.old.body low) }
         ensures told { IfOk result (λ heard. Completes (places.LastDigit high) self.old.body low heard) }
     {
         self.place = Place::Between;
         match payload_of(self.alloc, &self.body, high, low)? {
-            Some(payload) => Ok(Heard::Packet(payload)),
-            None => Ok(Heard::Damaged),
+            Some(payload) => Ok(PacketEvent::Packet(payload)),
+            None => Ok(PacketEvent::Damaged),
         }
     }
 
     /// Takes the next byte: what it completes. Where memory is refused the reader is of no use.
-    pub fn take(&mut self, byte: u8) -> Result<Heard, AllocError>
+    pub fn take(&mut self, byte: u8) -> Result<PacketEvent, AllocError>
         ensures standing { IfOk result (λ _. self.new ≡ standing_after self.old.place self.old.body byte) }
         ensures told { IfOk result (λ heard. Completes self.old.place self.old.body byte heard) }
     {
@@ -103,7 +103,7 @@ impl Decoder {
             Place::Body => self.inside(byte),
             Place::Sum => {
                 self.place = Place::LastDigit(byte);
-                Ok(Heard::Nothing)
+                Ok(PacketEvent::Nothing)
             }
             Place::LastDigit(high) => self.end(high, byte),
         }

@@ -3,7 +3,7 @@
 ghost use Rattle.std.specs.Prelude.{◌≡◌, ◌/◌, ◌%◌, ◌≤◌, ℕ, List, ◌∷◌, ◌++◌, Some, length};
 ghost use Rattle.gdb_protocol.specs.Packets.{body_of, digit_of, framed_of, payload_read, sum_of};
 ghost use Rattle.gdb_protocol.specs.Streams.{Hears, Standing, packets_in, packets_read};
-ghost use Rattle.gdb_protocol.specs.declared.heard.Heard.{Heard};
+ghost use Rattle.gdb_protocol.specs.declared.heard.PacketEvent.{PacketEvent};
 ghost use Rattle.gdb_protocol.specs.declared.heard.Place.TheVariants as places;
 
 /// What is framed is read back.
@@ -23,6 +23,6 @@ pub fn packets_are_heard()
 
 /// Of what a reader hears the packets are those in the bytes.
 pub fn heard_packets_are_those_in_the_bytes()
-    ensures { (now last : Standing) (bytes : List ℕ) (heard : List Heard) → Hears now bytes heard last
+    ensures { (now last : Standing) (bytes : List ℕ) (heard : List PacketEvent) → Hears now bytes heard last
         → packets_in heard ≡ packets_read now.place now.body bytes }
 {}

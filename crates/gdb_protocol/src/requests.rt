@@ -24,7 +24,7 @@ pub enum Watching {
 
 /// What is asked without moving the board. The number of a thread is one more than that of its hart.
 #[derive(Clone, Copy, Drop)]
-pub enum Look {
+pub enum GdbLook {
     /// `?`: why nothing runs.
     Reason,
     /// `g`: the registers of the hart that is shown.
@@ -98,9 +98,9 @@ pub enum Move {
 
 /// What a packet asks.
 #[derive(Clone, Copy, Drop)]
-pub enum Request {
+pub enum GdbRequest {
     /// It looks, chooses, or speaks of the talk itself.
-    Look(Look),
+    Look(GdbLook),
     /// It may move the board: it steps, goes on, goes back, or says a line of the user's.
     Move(Move),
 }

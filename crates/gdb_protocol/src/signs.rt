@@ -3,16 +3,16 @@
 ghost use Rattle.std.specs.Prelude.{◌≡◌};
 ghost use Rattle.gdb_protocol.specs.Streams.{sign_of};
 
-use crate::heard::Heard;
+use crate::heard::PacketEvent;
 
 /// What a byte between packets says.
-pub(crate) fn sign(byte: u8) -> Heard
+pub(crate) fn sign(byte: u8) -> PacketEvent
     ensures { result ≡ sign_of byte }
 {
     match byte {
-        b'+' => Heard::Received,
-        b'-' => Heard::Again,
-        3 => Heard::Interrupt,
-        _ => Heard::Nothing,
+        b'+' => PacketEvent::Received,
+        b'-' => PacketEvent::Again,
+        3 => PacketEvent::Interrupt,
+        _ => PacketEvent::Nothing,
     }
 }

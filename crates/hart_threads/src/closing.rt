@@ -11,7 +11,7 @@ use crate::loops::Why;
 use crate::threaded::Threaded;
 use board_model::Entry;
 use disk::Disk;
-use shared_store::{Journal, Locks, Told};
+use shared_store::{Journal, Locks, CommandReceipt};
 use std::marker::{Model, PhantomData};
 use std::sync::{OnceLock, OnceToken, Wait};
 use tallies::{Halt, Watch};
@@ -42,7 +42,7 @@ impl<J: Journal> Model for Last<J> {
 }
 
 impl<J: Journal> Last<J> {
-    fn of(told: &Told<J>) -> Last<J>
+    fn of(told: &CommandReceipt<J>) -> Last<J>
         requires { is_end told.now.1 ≡ true }
         ensures { result ≡ told.now }
     {
@@ -114,13 +114,13 @@ pub enum Shut<'a, J: Threaded> {
 
 /// How often a loop asked whether it goes on, and it did. Only a look at the life's halt that found it unset counts here.
 #[derive(Drop)]
-pub struct Asked<J: Threaded> {
+pub struct HaltPolls<J: Threaded> {
     times: u64,
     watch: Watch,
     of: PhantomData<J>,
 }
 
-impl<J: Threaded> Model for Asked<J> {
+impl<J: Threaded> Model for HaltPolls<J> {
     ghost Value = { ℕ };
 
     ghost view = { λ a. a.times };
@@ -128,12 +128,12 @@ impl<J: Threaded> Model for Asked<J> {
     ghost invariant = { λ a. (a.watch.of ≡ J.halt) × (a.watch.unset ≡ a.times) };
 }
 
-impl<J: Threaded> Asked<J> {
+impl<J: Threaded> HaltPolls<J> {
     /// Not yet.
-    pub(crate) fn none(closing: &Closing<J>) -> Asked<J>
+    pub(crate) fn none(closing: &Closing<J>) -> HaltPolls<J>
         ensures { result ≡ 0 }
     {
-        Asked {
+        HaltPolls {
             times: 0,
             watch: closing.halt.watch(),
             of: PhantomData,
@@ -217,7 +217,7 @@ impl<J: Threaded> Closing<J> {
     pub(crate) fn look<'l, R: Wait, D: Disk + Drop>(
         &self,
         rt: &R,
-        asked: &mut Asked<J>,
+        asked: &mut HaltPolls<J>,
         locks: Locks<'l, D, J>,
     ) -> Result<Unhalted<'l, D, J>, Shut<'_, J>>
         requires few { asked.old < 2 ^ 64 - 1 }
@@ -246,7 +246,7 @@ impl<J: Threaded> Closing<J> {
     }
 
     /// A loop ended for that reason, with that receipt: where it ended the life the halt is set.
-    pub(crate) fn end_by(&self, why: Why, told: &Option<Told<J>>) -> Option<HaltSet<J>>
+    pub(crate) fn end_by(&self, why: Why, told: &Option<CommandReceipt<J>>) -> Option<HaltSet<J>>
         requires { ends_life told.now ≡ true }
         ensures { why ≡ Life → IsTrue (is_some result) }
     {
@@ -257,7 +257,7 @@ impl<J: Threaded> Closing<J> {
     }
 
     /// The life has ended with the command of that receipt: no further turn of any hart begins.
-    fn end_life(&self, told: &Option<Told<J>>) -> HaltSet<J>
+    fn end_life(&self, told: &Option<CommandReceipt<J>>) -> HaltSet<J>
         requires { ends_life told.now ≡ true }
     {
         if let Some(told) = told {

@@ -18,7 +18,7 @@ use crate::refusals::Refusals;
 use crate::seated::{Acting, seat_harts};
 use crate::shared::{HartLocal, SharedBoard};
 use crate::threaded::Threaded;
-use crate::works::{Rooms, Stop, on_threads};
+use crate::works::{Rooms, StopSource, on_threads};
 use board_model::Refusal;
 use disk::Disk;
 use hart::Hart;
@@ -219,7 +219,7 @@ fn loop_of<
     at_rest(ended, set, board.tables)
 }
 
-impl<J: Threaded> Stop for Closing<J> {
+impl<J: Threaded> StopSource for Closing<J> {
     fn stop(&self) {
         self.halt();
     }

@@ -20,7 +20,7 @@ use hart::Hart;
 use hsm::State;
 use rv_decode::CsrNumber;
 use sbi_calls::{Seats, Tables};
-use shared_store::Told;
+use shared_store::CommandReceipt;
 use std::marker::Model;
 
 /// What ended a loop before it made its turns.
@@ -232,7 +232,7 @@ fn shut_by<'a, J: Threaded>(shut: &Option<Shut<'a, J>>, parted: &Parted<'a, J>) 
 }
 
 /// The receipt with which a loop ended the life is of a command that ends one.
-fn known_told<J: Threaded>(told: &Option<Told<J>>)
+fn known_told<J: Threaded>(told: &Option<CommandReceipt<J>>)
     requires { ends_life told.now ≡ true }
     ensures { IsTrue (is_some told.now) → (n : ℕ) × (entry : Entry) × EndsLife J.found n entry }
 {

@@ -10,7 +10,7 @@ ghost use Rattle.hart_threads.specs.Looks.{no_looks};
 ghost use Rattle.hart_threads.specs.Seated.{IsSeated, StandsAfter};
 ghost use Rattle.hart_threads.specs.Threads.{seated, loop_goes_on, ends_life, LoopOnce};
 
-use crate::closing::{Asked, Shut};
+use crate::closing::{HaltPolls, Shut};
 use crate::dozes::Looks;
 use crate::gates::Gate;
 use crate::shared::{HartLocal, LoopBoard};
@@ -20,7 +20,7 @@ use crew::Crew;
 use disk::Disk;
 use hart::Hart;
 use sbi::Word;
-use shared_store::{Locks, Told};
+use shared_store::{Locks, CommandReceipt};
 use std::sync::Wait;
 
 /// Why a loop ended.
@@ -47,14 +47,14 @@ pub struct Ended<'a, J: Threaded> {
     /// Its looks at the bus in a doze.
     pub looks: Looks,
     /// How often it asked what ends all loops, and nothing did: once for each turn.
-    pub asked: Asked<J>,
+    pub asked: HaltPolls<J>,
     /// How many turns it made.
     pub made: u64,
     pub why: Why,
     /// What ended it, where that was another hart or the console.
     pub shut: Option<Shut<'a, J>>,
     /// The receipt of the command that ended the life, where this loop ended with it.
-    pub told: Option<Told<J>>,
+    pub told: Option<CommandReceipt<J>>,
     pub ghost receipt: { (why ≡ Life → IsTrue (is_some told)) },
     pub ghost noted: { local.part.told ≡ option_to_list told },
     pub ghost ends: { ends_life told ≡ true },
@@ -80,7 +80,7 @@ struct HartRun<J: Threaded> {
     hart: Hart,
     local: HartLocal<J>,
     looks: Looks,
-    asked: Asked<J>,
+    asked: HaltPolls<J>,
 }
 
 impl<J: Threaded> HartRun<J> {
@@ -90,7 +90,7 @@ impl<J: Threaded> HartRun<J> {
         made: u64,
         why: Why,
         shut: Option<Shut<'a, J>>,
-        told: Option<Told<J>>,
+        told: Option<CommandReceipt<J>>,
     ) -> Ended<'a, J>
         requires receipt { why ≡ Life → IsTrue (is_some told) }
         requires noted { self.local.part.told ≡ option_to_list told }
@@ -165,7 +165,7 @@ pub fn hart_loop<'c, R: Wait, G: Gate, D: Disk + Drop, J: Threaded, C: Crew>(
         hart,
         local,
         looks: Looks::none(),
-        asked: Asked::none(board.closing),
+        asked: HaltPolls::none(board.closing),
     };
     let mut locks = locks;
     for made in 0..turns {

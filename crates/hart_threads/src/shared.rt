@@ -9,7 +9,7 @@ use board_model::Shape;
 use disk::Disk;
 use sbi::Word;
 use sbi_calls::{Seats, Tables};
-use shared_store::{Journal, Part, SharedBus, SharedStore, Told};
+use shared_store::{Journal, Part, SharedBus, SharedStore, CommandReceipt};
 use std::alloc::AllocError;
 use std::sync::Mutex;
 use store::Saving;
@@ -85,5 +85,5 @@ pub(crate) struct TurnEnd<J: Journal> {
     pub(crate) local: HartLocal<J>,
     pub(crate) word: Word,
     /// The receipt of the command with which the turn ended the life.
-    pub(crate) told: Option<Told<J>>,
+    pub(crate) told: Option<CommandReceipt<J>>,
 }

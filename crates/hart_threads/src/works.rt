@@ -7,7 +7,7 @@ use std::sync::Wait;
 use std::thread::{self, JoinHandle, Threads};
 
 /// What ends all works early.
-pub(crate) trait Stop {
+pub(crate) trait StopSource {
     /// Each work ends as soon as it looks.
     fn stop(&self);
 }
@@ -60,7 +60,7 @@ fn known_ready<W, T, F: Fn(W) -> T>(run: &F, work: &W)
 /// be started all works were told to end, each of them has, and the last was not begun.
 pub(crate) fn on_threads<
     R: Threads + Wait + Sync,
-    S: Stop + Sync,
+    S: StopSource + Sync,
     W: Send + Drop,
     T: Send + Drop,
     F: Fn(W) -> T + Sync,

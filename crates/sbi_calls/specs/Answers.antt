@@ -26,7 +26,7 @@ use Rattle.sbi_calls.specs.declared.tables.Seats.{Seats}
 use Rattle.sbi_calls.specs.Both.{TableState, IsTable}
 
 -- ---- a row of the table
-pub record Row : Type 0 where
+pub record CallRow : Type 0 where
   pub ending : Ending
   pub table : TableState
 
@@ -51,7 +51,7 @@ abbrev pub pairs_to : ℕ → ℕ → ℕ → List (List Bool) → List (List Bo
 pairs_to by targets target pairs = if bit_at targets target == 1 then pairs_with by target pairs else pairs
 
 -- what the hart's request ends with, and what the tables then are
-abbrev pub row : ℕ → Checked → TableState → Row
+abbrev pub row : ℕ → Checked → TableState → CallRow
 row by (Err e) t = record { ending = Answers (Err e); table = t }
 row by (Ok (Value v)) t = record { ending = Answers (Ok v); table = t }
 row by (Ok (Start h a o)) t = record {
@@ -68,7 +68,7 @@ row by (Ok Command) t = record { ending = Defers; table = t }
 
 -- the table of answers: what a call of the hart `by` ends with on a board of that size, and what the tables
 -- then are
-abbrev pub answer : Size → ℕ → Call → TableState → Row
+abbrev pub answer : Size → ℕ → Call → TableState → CallRow
 answer size by call t = row by (request_of size call) t
 
 -- ---- what an ending makes of the calling hart, and what the call comes to

@@ -17,8 +17,8 @@ use Rattle.debug_options.specs.declared.given.Drawn.{Drawn}
 use Rattle.debug_options.specs.declared.given.Preempted.{Preempted}
 use Rattle.bench_sweep.specs.Shown.{NoRowOf, NoneBehindOf, ShownRow}
 use Rattle.bench_sweep.specs.Swept.{NoBenchRuns}
-use Rattle.bench_sweep.specs.declared.points.Bench.{Bench as Kind}
-use Rattle.bench_sweep.specs.declared.points.Bench.TheVariants.{Cuts, Fails}
+use Rattle.bench_sweep.specs.declared.points.BenchKind.{BenchKind}
+use Rattle.bench_sweep.specs.declared.points.BenchKind.TheVariants.{Cuts, Fails}
 use Rattle.debug_options.specs.declared.given.Begin.TheVariants.{Cut, End, Failure, Order, Schedule}
 use Rattle.sbigdb.specs.Begins.{BeginsAt, IsDrawn, IsFound, IsRow, NoRow, PartsAt}
 use Rattle.sbigdb.specs.Strikes.{StopsBefore}
@@ -70,7 +70,7 @@ begins_order order text payloads own found said r one other is board parts =
     (both_parts r own found board parts)
 
 -- ---- a row
-pub row_shown : (kind : Kind) (number : ℕ) (said : Script) (begins payloads : List (List ℕ)) (behind : List Line) (old new text : List ℕ) → begins ≡ payloads → behind ≡ lines.On Keep ∷ [] → old ≡ [] → new ≡ text
+pub row_shown : (kind : BenchKind) (number : ℕ) (said : Script) (begins payloads : List (List ℕ)) (behind : List Line) (old new text : List ℕ) → begins ≡ payloads → behind ≡ lines.On Keep ∷ [] → old ≡ [] → new ≡ text
     → ShownRow kind said.size begins said.lines behind number (Some old) (Some new) → ShownRow kind said.size payloads said.lines (lines.On Keep ∷ []) number (Some []) (Some text)
 row_shown kind number said begins payloads behind old new text one two three four shown =
     let A : List (List ℕ) → Type 0 = λ x. ShownRow kind said.size x said.lines behind number (Some old) (Some new) in
@@ -82,7 +82,7 @@ row_shown kind number said begins payloads behind old new text one two three fou
 pub row_text : (old new : List ℕ) (found is : Script) → old ≡ [] → new ≡ old ++ (script_text found ++ 10 ∷ []) → is ≡ found → new ≡ script_text is ++ 10 ∷ []
 row_text old new found is none text same = text ∙ ap (λ (x : List ℕ). x ++ (script_text found ++ 10 ∷ [])) none ∙ ap (λ (s : Script). script_text s ++ 10 ∷ []) (sym same)
 
-pub row_refused : (kind : Kind) (number : ℕ) (text : List ℕ) (begins payloads : List (List ℕ)) (e : Refusal) → begins ≡ payloads
+pub row_refused : (kind : BenchKind) (number : ℕ) (text : List ℕ) (begins payloads : List (List ℕ)) (e : Refusal) → begins ≡ payloads
     → (e ≡ Memory) ⊎ (e ≡ Output) ⊎ (script_of text ≡ Err e) ⊎ ((e ≡ NotPlain) × NoBenchRuns text) ⊎ NoneBehindOf text None e ⊎ ((e ≡ BadShape) × NoRowOf kind number begins text None)
     → (e ≡ Memory) ⊎ (e ≡ Output) ⊎ (script_of text ≡ Err e) ⊎ NoRow kind number text payloads e
 row_refused kind number text begins payloads e same (inl memory) = inl memory
@@ -94,7 +94,7 @@ row_refused kind number text begins payloads e same (inr (inr (inr (inr (inr non
     let P : List (List ℕ) → Type 0 = λ x. NoRowOf kind number x text None in inr (inr (inr (inr (none.0, subst P same none.1))))
 
 -- up to where it strikes
-pub row_stops : (kind : Kind) (number : ℕ) (text : List ℕ) (payloads : List (List ℕ)) (found : code.Script) (said : Script) (r : Result code.Script Refusal) → script_of text ≡ Ok said → (view found).size ≡ said.size
+pub row_stops : (kind : BenchKind) (number : ℕ) (text : List ℕ) (payloads : List (List ℕ)) (found : code.Script) (said : Script) (r : Result code.Script Refusal) → script_of text ≡ Ok said → (view found).size ≡ said.size
     → IsRow kind number said payloads (view found) → IfOk r (λ s. StopsBefore found.shape payloads found.lines.items s.lines.items) → IfOk r (λ s. s.shape ≡ found.shape)
     → IfOk r (λ s. (said : Script) × (found : Script) × (script_of text ≡ Ok said) × IsRow kind number said payloads found × ((view s).size ≡ said.size) × StopsBefore said.size payloads found.lines (view s).lines)
 row_stops kind number text payloads found said (Ok s) read size is stops board =

@@ -4,8 +4,8 @@ use Rattle.std.specs.Iterator.{Count, IsFinite, MakesProgress, Yields}
 use Rattle.std.proofs.lemmas.List.{append-nil}
 use Rattle.board_model.specs.Shapes.{Size}
 use Rattle.script_lang.specs.declared.line.Line.{Line}
-use Rattle.gdb_protocol.specs.declared.heard.Heard.{Heard}
-use Rattle.gdb_protocol.specs.declared.heard.Heard.TheVariants as heards
+use Rattle.gdb_protocol.specs.declared.heard.PacketEvent.{PacketEvent}
+use Rattle.gdb_protocol.specs.declared.heard.PacketEvent.TheVariants as heards
 use Rattle.debug_session.specs.Ats.{IsAt}
 use Rattle.debug_session.specs.Sessions.{begins_of, history_of, plan_of, points_of, size_of, timeline_of, watches_of}
 use Rattle.debug_session.specs.Steps.{AreNoted}
@@ -23,7 +23,7 @@ begun {C} size plan payloads lines session talk same at board noted begins goes_
     let all : P (session_in talk) = subst P (sym same) (subst Q board at, board, noted, begins, goes_by, points, watches) in
     record { at = all.0; board = all.1; noted = all.2; payloads = all.3; goes_by = all.4; points = all.5; watches = all.6; hart = hart; runner = runner; acknowledges = acknowledges; ongoing = ongoing; sent = sent }
 
-pub one_more : {C : Type 0} (heard : List Heard) (what : Heard) (old mid new : Talk C) (sent more : List ℕ) → RespondsAll heard old mid sent → is_over_in mid ≡ false → Responds what mid new more → RespondsAll (heard ++ what ∷ []) old new (sent ++ more)
+pub one_more : {C : Type 0} (heard : List PacketEvent) (what : PacketEvent) (old mid new : Talk C) (sent more : List ℕ) → RespondsAll heard old mid sent → is_over_in mid ≡ false → Responds what mid new more → RespondsAll (heard ++ what ∷ []) old new (sent ++ more)
 one_more {C} [] what old mid new sent more (same, none) ongoing does =
     let P : Talk C → Type 0 = λ x. (is_over_in x ≡ false) × Responds what x new more in
     let begun : P old = subst P same (ongoing, does) in
@@ -32,7 +32,7 @@ one_more {C} (x ∷ heard) what old mid new sent more (next, first, rest, before
     (next, first, rest ++ more, before, one, one_more heard what next mid new rest more all ongoing does, ap (λ (xs : List ℕ). xs ++ more) is ∙ append_assoc first rest more)
 
 -- what is no packet and asks for nothing again is not answered
-pub says_nothing : {C : Type 0} (what : Heard) (talk : Talk C) → ((packet : Vec ℕ Global) → what ≡ heards.Packet packet → ⊥) → (what ≡ heards.Damaged → ⊥) → (what ≡ heards.Again → ⊥) → Says what talk talk []
+pub says_nothing : {C : Type 0} (what : PacketEvent) (talk : Talk C) → ((packet : Vec ℕ Global) → what ≡ heards.Packet packet → ⊥) → (what ≡ heards.Damaged → ⊥) → (what ≡ heards.Again → ⊥) → Says what talk talk []
 says_nothing (heards.Packet packet) talk packets damaged again = absurd (packets packet refl)
 says_nothing heards.Damaged talk packets damaged again = absurd (damaged refl)
 says_nothing heards.Again talk packets damaged again = absurd (again refl)
@@ -41,11 +41,11 @@ says_nothing heards.Received talk packets damaged again = (refl, refl)
 says_nothing heards.Interrupt talk packets damaged again = (refl, refl)
 
 -- what an iterator gave, from a state that is the same
-pub given_from : {I : Type 0} (gives : I → Option Heard → I → Type 0) (first from last : I) (heard : List Heard) → first ≡ from → Yields gives first heard last → Yields gives from heard last
+pub given_from : {I : Type 0} (gives : I → Option PacketEvent → I → Type 0) (first from last : I) (heard : List PacketEvent) → first ≡ from → Yields gives first heard last → Yields gives from heard last
 given_from {I} gives first from last heard same given = let P : I → Type 0 = λ x. Yields gives x heard last in subst P same given
 
 -- the first thing, which was acknowledged, and then the others
-pub from_first : {I C : Type 0} (gives : I → Option Heard → I → Type 0) (first mid : I) (what : Heard) (old new : Talk C) (ack sent : List ℕ) → is_over_in old ≡ false → gives first (Some what) mid → ack ≡ ack_text (acknowledges_in old) what
+pub from_first : {I C : Type 0} (gives : I → Option PacketEvent → I → Type 0) (first mid : I) (what : PacketEvent) (old new : Talk C) (ack sent : List ℕ) → is_over_in old ≡ false → gives first (Some what) mid → ack ≡ ack_text (acknowledges_in old) what
     → AnswersFrom (Some what) gives mid old new sent → AnswersAll gives first old new (ack ++ sent)
 from_first {I} {C} gives first mid what old new ack sent ongoing gave is (talk, said, rest, says, inl (over, same, none), all) =
     let P : Talk C → Type 0 = λ x. is_over_in x ≡ true in
@@ -65,7 +65,7 @@ from_first {I} {C} gives first mid what old new ack sent ongoing gave is (talk, 
 }
 
 -- there was none
-pub from_none : {I C : Type 0} (gives : I → Option Heard → I → Type 0) (first mid : I) (old new : Talk C) (sent : List ℕ) → gives first None mid → AnswersFrom None gives mid old new sent → AnswersAll gives first old new sent
+pub from_none : {I C : Type 0} (gives : I → Option PacketEvent → I → Type 0) (first mid : I) (old new : Talk C) (sent : List ℕ) → gives first None mid → AnswersFrom None gives mid old new sent → AnswersAll gives first old new sent
 from_none gives first mid old new sent gave (same, none) = record {
   heard = [];
   last = first;
@@ -74,7 +74,7 @@ from_none gives first mid old new sent gave (same, none) = record {
   ended = inr (mid, gave);
 }
 
-pub from_given : {I C : Type 0} (gives : I → Option Heard → I → Type 0) (first mid : I) (what : Option Heard) (old new : Talk C) (sent : List ℕ) → is_over_in old ≡ false → acknowledges_in old ≡ true → gives first what mid → AnswersFrom what gives mid old new sent
+pub from_given : {I C : Type 0} (gives : I → Option PacketEvent → I → Type 0) (first mid : I) (what : Option PacketEvent) (old new : Talk C) (sent : List ℕ) → is_over_in old ≡ false → acknowledges_in old ≡ true → gives first what mid → AnswersFrom what gives mid old new sent
     → AnswersAll gives first old new (first_ack what ++ sent)
 from_given gives first mid None old new sent ongoing acks gave did = from_none gives first mid old new sent gave did
 from_given gives first mid (Some what) old new sent ongoing acks gave did =

@@ -18,8 +18,8 @@ use Rattle.bench_schedules.specs.Shown.{HasNoOrder, IsNthThatDiffers, order_scri
 use Rattle.bench_schedules.specs.declared.points.Preemption.{Preemption}
 use Rattle.bench_sweep.specs.Shown.{NoRowOf, ShownRow}
 use Rattle.bench_sweep.specs.Swept.{NoBenchRuns}
-use Rattle.bench_sweep.specs.declared.points.Bench.{Bench as Kind}
-use Rattle.bench_sweep.specs.declared.points.Bench.TheVariants.{Cuts, Fails}
+use Rattle.bench_sweep.specs.declared.points.BenchKind.{BenchKind}
+use Rattle.bench_sweep.specs.declared.points.BenchKind.TheVariants.{Cuts, Fails}
 use Rattle.debug_options.specs.declared.given.Begin.{Begin}
 use Rattle.debug_options.specs.declared.given.Begin.TheVariants.{Cut, End, Failure, Order, Schedule}
 use Rattle.debug_options.specs.declared.given.Drawn.{Drawn}
@@ -53,7 +53,7 @@ IsDrawn drawn said found =
     × IsScheduleOf said found
 
 -- it is the script that `--show` writes of the row of that number
-abbrev pub IsRow : Kind → ℕ → Script → List (List ℕ) → Script → Type 0
+abbrev pub IsRow : BenchKind → ℕ → Script → List (List ℕ) → Script → Type 0
 IsRow kind number said payloads found =
     ShownRow kind said.size payloads said.lines (lines.On Keep ∷ []) number (Some []) (Some (script_text found ++ 10 ∷ []))
 
@@ -85,7 +85,7 @@ pub record BeginsAt (begin : Begin) (text : List ℕ) (payloads : List (List ℕ
   pub stops : StopsAt begin said.size payloads said.lines found.lines script.lines
 
 -- there is no row of that number, or no bench runs the script
-abbrev pub NoRow : Kind → ℕ → List ℕ → List (List ℕ) → Refusal → Type 0
+abbrev pub NoRow : BenchKind → ℕ → List ℕ → List (List ℕ) → Refusal → Type 0
 NoRow kind number text payloads e =
     ((e ≡ NotPlain) × NoBenchRuns text) ⊎ ((e ≡ BadShape) × NoRowOf kind number payloads text None)
 

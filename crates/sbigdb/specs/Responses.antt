@@ -7,8 +7,8 @@ use Rattle.debug_session.specs.Ats.{IsAt}
 use Rattle.debug_session.specs.Sessions.{begins_of, history_of, plan_of, points_of, size_of, timeline_of, watches_of}
 use Rattle.debug_session.specs.Steps.{AreNoted}
 use Rattle.debug_session.specs.declared.session.Plan.{Plan}
-use Rattle.gdb_protocol.specs.declared.heard.Heard.{Heard}
-use Rattle.gdb_protocol.specs.declared.heard.Heard.TheVariants as heards
+use Rattle.gdb_protocol.specs.declared.heard.PacketEvent.{PacketEvent}
+use Rattle.gdb_protocol.specs.declared.heard.PacketEvent.TheVariants as heards
 use Rattle.gdb_protocol.specs.Replies.{packets_of}
 use Rattle.debug_packets.specs.Answers.{IsReplied, again_text, front_text}
 use Rattle.debug_packets.specs.Talks.{acknowledges_in, hart_in, is_over_in, runner_in, sent_in, session_in}
@@ -16,18 +16,18 @@ use Rattle.debug_packets.specs.declared.talk.Talk.{Talk}
 use lib.Chars.{codes}
 
 -- the acknowledgement of what was heard: of a packet, where these are wanted
-abbrev pub ack_text : Bool → Heard → List ℕ
+abbrev pub ack_text : Bool → PacketEvent → List ℕ
 ack_text acknowledges (heards.Packet packet) = front_text acknowledges
 ack_text acknowledges what = []
 
 -- that of the first thing that was heard, if there is one
-abbrev pub first_ack : Option Heard → List ℕ
+abbrev pub first_ack : Option PacketEvent → List ℕ
 first_ack None = []
 first_ack (Some what) = ack_text true what
 
 -- A packet is answered. Where packets are acknowledged one that came damaged is wanted again, and the last answer is sent again
 -- that came so. Nothing else is sent.
-abbrev pub Says : {C : Type 0} → Heard → Talk C → Talk C → List ℕ → Type 0
+abbrev pub Says : {C : Type 0} → PacketEvent → Talk C → Talk C → List ℕ → Type 0
 Says (heards.Packet packet) old new sent =
     (payloads : List (List ℕ)) × IsReplied packet.items old new payloads × (sent ≡ packets_of payloads)
 Says heards.Damaged old new sent = (new ≡ old) × (sent ≡ (if acknowledges_in old then codes "-" else []))
@@ -35,32 +35,32 @@ Says heards.Again old new sent = (new ≡ old) × (sent ≡ again_text old)
 Says what old new sent = (new ≡ old) × (sent ≡ [])
 
 -- the same behind its acknowledgement
-abbrev pub Responds : {C : Type 0} → Heard → Talk C → Talk C → List ℕ → Type 0
+abbrev pub Responds : {C : Type 0} → PacketEvent → Talk C → Talk C → List ℕ → Type 0
 Responds what old new sent =
     (said : List ℕ) × Says what old new said × (sent ≡ ack_text (acknowledges_in old) what ++ said)
 
 -- Each of these is answered by the talk that the one before left, and none once the talk is over.
-abbrev pub RespondsAll : {C : Type 0} → List Heard → Talk C → Talk C → List ℕ → Type 0
+abbrev pub RespondsAll : {C : Type 0} → List PacketEvent → Talk C → Talk C → List ℕ → Type 0
 RespondsAll [] old new sent = (new ≡ old) × (sent ≡ [])
 RespondsAll {C} (what ∷ more) old new sent =
     (mid : Talk C) × (first : List ℕ) × (rest : List ℕ) × (is_over_in old ≡ false) × Responds what old mid first
     × RespondsAll more mid new rest × (sent ≡ first ++ rest)
 
 -- Whatever an iterator gives is heard and answered, in its order, until it gives no more or the talk is over. Nothing else is sent.
-pub record AnswersAll {I C : Type 0} (gives : I → Option Heard → I → Type 0) (from : I) (old new : Talk C) (sent : List ℕ) : Type 0 where
-  pub heard : List Heard
+pub record AnswersAll {I C : Type 0} (gives : I → Option PacketEvent → I → Type 0) (from : I) (old new : Talk C) (sent : List ℕ) : Type 0 where
+  pub heard : List PacketEvent
   pub last : I
   pub given : Yields gives from heard last
   pub responses : RespondsAll heard old new sent
   pub ended : (is_over_in new ≡ true) ⊎ ((after : I) × gives last None after)
 
 -- and behind one of them, unless it ended the talk
-abbrev pub AnswersBehind : {I C : Type 0} → (I → Option Heard → I → Type 0) → I → Talk C → Talk C → List ℕ → Type 0
+abbrev pub AnswersBehind : {I C : Type 0} → (I → Option PacketEvent → I → Type 0) → I → Talk C → Talk C → List ℕ → Type 0
 AnswersBehind gives from mid new rest =
     ((is_over_in mid ≡ true) × (new ≡ mid) × (rest ≡ [])) ⊎ ((is_over_in mid ≡ false) × AnswersAll gives from mid new rest)
 
 -- The same where the first thing that was heard, if there was one, is acknowledged already.
-abbrev pub AnswersFrom : {I C : Type 0} → Option Heard → (I → Option Heard → I → Type 0) → I → Talk C → Talk C → List ℕ → Type 0
+abbrev pub AnswersFrom : {I C : Type 0} → Option PacketEvent → (I → Option PacketEvent → I → Type 0) → I → Talk C → Talk C → List ℕ → Type 0
 AnswersFrom None gives from old new sent = (new ≡ old) × (sent ≡ [])
 AnswersFrom {I} {C} (Some what) gives from old new sent =
     (mid : Talk C) × (said : List ℕ) × (rest : List ℕ) × Says what old mid said × AnswersBehind gives from mid new rest

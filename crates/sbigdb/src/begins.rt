@@ -18,7 +18,7 @@ ghost use Rattle.sbigdb.specs.Strikes.{StopsBefore};
 
 use crate::strikes::before_strike;
 use bench_schedules::{Wanted, show, show_order};
-use bench_sweep::{Bench, WantedRow, show_row};
+use bench_sweep::{BenchKind, WantedRow, show_row};
 use board::Payloads;
 use board_model::Refusal;
 use debug_options::{Begin, Drawn, Preempted};
@@ -272,14 +272,14 @@ pub fn begun<R: Threads + Sync>(
         }
         Begin::Cut(number) => {
             let wanted = WantedRow {
-                bench: Bench::Cuts,
+                bench: BenchKind::Cuts,
                 number,
             };
             row_to::<R>(alloc, wanted, script, payloads)
         }
         Begin::Failure(number) => {
             let wanted = WantedRow {
-                bench: Bench::Fails,
+                bench: BenchKind::Fails,
                 number,
             };
             row_to::<R>(alloc, wanted, script, payloads)

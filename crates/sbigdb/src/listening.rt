@@ -4,7 +4,7 @@ ghost use Rattle.std.specs.Prelude.{◌≡◌, true, false};
 ghost use Rattle.sbigdb.specs.Hearings.{HandedOn, ends_talk, is_last};
 
 use crossbeam_channel::Sender;
-use gdb_protocol::{Decoder, Heard, Look, Request, request_of};
+use gdb_protocol::{Decoder, PacketEvent, GdbLook, GdbRequest, request_of};
 use std::alloc::Global;
 use std::io::Read;
 use std::sync::Wait;
@@ -43,12 +43,12 @@ impl Signals {
 }
 
 /// Whether a request ends the talk.
-fn ends_talk(asked: Request) -> bool
+fn ends_talk(asked: GdbRequest) -> bool
     ensures { result ≡ ends_talk asked }
 {
     match asked {
-        Request::Look(Look::Detach) => true,
-        Request::Look(Look::Kill) => true,
+        GdbRequest::Look(GdbLook::Detach) => true,
+        GdbRequest::Look(GdbLook::Kill) => true,
         _ => false,
     }
 }
@@ -57,37 +57,37 @@ fn ends_talk(asked: Request) -> bool
 /// damaged is passed over while nothing of it is sent: the debugger grew impatient.
 pub(crate) fn hand_on<R: Wait>(
     rt: &R,
-    what: Heard,
-    heard: &Sender<Heard>,
+    what: PacketEvent,
+    heard: &Sender<PacketEvent>,
     signals: &Signals,
 ) -> bool
     // Behind what ends the talk nothing is read.
     ensures last { is_last what ≡ true → result ≡ false }
     // An interrupt ends nothing but the run.
-    ensures goes_on { what ≡ Heard.Interrupt → result ≡ true }
+    ensures goes_on { what ≡ PacketEvent.Interrupt → result ≡ true }
 {
     match what {
-        Heard::Interrupt => {
+        PacketEvent::Interrupt => {
             signals.interrupt.store(true, Ordering::SeqCst);
             true
         }
         // That an answer came well says nothing that the talk needs.
-        Heard::Nothing | Heard::Received => true,
-        Heard::Again => {
-            signals.answering.load(Ordering::SeqCst) || heard.send(rt, Heard::Again).is_ok()
+        PacketEvent::Nothing | PacketEvent::Received => true,
+        PacketEvent::Again => {
+            signals.answering.load(Ordering::SeqCst) || heard.send(rt, PacketEvent::Again).is_ok()
         }
-        Heard::Packet(packet) => {
+        PacketEvent::Packet(packet) => {
             let last = ends_talk(request_of(&packet));
             signals.answering.store(true, Ordering::SeqCst);
-            heard.send(rt, Heard::Packet(packet)).is_ok() && !last
+            heard.send(rt, PacketEvent::Packet(packet)).is_ok() && !last
         }
-        Heard::Damaged => heard.send(rt, Heard::Damaged).is_ok(),
+        PacketEvent::Damaged => heard.send(rt, PacketEvent::Damaged).is_ok(),
     }
 }
 
 /// Reads an input, and hands on what its bytes complete, in its order, until it ends or fails, no more is wanted, or memory
 /// is refused. Says which. A read that was interrupted is made again.
-pub(crate) fn listen<I: Read + Drop, F: FnMut(Heard) -> bool>(
+pub(crate) fn listen<I: Read + Drop, F: FnMut(PacketEvent) -> bool>(
     alloc: Global,
     input: I,
     mut give: F,

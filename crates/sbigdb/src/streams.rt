@@ -12,14 +12,14 @@ ghost use Rattle.sbigdb.specs.Responses.{AnswersAll, AnswersFrom, Begins, Respon
 
 use crate::listening::{Signals, Silence, hand_on, listen};
 use crate::start::Start;
-use crate::told::{Told, told_payloads};
+use crate::told::{PayloadScript, told_payloads};
 use bench_report::Setting;
 use board_model::Refusal;
 use crew::{Crew, Sequential};
 use crossbeam_channel::{Receiver, bounded};
 use debug_packets::{Talk, acknowledge, prepare, reply_again, send_answer};
 use debug_session::{Plan, Session};
-use gdb_protocol::Heard;
+use gdb_protocol::PacketEvent;
 use script_lang::Script;
 use std::alloc::Global;
 use std::io::{self, BufReader, Write};
@@ -42,11 +42,11 @@ fn again<C: Crew>(talk: &Talk<'_, C>) -> &'static [u8]
 }
 
 /// Acknowledges what was heard, where it is a packet, and that is wanted.
-fn confirm<W: Write>(acknowledges: bool, what: &Heard, out: &mut W) -> Result<(), Refusal>
+fn confirm<W: Write>(acknowledges: bool, what: &PacketEvent, out: &mut W) -> Result<(), Refusal>
     ensures { OnOk result (Appends (W.contents out.old) (W.contents out.new) (ack_text acknowledges what.now)) }
 {
     match what {
-        Heard::Packet(_) => acknowledge(acknowledges, out),
+        PacketEvent::Packet(_) => acknowledge(acknowledges, out),
         _ => acknowledge(false, out),
     }
 }
@@ -56,7 +56,7 @@ fn confirm<W: Write>(acknowledges: bool, what: &Heard, out: &mut W) -> Result<()
 fn respond<C: Crew, W: Write>(
     talk: &mut Talk<'_, C>,
     alloc: Global,
-    what: Heard,
+    what: PacketEvent,
     signals: &Signals,
     out: &mut W,
 ) -> Result<(), Refusal>
@@ -66,17 +66,17 @@ fn respond<C: Crew, W: Write>(
         × Appends (W.contents out.old) (W.contents out.new) said) }
 {
     match what {
-        Heard::Packet(packet) => {
+        PacketEvent::Packet(packet) => {
             prepare(talk, alloc, &packet, &signals.interrupt)?;
             // From its first byte on the answer may be said to have come damaged.
             signals.answering.store(false, Ordering::SeqCst);
             send_answer(talk, out)
         }
-        Heard::Damaged => {
+        PacketEvent::Damaged => {
             let again = again(talk);
             out.write_all(again).map_err(|_| Refusal::Output)
         }
-        Heard::Again => reply_again(talk, out),
+        PacketEvent::Again => reply_again(talk, out),
         _ => Ok(()),
     }
 }
@@ -85,7 +85,7 @@ fn respond<C: Crew, W: Write>(
 fn take_up<C: Crew, W: Write>(
     talk: &mut Talk<'_, C>,
     alloc: Global,
-    what: Heard,
+    what: PacketEvent,
     signals: &Signals,
     out: &mut W,
 ) -> Result<(), Refusal>
@@ -99,7 +99,7 @@ fn take_up<C: Crew, W: Write>(
 }
 
 /// Answers whatever is heard, in its order, until the talk is over or no more is heard.
-fn answers<I: Iterator<Item = Heard>, C: Crew, W: Write>(
+fn answers<I: Iterator<Item = PacketEvent>, C: Crew, W: Write>(
     alloc: Global,
     talk: &mut Talk<'_, C>,
     heard: I,
@@ -124,10 +124,10 @@ fn answers<I: Iterator<Item = Heard>, C: Crew, W: Write>(
 }
 
 /// Answers one thing that was heard, which is acknowledged already, and then whatever is heard.
-fn answers_behind<I: Iterator<Item = Heard>, C: Crew, W: Write>(
+fn answers_behind<I: Iterator<Item = PacketEvent>, C: Crew, W: Write>(
     alloc: Global,
     talk: &mut Talk<'_, C>,
-    what: Heard,
+    what: PacketEvent,
     heard: I,
     signals: &Signals,
     out: &mut W,
@@ -146,10 +146,10 @@ fn answers_behind<I: Iterator<Item = Heard>, C: Crew, W: Write>(
 }
 
 /// The same where the first thing may be missing, and then nothing is heard.
-fn answers_from<I: Iterator<Item = Heard>, C: Crew, W: Write>(
+fn answers_from<I: Iterator<Item = PacketEvent>, C: Crew, W: Write>(
     alloc: Global,
     talk: &mut Talk<'_, C>,
-    first: Option<Heard>,
+    first: Option<PacketEvent>,
     heard: I,
     signals: &Signals,
     out: &mut W,
@@ -167,7 +167,7 @@ fn answers_from<I: Iterator<Item = Heard>, C: Crew, W: Write>(
 }
 
 /// Acknowledges the first thing that was heard, if there is one: packets are acknowledged then.
-fn confirm_first<W: Write>(first: &Option<Heard>, out: &mut W) -> Result<(), Refusal>
+fn confirm_first<W: Write>(first: &Option<PacketEvent>, out: &mut W) -> Result<(), Refusal>
     ensures { OnOk result (Appends (W.contents out.old) (W.contents out.new) (first_ack first.now)) }
 {
     match first {
@@ -178,10 +178,10 @@ fn confirm_first<W: Write>(first: &Option<Heard>, out: &mut W) -> Result<(), Ref
 
 /// The talk about the board that a script's lines leave. The first packet is acknowledged before the lines are run, since
 /// a debugger asks again where that takes long.
-fn discuss<I: Iterator<Item = Heard>, C: Crew, W: Write>(
+fn discuss<I: Iterator<Item = PacketEvent>, C: Crew, W: Write>(
     setting: Setting<'_, C>,
     plan: Plan,
-    told: Told,
+    told: PayloadScript,
     heard: I,
     signals: &Signals,
     out: &mut W,
@@ -195,7 +195,7 @@ fn discuss<I: Iterator<Item = Heard>, C: Crew, W: Write>(
         × Begins setting.entry.shape.now plan told.begins told.lines.items first
         × AnswersAll I.next_gives heard first last sent × Appends (W.contents out.old) (W.contents out.new) sent) }
 {
-    let Told { lines, begins } = told;
+    let PayloadScript { lines, begins } = told;
     let mut heard = heard;
     let first = heard.next();
     confirm_first(&first, out)?;
@@ -210,7 +210,7 @@ fn serve<R: Threads + Wait + Sync>(
     host: &HostRuntime,
     start: Start,
     plan: Plan,
-    heard: Receiver<Heard>,
+    heard: Receiver<PacketEvent>,
     signals: &Signals,
 ) -> Result<(), Refusal>
     requires ranges { All (IsLineInRange start.script.shape) start.script.lines.items }
@@ -243,7 +243,7 @@ pub fn converse<R: Threads + Wait + Sync>(
     let alloc = host.alloc();
     let signals = Signals::new();
     let signals = &signals;
-    let Ok((sender, receiver)) = bounded::<Heard, _>(alloc, MOST_HEARD) else {
+    let Ok((sender, receiver)) = bounded::<PacketEvent, _>(alloc, MOST_HEARD) else {
         return Err(Refusal::Memory);
     };
     thread::scope(

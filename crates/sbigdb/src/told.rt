@@ -17,7 +17,7 @@ const MOST_BYTES: usize = 1024;
 /// The lines of a script that says itself what its slots boot, as far as a line has room for it; and the payloads with
 /// which it begins, which are the others.
 #[derive(Drop)]
-pub struct Told {
+pub struct PayloadScript {
     /// The lines, those of payloads first.
     pub lines: Vec<Line>,
     /// The payloads that no line has room for, and those that are empty.
@@ -26,7 +26,7 @@ pub struct Told {
 
 /// Tells the payload of one slot: in a line, where it has 1 to 1,024 bytes, else as one with which the script begins.
 #[tactic(auto, using(crate::proofs::Ranges::payload_ranged))]
-fn tell(alloc: Global, payloads: &Payloads, number: u32, told: &mut Told) -> Result<(), AllocError>
+fn tell(alloc: Global, payloads: &Payloads, number: u32, told: &mut PayloadScript) -> Result<(), AllocError>
     requires { number ≤ 3 }
     ensures line { OnOk result (told.new.lines.items ≡ told.old.lines.items ++ line_for number (payload_at payloads.now number)) }
     ensures begin { OnOk result (told.new.begins ≡ slice_set told.old.begins number (begin_for (payload_at payloads.now number))) }
@@ -51,14 +51,14 @@ pub fn told_payloads(
     alloc: Global,
     lines: Vec<Line>,
     payloads: &Payloads,
-) -> Result<Told, AllocError>
+) -> Result<PayloadScript, AllocError>
     requires { length payloads.now ≡ 4 }
     ensures told { IfOk result (λ told. AreTold payloads.now lines.items told.lines.items told.begins) }
     ensures four { IfOk result (λ told. length told.begins ≡ 4) }
     ensures ranges { IfOk result (λ told. (size : Size) → All (IsLineInRange size) lines.items
         → All (IsLineInRange size) told.lines.items) }
 {
-    let mut told = Told {
+    let mut told = PayloadScript {
         lines: Vec::new(alloc),
         begins: Payloads::new(alloc),
     };

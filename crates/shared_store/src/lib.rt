@@ -18,5 +18,5 @@ pub use heard::Heard;
 pub use locks::{Apart, BusLock, Locks};
 pub use shared::SharedStore;
 pub use tallies::{Journal, NewBook, Part};
-pub use told::Told;
+pub use told::CommandReceipt;
 pub use unshared::Unshared;

@@ -24,7 +24,7 @@ ghost use Rattle.shared_store.specs.Runs.{IsCarried};
 use crate::buses::SharedBus;
 use crate::doubts::{Doubts, is_up, newly_down};
 use crate::heard::Heard;
-use crate::told::Told;
+use crate::told::CommandReceipt;
 use crate::unshared::Unshared;
 use board_model::{Command, Durable, Entry, Refusal, Shape};
 use crew::Crew;
@@ -98,7 +98,7 @@ impl<D: Disk + Drop, J: Journal> SharedStore<D, J> {
         part: Part<J>,
         heard: &mut Heard<J>,
         command: Command,
-    ) -> (Part<J>, Result<Told<J>, Refusal>)
+    ) -> (Part<J>, Result<CommandReceipt<J>, Refusal>)
         ensures asked { Asked Applied (store_in self.old) (change_of command) (number_told result.1)
             (store_in self.new) }
         ensures may { MayAnswer J.found (change_of command) (number_told result.1) }
@@ -117,7 +117,7 @@ impl<D: Disk + Drop, J: Journal> SharedStore<D, J> {
                 let part = self.book.note(&mut self.keeper, part, entry);
                 (
                     part,
-                    Ok(Told::new(receipt.number(), Entry::Command(command))),
+                    Ok(CommandReceipt::new(receipt.number(), Entry::Command(command))),
                 )
             }
             Err(refusal) => {
@@ -139,7 +139,7 @@ impl<D: Disk + Drop, J: Journal> SharedStore<D, J> {
         tables: &Tables,
         bus: &mut SharedBus<J>,
         part: Part<J>,
-    ) -> (Seats, Word, Option<Told<J>>, Part<J>)
+    ) -> (Seats, Word, Option<CommandReceipt<J>>, Part<J>)
         requires seats { AreSeatsOfBoth tables.now seats }
         requires acts { Acts hart.old.id Running seats }
         requires hart { hart.old.id < harts_of_both tables.now }
@@ -164,7 +164,7 @@ impl<D: Disk + Drop, J: Journal> SharedStore<D, J> {
                 let Some(entry) = last_entry(&self.store, self.count) else {
                     unreachable!()
                 };
-                let told = Told::new(self.count, entry);
+                let told = CommandReceipt::new(self.count, entry);
                 let noted = told.entry();
                 let part = self.book.note(&mut self.keeper, part, noted);
                 (seats, word, Some(told), part)

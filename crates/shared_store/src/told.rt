@@ -11,13 +11,13 @@ use tallies::Journal;
 /// The receipt of a command that a store of the life J acknowledged: its place, and the command. Only a store
 /// of that life makes one.
 #[derive(Drop)]
-pub struct Told<J: Journal> {
+pub struct CommandReceipt<J: Journal> {
     number: u32,
     entry: Entry,
     of: PhantomData<J>,
 }
 
-impl<J: Journal> Model for Told<J> {
+impl<J: Journal> Model for CommandReceipt<J> {
     ghost Value = { ℕ × Entry };
 
     ghost view = { λ t. (t.number, t.entry) };
@@ -25,13 +25,13 @@ impl<J: Journal> Model for Told<J> {
     ghost invariant = { λ t. IsToldOf J.found t.number t.entry };
 }
 
-impl<J: Journal> Told<J> {
+impl<J: Journal> CommandReceipt<J> {
     /// The receipt of that place.
-    pub(crate) fn new(number: u32, entry: Entry) -> Told<J>
+    pub(crate) fn new(number: u32, entry: Entry) -> CommandReceipt<J>
         requires { IsToldOf J.found number entry }
         ensures { result ≡ (number, entry) }
     {
-        Told {
+        CommandReceipt {
             number,
             entry,
             of: PhantomData,

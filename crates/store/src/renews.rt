@@ -10,7 +10,7 @@ ghost use Rattle.store.specs.Renewals.{IsKeptAnew};
 ghost use Rattle.store.specs.Standing.{StandsFor, state_of};
 
 use crate::commits::commit;
-use crate::opens::Found;
+use crate::opens::FoundRecord;
 use board_model::Refusal;
 use disk::Disk;
 use layout::{Record, Version};
@@ -18,7 +18,7 @@ use layout::{Record, Version};
 /// Writes the next record, which is of the same state, by one commit. At each moment of the call, and whatever
 /// it answers, a crash leaves a content that stands for that state. Refused `Device` where the disk failed in
 /// this call, before the gate was written or at it.
-fn renewed<D: Disk>(disk: &mut D, found: Found, next: &Record) -> Result<Found, Refusal>
+fn renewed<D: Disk>(disk: &mut D, found: FoundRecord, next: &Record) -> Result<FoundRecord, Refusal>
     requires keeps { Keeps (D.facts disk.old) found.shape found.side found.record None }
     requires in_range { IsInRange found.shape next.now }
     requires same { (c : Content) → state_of found.shape next.now c ≡ state_of found.shape found.record c }
@@ -32,7 +32,7 @@ fn renewed<D: Disk>(disk: &mut D, found: Found, next: &Record) -> Result<Found, 
     ensures no_fewer { (D.facts disk.old).failures ≤ (D.facts disk.new).failures }
 {
     match commit(disk, found.side, next) {
-        Ok(()) => Ok(Found {
+        Ok(()) => Ok(FoundRecord {
             side: found.side.other(),
             record: *next,
             ..found
@@ -44,7 +44,7 @@ fn renewed<D: Disk>(disk: &mut D, found: Found, next: &Record) -> Result<Found, 
 /// What an open has found, with its record as this firmware writes it: one of version 1 is written anew, as the
 /// same state (docs/STORE.md, "Migration"). At each moment a crash leaves that state. Refused `Device` where
 /// the disk failed in this call; then too, each crash leaves that state.
-pub fn migrated<D: Disk>(disk: &mut D, found: Found) -> Result<Found, Refusal>
+pub fn migrated<D: Disk>(disk: &mut D, found: FoundRecord) -> Result<FoundRecord, Refusal>
     requires keeps { Keeps (D.facts disk.old) found.shape found.side found.record None }
     ensures kept { IfOk result (λ kept. IsKeptAnew (D.facts disk.old) found (D.facts disk.new) kept) }
     ensures settles { IsSettled (D.facts disk.old) (D.facts disk.new) }

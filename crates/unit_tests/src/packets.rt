@@ -1,7 +1,7 @@
 //! Packets as gdb-multiarch 13.1 wrote and read them (`set debug remote 1`).
 
 use crate::fixtures::same;
-use gdb_protocol::{Decoder, Heard, framed};
+use gdb_protocol::{Decoder, PacketEvent, framed};
 use std::alloc::Global;
 use std::process::Abort;
 
@@ -35,7 +35,7 @@ fn heard(rt: &impl Abort, alloc: Global, bytes: &[u8]) -> (usize, Vec<u8>) {
     let mut count: usize = 0;
     let mut last = Vec::new(alloc);
     for byte in bytes {
-        if let Heard::Packet(payload) = decoder.take(*byte).expect(rt, "memory") {
+        if let PacketEvent::Packet(payload) = decoder.take(*byte).expect(rt, "memory") {
             count = count.wrapping_add(1);
             last = payload;
         }

@@ -1,5 +1,5 @@
 use Rattle.std.proofs.lemmas.Result.{IfOk-weaker}
-use Rattle.bench_sweep.specs.declared.points.Bench.TheVariants.{Cuts}
+use Rattle.bench_sweep.specs.declared.points.BenchKind.TheVariants.{Cuts}
 use Rattle.bench_sweep.specs.Points.{fault_at}
 use Rattle.bench_report.specs.Happens.{armed_with, off}
 use Rattle.bench_sweep.specs.Recovers.{compared}

@@ -7,7 +7,7 @@ use Rattle.sbi_calls.specs.declared.endings.Ending.{Ending}
 use Rattle.sbi_calls.specs.declared.words.Turned.{Turned}
 use Rattle.sbi_calls.specs.Both.{IsTable}
 use Rattle.sbi_calls.specs.Requests.{Checked, request_of}
-use Rattle.sbi_calls.specs.Answers.{Row, row, answer, Ends, DoesAlone, CallsAlone}
+use Rattle.sbi_calls.specs.Answers.{CallRow, row, answer, Ends, DoesAlone, CallsAlone}
 use Rattle.sbi_calls.proofs.dispatches.dispatch.Goals as goal
 
 -- with the numbers by other names
@@ -16,8 +16,8 @@ answered : (n by : ℕ) (size : Size) (asked : Checked) (old new : ArchState) (s
 answered n by size asked old new s s' end word e f g does ends t are =
     let a = does t (subst (λ (k : ℕ). IsTable k s t) (sym e) are) in
     let r : row by asked t ≡ answer size old.id (call_of old) t = ap (λ (k : ℕ). row k asked t) f ∙ ap (λ (x : Checked). row old.id x t) g in (
-      subst (λ (x : Ending). Ends x old new word) (a.0 ∙ ap (λ (w : Row). w.ending) r) ends,
-      subst (λ (k : ℕ). IsTable k s' (answer size old.id (call_of old) t).table) e (subst (λ (w : Row). IsTable n s' w.table) r a.1),
+      subst (λ (x : Ending). Ends x old new word) (a.0 ∙ ap (λ (w : CallRow). w.ending) r) ends,
+      subst (λ (k : ℕ). IsTable k s' (answer size old.id (call_of old) t).table) e (subst (λ (w : CallRow). IsTable n s' w.table) r a.1),
     )
 
 pub returns-clause-alone : goal.returns-clause-alone
