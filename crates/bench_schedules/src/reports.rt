@@ -12,7 +12,7 @@ ghost use Rattle.bench_schedules.specs.Stepped.{RanByTurns};
 ghost use Rattle.bench_schedules.specs.declared.points.Preemption.{Preemption as Once};
 
 use crate::chunk_runs::{ChunkRuns, chunk_size};
-use crate::next_runs::{NextRun, NextRuns, DifferingOrder};
+use crate::next_runs::{DifferingOrder, NextRun, NextRuns};
 use crate::nodes::{Runner, Search, is_enough};
 use crate::points::Preemption;
 use crate::preempted_lines::write_order;

@@ -2,7 +2,7 @@
 //! given, and what has to come of them (docs/CONSOLE.md, "Statuses and faults").
 
 use crate::fixtures::same;
-use crate::memory_files::{Broken, MemoryFiles, Page, FaultOutput};
+use crate::memory_files::{Broken, FaultOutput, MemoryFiles, Page};
 use board_files::MemoryDisk;
 use board_program::{FileLeft, Operated, operate_on};
 use board_session::Streams;

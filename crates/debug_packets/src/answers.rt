@@ -16,7 +16,7 @@ use crate::talk::Talk;
 use board_model::Refusal;
 use crew::Crew;
 use debug_session::{Halt, Session, Stop};
-use gdb_protocol::{GdbLook, Move, GdbRequest, request_of};
+use gdb_protocol::{GdbLook, GdbRequest, Move, request_of};
 use std::alloc::Global;
 use std::sync::atomic::AtomicBool;
 

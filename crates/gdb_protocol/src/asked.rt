@@ -4,7 +4,7 @@ ghost use Rattle.std.specs.Prelude.{◌≡◌};
 ghost use Rattle.gdb_protocol.specs.Asked.{alone, backward, by_letter, by_number, by_numbers, choice, chosen, chosen_thread, is_any, is_point, is_write, looked, moved, part, placed, plain_query, point, point_at, query, request_of, setting, talk, transfer, unchosen, verbose, watching};
 
 use crate::fields::{behind, is_text, number, two_numbers};
-use crate::requests::{GdbLook, Move, Object, GdbRequest, Watching};
+use crate::requests::{GdbLook, GdbRequest, Move, Object, Watching};
 
 /// What has nothing behind it.
 fn alone(asked: GdbRequest, rest: &[u8]) -> GdbRequest

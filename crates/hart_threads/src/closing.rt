@@ -11,7 +11,7 @@ use crate::loops::Why;
 use crate::threaded::Threaded;
 use board_model::Entry;
 use disk::Disk;
-use shared_store::{Journal, Locks, CommandReceipt};
+use shared_store::{CommandReceipt, Journal, Locks};
 use std::marker::{Model, PhantomData};
 use std::sync::{OnceLock, OnceToken, Wait};
 use tallies::{Halt, Watch};

@@ -20,7 +20,7 @@ use crew::Crew;
 use disk::Disk;
 use hart::Hart;
 use sbi::Word;
-use shared_store::{Locks, CommandReceipt};
+use shared_store::{CommandReceipt, Locks};
 use std::sync::Wait;
 
 /// Why a loop ended.

@@ -9,7 +9,7 @@ use board_model::Shape;
 use disk::Disk;
 use sbi::Word;
 use sbi_calls::{Seats, Tables};
-use shared_store::{Journal, Part, SharedBus, SharedStore, CommandReceipt};
+use shared_store::{CommandReceipt, Journal, Part, SharedBus, SharedStore};
 use std::alloc::AllocError;
 use std::sync::Mutex;
 use store::Saving;

@@ -26,7 +26,12 @@ pub struct PayloadScript {
 
 /// Tells the payload of one slot: in a line, where it has 1 to 1,024 bytes, else as one with which the script begins.
 #[tactic(auto, using(crate::proofs::Ranges::payload_ranged))]
-fn tell(alloc: Global, payloads: &Payloads, number: u32, told: &mut PayloadScript) -> Result<(), AllocError>
+fn tell(
+    alloc: Global,
+    payloads: &Payloads,
+    number: u32,
+    told: &mut PayloadScript,
+) -> Result<(), AllocError>
     requires { number ≤ 3 }
     ensures line { OnOk result (told.new.lines.items ≡ told.old.lines.items ++ line_for number (payload_at payloads.now number)) }
     ensures begin { OnOk result (told.new.begins ≡ slice_set told.old.begins number (begin_for (payload_at payloads.now number))) }
