@@ -1,7 +1,7 @@
 -- The first line in which what is told of two answers is another.
 use Rattle.std.proofs.Common.{◌≡◌, ◌≢◌, ◌∙◌, ℕ, List, [], ◌∷◌, ◌++◌, Option, None, Some, MatchOption, get_or, refl, sym, ap, subst, arith, append_assoc}
 use Rattle.board_console.specs.Texts.{state_text}
-use Rattle.board_model.proofs.Console.{word_of-no_found}
+use Rattle.board_model.specs.declared.console_command.ConsoleCommand.TheVariants as commands
 use Rattle.board_model.specs.declared.durable.Durable.{Durable}
 use Rattle.machine.specs.declared.line.MachineLine.TheVariants as lines
 use Rattle.report_lines.specs.Texts.{line_text}
@@ -18,8 +18,14 @@ use lib.Chars.{codes}
 pub found_no_line : (d : Durable) (line : Printed) → codes "found " ++ state_text d ≢ line_text line
 found_no_line d printed.Formatted e = let no : 117 ≡ 114 = ap (λ t. get_or t 2 0) e in absurd (let never : ⊥ = omega (arith, no) in never)
 found_no_line d (printed.FormatRefused n) e = let no : 117 ≡ 114 = ap (λ t. get_or t 2 0) e in absurd (let never : ⊥ = omega (arith, no) in never)
-found_no_line d (printed.Acknowledged c n) e = absurd (word_of-no_found c _ (sym (ap (λ t. get_or t 0 0) e)))
-found_no_line d (printed.CommandRefused c n) e = absurd (word_of-no_found c _ (sym (ap (λ t. get_or t 0 0) e)))
+found_no_line d (printed.Acknowledged (commands.Slot s) n) e = let no : 102 ≡ 115 = ap (λ t. get_or t 0 0) e in absurd (let never : ⊥ = omega (arith, no) in never)
+found_no_line d (printed.Acknowledged commands.Discard n) e = let no : 102 ≡ 100 = ap (λ t. get_or t 0 0) e in absurd (let never : ⊥ = omega (arith, no) in never)
+found_no_line d (printed.Acknowledged (commands.Tries s b) n) e = let no : 102 ≡ 116 = ap (λ t. get_or t 0 0) e in absurd (let never : ⊥ = omega (arith, no) in never)
+found_no_line d (printed.Acknowledged commands.Good n) e = let no : 102 ≡ 103 = ap (λ t. get_or t 0 0) e in absurd (let never : ⊥ = omega (arith, no) in never)
+found_no_line d (printed.CommandRefused (commands.Slot s) n) e = let no : 102 ≡ 115 = ap (λ t. get_or t 0 0) e in absurd (let never : ⊥ = omega (arith, no) in never)
+found_no_line d (printed.CommandRefused commands.Discard n) e = let no : 102 ≡ 100 = ap (λ t. get_or t 0 0) e in absurd (let never : ⊥ = omega (arith, no) in never)
+found_no_line d (printed.CommandRefused (commands.Tries s b) n) e = let no : 102 ≡ 116 = ap (λ t. get_or t 0 0) e in absurd (let never : ⊥ = omega (arith, no) in never)
+found_no_line d (printed.CommandRefused commands.Good n) e = let no : 102 ≡ 103 = ap (λ t. get_or t 0 0) e in absurd (let never : ⊥ = omega (arith, no) in never)
 found_no_line d (printed.Shown (lines.Turn h k w)) e = let no : 102 ≡ 116 = ap (λ t. get_or t 0 0) e in absurd (let never : ⊥ = omega (arith, no) in never)
 found_no_line d line e = absurd (let never : ⊥ = omega (arith, ap (λ t. get_or t 0 0) e) in never)
 
