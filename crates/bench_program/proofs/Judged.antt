@@ -51,6 +51,11 @@ wrote_on plan start script a b c sweep (said, is, w) keeps = (
   },
 )
 
+pub recovered_on : (plan : Plan) (start : List (List ℕ)) (script recovery numbers : List ℕ) (a b c : Option (List ℕ)) (done : Recovered)
+    → IsRecoveredBenchOf plan start script recovery numbers a b done → Keeps b c → IsRecoveredBenchOf plan start script recovery numbers a c done
+recovered_on plan start script recovery numbers a b c done (said, after, is, says, plain, none, looks, (mid, rows, text)) keeps =
+    (said, after, is, says, plain, none, looks, (mid, rows, handed_on mid b c _ text keeps))
+
 pub preempted_on : (within : Within) (start : List (List ℕ)) (script : List ℕ) (a b c : Option (List ℕ)) (orders differ : ℕ)
     → ((said : Said) × (script_of script ≡ Ok said) × WrotePreemptions said start (numbers_of script) within.most within.first a b orders differ) → Keeps b c → IsPreempted within start script a c differ
 preempted_on within start script a b c orders differ (said, is, w) keeps = (

@@ -131,8 +131,10 @@ pub fn write_bench<R: Threads + Sync, P: Progress, W: Write + Drop>(
         × ((result ≡ Err Refusal.NotPlain) ⊎ (result ≡ Err Refusal.Memory)) }
 {
     let done = run_bench(jobs, alloc, plan, script, payloads, out)?;
-    out.flush().map_err(|_| Refusal::Output)?;
-    Ok(done)
+    match out.flush() {
+        Ok(()) => Ok(done),
+        Err(_) => Err(Refusal::Output),
+    }
 }
 
 /// Runs a bench over the script that begins with these payloads, with that recovery behind each run, and writes its lines to
