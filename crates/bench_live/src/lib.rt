@@ -16,5 +16,5 @@ mod rows;
 pub use laws::{alike_benches_run_alike, idle_turns_change_nothing, rows_join, turns_arm_nothing};
 pub use live::LiveBench;
 pub use notes::note;
-pub use past::History;
+pub use past::LineHistory;
 pub use rows::{TurnRow, is_idle};

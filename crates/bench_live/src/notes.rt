@@ -10,14 +10,19 @@ ghost use Rattle.bench_live.specs.Rows.{IsWithin, made_in};
 ghost use Rattle.script_lang.specs.declared.line.Line.TheVariants as lines;
 ghost use Rattle.simdisk.specs.declared.fill.Fill.{Fill};
 
-use crate::past::History;
+use crate::past::LineHistory;
 use crate::rows::TurnRow;
 use board_model::{HartId, Refusal};
 
 /// Notes a row of turns of a hart in a history. `joins` says that the history's last line is a row of the same hart that has not
 /// ended: then the two become one line. Answers the same of the history after it: whether a further turn of the hart would
 /// join its last line. A row of no turns notes nothing. Refused `Memory` alone: the history is then of no further use.
-pub fn note(history: &mut History, joins: bool, hart: HartId, row: TurnRow) -> Result<bool, Refusal>
+pub fn note(
+    history: &mut LineHistory,
+    joins: bool,
+    hart: HartId,
+    row: TurnRow,
+) -> Result<bool, Refusal>
     requires within { IsWithin 1000000 row }
     // Its lines may leave the bench as it is after the turns.
     ensures left { IfOk result (λ next. (size : Size) → NotesRow size hart row joins next history.old history.new) }

@@ -12,11 +12,11 @@ const MOST_TURNS: u32 = 1_000_000;
 /// The lines that were run, in their order, which contracts see as their list. A row of turns of one hart may stand
 /// in one line.
 #[derive(Drop)]
-pub struct History {
+pub struct LineHistory {
     lines: Vec<Line>,
 }
 
-impl Model for History {
+impl Model for LineHistory {
     ghost use Rattle.std.specs.Prelude.{List};
     ghost use Rattle.script_lang.specs.declared.line.Line.{Line};
 
@@ -25,17 +25,17 @@ impl Model for History {
     ghost view = { λ h. h.lines.items };
 }
 
-impl History {
+impl LineHistory {
     ghost use Rattle.std.specs.Prelude.{◌≡◌, ◌≤◌, ◌++◌, ◌∷◌, [], false, take, replicate, OnOk, MatchResult, ⊤};
     ghost use Rattle.std.specs.Bool.{MatchBool};
     ghost use Rattle.script_lang.specs.declared.line.Line.TheVariants as lines;
     ghost use Rattle.bench_live.specs.Pasts.{IsAdded, IsBack, IsOpen, IsRowCut, moments, NoRow, some_turns};
 
     /// No lines.
-    pub fn new(alloc: Global) -> History
+    pub fn new(alloc: Global) -> LineHistory
         ensures { result ≡ [] }
     {
-        History {
+        LineHistory {
             lines: Vec::new(alloc),
         }
     }

@@ -3,7 +3,7 @@ use Rattle.std.proofs.Common.{◌≡◌, ◌∙◌, ◌⊎◌, inl, inr, ℕ, Li
 use Rattle.std.specs.Io.KnownBytes.{Appends, Keeps}
 use Rattle.board_model.specs.declared.refusal.Refusal.{Refusal}
 use Rattle.bench_sweep.specs.declared.judges.Sweep.{Sweep}
-use Rattle.bench_sweep.specs.declared.plan.Plan.{Plan}
+use Rattle.bench_sweep.specs.declared.plan.SweepPlan.{SweepPlan}
 use Rattle.bench_sweep.specs.Swept.{IsBenchOf, IsRecoveredBenchOf}
 use Rattle.bench_sweep.specs.declared.sweeps.Recovered.{Recovered}
 use Rattle.bench_sweep.specs.Shown.{IsRowOf}
@@ -12,11 +12,11 @@ use Rattle.bench_sweep.specs.declared.recovery.RecoveryFile.{RecoveryFile}
 use Rattle.script_lang.specs.Scripts.{script_of, Script as Said}
 use Rattle.bench_schedules.specs.Numbers.{numbers_of}
 use Rattle.bench_schedules.specs.Preemptions.{WrotePreemptions}
-use Rattle.bench_schedules.specs.declared.preempted_benches.Within.{Within}
+use Rattle.bench_schedules.specs.declared.preempted_benches.OrderBounds.{OrderBounds}
 use Rattle.bench_schedules.specs.Shown.{ShownOrder}
 use Rattle.bench_schedules.specs.Shrunk.{Shrunk}
 use Rattle.bench_schedules.specs.declared.shown.Wanted.{Wanted}
-use Rattle.bench_program.specs.declared.usage.Drawn.{Drawn}
+use Rattle.bench_program.specs.declared.usage.DrawnSchedule.{DrawnSchedule}
 use Rattle.bench_program.specs.Written.{IsOrderShown, IsPreempted, IsShrunk}
 
 -- what is handed on stays written
@@ -26,7 +26,7 @@ handed_on (Some a) (Some b) (Some c) x h k = k ∙ h
 handed_on (Some a) None c x h k = absurd h
 handed_on (Some a) (Some b) None x h k = absurd k
 
-pub wrote_on : (plan : Plan) (start : List (List ℕ)) (script : List ℕ) (a b c : Option (List ℕ)) (sweep : Sweep) → IsBenchOf plan start script a b sweep → Keeps b c → IsBenchOf plan start script a c sweep
+pub wrote_on : (plan : SweepPlan) (start : List (List ℕ)) (script : List ℕ) (a b c : Option (List ℕ)) (sweep : Sweep) → IsBenchOf plan start script a b sweep → Keeps b c → IsBenchOf plan start script a c sweep
 wrote_on plan start script a b c sweep (said, is, w) keeps = (
   said,
   is,
@@ -51,12 +51,12 @@ wrote_on plan start script a b c sweep (said, is, w) keeps = (
   },
 )
 
-pub recovered_on : (plan : Plan) (start : List (List ℕ)) (script recovery numbers : List ℕ) (a b c : Option (List ℕ)) (done : Recovered)
+pub recovered_on : (plan : SweepPlan) (start : List (List ℕ)) (script recovery numbers : List ℕ) (a b c : Option (List ℕ)) (done : Recovered)
     → IsRecoveredBenchOf plan start script recovery numbers a b done → Keeps b c → IsRecoveredBenchOf plan start script recovery numbers a c done
 recovered_on plan start script recovery numbers a b c done (said, after, is, says, plain, none, looks, (mid, rows, text)) keeps =
     (said, after, is, says, plain, none, looks, (mid, rows, handed_on mid b c _ text keeps))
 
-pub preempted_on : (within : Within) (start : List (List ℕ)) (script : List ℕ) (a b c : Option (List ℕ)) (orders differ : ℕ)
+pub preempted_on : (within : OrderBounds) (start : List (List ℕ)) (script : List ℕ) (a b c : Option (List ℕ)) (orders differ : ℕ)
     → ((said : Said) × (script_of script ≡ Ok said) × WrotePreemptions said start (numbers_of script) within.most within.first a b orders differ) → Keeps b c → IsPreempted within start script a c differ
 preempted_on within start script a b c orders differ (said, is, w) keeps = (
   said,
@@ -84,7 +84,7 @@ order_on wanted start script a b c (said, is, (ones, nth, w)) keeps = (
   (ones, nth, record { order = w.order; writable = w.writable; reads = w.reads; text = handed_on a b c _ w.text keeps }),
 )
 
-pub shrunk_on : (drawn : Drawn) (start : List (List ℕ)) (script : List ℕ) (a b c : Option (List ℕ)) → ((said : Said) × (script_of script ≡ Ok said) × Shrunk said start drawn.seed drawn.number a b) → Keeps b c → IsShrunk drawn start script a c
+pub shrunk_on : (drawn : DrawnSchedule) (start : List (List ℕ)) (script : List ℕ) (a b c : Option (List ℕ)) → ((said : Said) × (script_of script ≡ Ok said) × Shrunk said start drawn.seed drawn.number a b) → Keeps b c → IsShrunk drawn start script a c
 shrunk_on drawn start script a b c (said, is, w) keeps = (
   said,
   is,

@@ -15,9 +15,9 @@ use Rattle.bench_program.specs.Faults.{fault_by, unread_by, without_work}
 use Rattle.bench_program.specs.Usage.{IsNamedBy}
 use Rattle.bench_program.specs.declared.fault.BenchFault.{BenchFault}
 use Rattle.bench_program.specs.declared.fault.BenchFault.TheVariants.{Input, Refused}
-use Rattle.bench_program.specs.declared.usage.Options.{Options}
+use Rattle.bench_program.specs.declared.usage.BenchOptions.{BenchOptions}
 use Rattle.bench_sweep.specs.Shown.{NoneBehindOf, NoRowOf}
-use Rattle.bench_sweep.specs.declared.plan.Plan.{Plan}
+use Rattle.bench_sweep.specs.declared.plan.SweepPlan.{SweepPlan}
 use Rattle.bench_sweep.specs.declared.recovery.RecoveryFile.{RecoveryFile}
 use Rattle.bench_sweep.specs.declared.shown.WantedRow.{WantedRow}
 use Rattle.bench_program.specs.declared.usage.Work.{Work}
@@ -41,13 +41,13 @@ no_bench payloads script e work (inr (inl x)) = inr (inl x)
 no_bench payloads script e work (inr (inr x)) = inr (inr (inl x))
 
 -- a payload file was not read
-pub unread_named : (options : Options) (why : ProgramFault) (fault : BenchFault) → fault ≡ unread_by why → (why ≡ causes.File) ⊎ (why ≡ causes.Refused Memory)
+pub unread_named : (options : BenchOptions) (why : ProgramFault) (fault : BenchFault) → fault ≡ unread_by why → (why ≡ causes.File) ⊎ (why ≡ causes.Refused Memory)
     → (slot : ℕ) × IsSome (get_or options.payloads slot None) → IsUnread options fault ⊎ (fault ≡ Refused Memory)
 unread_named options why fault e (inl is) some = inl (inl (e ∙ ap unread_by is, inl some))
 unread_named options why fault e (inr is) some = inr (e ∙ ap unread_by is)
 
 -- the script's file was not read
-unread_by_cause : (options : Options) (why : ProgramFault) (fault : BenchFault) → fault ≡ unread_by why → (why ≡ causes.File) ⊎ (why ≡ causes.Refused Memory) → IsSome options.script
+unread_by_cause : (options : BenchOptions) (why : ProgramFault) (fault : BenchFault) → fault ≡ unread_by why → (why ≡ causes.File) ⊎ (why ≡ causes.Refused Memory) → IsSome options.script
     → IsUnread options fault ⊎ (fault ≡ Refused Memory)
 unread_by_cause options why fault e (inl is) some = inl (inl (e ∙ ap unread_by is, inr (inr some)))
 unread_by_cause options why fault e (inr is) some = inr (e ∙ ap unread_by is)
@@ -55,12 +55,12 @@ unread_by_cause options why fault e (inr is) some = inr (e ∙ ap unread_by is)
 is_some : {A : Type 0} (option : Option A) (value : A) → option ≡ Some value → IsSome option
 is_some {A} option value is = subst (λ (o : Option A). IsSome o) (sym is) refl
 
-pub unread_script : (options : Options) {A : Type 0} (option : Option A) (value : A) (why : ProgramFault) (kind : ErrorKind) (fault : BenchFault) → fault ≡ unread_by why → why ≡ fault_of_kind kind
+pub unread_script : (options : BenchOptions) {A : Type 0} (option : Option A) (value : A) (why : ProgramFault) (kind : ErrorKind) (fault : BenchFault) → fault ≡ unread_by why → why ≡ fault_of_kind kind
     → (IsSome option → IsSome options.script) → option ≡ Some value → IsUnread options fault ⊎ (fault ≡ Refused Memory)
 unread_script options {A} option value why kind fault e is same some = unread_by_cause options why fault e (file_fault why kind is) (same (is_some option value some))
 
 -- a bench with a recovery was refused
-pub no_recovery : (plan : Plan) (payloads : List (List ℕ)) (script recovery : List ℕ) (e : Refusal) → (e ≡ Memory) ⊎ (e ≡ Output) ⊎ (script_of script ≡ Err e) ⊎ ((e ≡ NotPlain) × NoBenchRuns script) ⊎ NoRecoveryRuns script recovery e
+pub no_recovery : (plan : SweepPlan) (payloads : List (List ℕ)) (script recovery : List ℕ) (e : Refusal) → (e ≡ Memory) ⊎ (e ≡ Output) ⊎ (script_of script ≡ Err e) ⊎ ((e ≡ NotPlain) × NoBenchRuns script) ⊎ NoRecoveryRuns script recovery e
     → IsRefusedWith (Recover plan) payloads recovery script e
 no_recovery plan payloads script recovery e (inl x) = inl (inl x)
 no_recovery plan payloads script recovery e (inr (inl x)) = inl (inr (inl x))
@@ -110,17 +110,17 @@ none_of_file row payloads script recovery file e of (inr (inr (inr (inr (inl x))
 none_of_file row payloads script recovery file e of (inr (inr (inr (inr (inr x))))) = inr (inr (inr (inr (file, of, inr x))))
 
 -- nor the file of a recovery
-unread_recovered : (options : Options) (why : ProgramFault) (fault : BenchFault) → fault ≡ unread_by why → (why ≡ causes.File) ⊎ (why ≡ causes.Refused Memory) → IsSome options.recovery
+unread_recovered : (options : BenchOptions) (why : ProgramFault) (fault : BenchFault) → fault ≡ unread_by why → (why ≡ causes.File) ⊎ (why ≡ causes.Refused Memory) → IsSome options.recovery
     → IsUnread options fault ⊎ (fault ≡ Refused Memory)
 unread_recovered options why fault e (inl is) some = inl (inl (e ∙ ap unread_by is, inr (inl some)))
 unread_recovered options why fault e (inr is) some = inr (e ∙ ap unread_by is)
 
-pub unread_recovery : (options : Options) {A : Type 0} (option : Option A) (value : A) (why : ProgramFault) (kind : ErrorKind) (fault : BenchFault) → fault ≡ unread_by why → why ≡ fault_of_kind kind
+pub unread_recovery : (options : BenchOptions) {A : Type 0} (option : Option A) (value : A) (why : ProgramFault) (kind : ErrorKind) (fault : BenchFault) → fault ≡ unread_by why → why ≡ fault_of_kind kind
     → (IsSome option → IsSome options.recovery) → option ≡ Some value → IsUnread options fault ⊎ (fault ≡ Refused Memory)
 unread_recovery options {A} option value why kind fault e is same some = unread_recovered options why fault e (file_fault why kind is) (same (is_some option value some))
 
 -- a fault of options that the words name
-pub of_options : (words : List (List ℕ)) (bytes_at : List ℕ → Option (List ℕ)) (input : Option (List ℕ)) (gone : Bool) (fault : BenchFault) (options : Options) → IsNamedBy words options
+pub of_options : (words : List (List ℕ)) (bytes_at : List ℕ → Option (List ℕ)) (input : Option (List ℕ)) (gone : Bool) (fault : BenchFault) (options : BenchOptions) → IsNamedBy words options
     → IsUnread options fault ⊎ (fault ≡ Refused Memory) ⊎ IsFaultOf options bytes_at input gone fault → IsFault words bytes_at input gone fault
 of_options words bytes_at input gone fault options named (inl is) = inl (options, named, inl is)
 of_options words bytes_at input gone fault options named (inr (inl memory)) = inr (inr memory)

@@ -2,7 +2,7 @@
 use Rattle.std.specs.Prelude.{ℕ, ◌-◌, ◌*◌, ◌/◌, ◌%◌, ◌^◌, List, [], ◌∷◌, ◌++◌, Option, None, Some, nat_lt, if◌then◌else◌}
 use Rattle.std.specs.Borrow.{Bor}
 use Rattle.std.specs.Fmt.{decimal}
-use Rattle.bench_program.specs.declared.standing.Standing.{Standing}
+use Rattle.bench_program.specs.declared.standing.RunProgress.{RunProgress}
 use lib.Chars.{codes}
 
 -- the last three digits of a number
@@ -33,7 +33,7 @@ left_text None = codes ""
 left_text (Some left) = codes ", " ++ (grouped left ++ codes " s left")
 
 -- how far a run is; of a run whose rows are not counted yet, how many were made
-abbrev pub standing_text : Standing → List ℕ
+abbrev pub standing_text : RunProgress → List ℕ
 standing_text s =
     if nat_lt 0 s.rows then (s.noun.now ++ (codes " " ++ (grouped s.done ++ (codes " of " ++ (grouped s.rows ++ left_text s.left)))))
     else (s.noun.now ++ (codes " " ++ grouped s.done))

@@ -20,7 +20,7 @@ use Rattle.jobs.specs.declared.part.Part.{Part}
 use Rattle.bench_sweep.specs.Swept.{whole}
 use Rattle.bench_sweep.specs.declared.points.BenchKind.{BenchKind}
 use Rattle.bench_sweep.specs.declared.points.BenchKind.TheVariants.{Cuts, Fails}
-use Rattle.bench_program.specs.declared.usage.Options.{Options}
+use Rattle.bench_program.specs.declared.usage.BenchOptions.{BenchOptions}
 use Rattle.bench_program.specs.declared.usage.Work.{Work}
 use Rattle.bench_program.specs.declared.usage.Work.TheVariants.{Report, Judge, Recover, ShowRow, ShowRecovered, Compare, Show, Shrink, Preempt, ShowOrder}
 use Rattle.bench_program.specs.declared.usage.Savers.{Savers}
@@ -77,15 +77,15 @@ sbibench crews =
     (path_rule (codes "recover"))))))
 
 -- the payload files, by their paths
-abbrev pub payload_files : Options → List (Option (List ℕ))
+abbrev pub payload_files : BenchOptions → List (Option (List ℕ))
 payload_files options = map (option_map string_bytes) options.payloads
 
 -- the script's file, by its path
-abbrev pub script_file : Options → Option (List ℕ)
+abbrev pub script_file : BenchOptions → Option (List ℕ)
 script_file options = option_map string_bytes options.script
 
 -- the file of an operator's recovery, by its path
-abbrev pub recovery_file : Options → Option (List ℕ)
+abbrev pub recovery_file : BenchOptions → Option (List ℕ)
 recovery_file options = option_map string_bytes options.recovery
 
 -- the crew of a word
@@ -303,7 +303,7 @@ IsBounded (ShowOrder wanted) = (wanted.most ≤ 3) × (1 ≤ wanted.number)
 IsBounded work = ⊤
 
 -- what the words of a command line name, as the command's parser reads them: one work
-abbrev pub IsNamedBy : List (List ℕ) → Options → Type 0
+abbrev pub IsNamedBy : List (List ℕ) → BenchOptions → Type 0
 IsNamedBy words options = (crews : ValueParser) × (f : Found) × (flags : Flags f)
     × AreParsed (sbibench crews) words f
     × (work_asked f flags ≡ Some options.work) × (flags.tap ≡ options.tap)

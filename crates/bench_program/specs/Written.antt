@@ -11,13 +11,13 @@ use Rattle.bench_report.specs.Reports.{AreByFirmware, IsReportWith}
 use Rattle.report_lines.specs.declared.printed.Answer.{Answer}
 use Rattle.bench_sweep.specs.Shown.{IsRowOf, NoneBehindOf, NoRowOf}
 use Rattle.bench_sweep.specs.Swept.{IsBenchOf, IsRecoveredBenchOf, NoBenchRuns, NoRecoveryRuns}
-use Rattle.bench_sweep.specs.declared.plan.Plan.{Plan}
+use Rattle.bench_sweep.specs.declared.plan.SweepPlan.{SweepPlan}
 use Rattle.bench_sweep.specs.declared.recovery.RecoveryFile.{RecoveryFile}
 use Rattle.bench_sweep.specs.declared.shown.WantedRow.{WantedRow}
 use Rattle.bench_sweep.specs.declared.sweeps.Recovered.{Recovered}
 use Rattle.bench_schedules.specs.Preemptions.{WrotePreemptions}
 use Rattle.bench_schedules.specs.Shown.{HasNoOrder, ShownOrder}
-use Rattle.bench_schedules.specs.declared.preempted_benches.Within.{Within}
+use Rattle.bench_schedules.specs.declared.preempted_benches.OrderBounds.{OrderBounds}
 use Rattle.bench_schedules.specs.declared.shown.Wanted.{Wanted}
 use Rattle.bench_schedules.specs.Numbers.{number_of_other, numbers_of}
 use Rattle.bench_schedules.specs.Schedules.{Shown, WroteSchedules}
@@ -29,10 +29,10 @@ use Rattle.board_files.specs.Named.{AreFilesOf}
 use Rattle.bench_program.specs.Usage.{payload_files, recovery_file, script_file, IsNamedBy, NamesNoWork, NamesConflict}
 use Rattle.bench_program.specs.declared.fault.BenchFault.{BenchFault}
 use Rattle.bench_program.specs.declared.fault.BenchFault.TheVariants.{Usage, Input, File, Refused, Closed, Wrong}
-use Rattle.bench_program.specs.declared.usage.Options.{Options}
+use Rattle.bench_program.specs.declared.usage.BenchOptions.{BenchOptions}
 use Rattle.bench_program.specs.declared.usage.Work.{Work}
-use Rattle.bench_schedules.specs.declared.benches.Plan.{Plan as Schedules}
-use Rattle.bench_program.specs.declared.usage.Drawn.{Drawn}
+use Rattle.bench_schedules.specs.declared.benches.SchedulePlan.{SchedulePlan}
+use Rattle.bench_program.specs.declared.usage.DrawnSchedule.{DrawnSchedule}
 use Rattle.bench_program.specs.declared.usage.Work.TheVariants.{Report, Judge, Recover, ShowRow, ShowRecovered, Compare, Show, Shrink, Preempt, ShowOrder}
 
 -- what was written is a report of the script that begins with these payloads, and nothing else; where no line is a poke,
@@ -43,26 +43,26 @@ IsReported payloads script old now = (said : Said) × (answers : List Answer) ×
     × (AreByFirmware said.lines → KeepsPrefixLaw said.lines answers)
 
 -- the schedules of that plan, of the script that begins with these payloads, were compared with its own run, and told; so many differ
-abbrev pub IsCompared : Schedules → List (List ℕ) → List ℕ → Option (List ℕ) → Option (List ℕ) → ℕ → Type 0
+abbrev pub IsCompared : SchedulePlan → List (List ℕ) → List ℕ → Option (List ℕ) → Option (List ℕ) → ℕ → Type 0
 IsCompared plan payloads script old now differ = (said : Said) × (script_of script ≡ Ok said)
     × WroteSchedules said payloads plan.seed (number_of_other script said.lines) plan.part plan.count old now differ
 
 -- the script that begins with these payloads was run, and its orders with so many preemptions at most; so many differ
-abbrev pub IsPreempted : Within → List (List ℕ) → List ℕ → Option (List ℕ) → Option (List ℕ) → ℕ → Type 0
+abbrev pub IsPreempted : OrderBounds → List (List ℕ) → List ℕ → Option (List ℕ) → Option (List ℕ) → ℕ → Type 0
 IsPreempted within payloads script old now differ = (said : Said) × (script_of script ≡ Ok said) × (orders : ℕ)
     × WrotePreemptions said payloads (numbers_of script) within.most within.first old now orders differ
 
 -- a bench ran by that plan over the script that begins with these payloads, with that recovery behind each run; so many differ
-abbrev pub IsRecovered : Plan → List (List ℕ) → List ℕ → List ℕ → Option (List ℕ) → Option (List ℕ) → ℕ → Type 0
+abbrev pub IsRecovered : SweepPlan → List (List ℕ) → List ℕ → List ℕ → Option (List ℕ) → Option (List ℕ) → ℕ → Type 0
 IsRecovered plan payloads recovery script old now differ = (done : Recovered)
     × IsRecoveredBenchOf plan payloads script recovery (numbers_of recovery) old now done × (done.differ ≡ differ)
 
 -- the schedule of that seed and number was written
-abbrev pub IsShown : Drawn → List ℕ → Option (List ℕ) → Option (List ℕ) → Type 0
+abbrev pub IsShown : DrawnSchedule → List ℕ → Option (List ℕ) → Option (List ℕ) → Type 0
 IsShown drawn script old now = (said : Said) × (script_of script ≡ Ok said) × Shown said drawn.seed drawn.number old now
 
 -- a schedule of the script was written that differs where the schedule of that seed and number does
-abbrev pub IsShrunk : Drawn → List (List ℕ) → List ℕ → Option (List ℕ) → Option (List ℕ) → Type 0
+abbrev pub IsShrunk : DrawnSchedule → List (List ℕ) → List ℕ → Option (List ℕ) → Option (List ℕ) → Type 0
 IsShrunk drawn payloads script old now =
     (said : Said) × (script_of script ≡ Ok said) × Shrunk said payloads drawn.seed drawn.number old now
 
@@ -123,11 +123,11 @@ IsPut false well That old now = That old now
 IsPut true well That old now = (text : List ℕ) × That (Some []) (Some text) × Appends old now (tap_text well text)
 
 -- the work was done over a source of which these bytes are known
-abbrev pub IsWorked : Options → List (List ℕ) → List ℕ → Option (List ℕ) → Option (List ℕ) → Option (List ℕ) → Type 0
+abbrev pub IsWorked : BenchOptions → List (List ℕ) → List ℕ → Option (List ℕ) → Option (List ℕ) → Option (List ℕ) → Type 0
 IsWorked options payloads recovery source old now = (script : List ℕ) × IfSome source (λ bytes. script_of script ≡ script_of bytes)
     × IfSome source (IsReadOf script) × IsPut options.tap true (IsMade options.work payloads recovery script) old now
 
-abbrev pub IsWrongOver : Options → List (List ℕ) → List ℕ → Option (List ℕ) → Option (List ℕ) → Option (List ℕ) → Type 0
+abbrev pub IsWrongOver : BenchOptions → List (List ℕ) → List ℕ → Option (List ℕ) → Option (List ℕ) → Option (List ℕ) → Type 0
 IsWrongOver options payloads recovery source old now = (script : List ℕ) × IfSome source (λ bytes. script_of script ≡ script_of bytes)
     × IfSome source (IsReadOf script) × IsPut options.tap false (TellsApart options.work payloads recovery script) old now
 
@@ -136,7 +136,7 @@ abbrev pub source_at : Option (List ℕ) → (List ℕ → Option (List ℕ)) �
 source_at None bytes_at input = input
 source_at (Some path) bytes_at input = bytes_at path
 
-abbrev pub source_of : Options → (List ℕ → Option (List ℕ)) → Option (List ℕ) → Option (List ℕ)
+abbrev pub source_of : BenchOptions → (List ℕ → Option (List ℕ)) → Option (List ℕ) → Option (List ℕ)
 source_of options bytes_at input = source_at (script_file options) bytes_at input
 
 -- the lines of a recovery, where its file is named: the bytes there, as far as they are known, but for what is more than any
@@ -147,12 +147,12 @@ IsRecoveryOf bytes_at (Some path) recovery = IfSome (bytes_at path) (IsReadOf re
 
 -- The options were done over it and over files of which these bytes are known: each slot begins with the file that is
 -- named for it, and the recovery is the one that is named.
-abbrev pub AreDone : Options → (List ℕ → Option (List ℕ)) → Option (List ℕ) → Option (List ℕ) → Option (List ℕ) → Type 0
+abbrev pub AreDone : BenchOptions → (List ℕ → Option (List ℕ)) → Option (List ℕ) → Option (List ℕ) → Option (List ℕ) → Type 0
 AreDone options bytes_at input old now = (payloads : List (List ℕ)) × AreFilesOf bytes_at (payload_files options) payloads
     × (recovery : List ℕ) × IsRecoveryOf bytes_at (recovery_file options) recovery
     × IsWorked options payloads recovery (source_of options bytes_at input) old now
 
-abbrev pub AreWrong : Options → (List ℕ → Option (List ℕ)) → Option (List ℕ) → Option (List ℕ) → Option (List ℕ) → Type 0
+abbrev pub AreWrong : BenchOptions → (List ℕ → Option (List ℕ)) → Option (List ℕ) → Option (List ℕ) → Option (List ℕ) → Type 0
 AreWrong options bytes_at input old now = (payloads : List (List ℕ)) × AreFilesOf bytes_at (payload_files options) payloads
     × (recovery : List ℕ) × IsRecoveryOf bytes_at (recovery_file options) recovery
     × IsWrongOver options payloads recovery (source_of options bytes_at input) old now
@@ -160,12 +160,12 @@ AreWrong options bytes_at input old now = (payloads : List (List ℕ)) × AreFil
 -- the work that the words name was done over both
 abbrev pub IsDone : List (List ℕ) → (List ℕ → Option (List ℕ)) → Option (List ℕ) → Option (List ℕ) → Option (List ℕ) → Type 0
 IsDone words bytes_at input old now =
-    (options : Options) × IsNamedBy words options × AreDone options bytes_at input old now
+    (options : BenchOptions) × IsNamedBy words options × AreDone options bytes_at input old now
 
 -- and it told that something is wrong
 abbrev pub IsWrong : List (List ℕ) → (List ℕ → Option (List ℕ)) → Option (List ℕ) → Option (List ℕ) → Option (List ℕ) → Type 0
 IsWrong words bytes_at input old now =
-    (options : Options) × IsNamedBy words options × AreWrong options bytes_at input old now
+    (options : BenchOptions) × IsNamedBy words options × AreWrong options bytes_at input old now
 
 -- ---- faults
 -- The work is a bench or shows a run of one, and no bench runs the script: a line of it is not plain, or none formats a disk. Or it shows
@@ -221,7 +221,7 @@ IsFaultIn work payloads recovery script gone Usage = ⊥
 IsFaultIn work payloads recovery script gone Wrong = MayTellWrong work
 
 -- a fault of the options' work over a source and over files of which these bytes are known, the recovery's among them
-abbrev pub IsFaultOf : Options → (List ℕ → Option (List ℕ)) → Option (List ℕ) → Bool → BenchFault → Type 0
+abbrev pub IsFaultOf : BenchOptions → (List ℕ → Option (List ℕ)) → Option (List ℕ) → Bool → BenchFault → Type 0
 IsFaultOf options bytes_at input gone fault = (payloads : List (List ℕ)) × (recovery : List ℕ) × (script : List ℕ)
     × AreFilesOf bytes_at (payload_files options) payloads × IsRecoveryOf bytes_at (recovery_file options) recovery
     × IfSome (source_of options bytes_at input) (λ bytes. script_of script ≡ script_of bytes)
@@ -229,7 +229,7 @@ IsFaultOf options bytes_at input gone fault = (payloads : List (List ℕ)) × (r
     × IsFaultIn options.work payloads recovery script gone fault
 
 -- a file could not be read, of those that are named; or the input failed, where none of them is the script's
-abbrev pub IsUnread : Options → BenchFault → Type 0
+abbrev pub IsUnread : BenchOptions → BenchFault → Type 0
 IsUnread options fault =
     ((fault ≡ File) × (((slot : ℕ) × IsSome (get_or options.payloads slot None)) ⊎ IsSome options.recovery ⊎ IsSome options.script))
     ⊎ ((fault ≡ Input) × (options.script ≡ None))
@@ -238,6 +238,6 @@ IsUnread options fault =
 -- to the command line or a file
 abbrev pub IsFault : List (List ℕ) → (List ℕ → Option (List ℕ)) → Option (List ℕ) → Bool → BenchFault → Type 0
 IsFault words bytes_at input gone fault =
-    ((options : Options) × IsNamedBy words options
+    ((options : BenchOptions) × IsNamedBy words options
     × (IsUnread options fault ⊎ IsFaultOf options bytes_at input gone fault))
     ⊎ ((fault ≡ Usage) × (NamesNoWork words whys.Usage ⊎ NamesConflict words)) ⊎ (fault ≡ Refused Memory)

@@ -29,15 +29,15 @@ pub use crate::fault::BenchFault;
 pub use crate::streams::run_on;
 use crate::streams::{end, without_work};
 use crate::usage::USAGE;
-pub use crate::usage::{Drawn, Options, Savers, Work, options_of};
+pub use crate::usage::{BenchOptions, DrawnSchedule, Savers, Work, options_of};
 pub use crate::watched::Telling;
 use bench_report::run_with;
 use bench_schedules::{
-    Compared, Plan as Schedules, Preempted, Wanted, Within, line_numbers, preemptions, schedules,
+    Compared, OrderBounds, Preempted, SchedulePlan, Wanted, line_numbers, preemptions, schedules,
     show, show_order, shrink,
 };
 use bench_sweep::{
-    Plan, Recovered, RecoveryFile, Sweep, WantedRow, run_bench, run_bench_recovered, show_row,
+    Recovered, RecoveryFile, Sweep, SweepPlan, WantedRow, run_bench, run_bench_recovered, show_row,
 };
 use board::Payloads;
 use board_model::{MAX_LINE_BYTES, MAX_SCRIPT_LINES, Refusal};
@@ -110,7 +110,7 @@ pub fn write_bench<R: Threads + Sync, P: Progress, W: Write + Drop>(
     jobs: &Jobs<'_, R, P>,
     alloc: Global,
     script: &[u8],
-    plan: Plan,
+    plan: SweepPlan,
     payloads: Payloads,
     out: &mut BufWriter<W>,
 ) -> Result<Sweep, Refusal>
@@ -145,7 +145,7 @@ pub fn write_recovered<R: Threads + Sync, P: Progress, W: Write + Drop>(
     jobs: &Jobs<'_, R, P>,
     alloc: Global,
     script: &[u8],
-    plan: Plan,
+    plan: SweepPlan,
     recovery: &[u8],
     payloads: Payloads,
     out: &mut BufWriter<W>,
@@ -237,7 +237,7 @@ pub fn write_schedules<R: Threads + Sync, P: Progress, W: Write + Drop>(
     jobs: &Jobs<'_, R, P>,
     alloc: Global,
     script: &[u8],
-    plan: Schedules,
+    plan: SchedulePlan,
     payloads: &Payloads,
     out: &mut BufWriter<W>,
 ) -> Result<Compared, Refusal>
@@ -268,7 +268,7 @@ pub fn write_schedules<R: Threads + Sync, P: Progress, W: Write + Drop>(
 pub fn write_schedule<R: Threads + Sync, W: Write + Drop>(
     alloc: Global,
     script: &[u8],
-    drawn: Drawn,
+    drawn: DrawnSchedule,
     payloads: &Payloads,
     out: &mut BufWriter<W>,
 ) -> Result<(), Refusal>
@@ -297,7 +297,7 @@ pub fn write_schedule<R: Threads + Sync, W: Write + Drop>(
 pub fn write_shrunk<R: Threads + Sync, W: Write + Drop>(
     alloc: Global,
     script: &[u8],
-    drawn: Drawn,
+    drawn: DrawnSchedule,
     payloads: &Payloads,
     out: &mut BufWriter<W>,
 ) -> Result<(), Refusal>
@@ -327,7 +327,7 @@ pub fn write_preemptions<R: Threads + Sync, P: Progress, W: Write + Drop>(
     jobs: &Jobs<'_, R, P>,
     alloc: Global,
     script: &[u8],
-    within: Within,
+    within: OrderBounds,
     payloads: &Payloads,
     out: &mut BufWriter<W>,
 ) -> Result<Preempted, Refusal>

@@ -4,7 +4,7 @@ ghost use Rattle.std.specs.Prelude.{◌≡◌, ◌+◌, ◌-◌, ◌<◌, ◌≤
 ghost use Rattle.std.specs.Io.KnownBytes.{Appends};
 ghost use Rattle.bench_program.specs.Progress.{erased, seconds_left, standing_line};
 
-use crate::standing::{Standing, seconds_left};
+use crate::standing::{RunProgress, seconds_left};
 use std::io::{self, Write};
 
 /// How many milliseconds a run takes before its line stands for the first time.
@@ -78,7 +78,7 @@ impl<'a, F: Write> RunLine<'a, F> {
         ensures counts { (self.new.done ≡ self.old.done) × (self.new.rows ≡ self.old.rows) }
     {
         let took = now.saturating_sub(self.begun);
-        let standing = Standing {
+        let standing = RunProgress {
             noun: self.noun,
             done: self.done,
             rows: self.rows,

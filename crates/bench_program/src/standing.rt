@@ -49,9 +49,9 @@ impl fmt::Display for Grouped {
 
 /// How many seconds a run still takes, as a text behind the number of its rows; nothing where that is not known.
 #[derive(Clone, Copy, Drop)]
-struct LeftText(Option<u64>);
+struct SecondsLeftText(Option<u64>);
 
-impl fmt::Display for LeftText {
+impl fmt::Display for SecondsLeftText {
     ghost output = { λ left. Some (left_text left.0) };
 
     fn fmt<W: fmt::Write>(&self, f: &mut fmt::Formatter<W>) -> fmt::Result {
@@ -67,7 +67,7 @@ impl fmt::Display for LeftText {
 
 /// How far a run is. As a text it is `points 3,120 of 16,388, 41 s left`.
 #[derive(Clone, Copy, Drop)]
-pub struct Standing {
+pub struct RunProgress {
     /// What the rows of the run are.
     pub noun: &'static str,
     /// How many of them were made.
@@ -78,7 +78,7 @@ pub struct Standing {
     pub left: Option<u64>,
 }
 
-impl fmt::Display for Standing {
+impl fmt::Display for RunProgress {
     ghost output = { λ standing. Some (standing_text standing) };
 
     fn fmt<W: fmt::Write>(&self, f: &mut fmt::Formatter<W>) -> fmt::Result {
@@ -86,7 +86,7 @@ impl fmt::Display for Standing {
         let done = Grouped(self.done);
         if 0 < self.rows {
             let rows = Grouped(self.rows);
-            let left = LeftText(self.left);
+            let left = SecondsLeftText(self.left);
             write!(f, "{noun} {done} of {rows}{left}")
         } else {
             write!(f, "{noun} {done}")

@@ -16,14 +16,14 @@ ghost use Rattle.script_lang.specs.Scripts.{script_of};
 
 use crate::fault::{BenchFault, status_of};
 use crate::taps::put_tap;
-use crate::usage::{Drawn, MOST_JOBS, Options, Savers, Work, options_of};
+use crate::usage::{BenchOptions, DrawnSchedule, MOST_JOBS, Savers, Work, options_of};
 use crate::watched::{Telling, Unpaused, Watched};
 use crate::{
     READ_AT_MOST, read_script, write_bench, write_order, write_preemptions, write_recovered,
     write_recovered_row, write_report, write_row, write_schedule, write_schedules, write_shrunk,
 };
-use bench_schedules::{Plan as Schedules, Wanted, Within};
-use bench_sweep::{Plan, WantedRow};
+use bench_schedules::{OrderBounds, SchedulePlan, Wanted};
+use bench_sweep::{SweepPlan, WantedRow};
 use board::Payloads;
 use board_files::{PayloadFiles, read_payloads};
 use board_model::Refusal;
@@ -131,7 +131,7 @@ fn jobs_of<R: Threads>(threads: &R, asked: Option<usize>) -> usize
 fn judge<R: Threads + Sync, P: Progress, O: Write + Drop>(
     jobs: &Jobs<'_, R, P>,
     alloc: Global,
-    plan: Plan,
+    plan: SweepPlan,
     script: &[u8],
     payloads: Payloads,
     out: &mut BufWriter<Pipe<O>>,
@@ -153,7 +153,7 @@ fn judge<R: Threads + Sync, P: Progress, O: Write + Drop>(
 fn judge_recovered<R: Threads + Sync, P: Progress, O: Write + Drop>(
     jobs: &Jobs<'_, R, P>,
     alloc: Global,
-    plan: Plan,
+    plan: SweepPlan,
     script: &[u8],
     recovery: &[u8],
     payloads: Payloads,
@@ -179,7 +179,7 @@ fn judge_recovered<R: Threads + Sync, P: Progress, O: Write + Drop>(
 fn compare<R: Threads + Sync, P: Progress, O: Write + Drop>(
     jobs: &Jobs<'_, R, P>,
     alloc: Global,
-    plan: Schedules,
+    plan: SchedulePlan,
     script: &[u8],
     payloads: &Payloads,
     out: &mut BufWriter<Pipe<O>>,
@@ -245,7 +245,7 @@ fn show_recovered<R: Threads + Sync, O: Write + Drop>(
 /// Writes a schedule of the script.
 fn show_schedule<R: Threads + Sync, O: Write + Drop>(
     alloc: Global,
-    drawn: Drawn,
+    drawn: DrawnSchedule,
     script: &[u8],
     payloads: &Payloads,
     out: &mut BufWriter<Pipe<O>>,
@@ -265,7 +265,7 @@ fn show_schedule<R: Threads + Sync, O: Write + Drop>(
 /// Writes a schedule of the script that was shrunk.
 fn show_shrunk<R: Threads + Sync, O: Write + Drop>(
     alloc: Global,
-    drawn: Drawn,
+    drawn: DrawnSchedule,
     script: &[u8],
     payloads: &Payloads,
     out: &mut BufWriter<Pipe<O>>,
@@ -286,7 +286,7 @@ fn show_shrunk<R: Threads + Sync, O: Write + Drop>(
 fn preempt<R: Threads + Sync, P: Progress, O: Write + Drop>(
     jobs: &Jobs<'_, R, P>,
     alloc: Global,
-    within: Within,
+    within: OrderBounds,
     script: &[u8],
     payloads: &Payloads,
     out: &mut BufWriter<Pipe<O>>,
@@ -361,7 +361,7 @@ fn unread<F: Write>(fault: &FileFault, faults: &mut F) -> BenchFault
 fn named_payloads<P: PayloadFiles, F: Write>(
     alloc: Global,
     files: &P,
-    options: &Options,
+    options: &BenchOptions,
     faults: &mut F,
 ) -> Result<Payloads, BenchFault>
     ensures read { IfOk result (AreFilesOf (P.bytes_at files.now) (payload_files options.now)) }
@@ -384,7 +384,7 @@ fn file_text<P: PayloadFiles>(alloc: Global, files: &P, path: &str) -> io::Resul
 fn named_script<P: PayloadFiles, I: Read + Drop, F: Write>(
     alloc: Global,
     files: &P,
-    options: &Options,
+    options: &BenchOptions,
     input: I,
     faults: &mut F,
 ) -> Result<Vec<u8>, BenchFault>
@@ -406,7 +406,7 @@ fn named_script<P: PayloadFiles, I: Read + Drop, F: Write>(
 fn named_recovery<P: PayloadFiles, F: Write>(
     alloc: Global,
     files: &P,
-    options: &Options,
+    options: &BenchOptions,
     faults: &mut F,
 ) -> Result<Vec<u8>, BenchFault>
     ensures read { IfOk result (λ lines. IsRecoveryOf (P.bytes_at files.now) (recovery_file options.now) lines.items) }
@@ -433,7 +433,7 @@ struct Given {
 fn named_files<P: PayloadFiles, F: Write>(
     alloc: Global,
     files: &P,
-    options: &Options,
+    options: &BenchOptions,
     faults: &mut F,
 ) -> Result<Given, BenchFault>
     ensures payloads { IfOk result (λ given. AreFilesOf (P.bytes_at files.now) (payload_files options.now) given.payloads) }
@@ -450,7 +450,7 @@ fn named_files<P: PayloadFiles, F: Write>(
 fn run_work<R: Threads + Sync, P: Progress + Drop, O: Write + Drop>(
     alloc: Global,
     threads: &R,
-    options: &Options,
+    options: &BenchOptions,
     given: Given,
     script: &[u8],
     out: &mut BufWriter<Pipe<O>>,
@@ -491,7 +491,7 @@ fn run_work<R: Threads + Sync, P: Progress + Drop, O: Write + Drop>(
 fn run_tested<R: Threads + Sync, P: Progress + Copy + Drop, O: Write + Drop>(
     alloc: Global,
     threads: &R,
-    options: &Options,
+    options: &BenchOptions,
     given: Given,
     script: &[u8],
     out: &mut BufWriter<Pipe<O>>,
@@ -538,7 +538,7 @@ fn run_tested<R: Threads + Sync, P: Progress + Copy + Drop, O: Write + Drop>(
 fn run_either<R: Threads + Sync, P: Progress + Copy + Drop, O: Write + Drop>(
     alloc: Global,
     threads: &R,
-    options: &Options,
+    options: &BenchOptions,
     given: Given,
     script: &[u8],
     out: &mut BufWriter<Pipe<O>>,
@@ -572,7 +572,7 @@ fn run_options<
     alloc: Global,
     threads: &R,
     files: &P,
-    options: &Options,
+    options: &BenchOptions,
     input: I,
     out: &mut BufWriter<Pipe<O>>,
     telling: &mut Telling<'_, F, C>,

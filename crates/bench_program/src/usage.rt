@@ -10,8 +10,8 @@ ghost use Rattle.command_line.specs.Parses.{AreParsed};
 ghost use Rattle.bench_sweep.specs.Swept.{whole};
 ghost use Rattle.bench_program.specs.Usage.{bench_or_row, number_up_to, count_rule, crew_rule, jobs_rule, part_between, part_named, parted, work_of_flags, schedules_named, preempt_or_show, preemptions_named, without_options, savers_of, sbibench, script_rule, seed_of, Flags, IsBounded, compare_or_show, quietly, tested, without_benches, with_manners, with_part, with_preemptions, with_quiet, with_schedules, with_recovery, with_tap, work_asked, work_by, work_without, IsFlag, IsNamedBy, NamesConflict, NamesNoWork};
 
-use bench_schedules::{Plan as Schedules, Wanted, Within};
-use bench_sweep::{BenchKind, Plan, WantedRow};
+use bench_schedules::{OrderBounds, SchedulePlan, Wanted};
+use bench_sweep::{BenchKind, SweepPlan, WantedRow};
 use board_model::refusal_lines;
 use clap::builder::ValueParser;
 use clap::error::ErrorKind;
@@ -164,36 +164,36 @@ pub enum Work {
     /// The report of the script.
     Report(Savers),
     /// A bench over the script, whose lanes are written one after another.
-    Judge(Plan),
+    Judge(SweepPlan),
     /// The same bench, with an operator's recovery behind each run.
-    Recover(Plan),
+    Recover(SweepPlan),
     /// One run of a bench, written as a script that ends with a power-on.
     ShowRow(WantedRow),
     /// The same, with an operator's recovery in the place of the power-on.
     ShowRecovered(WantedRow),
     /// Schedules of the script, from number 1 on, each compared with the script's own run.
-    Compare(Schedules),
+    Compare(SchedulePlan),
     /// One schedule, written as a script. `number` is which.
-    Show(Drawn),
+    Show(DrawnSchedule),
     /// A shorter one that differs where that one does, written as a script.
-    Shrink(Drawn),
+    Shrink(DrawnSchedule),
     /// All orders of the script with few preemptions, each compared with the script's own run; or as many as there are up to the
     /// first that differs.
-    Preempt(Within),
+    Preempt(OrderBounds),
     /// One of those that differ, written as a script.
     ShowOrder(Wanted),
 }
 
 /// Schedules are drawn from a seed, and have numbers from 1 on.
 #[derive(Clone, Copy, Drop)]
-pub struct Drawn {
+pub struct DrawnSchedule {
     pub seed: u64,
     pub number: u64,
 }
 
 /// What the words of a command line ask for.
 #[derive(Drop)]
-pub struct Options {
+pub struct BenchOptions {
     pub work: Work,
     /// Whether tests are written in the place of a bench's lines.
     pub tap: bool,
@@ -363,18 +363,18 @@ fn compare_or_show(runs: u64, seed: u64, show: Option<&str>, shrink: Option<&str
     ensures most { IfSome result (λ work. IsBounded work) }
 {
     match (show, shrink) {
-        (None, None) => Some(Work::Compare(Schedules {
+        (None, None) => Some(Work::Compare(SchedulePlan {
             seed,
             count: runs,
             part: None,
         })),
         (Some(word), None) => {
             let number = number_up_to(runs, word)?;
-            Some(Work::Show(Drawn { seed, number }))
+            Some(Work::Show(DrawnSchedule { seed, number }))
         }
         (None, Some(word)) => {
             let number = number_up_to(runs, word)?;
-            Some(Work::Shrink(Drawn { seed, number }))
+            Some(Work::Shrink(DrawnSchedule { seed, number }))
         }
         (Some(_), Some(_)) => None,
     }
@@ -397,10 +397,10 @@ fn schedules_named(
 }
 
 /// The whole of a bench.
-fn whole(bench: BenchKind) -> Plan
+fn whole(bench: BenchKind) -> SweepPlan
     ensures { result ≡ whole bench }
 {
-    Plan {
+    SweepPlan {
         bench,
         part: None,
         quiet: false,
@@ -467,7 +467,7 @@ fn preempt_or_show(most: u64, word: Option<&str>, first: bool) -> Option<Work>
     ensures most { IfSome result (λ work. IsBounded work) }
 {
     match word {
-        None => Some(Work::Preempt(Within { most, first })),
+        None => Some(Work::Preempt(OrderBounds { most, first })),
         Some(word) => {
             if first {
                 return None;
@@ -632,9 +632,9 @@ fn parted(part: Part, work: Option<Work>) -> Option<Work>
 {
     let part = Some(part);
     match work {
-        Some(Work::Judge(plan)) => Some(Work::Judge(Plan { part, ..plan })),
-        Some(Work::Recover(plan)) => Some(Work::Recover(Plan { part, ..plan })),
-        Some(Work::Compare(plan)) => Some(Work::Compare(Schedules { part, ..plan })),
+        Some(Work::Judge(plan)) => Some(Work::Judge(SweepPlan { part, ..plan })),
+        Some(Work::Recover(plan)) => Some(Work::Recover(SweepPlan { part, ..plan })),
+        Some(Work::Compare(plan)) => Some(Work::Compare(SchedulePlan { part, ..plan })),
         _ => None,
     }
 }
@@ -661,11 +661,11 @@ fn quietly(work: Option<Work>) -> Option<Work>
     ensures most { IfSome result (λ w. IsBounded w) }
 {
     match work {
-        Some(Work::Judge(plan)) => Some(Work::Judge(Plan {
+        Some(Work::Judge(plan)) => Some(Work::Judge(SweepPlan {
             quiet: true,
             ..plan
         })),
-        Some(Work::Recover(plan)) => Some(Work::Recover(Plan {
+        Some(Work::Recover(plan)) => Some(Work::Recover(SweepPlan {
             quiet: true,
             ..plan
         })),
@@ -822,7 +822,7 @@ fn one_work<'a>(alloc: Global, matches: &ArgMatches<'a>, tap: bool) -> Result<Wo
 
 /// What the words of a command line ask for, the program's name first. Words that name no one work are a
 /// fault. The error is the command line's own text, which is the help or the version too, or says that memory was refused.
-pub fn options_of<'a, S: AsStr>(alloc: Global, words: &'a [S]) -> Result<Options, Error>
+pub fn options_of<'a, S: AsStr>(alloc: Global, words: &'a [S]) -> Result<BenchOptions, Error>
     // It is the one work that the words name, as the command line's parser reads them.
     ensures named { IfOk result (λ options. IsNamedBy (map S.text words.now) options) }
     ensures most { IfOk result (λ options. IsBounded options.work) }
@@ -841,7 +841,7 @@ pub fn options_of<'a, S: AsStr>(alloc: Global, words: &'a [S]) -> Result<Options
     let script = path_given(alloc, &matches, SCRIPT)?;
     let recovery = path_given(alloc, &matches, RECOVER)?;
     let payloads = payload_paths(alloc, &matches)?;
-    Ok(Options {
+    Ok(BenchOptions {
         work,
         tap,
         jobs,

@@ -17,7 +17,7 @@ pub use copies::{arm_power, copy_power, disk_of, is_power_as};
 pub use laws::{all_are_found, inspections, one_report, power_ons, prefix_law, reports_split};
 pub use power::{OffDisk, Power};
 pub use report_lines::{Answer, Printed, Report};
-pub use runs::{Stopped, run, run_left, run_left_with, run_with};
+pub use runs::{StoppedRun, run, run_left, run_left_with, run_with};
 pub use setting::Setting;
 pub use steps::{
     after, arm_disk, console, cut, disk_left, line_alone, line_with_cuts, power_on,

@@ -33,29 +33,29 @@ use store::blank_disks;
 
 /// A run that stopped before the end of its script.
 #[derive(Drop)]
-pub struct Stopped {
+pub struct StoppedRun {
     /// Why it stopped.
     pub refusal: Refusal,
     /// The disk, off and with nothing of it lent, where a board was made.
     pub disk: Option<SimDisk>,
 }
 
-impl From<Refusal> for Stopped {
+impl From<Refusal> for StoppedRun {
     ghost from_gives = { λ refusal stopped. stopped ≡ record { refusal = refusal; disk = None } };
 
-    fn from(refusal: Refusal) -> Stopped {
-        Stopped {
+    fn from(refusal: Refusal) -> StoppedRun {
+        StoppedRun {
             refusal,
             disk: None,
         }
     }
 }
 
-impl From<AllocError> for Stopped {
+impl From<AllocError> for StoppedRun {
     ghost from_gives = { λ refused stopped. stopped ≡ record { refusal = Refusal.Memory; disk = None } };
 
-    fn from(_refused: AllocError) -> Stopped {
-        Stopped {
+    fn from(_refused: AllocError) -> StoppedRun {
+        StoppedRun {
             refusal: Refusal::Memory,
             disk: None,
         }
@@ -198,7 +198,7 @@ pub fn run_left_with<C: Crew, W: Write>(
     crew: &C,
     payloads: Payloads,
     out: &mut W,
-) -> Result<(Report, SimDisk), Stopped>
+) -> Result<(Report, SimDisk), StoppedRun>
     // What was written is a report of the script and nothing else, and so are the count and the states; the disk
     // is the one of its end. Where no line is a poke, that report keeps the prefix law, from the script's bytes
     // to its own; and where the disk that is left counted no failure, each power-on finds what all acknowledged
@@ -228,7 +228,7 @@ pub fn run_left_with<C: Crew, W: Write>(
     let disk = SimDisk::blank(alloc, script.shape.sectors())?;
     match run_script(alloc, &script, crew, disk, payloads, out) {
         (left, Ok(report)) => Ok((report, left)),
-        (left, Err(refusal)) => Err(Stopped {
+        (left, Err(refusal)) => Err(StoppedRun {
             refusal,
             disk: Some(left),
         }),
@@ -241,7 +241,7 @@ pub fn run_left<C: Crew, W: Write>(
     script: &[u8],
     crew: &C,
     out: &mut W,
-) -> Result<(Report, SimDisk), Stopped>
+) -> Result<(Report, SimDisk), StoppedRun>
     // What was written is a report of the script and nothing else, and so are the count and the states; the disk
     // is the one of its end. Where no line is a poke, that report keeps the prefix law, from the script's bytes
     // to its own; and where the disk that is left counted no failure, each power-on finds what all acknowledged

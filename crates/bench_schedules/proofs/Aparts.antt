@@ -9,7 +9,7 @@ use Rattle.report_lines.specs.declared.printed.Answer.{Answer}
 use Rattle.report_lines.specs.declared.printed.Printed.{Printed}
 use Rattle.report_lines.specs.declared.printed.Printed.TheVariants as printed
 use Rattle.bench_schedules.specs.Told.{IsFirstApart, told_lines, told_states, told_text}
-use Rattle.bench_schedules.specs.declared.told.Apart.{Apart}
+use Rattle.bench_schedules.specs.declared.told.ToldApart.{ToldApart}
 use Rattle.bench_schedules.specs.declared.told.ToldLine.{ToldLine}
 use Rattle.bench_schedules.specs.declared.told.ToldLine.TheVariants as told
 use lib.Chars.{codes}
@@ -67,11 +67,11 @@ apart_here own other own_line line us vs e = record {
   apart = λ same. e.2 (ap told_text (sym e.0) ∙ same ∙ ap told_text e.1);
 }
 
-pub no_pair : (found : Option Apart) (N : Type 0) (S : Apart → Type 0) → ((pair : Apart) → found ≡ Some pair → ⊥) → MatchOption found N S → N
+pub no_pair : (found : Option ToldApart) (N : Type 0) (S : ToldApart → Type 0) → ((pair : ToldApart) → found ≡ Some pair → ⊥) → MatchOption found N S → N
 no_pair None N S never m = m
 no_pair (Some pair) N S never m = absurd (never pair refl)
 
-pub states_next : (own other : Durable) (found : Option Apart) → told_text (told.Found own) ≡ told_text (told.Found other)
+pub states_next : (own other : Durable) (found : Option ToldApart) → told_text (told.Found own) ≡ told_text (told.Found other)
     → MatchOption found (told_text (told.Image own.image) ≡ told_text (told.Image other.image))
     (λ pair. (pair.own ≡ told.Image own.image) × (pair.other ≡ told.Image other.image) × (told_text (told.Image own.image) ≢ told_text (told.Image other.image)))
     → MatchOption found ((told_text (told.Found own) ≡ told_text (told.Found other)) × (told_text (told.Image own.image) ≡ told_text (told.Image other.image)))
@@ -83,7 +83,7 @@ states_next own other (Some pair) same m =
     (told_text pair.own) (told_text pair.other) same (apart_here (told.Image own.image) (told.Image other.image) pair.own pair.other [] [] m)
 
 -- the last line, behind lines that are alike
-pub lines_next : (xs ys : List (List ℕ)) (own other : Printed) (found : Option Apart) → xs ≡ ys
+pub lines_next : (xs ys : List (List ℕ)) (own other : Printed) (found : Option ToldApart) → xs ≡ ys
     → MatchOption found (told_text (told.Line own) ≡ told_text (told.Line other))
     (λ pair. (pair.own ≡ told.Line own) × (pair.other ≡ told.Line other) × (told_text (told.Line own) ≢ told_text (told.Line other)))
     → MatchOption found (xs ++ line_text own ∷ [] ≡ ys ++ line_text other ∷ [])
@@ -99,7 +99,7 @@ lines_next xs ys own other (Some pair) same m =
       apart = is.apart;
     }
 
-pub found_next : (own other : Answer) (found : Option Apart) → told_states own.found ≡ told_states other.found
+pub found_next : (own other : Answer) (found : Option ToldApart) → told_states own.found ≡ told_states other.found
     → MatchOption found (told_text (told.Line own.line) ≡ told_text (told.Line other.line))
     (λ pair. (pair.own ≡ told.Line own.line) × (pair.other ≡ told.Line other.line) × (told_text (told.Line own.line) ≢ told_text (told.Line other.line)))
     → MatchOption found (told_lines own ≡ told_lines other) (λ pair. IsFirstApart (told_lines own) (told_lines other) (told_text pair.own) (told_text pair.other))
@@ -110,7 +110,7 @@ pub same_states : (own other : Answer) (d e : Durable) → own.found ≡ Some d 
 same_states own other d e first second same =
     ap told_states first ∙ ap (λ t. t ∷ told_text (told.Image d.image) ∷ []) same.0 ∙ ap (λ t. told_text (told.Found e) ∷ t ∷ []) same.1 ∙ sym (ap told_states second)
 
-pub states_first : (own other : Answer) (d e : Durable) (pair : Apart) → own.found ≡ Some d → other.found ≡ Some e
+pub states_first : (own other : Answer) (d e : Durable) (pair : ToldApart) → own.found ≡ Some d → other.found ≡ Some e
     → IsFirstApart (told_text (told.Found d) ∷ told_text (told.Image d.image) ∷ []) (told_text (told.Found e) ∷ told_text (told.Image e.image) ∷ []) (told_text pair.own) (told_text pair.other)
     → IsFirstApart (told_lines own) (told_lines other) (told_text pair.own) (told_text pair.other)
 states_first own other d e pair first second is =

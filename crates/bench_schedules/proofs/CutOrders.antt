@@ -24,7 +24,7 @@ use Rattle.bench_schedules.specs.declared.aheads.Ahead.{Ahead}
 use Rattle.bench_schedules.specs.declared.boards.Boards.{Boards}
 use Rattle.bench_schedules.specs.declared.bases.Base.{Base}
 use Rattle.bench_schedules.specs.declared.runs.Difference.{Difference}
-use Rattle.bench_schedules.specs.declared.runs.Going.{Going}
+use Rattle.bench_schedules.specs.declared.runs.RunUnderWay.{RunUnderWay}
 use Rattle.bench_schedules.proofs.Lines.{count_append, counted, goes_snoc, line_behind}
 
 -- ---- windows of lines
@@ -42,7 +42,7 @@ pub few_between : (b : Basis) (order : List Line) (base : Base) (m : ℕ) → Is
 few_between b order base m runnable is =
     omega (arith, counted b.size (bench_with b.start) (take base.line order) b.own base.going is.few is.came, split_count order base.line, split_count (drop base.line order) m, runnable.count)
 
-pub base_more : (b : Basis) (order : List Line) (base : Base) (going : Going) (j : ℕ) → base.line ≤ j → j ≤ length order → IsBase b order base → IsSound going.live → going.place ≤ length b.own
+pub base_more : (b : Basis) (order : List Line) (base : Base) (going : RunUnderWay) (j : ℕ) → base.line ≤ j → j ≤ length order → IsBase b order base → IsSound going.live → going.place ≤ length b.own
     → GoesAlike b.size (take (j - base.line) (drop base.line order)) b.own base.going going → IsBase b order (record { going = going; line = j })
 base_more b order base going j past within is sound few goes = record {
   sound = sound;
@@ -204,7 +204,7 @@ pub ends_as : (size : Size) (those : List Line) (own : List Answer) (place : ℕ
 ends_as size those own place old new differs stays ends = λ start before came all. ends start before (shows_by size (bench_with start) before (take place own) old new came stays) all
 
 -- what an order's last lines are
-pub ends_left : (size : Size) (order : List Line) (rest : ℕ) (own : List Answer) (going : Going) → EndsSo size (take (length order - rest) (drop rest order)) own going None → EndsSo size (drop rest order) own going None
+pub ends_left : (size : Size) (order : List Line) (rest : ℕ) (own : List Answer) (going : RunUnderWay) → EndsSo size (take (length order - rest) (drop rest order)) own going None → EndsSo size (drop rest order) own going None
 ends_left size order rest own going ends = let P : List Line → Type 0 = λ ls. EndsSo size ls own going None in subst P (left_is rest order) ends
 
 -- ---- the boards of an order
@@ -236,7 +236,7 @@ module _ (b : Basis) (order new : List Line) (base : Base) (ahead : Ahead) (behi
   -- it runs on alone
   pub few_behind : (m : ℕ) → base.going.place + other_count (take m (drop behind new)) ≤ length b.own
   few_behind m =
-      let going : Going = record { live = child; place = base.going.place } in
+      let going : RunUnderWay = record { live = child; place = base.going.place } in
       omega (arith, counted b.size (bench_with b.start) before b.own going is.base.few came.0, all, count_append before (drop behind new), split_count (drop behind new) m)
 
   ran_behind : (differs : Option Difference) → EndsSo b.size (take (length new - behind) (drop behind new)) b.own (record { live = child; place = base.going.place }) differs → RanLike b.size b.start new b.own differs

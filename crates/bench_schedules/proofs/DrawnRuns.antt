@@ -7,21 +7,21 @@ use Rattle.bench_schedules.specs.Drawn.{IsDrawn, TellsDrawn}
 use Rattle.bench_schedules.specs.Numbers.{place_of_other}
 use Rattle.bench_schedules.specs.Schedules.{RunText, Source, Wrote, differing}
 use Rattle.bench_schedules.specs.declared.benches.DrawnRun.{DrawnRun}
-use Rattle.bench_schedules.specs.declared.benches.Report.{Report}
+use Rattle.bench_schedules.specs.declared.benches.DrawnReport.{DrawnReport}
 use Rattle.bench_schedules.proofs.Ledgers.{one_differs, wrote_none, wrote_more}
 
-module _ {C W : Type 0} (contents : W → Option (List ℕ)) (said : Script) (start : List (List ℕ)) (source : Source) (own : List Answer) (from : ℕ) (first : Report C W) where
+module _ {C W : Type 0} (contents : W → Option (List ℕ)) (said : Script) (start : List (List ℕ)) (source : Source) (own : List Answer) (from : ℕ) (first : DrawnReport C W) where
   abbrev number : ℕ → ℕ
   number place = slice_index_or first.runner.now.numbers.now (1 + place_of_other place first.runner.now.lines.now) 0
 
   -- what was written of the schedules so far, in the same writer
-  record So (now : Report C W) (done : ℕ) : Type 0 where
+  record So (now : DrawnReport C W) (done : ℕ) : Type 0 where
     pub script : now.runner ≡ first.runner
     pub same : now.out.ghost_name ≡ first.out.ghost_name
     pub wrote : Wrote said start source number own from done (contents first.out.now) (contents now.out.now) now.differ
     pub few : now.differ ≤ done
 
-  one_run : (done : ℕ) (drawn : DrawnRun) (old new : Report C W) → done + 1 ≤ 1000000 → IsDrawn said start source own (from + done) drawn → TellsDrawn contents old drawn new → So old done → So new (done + 1)
+  one_run : (done : ℕ) (drawn : DrawnRun) (old new : DrawnReport C W) → done + 1 ≤ 1000000 → IsDrawn said start source own (from + done) drawn → TellsDrawn contents old drawn new → So old done → So new (done + 1)
   one_run done drawn old new room is told so_far =
       let R : ℕ → Type 0 = λ k. RunText number k drawn.differs told.text in
       let one = one_differs drawn.differs in
@@ -35,10 +35,10 @@ module _ {C W : Type 0} (contents : W → Option (List ℕ)) (said : Script) (st
         few = omega (arith, m, so_far.few, one);
       }
 
-  go : (done : ℕ) (runs : List DrawnRun) (old new : Report C W) → done + length runs ≤ 1000000 → AreRows (IsDrawn said start source own) (from + done) runs → TakesAll (TellsDrawn contents) old runs new → So old done → So new (done + length runs)
+  go : (done : ℕ) (runs : List DrawnRun) (old new : DrawnReport C W) → done + length runs ≤ 1000000 → AreRows (IsDrawn said start source own) (from + done) runs → TakesAll (TellsDrawn contents) old runs new → So old done → So new (done + length runs)
   go done [] old new room each taken so_far =
       let same : done ≡ done + 0 = omega arith in
-      subst (λ (n : ℕ). So new n) same (subst (λ (now : Report C W). So now done) (sym taken) so_far)
+      subst (λ (n : ℕ). So new n) same (subst (λ (now : DrawnReport C W). So now done) (sym taken) so_far)
   go done (run ∷ runs) old new room each taken so_far =
       let long : length (run ∷ runs) ≡ length runs + 1 = omega arith in
       let same : done + 1 + length runs ≡ done + length (run ∷ runs) = omega (arith, long) in
@@ -46,7 +46,7 @@ module _ {C W : Type 0} (contents : W → Option (List ℕ)) (said : Script) (st
       let rest = subst (λ (k : ℕ). AreRows (IsDrawn said start source own) k runs) next each.1 in
       subst (λ (n : ℕ). So new n) same (go (done + 1) runs taken.0 new (omega (arith, room, long)) rest taken.2 (one_run done run old taken.0 (omega (arith, room, long)) each.0 taken.1 so_far))
 
-  pub all_runs : (n : ℕ) (last : Report C W) → n ≤ 1000000 → first.differ ≡ 0 → Handed (IsDrawn said start source own) (TellsDrawn contents) from n first last
+  pub all_runs : (n : ℕ) (last : DrawnReport C W) → n ≤ 1000000 → first.differ ≡ 0 → Handed (IsDrawn said start source own) (TellsDrawn contents) from n first last
       → (last.out.ghost_name ≡ first.out.ghost_name) × Wrote said start source number own from n (contents first.out.now) (contents last.out.now) last.differ
   all_runs n last room none handed =
       let many : 0 + length handed.rows ≡ n = omega (arith, handed.many) in

@@ -13,9 +13,9 @@ use Rattle.bench_schedules.specs.Points.{script_points}
 use Rattle.bench_schedules.specs.Preemptions.{Basis, OrderRun, OrderText, Tried, differs_text, points_text}
 use Rattle.bench_schedules.specs.SoFar.{IsOpen, RanPoints}
 use Rattle.bench_schedules.specs.declared.next_runs.NextRun.{NextRun}
-use Rattle.bench_schedules.specs.declared.reports.Report.{Report}
+use Rattle.bench_schedules.specs.declared.reports.OrderReport.{OrderReport}
 use Rattle.bench_schedules.specs.declared.next_runs.DifferingOrder.{DifferingOrder}
-use Rattle.bench_schedules.specs.declared.nodes.Search.{Search}
+use Rattle.bench_schedules.specs.declared.nodes.OrderSearch.{OrderSearch}
 use Rattle.bench_schedules.specs.declared.points.Preemption.{Preemption}
 use Rattle.bench_schedules.proofs.RanOrders.{leaf, one_more, point_more}
 
@@ -53,19 +53,19 @@ next_more is from number runs run order many =
       λ are one. rows_both is from (number - from) runs (run ∷ []) many are (subst P here one, tt),
     )
 
-module _ {C W : Type 0} (contents : W → Option (List ℕ)) (b : Basis) (enough : ℕ) (ones : List Preemption) (counts : List ℕ) (few : length ones + 1 ≤ b.most) (first : Report C W)
+module _ {C W : Type 0} (contents : W → Option (List ℕ)) (b : Basis) (enough : ℕ) (ones : List Preemption) (counts : List ℕ) (few : length ones + 1 ≤ b.most) (first : OrderReport C W)
     (enough_is : first.runner.now.enough ≡ enough) (numbers_are : first.runner.now.numbers.now ≡ b.numbers) (old : Option (List ℕ)) (o d : ℕ) (k : List Preemption) where
   -- as many first points were taken, and told in the same writer
-  record So (now : Report C W) (number : ℕ) : Type 0 where
+  record So (now : OrderReport C W) (number : ℕ) : Type 0 where
     script : now.runner ≡ first.runner
     same : now.out.ghost_name ≡ first.out.ghost_name
     points : RanPoints b enough 0 ones counts number old (contents now.out.now) o d k now.search.orders now.search.differ now.search.kept.items
 
-  told_points : (number : ℕ) (run : NextRun) (from to : Report C W) → IsNext b ones counts number run → So from number → TellsRun contents enough b.numbers from run to
+  told_points : (number : ℕ) (run : NextRun) (from to : OrderReport C W) → IsNext b ones counts number run → So from number → TellsRun contents enough b.numbers from run to
       → RanPoints b enough 0 ones counts (number + 1) old (contents to.out.now) o d k to.search.orders to.search.differ to.search.kept.items
   told_points number run from to is so_far (inl (over, text, search)) =
       let T : Option (List ℕ) → Type 0 = λ t. RanPoints b enough 0 ones counts (number + 1) old t o d k from.search.orders from.search.differ from.search.kept.items in
-      let S : Search → Type 0 = λ s. RanPoints b enough 0 ones counts (number + 1) old (contents to.out.now) o d k s.orders s.differ s.kept.items in
+      let S : OrderSearch → Type 0 = λ s. RanPoints b enough 0 ones counts (number + 1) old (contents to.out.now) o d k s.orders s.differ s.kept.items in
       subst S (sym search)
       (subst T (sym text) (point_skipped b enough 0 ones counts number old (contents from.out.now) o d k from.search.orders from.search.differ from.search.kept.items over so_far.points))
   told_points number run from to is so_far (inr told) =
@@ -79,7 +79,7 @@ module _ {C W : Type 0} (contents : W → Option (List ℕ)) (b : Basis) (enough
       (leaf b enough 0 run.ones.items (contents from.out.now) (contents to.out.now) from.search.orders from.search.differ from.search.kept.items to.search.orders to.search.differ to.search.kept.items
       refl (is.differs, one))
 
-  one_taken : (number : ℕ) (run : NextRun) (from to : Report C W) → IsNext b ones counts number run → TellsNext contents from run to → So from number → So to (number + 1)
+  one_taken : (number : ℕ) (run : NextRun) (from to : OrderReport C W) → IsNext b ones counts number run → TellsNext contents from run to → So from number → So to (number + 1)
   one_taken number run from to is tells so_far =
       let N : ℕ → Type 0 = λ n. TellsRun contents n from.runner.now.numbers.now from run to in
       let M : List ℕ → Type 0 = λ ns. TellsRun contents enough ns from run to in
@@ -91,18 +91,18 @@ module _ {C W : Type 0} (contents : W → Option (List ℕ)) (b : Basis) (enough
         points = told_points number run from to is so_far (subst M n (subst N e tells.tells));
       }
 
-  go : (number : ℕ) (runs : List NextRun) (from to : Report C W) → AreRows (IsNext b ones counts) number runs → TakesAll (TellsNext contents) from runs to → So from number → So to (number + length runs)
+  go : (number : ℕ) (runs : List NextRun) (from to : OrderReport C W) → AreRows (IsNext b ones counts) number runs → TakesAll (TellsNext contents) from runs to → So from number → So to (number + length runs)
   go number [] from to each taken so_far =
       let same : number ≡ number + 0 = omega arith in
       let P : ℕ → Type 0 = λ n. So to n in
-      let Q : Report C W → Type 0 = λ now. So now number in
+      let Q : OrderReport C W → Type 0 = λ now. So now number in
       subst P same (subst Q (sym taken) so_far)
   go number (run ∷ runs) from to each taken so_far =
       let same : number + 1 + length runs ≡ number + length (run ∷ runs) = omega arith in
       let P : ℕ → Type 0 = λ n. So to n in
       subst P same (go (number + 1) runs taken.0 to each.1 taken.2 (one_taken number run from taken.0 each.0 taken.1 so_far))
 
-  pub all_taken : (number points : ℕ) (last : Report C W) → Handed (IsNext b ones counts) (TellsNext contents) number points first last
+  pub all_taken : (number points : ℕ) (last : OrderReport C W) → Handed (IsNext b ones counts) (TellsNext contents) number points first last
       → RanPoints b enough 0 ones counts number old (contents first.out.now) o d k first.search.orders first.search.differ first.search.kept.items
       → RanPoints b enough 0 ones counts (number + points) old (contents last.out.now) o d k last.search.orders last.search.differ last.search.kept.items
   all_taken number points last handed so_far =
@@ -118,9 +118,9 @@ chunk_made is from to each k a b runs first last made =
     record { many = made.0 ∙ ap (λ n. n - a) last ∙ ap (λ n. chunk_to from to each k - n) first; are = subst A first made.1 }
 
 -- chunks of orders, one behind another, are these orders
-pub runs_handed : {C W : Type 0} (contents : W → Option (List ℕ)) (b : Basis) (ones : List Preemption) (counts : List ℕ) (number points each chunks : ℕ) (first last : Report C W) → number + points - number ≤ chunks * each
+pub runs_handed : {C W : Type 0} (contents : W → Option (List ℕ)) (b : Basis) (ones : List Preemption) (counts : List ℕ) (number points each chunks : ℕ) (first last : OrderReport C W) → number + points - number ≤ chunks * each
     → Handed (λ (i : ℕ) (made : Chunk NextRun). made.whole ≡ true → IsChunk (IsNext b ones counts) number (number + points) each i made.rows.items)
-    (λ (s : Report C W) (made : Chunk NextRun) (t : Report C W). (made.whole ≡ true) × TakesAll (TellsNext contents) s made.rows.items t) 0 chunks first last
+    (λ (s : OrderReport C W) (made : Chunk NextRun) (t : OrderReport C W). (made.whole ≡ true) × TakesAll (TellsNext contents) s made.rows.items t) 0 chunks first last
     → Handed (IsNext b ones counts) (TellsNext contents) number points first last
 runs_handed contents b ones counts number points each chunks first last cover handed =
     let same : number + points - number ≡ points = omega arith in
@@ -128,12 +128,12 @@ runs_handed contents b ones counts number points each chunks first last cover ha
     subst P same (chunks_handed (λ (made : Chunk NextRun). made.whole) (λ (made : Chunk NextRun). made.rows.items) (IsNext b ones counts) (TellsNext contents) number (number + points) each chunks first last (omega arith) cover handed)
 
 -- all of it stands in one writer
-pub same_writer : {C W : Type 0} (contents : W → Option (List ℕ)) (b : Basis) (ones : List Preemption) (counts : List ℕ) (runs : List NextRun) (from to : Report C W) → TakesAll (TellsNext contents) from runs to → to.out.ghost_name ≡ from.out.ghost_name
+pub same_writer : {C W : Type 0} (contents : W → Option (List ℕ)) (b : Basis) (ones : List Preemption) (counts : List ℕ) (runs : List NextRun) (from to : OrderReport C W) → TakesAll (TellsNext contents) from runs to → to.out.ghost_name ≡ from.out.ghost_name
 same_writer contents b ones counts [] from to taken = ap (λ r. r.out.ghost_name) taken
 same_writer contents b ones counts (run ∷ runs) from to taken = same_writer contents b ones counts runs taken.0 to taken.2 ∙ taken.1.same
 
 -- with the points before these, as many are taken
-pub all_taken_of : {C W : Type 0} (contents : W → Option (List ℕ)) (b : Basis) (enough : ℕ) (ones : List Preemption) (counts : List ℕ) → length ones + 1 ≤ b.most → (first last : Report C W) (number points : ℕ)
+pub all_taken_of : {C W : Type 0} (contents : W → Option (List ℕ)) (b : Basis) (enough : ℕ) (ones : List Preemption) (counts : List ℕ) → length ones + 1 ≤ b.most → (first last : OrderReport C W) (number points : ℕ)
     → Handed (IsNext b ones counts) (TellsNext contents) number points first last → first.runner.now.enough ≡ enough → first.runner.now.numbers.now ≡ b.numbers
     → (old : Option (List ℕ)) (o d : ℕ) (k : List Preemption)
     → RanPoints b enough 0 ones counts number old (contents first.out.now) o d k first.search.orders first.search.differ first.search.kept.items

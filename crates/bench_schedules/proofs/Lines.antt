@@ -14,7 +14,7 @@ use Rattle.bench_orders.specs.Orders.{IsOrderFor, is_other, other_count}
 use Rattle.bench_live.specs.Lives.{Shows}
 use Rattle.bench_live.specs.declared.live.LiveBench.{LiveBench}
 use Rattle.bench_schedules.specs.declared.runs.Difference.{Difference}
-use Rattle.bench_schedules.specs.declared.runs.Going.{Going}
+use Rattle.bench_schedules.specs.declared.runs.RunUnderWay.{RunUnderWay}
 use Rattle.bench_schedules.specs.Schedules.{other_answer, other_answers, Ran, RanLike, RanOwn, IsNumbered, Source}
 use Rattle.bench_schedules.specs.Compared.{IsDifference, IsNextPlace}
 use Rattle.bench_schedules.specs.GoingOn.{CameTo, EndsSo, GoesAlike, GoesApart, WentSo}
@@ -85,7 +85,7 @@ goes_more size from before ls k said old new line a less is so_far ran =
     subst P (line_behind before ls k line less is) (goes_snoc size from (before ++ take k ls) said old new line a so_far ran)
 
 -- how many answers were compared is how many lines are no turns
-pub counted : (size : Size) (from : Bench) (ls : List Line) (own : List Answer) (going : Going) → going.place ≤ length own → CameTo size from ls own going → going.place ≡ other_count ls
+pub counted : (size : Size) (from : Bench) (ls : List Line) (own : List Answer) (going : RunUnderWay) → going.place ≤ length own → CameTo size from ls own going → going.place ≡ other_count ls
 counted size from ls own going few so_far =
     sym (length-take-le going.place own few) ∙ ap length (sym so_far.told) ∙ told_length size ls from so_far.answers so_far.bench so_far.run
 
@@ -107,18 +107,18 @@ told_next own place next line a within (inr same) =
     ap (λ o. take place own ++ other_answer o a) same.0 ∙ ap (λ x. take place own ++ x ∷ []) (sym same.1) ∙ sym (take_more own place a (within same.0)) ∙ ap (λ k. take k own) (sym same.2)
 
 -- behind no lines
-pub goes_none : (size : Size) (own : List Answer) (going : Going) → GoesAlike size [] own going going
+pub goes_none : (size : Size) (own : List Answer) (going : RunUnderWay) → GoesAlike size [] own going going
 goes_none size own going = λ from before so_far. let P : List Line → Type 0 = λ xs. CameTo size from xs own going in subst P (sym (append-nil before)) so_far
 
 -- a line behind which the run goes on
-pub goes_next : (size : Size) (ls : List Line) (k : ℕ) (own : List Answer) (old mid new : Going) (line : Line) (a : Answer) → k < length ls → line ≡ get_or ls k line → (is_other line ≡ true → mid.place < length own)
+pub goes_next : (size : Size) (ls : List Line) (k : ℕ) (own : List Answer) (old mid new : RunUnderWay) (line : Line) (a : Answer) → k < length ls → line ≡ get_or ls k line → (is_other line ≡ true → mid.place < length own)
     → GoesAlike size (take k ls) own old mid → LineRan size line a mid.live new.live → IsNextPlace own mid.place line a new.place → GoesAlike size (take (k + 1) ls) own old new
 goes_next size ls k own old mid new line a less is within goes ran next = λ from before so_far.
     let P : List Answer → Type 0 = λ x. RunSoFar size from (before ++ take (k + 1) ls) x new.live in
     subst P (told_next own mid.place new.place line a within next) (goes_more size from before ls k (take mid.place own) mid.live new.live line a less is (goes from before so_far) ran)
 
 -- a line behind which it does not
-pub goes_apart : (size : Size) (ls : List Line) (k : ℕ) (own : List Answer) (old mid : Going) (live : LiveBench) (line : Line) (a : Answer) (d : Difference) → k < length ls → line ≡ get_or ls k line
+pub goes_apart : (size : Size) (ls : List Line) (k : ℕ) (own : List Answer) (old mid : RunUnderWay) (live : LiveBench) (line : Line) (a : Answer) (d : Difference) → k < length ls → line ≡ get_or ls k line
     → (is_other line ≡ true → mid.place < length own) → GoesAlike size (take k ls) own old mid → LineRan size line a mid.live live → IsDifference own mid.place line a d → GoesApart size ls own old d live
 goes_apart size ls k own old mid live line a d less is within goes ran apart = record {
   n = k + 1;
@@ -133,7 +133,7 @@ goes_apart size ls k own old mid live line a d less is within goes ran apart = r
 }
 
 -- some answer is another one
-ends_apart : (size : Size) (ls : List Line) (own : List Answer) (old : Going) (d : Difference) (live : LiveBench) → GoesApart size ls own old d live → ((b : Bench) → Shows size b live → b.fault_state.own ≡ 0)
+ends_apart : (size : Size) (ls : List Line) (own : List Answer) (old : RunUnderWay) (d : Difference) (live : LiveBench) → GoesApart size ls own old d live → ((b : Bench) → Shows size b live → b.fault_state.own ≡ 0)
     → EndsSo size ls own old (Some d)
 ends_apart size ls own old d live went disk = λ start before so_far all.
     let P : List Line → Type 0 = λ xs. RunSoFar size (bench_with start) xs (take d.place own ++ d.answer ∷ []) live in
@@ -155,7 +155,7 @@ ends_apart size ls own old d live went disk = λ start before so_far all.
     }
 
 -- none is
-ends_alike : (size : Size) (ls : List Line) (own : List Answer) (old new : Going) → new.place ≤ length own → GoesAlike size ls own old new → ((b : Bench) → Shows size b new.live → b.fault_state.own ≡ 0)
+ends_alike : (size : Size) (ls : List Line) (own : List Answer) (old new : RunUnderWay) → new.place ≤ length own → GoesAlike size ls own old new → ((b : Bench) → Shows size b new.live → b.fault_state.own ≡ 0)
     → EndsSo size ls own old None
 ends_alike size ls own old new few goes disk = λ start before so_far all.
     let went = goes (bench_with start) before so_far in
@@ -170,7 +170,7 @@ ends_alike size ls own old new few goes disk = λ start before so_far all.
       like = ran.told ∙ take_all new.place own (omega (arith, here, all));
     }
 
-pub ends_so : (size : Size) (ls : List Line) (own : List Answer) (old new : Going) (differs : Option Difference) → WentSo size ls own old new differs → ((b : Bench) → Shows size b new.live → b.fault_state.own ≡ 0)
+pub ends_so : (size : Size) (ls : List Line) (own : List Answer) (old new : RunUnderWay) (differs : Option Difference) → WentSo size ls own old new differs → ((b : Bench) → Shows size b new.live → b.fault_state.own ≡ 0)
     → EndsSo size ls own old differs
 ends_so size ls own old new None went disk = ends_alike size ls own old new went.1 went.2 disk
 ends_so size ls own old new (Some d) went disk = ends_apart size ls own old d new.live went.1 disk

@@ -15,9 +15,9 @@ use Rattle.bench_schedules.specs.Preemptions.{Basis, basis}
 use Rattle.bench_schedules.specs.RunSoFar.{RunSoFar}
 use Rattle.bench_schedules.specs.declared.bases.Base.{Base}
 use Rattle.bench_schedules.specs.declared.aheads.Ahead.{Ahead}
-use Rattle.bench_schedules.specs.declared.nodes.Runner.{Runner}
+use Rattle.bench_schedules.specs.declared.nodes.OrderRunner.{OrderRunner}
 
-abbrev pub basis_of : {C : Type 0} → Runner C → Basis
+abbrev pub basis_of : {C : Type 0} → OrderRunner C → Basis
 basis_of runner = basis runner.setting.shape.now runner.payloads.now runner.lines.now runner.own.now runner.numbers.now runner.most
 
 -- the order may be run beside the script's own run

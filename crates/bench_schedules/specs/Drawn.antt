@@ -11,7 +11,7 @@ use Rattle.bench_orders.specs.Orders.{other_count}
 use Rattle.bench_schedules.specs.Numbers.{place_of_other}
 use Rattle.bench_schedules.specs.Schedules.{Ran, RunText, Source, differing}
 use Rattle.bench_schedules.specs.declared.benches.DrawnRun.{DrawnRun}
-use Rattle.bench_schedules.specs.declared.benches.Report.{Report}
+use Rattle.bench_schedules.specs.declared.benches.DrawnReport.{DrawnReport}
 
 -- Schedules of these lines can be run beside the script's own run.
 pub record AreDrawable (size : Size) (those : List Line) (own : List Answer) : Type 0 where
@@ -27,7 +27,7 @@ pub record IsDrawn (said : Script) (start : List (List ℕ)) (from : Source) (ow
   pub ran : Ran said start from own k drawn.differs
 
 -- What is to be said of that schedule was written, and it was counted where it differs.
-pub record TellsDrawn {C W : Type 0} (contents : W → Option (List ℕ)) (old : Report C W) (drawn : DrawnRun) (new : Report C W) : Type 0 where
+pub record TellsDrawn {C W : Type 0} (contents : W → Option (List ℕ)) (old : DrawnReport C W) (drawn : DrawnRun) (new : DrawnReport C W) : Type 0 where
   pub script : new.runner ≡ old.runner
   pub same : new.out.ghost_name ≡ old.out.ghost_name
   pub text : List ℕ

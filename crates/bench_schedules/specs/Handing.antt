@@ -17,7 +17,7 @@ use Rattle.bench_schedules.specs.Preemptions.{Basis, differs_text, points_text}
 use Rattle.bench_schedules.specs.SoFar.{IsMade, IsOpen, kept_behind}
 use Rattle.bench_schedules.specs.Stepped.{RanByTurns}
 use Rattle.bench_schedules.specs.declared.next_runs.NextRun.{NextRun}
-use Rattle.bench_schedules.specs.declared.reports.Report.{Report}
+use Rattle.bench_schedules.specs.declared.reports.OrderReport.{OrderReport}
 use Rattle.bench_schedules.specs.declared.next_runs.NextRuns.{NextRuns}
 use Rattle.bench_schedules.specs.declared.next_runs.DifferingOrder.{DifferingOrder}
 use Rattle.bench_schedules.specs.declared.points.Preemption.{Preemption}
@@ -86,7 +86,7 @@ ToldText numbers (Some told) text =
     × (text ≡ differs_text (points_text numbers told.points.items) told.number said own)
 
 -- Enough orders differ, and this one is left out; or it was written where it differs, and counted.
-abbrev pub TellsRun : {C W : Type 0} → (W → Option (List ℕ)) → ℕ → List ℕ → Report C W → NextRun → Report C W → Type 0
+abbrev pub TellsRun : {C W : Type 0} → (W → Option (List ℕ)) → ℕ → List ℕ → OrderReport C W → NextRun → OrderReport C W → Type 0
 TellsRun contents enough numbers old run new =
     ((IsOpen enough old.search.differ → ⊥) × (contents new.out.now ≡ contents old.out.now) × (new.search ≡ old.search))
     ⊎ ((text : List ℕ) × ToldText numbers run.told text × Appends (contents old.out.now) (contents new.out.now) text
@@ -94,7 +94,7 @@ TellsRun contents enough numbers old run new =
     × (new.search.kept.items ≡ kept_behind enough (told_count run.told) (old.search.differ + told_count run.told) old.search.kept.items
     run.ones.items))
 
-pub record TellsNext {C W : Type 0} (contents : W → Option (List ℕ)) (old : Report C W) (run : NextRun) (new : Report C W) : Type 0 where
+pub record TellsNext {C W : Type 0} (contents : W → Option (List ℕ)) (old : OrderReport C W) (run : NextRun) (new : OrderReport C W) : Type 0 where
   pub runner : new.runner ≡ old.runner
   pub same : new.out.ghost_name ≡ old.out.ghost_name
   pub tells : TellsRun contents old.runner.now.enough old.runner.now.numbers.now old run new

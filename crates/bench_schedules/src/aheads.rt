@@ -10,8 +10,8 @@ ghost use Rattle.bench_schedules.specs.GoingOn.{EndsSo};
 ghost use Rattle.bench_schedules.specs.Schedules.{RanLike};
 
 use crate::bases::{Base, turned_copy};
-use crate::nodes::Runner;
-use crate::runs::{Difference, Going, run_to_end, run_until};
+use crate::nodes::OrderRunner;
+use crate::runs::{Difference, RunUnderWay, run_to_end, run_until};
 use crate::script_points::rows_passed;
 use bench_live::LiveBench;
 use bench_report::{Answer, Setting};
@@ -29,7 +29,7 @@ pub struct Ahead {
 
 /// The board to which an order comes from a base. None where the line of the base is no row. Refused `Memory` alone.
 pub fn ahead_at<C: Crew>(
-    runner: &Runner<'_, C>,
+    runner: &OrderRunner<'_, C>,
     order: &[Line],
     base: &mut Base,
 ) -> Result<Option<Ahead>, Refusal>
@@ -55,7 +55,7 @@ fn run_unlike<C: Crew>(
     setting: &Setting<'_, C>,
     lines: &[Line],
     own: &[Answer],
-    going: Going,
+    going: RunUnderWay,
     other: &mut LiveBench,
 ) -> Result<Option<Difference>, Refusal>
     requires ranges { All (IsLineInRange setting.now.shape.now) lines.now }
@@ -76,7 +76,7 @@ fn run_unlike<C: Crew>(
 /// Runs an order that a preemption makes of another one at the line of its base: from the base on, up to where it stands as the other does
 /// there, and from there on alone where it does not. Refused `Memory` alone.
 pub fn run_beside<C: Crew>(
-    runner: &Runner<'_, C>,
+    runner: &OrderRunner<'_, C>,
     order: &[Line],
     next: &[Line],
     base: &mut Base,
@@ -97,7 +97,7 @@ pub fn run_beside<C: Crew>(
         return run_until(&runner.setting, runner.payloads, next, runner.own);
     };
     let place = base.going.place;
-    let going = Going { live, place };
+    let going = RunUnderWay { live, place };
     run_unlike(
         &runner.setting,
         &next[behind..],
@@ -109,7 +109,7 @@ pub fn run_beside<C: Crew>(
 
 /// Whether an order answers as the script's own run from that board on. Refused `Memory` alone.
 pub fn ends_as_own<C: Crew>(
-    runner: &Runner<'_, C>,
+    runner: &OrderRunner<'_, C>,
     order: &[Line],
     base: &Base,
     ahead: Ahead,
@@ -122,7 +122,12 @@ pub fn ends_as_own<C: Crew>(
     let rest = &order[ahead.rest..];
     let place = base.going.place;
     let live = ahead.live;
-    match run_to_end(&runner.setting, rest, runner.own, Going { live, place })? {
+    match run_to_end(
+        &runner.setting,
+        rest,
+        runner.own,
+        RunUnderWay { live, place },
+    )? {
         None => Ok(true),
         Some(_) => Ok(false),
     }

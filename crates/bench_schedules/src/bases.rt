@@ -8,8 +8,8 @@ ghost use Rattle.bench_live.specs.Lives.{IsSound};
 ghost use Rattle.bench_schedules.specs.Aheads.{IsBase, IsRunnable, StaysAs, TurnsRan, basis_of};
 
 use crate::line_runs::{is_other, run_line};
-use crate::nodes::Runner;
-use crate::runs::{Going, go_on};
+use crate::nodes::OrderRunner;
+use crate::runs::{RunUnderWay, go_on};
 use bench_live::{LiveBench, turns_arm_nothing};
 use bench_report::Setting;
 use board_model::Refusal;
@@ -19,19 +19,19 @@ use script_lang::Line;
 /// A board to which an order's first lines have come, and answered as the script's own run did.
 #[derive(Drop)]
 pub struct Base {
-    pub going: Going,
+    pub going: RunUnderWay,
     /// How many lines ran.
     pub line: usize,
 }
 
 /// The board before the first line of any order. Refused `Memory` alone.
-pub fn blank_base<C>(runner: &Runner<'_, C>) -> Result<Base, Refusal>
+pub fn blank_base<C>(runner: &OrderRunner<'_, C>) -> Result<Base, Refusal>
     ensures base { IfOk result (λ base. (order : List Said) → IsBase (basis_of runner.now) order base) }
     ensures refused { IfErr result (λ e. e ≡ Memory) }
 {
     let live = LiveBench::blank(runner.setting.alloc, runner.setting.shape, runner.payloads)?;
     Ok(Base {
-        going: Going { live, place: 0 },
+        going: RunUnderWay { live, place: 0 },
         line: 0,
     })
 }
@@ -39,7 +39,7 @@ pub fn blank_base<C>(runner: &Runner<'_, C>) -> Result<Base, Refusal>
 /// Has the board of an order run on to before that line. Answers whether it came there: not where it answers otherwise than the script's
 /// own run, or is past that line. Refused `Memory` alone.
 pub fn base_at<C: Crew>(
-    runner: &Runner<'_, C>,
+    runner: &OrderRunner<'_, C>,
     order: &[Line],
     base: &mut Base,
     line: usize,

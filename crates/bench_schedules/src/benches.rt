@@ -37,7 +37,7 @@ pub struct Compared {
 
 /// Which schedules of a script are run.
 #[derive(Clone, Copy, Drop)]
-pub struct Plan {
+pub struct SchedulePlan {
     /// The seed from which they are drawn.
     pub seed: u64,
     /// How many they are, numbered from 1.
@@ -48,7 +48,7 @@ pub struct Plan {
 
 /// A script that is run by schedules.
 #[derive(Drop)]
-struct Runner<'a, C> {
+struct DrawnRunner<'a, C> {
     /// How its boards are made.
     setting: Setting<'a, C>,
     /// Its lines.
@@ -63,7 +63,7 @@ struct Runner<'a, C> {
 
 /// Runs schedule k of the script. Refused `Memory` alone.
 fn run_schedule<C: Crew>(
-    runner: &Runner<'_, C>,
+    runner: &DrawnRunner<'_, C>,
     own: &OwnRun,
     k: u64,
 ) -> Result<Option<Difference>, Refusal>
@@ -90,7 +90,7 @@ fn run_schedule<C: Crew>(
 
 /// Writes the line of schedule k where its run differs. Answers how many schedules that are: 1, or 0.
 fn write_run<C, W: Write>(
-    runner: &Runner<'_, C>,
+    runner: &DrawnRunner<'_, C>,
     k: u64,
     differs: Option<Difference>,
     out: &mut W,
@@ -121,7 +121,7 @@ struct DrawnRun {
 /// The runs of the schedules of a script, each by its number.
 #[derive(Drop)]
 struct DrawnRuns<'a, 'b, 'c, C> {
-    runner: &'a Runner<'b, C>,
+    runner: &'a DrawnRunner<'b, C>,
     own: &'c OwnRun,
 }
 
@@ -147,14 +147,14 @@ impl<'a, 'b, 'c, C: Crew + Sync> Task for DrawnRuns<'a, 'b, 'c, C> {
 
 /// What is written of schedules, and how many of them differ.
 #[derive(Drop)]
-struct Report<'a, 'b, 'c, C, W> {
-    runner: &'a Runner<'b, C>,
+struct DrawnReport<'a, 'b, 'c, C, W> {
+    runner: &'a DrawnRunner<'b, C>,
     out: &'c mut W,
     differ: u64,
     ghost few: { length runner.now.lines.now ≤ 65535 },
 }
 
-impl<'a, 'b, 'c, C, W: Write> Sink<DrawnRun> for Report<'a, 'b, 'c, C, W> {
+impl<'a, 'b, 'c, C, W: Write> Sink<DrawnRun> for DrawnReport<'a, 'b, 'c, C, W> {
     ghost use Rattle.bench_schedules.specs.Drawn.{TellsDrawn};
 
     ghost takes = { λ old drawn new. TellsDrawn W.contents old drawn new };
@@ -175,7 +175,7 @@ impl<'a, 'b, 'c, C, W: Write> Sink<DrawnRun> for Report<'a, 'b, 'c, C, W> {
 /// that differs. Answers how many do.
 fn run_schedules<R: Threads + Sync, P: Progress, C: Crew + Sync, W: Write>(
     jobs: &Jobs<'_, R, P>,
-    runner: &Runner<'_, C>,
+    runner: &DrawnRunner<'_, C>,
     own: &OwnRun,
     within: Window,
     out: &mut W,
@@ -193,7 +193,7 @@ fn run_schedules<R: Threads + Sync, P: Progress, C: Crew + Sync, W: Write>(
     ensures err { IfErr result (λ e. (e ≡ Memory) ⊎ (e ≡ Output)) }
 {
     let runs = DrawnRuns { runner, own };
-    let mut report = Report {
+    let mut report = DrawnReport {
         runner,
         out,
         differ: 0,
@@ -264,8 +264,8 @@ fn write_all_tight<W: Write>(numbers: &[u64], tight: &[usize], out: &mut W) -> R
 /// schedules differ, and how many. Answers how many were run, and how many differ.
 fn compare_all<R: Threads + Sync, P: Progress, C: Crew + Sync, W: Write>(
     jobs: &Jobs<'_, R, P>,
-    runner: &Runner<'_, C>,
-    plan: Plan,
+    runner: &DrawnRunner<'_, C>,
+    plan: SchedulePlan,
     out: &mut W,
 ) -> Result<Compared, Refusal>
     requires size { IsSize runner.now.setting.shape.now }
@@ -296,7 +296,7 @@ fn compare_script<'a, R: Threads + Sync, P: Progress, W: Write>(
     script: &'a Script,
     payloads: &'a Payloads,
     numbers: &'a [u64],
-    plan: Plan,
+    plan: SchedulePlan,
     out: &mut W,
 ) -> Result<Compared, Refusal>
     requires few { length script.now.lines.items ≤ 65535 }
@@ -311,7 +311,7 @@ fn compare_script<'a, R: Threads + Sync, P: Progress, W: Write>(
     shape_in_range(&script.shape);
     fits(lines);
     let crew = Sequential::<R>::new([0, 1, 2, 3])?;
-    let runner = Runner {
+    let runner = DrawnRunner {
         setting: Setting {
             alloc,
             crew: &crew,
@@ -372,7 +372,7 @@ pub fn schedules<R: Threads + Sync, P: Progress, W: Write>(
     alloc: Global,
     script: &[u8],
     payloads: &Payloads,
-    plan: Plan,
+    plan: SchedulePlan,
     out: &mut W,
 ) -> Result<Compared, Refusal>
     requires most { plan.count ≤ 1000000 }

@@ -8,7 +8,7 @@ ghost use Rattle.bench_schedules.specs.Boards.{IsBoards, RestOfBoards};
 
 use crate::aheads::{Ahead, ahead_at, ends_as_own};
 use crate::bases::{Base, base_at, blank_base};
-use crate::nodes::Runner;
+use crate::nodes::OrderRunner;
 use board_model::Refusal;
 use crew::Crew;
 use script_lang::Line;
@@ -25,7 +25,7 @@ pub struct Boards {
 }
 
 /// The boards before the first line of any order. Refused `Memory` alone.
-pub fn blank_boards<C>(runner: &Runner<'_, C>) -> Result<Boards, Refusal>
+pub fn blank_boards<C>(runner: &OrderRunner<'_, C>) -> Result<Boards, Refusal>
     ensures boards { IfOk result (λ boards. (order : List Said) → IsBoards (basis_of runner.now) order boards) }
     ensures refused { IfErr result (λ e. e ≡ Memory) }
 {
@@ -40,7 +40,7 @@ pub fn blank_boards<C>(runner: &Runner<'_, C>) -> Result<Boards, Refusal>
 /// Has an order run on to before that line, and makes the board behind its row. There is none where the order answers otherwise than the
 /// script's own run, and where it is past that line. Refused `Memory` alone.
 pub fn run_to<C: Crew>(
-    runner: &Runner<'_, C>,
+    runner: &OrderRunner<'_, C>,
     order: &[Line],
     boards: &mut Boards,
     line: usize,
@@ -67,7 +67,7 @@ pub fn run_to<C: Crew>(
 /// Whether the order answers as the script's own run from the board behind the row on, or there is none. That is gone then, and where the
 /// order does not, no order runs on from its base. Refused `Memory` alone.
 pub fn rest_is_own<C: Crew>(
-    runner: &Runner<'_, C>,
+    runner: &OrderRunner<'_, C>,
     order: &[Line],
     boards: &mut Boards,
 ) -> Result<bool, Refusal>

@@ -35,15 +35,15 @@ mod stretches;
 mod told;
 mod written;
 
-pub use benches::{Compared, Plan, schedules, show};
+pub use benches::{Compared, SchedulePlan, schedules, show};
 pub use line_runs::{end_run, run_line};
 pub use numbers::{line_numbers, number_at, number_of_other};
 pub use orders::Preempted;
 pub use own_runs::{OwnRun, run_own};
 pub use points::Preemption;
-pub use preempted_benches::{Within, preemptions};
+pub use preempted_benches::{OrderBounds, preemptions};
 pub use runs::{Difference, run_until};
 pub use shown::{Wanted, show_order};
 pub use shrinks::shrink;
 pub use stretches::Stretches;
-pub use told::{Apart, ToldLine, first_apart};
+pub use told::{ToldApart, ToldLine, first_apart};

@@ -12,7 +12,7 @@ ghost use Rattle.bench_schedules.specs.Orders.{order_of};
 
 use crate::aheads::run_beside;
 use crate::boards::{Boards, rest_is_own, run_to};
-use crate::nodes::{Node, Runner, parted_node, run_node};
+use crate::nodes::{Node, OrderRunner, parted_node, run_node};
 use crate::numbers::number_of_other;
 use crate::points::{Preemption, point_at};
 use crate::runs::Difference;
@@ -42,7 +42,7 @@ pub struct NextRun {
 /// The orders that one more preemption makes of an order, by the numbers of its points.
 #[derive(Drop)]
 pub struct NextRuns<'a, 'b, C> {
-    pub runner: &'a Runner<'b, C>,
+    pub runner: &'a OrderRunner<'b, C>,
     /// The order.
     pub node: &'a Node,
     /// How many first turns of each line of it did something.
@@ -51,7 +51,7 @@ pub struct NextRuns<'a, 'b, C> {
 
 /// Where an order differs, as its line tells it. Refused `Memory` alone.
 fn told_of<C>(
-    runner: &Runner<'_, C>,
+    runner: &OrderRunner<'_, C>,
     node: &Node,
     differs: Option<Difference>,
 ) -> Result<Option<DifferingOrder>, Refusal>

@@ -22,7 +22,7 @@ use std::alloc::Global;
 
 /// A script that is run by orders.
 #[derive(Drop)]
-pub struct Runner<'a, C> {
+pub struct OrderRunner<'a, C> {
     /// How its boards are made.
     pub setting: Setting<'a, C>,
     /// Its lines.
@@ -41,7 +41,7 @@ pub struct Runner<'a, C> {
 
 /// The orders that were run so far.
 #[derive(Drop)]
-pub struct Search {
+pub struct OrderSearch {
     /// How many they are.
     pub orders: u64,
     /// How many of them gave another report than the script's own run.
@@ -75,7 +75,7 @@ fn with_one(alloc: Global, ones: &[Preemption], one: Preemption) -> Result<Vec<P
 /// The order that a preemption makes of one, at a point behind those that made it. Of each line of it so many first turns did
 /// something. Refused `Memory` alone.
 pub fn parted_node<C>(
-    runner: &Runner<'_, C>,
+    runner: &OrderRunner<'_, C>,
     node: &Node,
     counts: &[u32],
     one: Preemption,
@@ -102,7 +102,10 @@ pub fn parted_node<C>(
 }
 
 /// Runs an order. Refused `Memory` alone.
-pub fn run_node<C: Crew>(runner: &Runner<'_, C>, node: &Node) -> Result<Option<Difference>, Refusal>
+pub fn run_node<C: Crew>(
+    runner: &OrderRunner<'_, C>,
+    node: &Node,
+) -> Result<Option<Difference>, Refusal>
     requires count { length runner.now.own.now ≡ other_count runner.now.lines.now }
     requires made { IsMade (basis_of runner.now) node.now.lines.items node.now.ones.items node.now.from }
     ensures ran { IfOk result (λ differs. RanLike runner.now.setting.shape.now runner.now.payloads.now
@@ -113,7 +116,7 @@ pub fn run_node<C: Crew>(runner: &Runner<'_, C>, node: &Node) -> Result<Option<D
 }
 
 /// Whether no more orders are to be run.
-pub fn is_enough<C>(runner: &Runner<'_, C>, done: &Search) -> bool
+pub fn is_enough<C>(runner: &OrderRunner<'_, C>, done: &OrderSearch) -> bool
     ensures { result ≡ true → IsOpen runner.now.enough done.now.differ → ⊥ }
 {
     0 < runner.enough && runner.enough <= done.differ

@@ -10,7 +10,7 @@ ghost use Rattle.bench_schedules.specs.Stepped.{RanByTurns};
 
 use crate::counts::run_by_turns;
 use crate::next_runs::NextRuns;
-use crate::nodes::{Node, Runner, Search, is_enough, parted_node};
+use crate::nodes::{Node, OrderRunner, OrderSearch, is_enough, parted_node};
 use crate::points::{point_at, points_before};
 use crate::reports::hand_on_points;
 use bench_orders::copied_row;
@@ -48,9 +48,9 @@ fn at_once(enough: u64, threads: usize) -> u64
 fn try_points<R: Threads + Sync, P: Progress, C: Crew + Sync, W: Write>(
     jobs: &Jobs<'_, R, P>,
     runs: &NextRuns<'_, '_, C>,
-    done: Search,
+    done: OrderSearch,
     out: &mut W,
-) -> Result<Search, Refusal>
+) -> Result<OrderSearch, Refusal>
     requires few { (length runs.now.runner.now.lines.now ≤ 65535) × (runs.now.runner.now.most ≤ 3) }
     requires counts { All (λ count. count ≤ 1000000) runs.now.counts.now }
     requires count { length runs.now.runner.now.own.now ≡ other_count runs.now.runner.now.lines.now }
@@ -82,12 +82,12 @@ fn try_points<R: Threads + Sync, P: Progress, C: Crew + Sync, W: Write>(
 /// Runs all orders with so many preemptions more than this one has, and writes those that differ; or fewer, where that is enough.
 fn try_orders<R: Threads + Sync, P: Progress, C: Crew + Sync, W: Write>(
     jobs: &Jobs<'_, R, P>,
-    runner: &Runner<'_, C>,
+    runner: &OrderRunner<'_, C>,
     node: &Node,
     more: u64,
-    done: Search,
+    done: OrderSearch,
     out: &mut W,
-) -> Result<Search, Refusal>
+) -> Result<OrderSearch, Refusal>
     requires few { (length runner.now.lines.now ≤ 65535) × (runner.now.most ≤ 3) }
     requires count { length runner.now.own.now ≡ other_count runner.now.lines.now }
     requires most { (1 ≤ more) × (length node.now.ones.items + more ≤ runner.now.most) }
@@ -124,9 +124,9 @@ fn try_orders<R: Threads + Sync, P: Progress, C: Crew + Sync, W: Write>(
 /// Or fewer, where that is enough.
 pub fn try_depths<R: Threads + Sync, P: Progress, C: Crew + Sync, W: Write>(
     jobs: &Jobs<'_, R, P>,
-    runner: &Runner<'_, C>,
+    runner: &OrderRunner<'_, C>,
     out: &mut W,
-) -> Result<Search, Refusal>
+) -> Result<OrderSearch, Refusal>
     requires few { (length runner.now.lines.now ≤ 65535) × (runner.now.most ≤ 3) }
     requires ranges { All (IsLineInRange runner.now.setting.shape.now) runner.now.lines.now }
     requires count { length runner.now.own.now ≡ other_count runner.now.lines.now }
@@ -140,7 +140,7 @@ pub fn try_depths<R: Threads + Sync, P: Progress, C: Crew + Sync, W: Write>(
         ones: Vec::new(alloc),
         from: 0,
     };
-    let mut now = Search {
+    let mut now = OrderSearch {
         orders: 0,
         differ: 0,
         kept: Vec::new(alloc),

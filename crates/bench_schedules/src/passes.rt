@@ -4,7 +4,7 @@ ghost use Rattle.std.specs.Prelude.{◌≡◌, IfErr, OnOk};
 ghost use Rattle.board_model.specs.declared.refusal.Refusal.TheVariants.{Memory};
 ghost use Rattle.bench_schedules.specs.Shrunk.{IsFound, IsSearchable};
 
-use crate::search::{Kept, MOST_RUNS, Search, try_slices};
+use crate::search::{FoundSchedule, MOST_RUNS, Search, try_slices};
 use crate::slices::{exchanged, lessened, turns_at, weight};
 use board_model::Refusal;
 use crew::Crew;
@@ -15,7 +15,7 @@ const HALVES: u64 = 64;
 /// Tries the schedule whose slices from one place up to another have at most so many turns. Answers whether it is kept.
 fn try_lessened<C: Crew>(
     search: &Search<'_, C>,
-    kept: &mut Kept,
+    kept: &mut FoundSchedule,
     from: usize,
     to: usize,
     turns: u64,
@@ -35,7 +35,7 @@ fn try_lessened<C: Crew>(
 /// that joins another of its hart. Answers whether it is kept.
 fn try_exchanged<C: Crew>(
     search: &Search<'_, C>,
-    kept: &mut Kept,
+    kept: &mut FoundSchedule,
     place: usize,
 ) -> Result<bool, Refusal>
     requires searchable { IsSearchable search.now.setting.shape.now search.now.lines.now search.now.own.now }
@@ -53,7 +53,7 @@ fn try_exchanged<C: Crew>(
 }
 
 /// Cuts slices off from behind, by bisection.
-fn cut<C: Crew>(search: &Search<'_, C>, kept: &mut Kept) -> Result<(), Refusal>
+fn cut<C: Crew>(search: &Search<'_, C>, kept: &mut FoundSchedule) -> Result<(), Refusal>
     requires searchable { IsSearchable search.now.setting.shape.now search.now.lines.now search.now.own.now }
     requires found { IsFound search.now.setting.shape.now search.now.payloads.now search.now.lines.now search.now.own.now
         search.now.place kept.old.lines.items }
@@ -76,7 +76,11 @@ fn cut<C: Crew>(search: &Search<'_, C>, kept: &mut Kept) -> Result<(), Refusal>
 }
 
 /// Drops so many slices together, where that can be, from the first on.
-fn drop_by<C: Crew>(search: &Search<'_, C>, kept: &mut Kept, size: usize) -> Result<(), Refusal>
+fn drop_by<C: Crew>(
+    search: &Search<'_, C>,
+    kept: &mut FoundSchedule,
+    size: usize,
+) -> Result<(), Refusal>
     requires searchable { IsSearchable search.now.setting.shape.now search.now.lines.now search.now.own.now }
     requires found { IsFound search.now.setting.shape.now search.now.payloads.now search.now.lines.now search.now.own.now
         search.now.place kept.old.lines.items }
@@ -98,7 +102,7 @@ fn drop_by<C: Crew>(search: &Search<'_, C>, kept: &mut Kept, size: usize) -> Res
 }
 
 /// Drops slices by halves of all of them, then by fourths, and so on, to one at a time.
-fn drop_slices<C: Crew>(search: &Search<'_, C>, kept: &mut Kept) -> Result<(), Refusal>
+fn drop_slices<C: Crew>(search: &Search<'_, C>, kept: &mut FoundSchedule) -> Result<(), Refusal>
     requires searchable { IsSearchable search.now.setting.shape.now search.now.lines.now search.now.own.now }
     requires found { IsFound search.now.setting.shape.now search.now.payloads.now search.now.lines.now search.now.own.now
         search.now.place kept.old.lines.items }
@@ -118,7 +122,7 @@ fn drop_slices<C: Crew>(search: &Search<'_, C>, kept: &mut Kept) -> Result<(), R
 }
 
 /// Joins slices of a hart by exchanging neighbours, where that can be, from the first on.
-fn join_slices<C: Crew>(search: &Search<'_, C>, kept: &mut Kept) -> Result<(), Refusal>
+fn join_slices<C: Crew>(search: &Search<'_, C>, kept: &mut FoundSchedule) -> Result<(), Refusal>
     requires searchable { IsSearchable search.now.setting.shape.now search.now.lines.now search.now.own.now }
     requires found { IsFound search.now.setting.shape.now search.now.payloads.now search.now.lines.now search.now.own.now
         search.now.place kept.old.lines.items }
@@ -139,7 +143,11 @@ fn join_slices<C: Crew>(search: &Search<'_, C>, kept: &mut Kept) -> Result<(), R
 }
 
 /// Finds the fewest turns of the slice at that place, by bisection.
-fn lessen_at<C: Crew>(search: &Search<'_, C>, kept: &mut Kept, place: usize) -> Result<(), Refusal>
+fn lessen_at<C: Crew>(
+    search: &Search<'_, C>,
+    kept: &mut FoundSchedule,
+    place: usize,
+) -> Result<(), Refusal>
     requires searchable { IsSearchable search.now.setting.shape.now search.now.lines.now search.now.own.now }
     requires found { IsFound search.now.setting.shape.now search.now.payloads.now search.now.lines.now search.now.own.now
         search.now.place kept.old.lines.items }
@@ -162,7 +170,7 @@ fn lessen_at<C: Crew>(search: &Search<'_, C>, kept: &mut Kept, place: usize) -> 
 }
 
 /// Finds the fewest turns of each slice, from the last on.
-fn lessen<C: Crew>(search: &Search<'_, C>, kept: &mut Kept) -> Result<(), Refusal>
+fn lessen<C: Crew>(search: &Search<'_, C>, kept: &mut FoundSchedule) -> Result<(), Refusal>
     requires searchable { IsSearchable search.now.setting.shape.now search.now.lines.now search.now.own.now }
     requires found { IsFound search.now.setting.shape.now search.now.payloads.now search.now.lines.now search.now.own.now
         search.now.place kept.old.lines.items }
@@ -178,7 +186,7 @@ fn lessen<C: Crew>(search: &Search<'_, C>, kept: &mut Kept) -> Result<(), Refusa
 }
 
 /// All passes, again until none helps.
-pub fn search_all<C: Crew>(search: &Search<'_, C>, kept: &mut Kept) -> Result<(), Refusal>
+pub fn search_all<C: Crew>(search: &Search<'_, C>, kept: &mut FoundSchedule) -> Result<(), Refusal>
     requires searchable { IsSearchable search.now.setting.shape.now search.now.lines.now search.now.own.now }
     requires found { IsFound search.now.setting.shape.now search.now.payloads.now search.now.lines.now search.now.own.now
         search.now.place kept.old.lines.items }

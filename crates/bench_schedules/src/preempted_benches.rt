@@ -9,7 +9,7 @@ ghost use Rattle.script_lang.specs.Views.{view};
 ghost use Rattle.bench_schedules.specs.Numbers.{numbers_of};
 ghost use Rattle.bench_schedules.specs.Preemptions.{WrotePreemptions};
 
-use crate::nodes::{Runner, Search};
+use crate::nodes::{OrderRunner, OrderSearch};
 use crate::numbers::line_numbers;
 use crate::orders::{Preempted, try_depths};
 use crate::own_runs::run_own;
@@ -26,7 +26,7 @@ use std::thread::Threads;
 
 /// How many preemptions an order has at most, and whether the first order that differs is the last that is run.
 #[derive(Clone, Copy, Drop)]
-pub struct Within {
+pub struct OrderBounds {
     /// 1 to 3.
     pub most: u64,
     pub first: bool,
@@ -46,7 +46,7 @@ fn try_lines<'a, R: Threads + Sync, P: Progress, C: Crew + Sync, W: Write>(
     lines: &'a [Line],
     payloads: &'a Payloads,
     numbers: &'a [u64],
-    within: Within,
+    within: OrderBounds,
     out: &mut W,
 ) -> Result<Preempted, Refusal>
     requires few { (length lines.now ≤ 65535) × (within.most ≤ 3) }
@@ -57,7 +57,7 @@ fn try_lines<'a, R: Threads + Sync, P: Progress, C: Crew + Sync, W: Write>(
     ensures err { IfErr result (λ e. (e ≡ Memory) ⊎ (e ≡ Output)) }
 {
     let own = run_own(&setting, payloads, lines)?;
-    let runner = Runner {
+    let runner = OrderRunner {
         setting,
         lines,
         payloads,
@@ -66,7 +66,7 @@ fn try_lines<'a, R: Threads + Sync, P: Progress, C: Crew + Sync, W: Write>(
         most: within.most,
         enough: enough_of(within.first),
     };
-    let Search { orders, differ, .. } = try_depths(jobs, &runner, out)?;
+    let OrderSearch { orders, differ, .. } = try_depths(jobs, &runner, out)?;
     write_count(out, within.most, orders, differ)?;
     Ok(Preempted { orders, differ })
 }
@@ -78,7 +78,7 @@ fn try_script<R: Threads + Sync, P: Progress, W: Write>(
     script: &Script,
     payloads: &Payloads,
     numbers: &[u64],
-    within: Within,
+    within: OrderBounds,
     out: &mut W,
 ) -> Result<Preempted, Refusal>
     requires few { (length script.now.lines.items ≤ 65535) × (within.most ≤ 3) }
@@ -116,7 +116,7 @@ pub fn preemptions<R: Threads + Sync, P: Progress, W: Write>(
     alloc: Global,
     script: &[u8],
     payloads: &Payloads,
-    within: Within,
+    within: OrderBounds,
     out: &mut W,
 ) -> Result<Preempted, Refusal>
     requires few { within.most ≤ 3 }

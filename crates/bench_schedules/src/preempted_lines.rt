@@ -9,7 +9,7 @@ ghost use Rattle.bench_schedules.specs.Preemptions.{apart_text, count_text, diff
 use crate::numbers::number_at;
 use crate::points::Preemption;
 use crate::runs::Difference;
-use crate::told::{Apart, first_apart};
+use crate::told::{ToldApart, first_apart};
 use board_model::Refusal;
 use report_lines::unwritten;
 use std::alloc::Global;
@@ -59,12 +59,12 @@ fn write_points<W: Write>(
 }
 
 /// Writes how the line of an order ends: the number of the script's line at which it first differs, and what both runs told there.
-fn write_apart<W: Write>(out: &mut W, number: u64, apart: &Apart) -> Result<(), Refusal>
+fn write_apart<W: Write>(out: &mut W, number: u64, apart: &ToldApart) -> Result<(), Refusal>
     ensures ok { OnOk result (Appends (W.contents out.old) (W.contents out.new)
         (apart_text number (told_text apart.now.other) (told_text apart.now.own))) }
     ensures err { IfErr result (λ e. (e ≡ Memory) ⊎ (e ≡ Output)) }
 {
-    let Apart { own, other } = *apart;
+    let ToldApart { own, other } = *apart;
     match writeln!(out, " line {number} {other} own {own}") {
         Ok(()) => Ok(()),
         Err(error) => Err(unwritten(error)),
@@ -78,7 +78,7 @@ fn write_line<W: Write>(
     numbers: &[u64],
     points: &[Preemption],
     number: u64,
-    apart: &Apart,
+    apart: &ToldApart,
 ) -> Result<(), Refusal>
     ensures ok { OnOk result (Appends (W.contents out.old) (W.contents out.new)
         (differs_text (points_text numbers.now points.now) number (told_text apart.now.other) (told_text apart.now.own))) }

@@ -13,7 +13,7 @@ ghost use Rattle.bench_schedules.specs.declared.points.Preemption.{Preemption as
 
 use crate::chunk_runs::{ChunkRuns, chunk_size};
 use crate::next_runs::{DifferingOrder, NextRun, NextRuns};
-use crate::nodes::{Runner, Search, is_enough};
+use crate::nodes::{OrderRunner, OrderSearch, is_enough};
 use crate::points::Preemption;
 use crate::preempted_lines::write_order;
 use board_model::Refusal;
@@ -52,7 +52,12 @@ fn write_told<W: Write>(
 
 /// Counts an order of these preemptions, of which so many differ: 1, or 0. It is kept where as many as are enough differ with it. Refused
 /// `Memory` where that is more than 2^64 orders, which no machine runs.
-fn count(enough: u64, ones: Vec<Preemption>, more: u64, search: &mut Search) -> Result<(), Refusal>
+fn count(
+    enough: u64,
+    ones: Vec<Preemption>,
+    more: u64,
+    search: &mut OrderSearch,
+) -> Result<(), Refusal>
     ensures counted { OnOk result ((search.new.orders ≡ search.old.orders + 1) × (search.new.differ ≡ search.old.differ + more)
         × (search.new.kept.items ≡ kept_behind enough more (search.old.differ + more) search.old.kept.items ones.items)) }
     ensures refused { IfErr result (λ e. e ≡ Memory) }
@@ -73,13 +78,13 @@ fn count(enough: u64, ones: Vec<Preemption>, more: u64, search: &mut Search) -> 
 
 /// What is written of orders, and which were run.
 #[derive(Drop)]
-pub struct Report<'a, 'b, C, W> {
-    pub runner: &'a Runner<'b, C>,
+pub struct OrderReport<'a, 'b, C, W> {
+    pub runner: &'a OrderRunner<'b, C>,
     pub out: &'a mut W,
-    pub search: Search,
+    pub search: OrderSearch,
 }
 
-impl<'a, 'b, C, W: Write> Report<'a, 'b, C, W> {
+impl<'a, 'b, C, W: Write> OrderReport<'a, 'b, C, W> {
     /// Writes the line of an order where it differs, and counts it; or leaves it out, where enough orders differ.
     fn take_run<P: Progress>(&mut self, run: NextRun, progress: &P) -> Result<(), Refusal>
         ensures took { OnOk result (TellsNext W.contents self.old run self.new) }
@@ -101,7 +106,7 @@ impl<'a, 'b, C, W: Write> Report<'a, 'b, C, W> {
     }
 }
 
-impl<'a, 'b, C, W: Write> Sink<Chunk<NextRun>> for Report<'a, 'b, C, W> {
+impl<'a, 'b, C, W: Write> Sink<Chunk<NextRun>> for OrderReport<'a, 'b, C, W> {
     ghost use Rattle.std.specs.Prelude.{◌≡◌, true};
     ghost use Rattle.jobs.specs.Handed.{TakesAll};
     ghost use Rattle.bench_schedules.specs.Handing.{TellsNext};
@@ -131,9 +136,9 @@ pub fn hand_on_points<R: Threads + Sync, P: Progress, C: Crew + Sync, W: Write>(
     runs: &NextRuns<'_, '_, C>,
     first: u64,
     points: u64,
-    done: Search,
+    done: OrderSearch,
     out: &mut W,
-) -> Result<Search, Refusal>
+) -> Result<OrderSearch, Refusal>
     requires few { (length runs.now.runner.now.lines.now ≤ 65535) × (runs.now.runner.now.most ≤ 3) }
     requires count { length runs.now.runner.now.own.now ≡ other_count runs.now.runner.now.lines.now }
     requires most { length runs.now.node.now.ones.items + 1 ≤ runs.now.runner.now.most }
@@ -154,7 +159,7 @@ pub fn hand_on_points<R: Threads + Sync, P: Progress, C: Crew + Sync, W: Write>(
         orders differ kept now.orders now.differ now.kept.items) }
     ensures err { IfErr result (λ e. (e ≡ Memory) ⊎ (e ≡ Output)) }
 {
-    let mut report = Report {
+    let mut report = OrderReport {
         runner: runs.runner,
         out,
         search: done,
@@ -171,7 +176,7 @@ pub fn hand_on_points<R: Threads + Sync, P: Progress, C: Crew + Sync, W: Write>(
     };
     let alloc = runs.runner.setting.alloc;
     hand_on_all(jobs, alloc, &task, 0, within.chunks(each), &mut report)?;
-    let Report { out, search, .. } = report;
+    let OrderReport { out, search, .. } = report;
     hand_back(out);
     Ok(search)
 }

@@ -56,7 +56,7 @@ fn next_place(
 
 /// A run that answered as the script's own run so far, or that ended where it did not.
 #[derive(Drop)]
-pub struct Going {
+pub struct RunUnderWay {
     pub live: LiveBench,
     /// How many answers of the own run it gave.
     pub place: usize,
@@ -68,7 +68,7 @@ pub fn go_on<C: Crew>(
     setting: &Setting<'_, C>,
     lines: &[Line],
     own: &[Answer],
-    going: &mut Going,
+    going: &mut RunUnderWay,
 ) -> Result<Option<Difference>, Refusal>
     requires ranges { All (IsLineInRange setting.now.shape.now) lines.now }
     requires sound { IsSound going.old.live }
@@ -92,7 +92,7 @@ pub fn run_to_end<C: Crew>(
     setting: &Setting<'_, C>,
     lines: &[Line],
     own: &[Answer],
-    going: Going,
+    going: RunUnderWay,
 ) -> Result<Option<Difference>, Refusal>
     requires ranges { All (IsLineInRange setting.now.shape.now) lines.now }
     requires sound { IsSound going.live }
@@ -120,5 +120,5 @@ pub fn run_until<C: Crew>(
     ensures refused { IfErr result (λ e. e ≡ Memory) }
 {
     let live = LiveBench::blank(setting.alloc, setting.shape, payloads)?;
-    run_to_end(setting, lines, own, Going { live, place: 0 })
+    run_to_end(setting, lines, own, RunUnderWay { live, place: 0 })
 }

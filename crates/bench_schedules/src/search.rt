@@ -38,7 +38,7 @@ pub struct Search<'a, C> {
 
 /// The schedule that was found last.
 #[derive(Drop)]
-pub struct Kept {
+pub struct FoundSchedule {
     /// The slices that lead its stretches.
     pub slices: Vec<Slice>,
     /// Its lines.
@@ -70,7 +70,7 @@ fn differs_there<C: Crew>(search: &Search<'_, C>, lines: &[Line]) -> Result<bool
 /// kept. After the last run nothing more is tried. Refused `Memory` alone.
 pub fn try_slices<C: Crew>(
     search: &Search<'_, C>,
-    kept: &mut Kept,
+    kept: &mut FoundSchedule,
     slices: Vec<Slice>,
 ) -> Result<bool, Refusal>
     requires searchable { IsSearchable search.now.setting.shape.now search.now.lines.now search.now.own.now }

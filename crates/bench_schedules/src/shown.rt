@@ -11,7 +11,7 @@ ghost use Rattle.bench_schedules.specs.Numbers.{numbers_of};
 ghost use Rattle.bench_schedules.specs.Orders.{ArePreemptions, order_of};
 ghost use Rattle.bench_schedules.specs.Shown.{FewerDiffer, HasNoOrder, IsNthThatDiffers, IsWritten, ShownOrder, order_script};
 
-use crate::nodes::{Runner, Search};
+use crate::nodes::{OrderRunner, OrderSearch};
 use crate::numbers::line_numbers;
 use crate::orders::try_depths;
 use crate::own_runs::run_own;
@@ -100,7 +100,7 @@ fn find_order<'a, R: Threads + Sync, P: Progress, C: Crew + Sync>(
         × FewerDiffer (record { size = setting.entry.shape.now; lines = lines.now }) payloads.now numbers.now wanted.most wanted.number)) }
 {
     let own = run_own(&setting, payloads, lines)?;
-    let runner = Runner {
+    let runner = OrderRunner {
         setting,
         lines,
         payloads,
@@ -109,7 +109,7 @@ fn find_order<'a, R: Threads + Sync, P: Progress, C: Crew + Sync>(
         most: wanted.most,
         enough: wanted.number,
     };
-    let Search { kept, .. } = try_depths(jobs, &runner, &mut sink())?;
+    let OrderSearch { kept, .. } = try_depths(jobs, &runner, &mut sink())?;
     if kept.is_empty() {
         return Err(Refusal::BadShape);
     }

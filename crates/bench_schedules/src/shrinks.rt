@@ -13,7 +13,7 @@ ghost use Rattle.bench_schedules.specs.Shrunk.{IsFound, IsSearchable, IsShortene
 use crate::own_runs::run_own;
 use crate::passes::search_all;
 use crate::runs::{Difference, run_until};
-use crate::search::{Kept, Search};
+use crate::search::{FoundSchedule, Search};
 use crate::slices::slices_of;
 use bench_orders::{fits, generator, orders_keep_lines, schedule, shape_in_range, write_script};
 use bench_report::{Answer, Setting};
@@ -36,7 +36,7 @@ fn searched<C: Crew>(search: &Search<'_, C>, drawn: Vec<Line>) -> Result<Vec<Lin
     ensures refused { IfErr result (λ e. e ≡ Memory) }
 {
     let slices = slices_of(search.setting.alloc, &drawn)?;
-    let mut kept = Kept {
+    let mut kept = FoundSchedule {
         slices,
         lines: drawn,
         runs: 0,

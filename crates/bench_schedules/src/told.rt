@@ -58,7 +58,7 @@ impl fmt::Display for ToldLine {
 
 /// What is told of two answers, at one and the same line of both.
 #[derive(Clone, Copy, Drop)]
-pub struct Apart {
+pub struct ToldApart {
     /// Of the script's own run.
     pub own: ToldLine,
     /// Of another run.
@@ -66,7 +66,11 @@ pub struct Apart {
 }
 
 /// Two lines that stand at the same place, where their texts are not the same.
-fn lines_apart(alloc: Global, own: ToldLine, other: ToldLine) -> Result<Option<Apart>, AllocError>
+fn lines_apart(
+    alloc: Global,
+    own: ToldLine,
+    other: ToldLine,
+) -> Result<Option<ToldApart>, AllocError>
     ensures { IfOk result (λ found. MatchOption found (told_text own ≡ told_text other)
         (λ pair. (pair.own ≡ own) × (pair.other ≡ other) × (told_text own ≢ told_text other))) }
 {
@@ -75,11 +79,15 @@ fn lines_apart(alloc: Global, own: ToldLine, other: ToldLine) -> Result<Option<A
     if own_text == other_text {
         return Ok(None);
     }
-    Ok(Some(Apart { own, other }))
+    Ok(Some(ToldApart { own, other }))
 }
 
 /// The first line in which what is told of two states is another: the line `found`, or what that leaves out.
-fn states_apart(alloc: Global, own: &Durable, other: &Durable) -> Result<Option<Apart>, AllocError>
+fn states_apart(
+    alloc: Global,
+    own: &Durable,
+    other: &Durable,
+) -> Result<Option<ToldApart>, AllocError>
     ensures { IfOk result (λ found. MatchOption found ((told_text (told.Found own.now) ≡ told_text (told.Found other.now))
         × (told_text (told.Image own.now.image) ≡ told_text (told.Image other.now.image)))
         (λ pair. IsFirstApart (told_text (told.Found own.now) ∷ told_text (told.Image own.now.image) ∷ [])
@@ -101,7 +109,7 @@ fn both_apart(
     states: (Durable, Durable),
     own: &Answer,
     other: &Answer,
-) -> Result<Option<Apart>, AllocError>
+) -> Result<Option<ToldApart>, AllocError>
     requires own { own.now.found ≡ Some states.0 }
     requires other { other.now.found ≡ Some states.1 }
     ensures { IfOk result (λ found. MatchOption found (told_lines own.now ≡ told_lines other.now)
@@ -119,14 +127,14 @@ fn found_apart(
     state: Durable,
     own: &Answer,
     other: &Answer,
-) -> Result<Option<Apart>, AllocError>
+) -> Result<Option<ToldApart>, AllocError>
     requires { own.now.found ≡ Some state }
     ensures { IfOk result (λ found. MatchOption found (told_lines own.now ≡ told_lines other.now)
         (λ pair. IsFirstApart (told_lines own.now) (told_lines other.now) (told_text pair.own) (told_text pair.other))) }
 {
     match other.found {
         Some(found) => both_apart(alloc, (state, found), own, other),
-        None => Ok(Some(Apart {
+        None => Ok(Some(ToldApart {
             own: ToldLine::Found(state),
             other: ToldLine::Line(other.line),
         })),
@@ -134,14 +142,18 @@ fn found_apart(
 }
 
 /// `first_apart`, where the own run found nothing.
-fn unfound_apart(alloc: Global, own: &Answer, other: &Answer) -> Result<Option<Apart>, AllocError>
+fn unfound_apart(
+    alloc: Global,
+    own: &Answer,
+    other: &Answer,
+) -> Result<Option<ToldApart>, AllocError>
     requires { own.now.found ≡ None }
     ensures { IfOk result (λ found. MatchOption found (told_lines own.now ≡ told_lines other.now)
         (λ pair. IsFirstApart (told_lines own.now) (told_lines other.now) (told_text pair.own) (told_text pair.other))) }
 {
     match other.found {
         None => lines_apart(alloc, ToldLine::Line(own.line), ToldLine::Line(other.line)),
-        Some(found) => Ok(Some(Apart {
+        Some(found) => Ok(Some(ToldApart {
             own: ToldLine::Line(own.line),
             other: ToldLine::Found(found),
         })),
@@ -149,7 +161,11 @@ fn unfound_apart(alloc: Global, own: &Answer, other: &Answer) -> Result<Option<A
 }
 
 /// The first line in which what is told of two answers is another. None where all of it is alike.
-pub fn first_apart(alloc: Global, own: &Answer, other: &Answer) -> Result<Option<Apart>, AllocError>
+pub fn first_apart(
+    alloc: Global,
+    own: &Answer,
+    other: &Answer,
+) -> Result<Option<ToldApart>, AllocError>
     ensures { IfOk result (λ found. MatchOption found (told_lines own.now ≡ told_lines other.now)
         (λ pair. IsFirstApart (told_lines own.now) (told_lines other.now) (told_text pair.own) (told_text pair.other))) }
 {

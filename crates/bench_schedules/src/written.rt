@@ -8,7 +8,7 @@ ghost use Rattle.bench_schedules.specs.Schedules.{count_text, tight_text};
 ghost use Rattle.bench_schedules.specs.Told.{IsFirstApart, told_lines, told_text};
 
 use crate::runs::Difference;
-use crate::told::{Apart, first_apart};
+use crate::told::{ToldApart, first_apart};
 use board_model::Refusal;
 use jobs::{Part, PartText};
 use report_lines::unwritten;
@@ -25,13 +25,13 @@ pub fn write_tight<W: Write>(out: &mut W, number: u64) -> Result<(), Refusal>
 
 /// Writes the line of schedule k: the number of the script's line, what the schedule's run told there, and what the script's
 /// own run did.
-fn write_apart<W: Write>(out: &mut W, k: u64, number: u64, apart: &Apart) -> Result<(), Refusal>
+fn write_apart<W: Write>(out: &mut W, k: u64, number: u64, apart: &ToldApart) -> Result<(), Refusal>
     ensures ok { OnOk result (Appends (W.contents out.old) (W.contents out.new)
         (codes "schedule " ++ decimal k ++ codes " line " ++ decimal number ++ codes " " ++ told_text apart.now.other
         ++ codes " own " ++ told_text apart.now.own ++ 10 ∷ [])) }
     ensures err { IfErr result (λ e. (e ≡ Memory) ⊎ (e ≡ Output)) }
 {
-    let Apart { own, other } = *apart;
+    let ToldApart { own, other } = *apart;
     writeln!(out, "schedule {k} line {number} {other} own {own}").map_err(|error| unwritten(error))
 }
 

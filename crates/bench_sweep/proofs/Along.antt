@@ -10,7 +10,7 @@ use Rattle.report_lines.specs.declared.printed.Answer.{Answer}
 use Rattle.bench_report.specs.Agree.{HasDisk}
 use Rattle.bench_report.specs.Bench.{Bench}
 use Rattle.bench_report.specs.Steps.{Run}
-use Rattle.bench_sweep.specs.declared.ledgers.Ledger.{Ledger}
+use Rattle.bench_sweep.specs.declared.ledgers.RunLedger.{RunLedger}
 use Rattle.bench_sweep.specs.declared.moments.Moment.{Moment}
 use Rattle.bench_sweep.specs.declared.points.BenchKind.{BenchKind}
 use Rattle.bench_sweep.specs.declared.points.Caller.{Caller}
@@ -83,7 +83,7 @@ came_again size b lines first old new told count ledger runs same =
     let c = told.came in
     let N : ℕ → Type 0 = λ k. Run size b (take k lines) c.answers c.at in
     let S : ℕ → Type 0 = λ k. Resumes first.ledger old.going.ledger (lines_resume (take k lines) c.answers) in
-    let L : Ledger → Type 0 = λ l. Resumes first.ledger l (lines_resume (take new.count lines) c.answers) in
+    let L : RunLedger → Type 0 = λ l. Resumes first.ledger l (lines_resume (take new.count lines) c.answers) in
     let K : ℕ → Type 0 = λ k. RunTook size (take k lines) first.off.disk (disk_at old.going.power) in
     let D : SimDisk → Type 0 = λ d. RunTook size (take new.count lines) first.off.disk d in record {
       came = record { few = omega (arith, count, c.few); answers = c.answers; at = c.at; run = subst N (sym count) c.run; runs = runs };

@@ -21,7 +21,7 @@ use Rattle.bench_report.specs.PowerOns.{FormatsOn}
 use Rattle.bench_report.specs.Steps.{FormatStep, Step, Moves, Run}
 use Rattle.bench_report.proofs.RunLines.{run_more}
 use Rattle.bench_report.specs.Agree.{OffIs, Agrees, IsBench, EndsBy, Matches}
-use Rattle.bench_sweep.specs.declared.ledgers.Ledger.{Ledger}
+use Rattle.bench_sweep.specs.declared.ledgers.RunLedger.{RunLedger}
 use Rattle.bench_sweep.specs.Ledgers.{Tells}
 use Rattle.bench_sweep.specs.Made.{IsFormatted}
 use Rattle.bench_sweep.specs.Runs.{TellsWhole, Runs, Begins, Begun, Formats}
@@ -102,7 +102,7 @@ begins_more size start lines i line d power slots b new answers a less is run mo
     }
 
 -- ---- the site behind it
-pub site_runs : (size : Size) (start : List (List ℕ)) (lines : List Line) (power : Power) (disk : OffDisk) (slots : List (List ℕ)) (ledger : Ledger) → Begun size start lines power slots → ((z : Size) (b : Bench) → Agrees z b power → OffIs z (off b) disk.disk) → Tells ledger nothing_kept
+pub site_runs : (size : Size) (start : List (List ℕ)) (lines : List Line) (power : Power) (disk : OffDisk) (slots : List (List ℕ)) (ledger : RunLedger) → Begun size start lines power slots → ((z : Size) (b : Bench) → Agrees z b power → OffIs z (off b) disk.disk) → Tells ledger nothing_kept
     → (b : Bench) × IsFormatted size start lines b × Runs size (off b) (Off disk) slots ledger
 site_runs size start lines power disk slots ledger g ends tells =
     let P : Kept → Type 0 = λ k. TellsWhole size ledger k in

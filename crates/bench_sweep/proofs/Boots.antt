@@ -11,7 +11,7 @@ use Rattle.board_model.specs.declared.durable.ImageHead.{ImageHead}
 use Rattle.board_model.specs.declared.durable.Trial.{Trial}
 use Rattle.board.specs.Moments.{attempts_of}
 use Rattle.report_lines.specs.declared.printed.Printed.{Printed}
-use Rattle.bench_sweep.specs.declared.ledgers.Ledger.{Ledger}
+use Rattle.bench_sweep.specs.declared.ledgers.RunLedger.{RunLedger}
 use Rattle.bench_sweep.specs.Ledgers.{Tells, settled}
 use Rattle.bench_sweep.proofs.KnownLedgers.{found_more}
 use Rattle.bench_sweep.specs.Runs.{TellsWhole}
@@ -79,15 +79,15 @@ past_discard found now n old mid new is at (calm, allowed, made) rest =
     (subst P (sym is) head, gone_image now mid new at (late_changes n found.trial mid new rest) gone)
 
 -- the ledger follows a boot of a state that was found so, and which is then that one
-abbrev pub BootKept : Ledger → Ledger → Durable → Option Durable → (Kept → Kept → Type 0) → Type 0
+abbrev pub BootKept : RunLedger → RunLedger → Durable → Option Durable → (Kept → Kept → Type 0) → Type 0
 BootKept l m found now Told = (size : Size) (old new : Kept) → TellsWhole size l old → found ≡ durable_of (found_of old.changes) → Told old new → NowTold now new → TellsWhole size m new
 
-pub made_both : {E : Type 0} (r : Result (Unit {0}) E) (l k m : Ledger) (found : Durable) (now : Option Durable) → IssuedKept l k None Discard → OnOk r (TakesKept k m (BootTold None (attempts_of found.trial)))
+pub made_both : {E : Type 0} (r : Result (Unit {0}) E) (l k m : RunLedger) (found : Durable) (now : Option Durable) → IssuedKept l k None Discard → OnOk r (TakesKept k m (BootTold None (attempts_of found.trial)))
     → OnOk r (BootKept l m found now (BootTold None (Discard ∷ attempts_of found.trial)))
 made_both (Err f) l k m found now first second = tt
 made_both (Ok u) l k m found now first second = λ size old new was is (mid, told, rest) at. second size mid new (first size old mid was tt told) rest
 
-pub stopped_late : {E : Type 0} (r : Result (Unit {0}) E) (l k m : Ledger) (found : Durable) (now : Option Durable) (n : ℕ) → IsDropped found now → IssuedKept l k None Discard
+pub stopped_late : {E : Type 0} (r : Result (Unit {0}) E) (l k m : RunLedger) (found : Durable) (now : Option Durable) (n : ℕ) → IsDropped found now → IssuedKept l k None Discard
     → OnOk r (TakesKept k m (BootTold (Some n) (attempts_of found.trial))) → OnOk r (BootKept l m found now (BootTold (Some n) (Discard ∷ attempts_of found.trial)))
 stopped_late (Err f) l k m found now n dropped first second = tt
 stopped_late (Ok u) l k m found now n dropped first second = λ size old new was is told at. by size old new was is told at
@@ -97,7 +97,7 @@ stopped_late (Ok u) l k m found now n dropped first second = λ size old new was
     by size old new was is (inr (inl told)) at = kept_image found now old new dropped is at (refused_changes n Discard old new told)
     by size old new was is (inr (inr (mid, told, rest))) at = second size mid new (first size old mid was tt told) (inr rest)
 
-pub stopped_first : {E : Type 0} (r : Result (Unit {0}) E) (l m : Ledger) (found : Durable) (now : Option Durable) (n : ℕ) → (IsDropped found now → ⊥) → OnOk r (IssuedKept l m (Some n) Discard)
+pub stopped_first : {E : Type 0} (r : Result (Unit {0}) E) (l m : RunLedger) (found : Durable) (now : Option Durable) (n : ℕ) → (IsDropped found now → ⊥) → OnOk r (IssuedKept l m (Some n) Discard)
     → OnOk r (BootKept l m found now (BootTold (Some n) (Discard ∷ attempts_of found.trial)))
 stopped_first (Err f) l m found now n stays kept = tt
 stopped_first (Ok u) l m found now n stays kept = λ size old new was is told at. by size old new was is told at
@@ -108,23 +108,23 @@ stopped_first (Ok u) l m found now n stays kept = λ size old new was is told at
     by size old new was is (inr (inr (mid, told, rest))) at = absurd (stays (past_discard found now n old mid new is at told rest))
 
 -- the same, told in other words
-pub boot_weaker : {E : Type 0} (r : Result (Unit {0}) E) (l m : Ledger) (found : Durable) (now : Option Durable) (P Q : Kept → Kept → Type 0) → ((old new : Kept) → Q old new → P old new) → OnOk r (BootKept l m found now P) → OnOk r (BootKept l m found now Q)
+pub boot_weaker : {E : Type 0} (r : Result (Unit {0}) E) (l m : RunLedger) (found : Durable) (now : Option Durable) (P Q : Kept → Kept → Type 0) → ((old new : Kept) → Q old new → P old new) → OnOk r (BootKept l m found now P) → OnOk r (BootKept l m found now Q)
 boot_weaker (Err f) l m found now P Q from kept = tt
 boot_weaker (Ok u) l m found now P Q from kept = λ size old new was is told at. kept size old new was is (from old new told) at
 
-pub boot_of : {E : Type 0} (r : Result (Unit {0}) E) (l m : Ledger) (found : Durable) (now : Option Durable) (P Q : Kept → Kept → Type 0) → ((old new : Kept) → Q old new → P old new) → OnOk r (TakesKept l m P) → OnOk r (BootKept l m found now Q)
+pub boot_of : {E : Type 0} (r : Result (Unit {0}) E) (l m : RunLedger) (found : Durable) (now : Option Durable) (P Q : Kept → Kept → Type 0) → ((old new : Kept) → Q old new → P old new) → OnOk r (TakesKept l m P) → OnOk r (BootKept l m found now Q)
 boot_of (Err f) l m found now P Q from kept = tt
 boot_of (Ok u) l m found now P Q from kept = λ size old new was is told at. kept size old new was (from old new told)
 
 -- a power-on, by what its open found
-abbrev pub PowerKept : Ledger → Ledger → BootMode → Option Durable → Printed → Option Durable → Type 0
+abbrev pub PowerKept : RunLedger → RunLedger → BootMode → Option Durable → Printed → Option Durable → Type 0
 PowerKept l m mode found said now = (size : Size) (old new : Kept) → TellsWhole size l old → PowerTold mode found said now old new → TellsWhole size m new
 
-pub found_none : (l : Ledger) (mode : BootMode) (found : Option Durable) (said : Printed) (now : Option Durable) → found ≡ None → PowerKept l l mode found said now
+pub found_none : (l : RunLedger) (mode : BootMode) (found : Option Durable) (said : Printed) (now : Option Durable) → found ≡ None → PowerKept l l mode found said now
 found_none l mode found said now none size old new was told =
     let P : Option Durable → Type 0 = λ o. PowerTold mode o said now old new in as_before size l old new was (subst P none told)
 
-pub found_some : {E : Type 0} (r : Result (Unit {0}) E) (l s m : Ledger) (mode : BootMode) (found : Option Durable) (said : Printed) (now : Option Durable) (d : Durable) → found ≡ Some d
+pub found_some : {E : Type 0} (r : Result (Unit {0}) E) (l s m : RunLedger) (mode : BootMode) (found : Option Durable) (said : Printed) (now : Option Durable) (d : Durable) → found ≡ Some d
     → ((kept : Kept) (changes : List Change) → Tells l kept → MayKeep kept changes → d ≡ durable_of (found_of changes) → Tells s (settled changes))
     → OnOk r (BootKept s m d now (BootSaid said (commands_told mode d.trial))) → OnOk r (PowerKept l m mode found said now)
 found_some (Err f) l s m mode found said now d some settles_it kept = tt

@@ -23,7 +23,7 @@ use Rattle.sbi.specs.declared.words.LifeEnd.TheVariants as life_ends
 use Rattle.bench_report.specs.Views.{SimBoard, store_in, machine_in, store_now, store_doubt}
 use Rattle.bench_report.specs.Bench.{DiskState, Formatted, BenchLife, Bench}
 use Rattle.bench_report.specs.Agree.{BoardIs, OnIs, IsOver}
-use Rattle.bench_sweep.specs.declared.ledgers.Ledger.{Ledger}
+use Rattle.bench_sweep.specs.declared.ledgers.RunLedger.{RunLedger}
 use Rattle.bench_sweep.specs.Ledgers.{Tells, more_kept, in_doubt, settled, doubted, kept_by}
 use Rattle.bench_sweep.proofs.KnownLedgers.{found_more}
 use Rattle.bench_sweep.specs.Runs.{TellsWhole, Follows, HartMoves}
@@ -46,7 +46,7 @@ some_doubted : (size : Size) (c : Change) → CarriesWhole size c → (d : Chang
 some_doubted size c carries d is = let e : c ≡ d = cc in let P : Change → Type 0 = λ x. CarriesWhole size x in subst P e carries
 
 -- the same commands are kept
-pub as_before : (size : Size) (ledger : Ledger) (old new : Kept) → TellsWhole size ledger old → new ≡ old → TellsWhole size ledger new
+pub as_before : (size : Size) (ledger : RunLedger) (old new : Kept) → TellsWhole size ledger old → new ≡ old → TellsWhole size ledger new
 as_before size ledger old new was e = let P : Kept → Type 0 = λ k. TellsWhole size ledger k in subst P (sym e) was
 
 -- a command that was answered 6 where another is in doubt, or otherwise, changed nothing
@@ -57,7 +57,7 @@ kept_same n c old but = by (n == 6) (Decides-eqb n 6).0
     by true is = ap (λ (o : Option Change). doubted o c old) (but (is refl)).1
     by false is = refl
 
-module _ (size : Size) (l m : Ledger) (c : Change) (old new : Kept) (was : TellsWhole size l old) (carries : CarriesWhole size c) where
+module _ (size : Size) (l m : RunLedger) (c : Change) (old new : Kept) (was : TellsWhole size l old) (carries : CarriesWhole size c) where
   -- acknowledged
   pub acknowledged : (old.doubt ≡ None) → new ≡ more_kept c old → Tells m (more_kept c old) → TellsWhole size m new
   acknowledged calm is tells =
@@ -85,7 +85,7 @@ module _ (size : Size) (l m : Ledger) (c : Change) (old new : Kept) (was : Tells
   -- the table refuses it to the ledger, which stays as it was
   pub refused : (said : Option ℕ) → IssuedTold said c old new → m ≡ l → (k : ℕ) → refusal_of (state_in l.state) c ≡ Some k → TellsWhole size m new
   refused said told same k table =
-      let Q : Ledger → Type 0 = λ x. TellsWhole size x new in
+      let Q : RunLedger → Type 0 = λ x. TellsWhole size x new in
       subst Q (sym same) (by said told)
     where
       never : {A : Type 0} → refusal_of (found_of old.changes) c ≡ None → A
@@ -100,7 +100,7 @@ module _ (size : Size) (l m : Ledger) (c : Change) (old new : Kept) (was : Tells
       by (Some n) (inr (six, calm, allowed, is)) = never allowed
 
 -- what an open may find is whole
-module _ (size : Size) (ledger : Ledger) (old : Kept) (changes : List Change) (was : TellsWhole size ledger old) where
+module _ (size : Size) (ledger : RunLedger) (old : Kept) (changes : List Change) (was : TellsWhole size ledger old) where
   takes : (o : Option Change) → old.doubt ≡ o → TakesIn o old.changes changes → IsWhole size (found_of changes)
   takes None is x = absurd x
   takes (Some c) is x =
@@ -112,11 +112,11 @@ module _ (size : Size) (ledger : Ledger) (old : Kept) (changes : List Change) (w
   whole_found (inr x) = takes old.doubt refl x
 
 -- an open settled what was in doubt
-pub settles : (size : Size) (l m : Ledger) (old : Kept) (changes : List Change) → TellsWhole size l old → MayKeep old changes → Tells m (settled changes) → TellsWhole size m (settled changes)
+pub settles : (size : Size) (l m : RunLedger) (old : Kept) (changes : List Change) → TellsWhole size l old → MayKeep old changes → Tells m (settled changes) → TellsWhole size m (settled changes)
 settles size l m old changes was may tells = record { tells = tells; whole = whole_found size l old changes was may; doubt = none_doubted size None refl }
 
 -- where another is in doubt, a refusal changes nothing
-pub already : (size : Size) (l m : Ledger) (c d : Change) (n : ℕ) (kept : Kept) (said : Option ℕ) → TellsWhole size l kept → kept.doubt ≡ Some d → said ≡ Some n → ((k : Kept) → Tells l k → (said ≡ None → k.doubt ≡ None) → Tells m (kept_by said c k)) → TellsWhole size m kept
+pub already : (size : Size) (l m : RunLedger) (c d : Change) (n : ℕ) (kept : Kept) (said : Option ℕ) → TellsWhole size l kept → kept.doubt ≡ Some d → said ≡ Some n → ((k : Kept) → Tells l k → (said ≡ None → k.doubt ≡ None) → Tells m (kept_by said c k)) → TellsWhole size m kept
 already size l m c d n kept said was is refused takes =
     let S : Option ℕ → Type 0 = λ o. (k : Kept) → Tells l k → (o ≡ None → k.doubt ≡ None) → Tells m (kept_by o c k) in
     let P : Kept → Type 0 = λ k. Tells m k in
@@ -143,10 +143,10 @@ doubt_link size b board formatted on =
     go None is = absurd is
     go (Some life) is = is.0.0.0 ∙ sym is.0.1.2
 
-pub follows_same : (size : Size) (b new : Bench) (l : Ledger) → Follows size b l → new.kept ≡ b.kept → new.disk_state ≡ b.disk_state → new.growths ≡ b.growths → Follows size new l
+pub follows_same : (size : Size) (b new : Bench) (l : RunLedger) → Follows size b l → new.kept ≡ b.kept → new.disk_state ≡ b.disk_state → new.growths ≡ b.growths → Follows size new l
 follows_same size b new l f kept disk enough = record { formatted = disk ∙ f.formatted; kept = as_before size l b.kept new.kept f.kept kept; enough = enough ∙ f.enough }
 
-module _ (size : Size) (b new : Bench) (board : SimBoard) (l : Ledger) (was : Follows size b l) where
+module _ (size : Size) (b new : Bench) (board : SimBoard) (l : RunLedger) (was : Follows size b l) where
   abbrev ram : List ℕ
   ram = (machine_in board).memory
 
@@ -182,7 +182,7 @@ module _ (size : Size) (b new : Bench) (board : SimBoard) (l : Ledger) (was : Fo
       (ap (λ m. Suspend hart address opaque m) (sym at.0) ∙ sym is, subst Q (sym is) (ap length at.0 ∙ at.1))
 
   -- a hart goes on, and a command is in doubt
-  pub doubted_hart : (did : Did) (e : Entry) (bytes : List ℕ) (m : Ledger) → HartMoves size b (words.Goes did) new board → store_doubt (store_in board) ≡ Some (change_in e bytes)
+  pub doubted_hart : (did : Did) (e : Entry) (bytes : List ℕ) (m : RunLedger) → HartMoves size b (words.Goes did) new board → store_doubt (store_in board) ≡ Some (change_in e bytes)
       → ((z : Size) (k : Kept) (d : Change) → TellsWhole z l k → k.doubt ≡ Some d → TellsWhole z m k)
       → ((z : Size) (k n : Kept) → TellsWhole z l k → CarriesWhole z (change_in e ram) → IssuedTold (Some 6) (change_in e ram) k n → TellsWhole z m n) → Follows size new m
   doubted_hart did e bytes m moved some stays takes = by moved.told
@@ -235,42 +235,42 @@ module _ (size : Size) (b new : Bench) (board : SimBoard) (l : Ledger) (was : Fo
       subst P e t.1
 
 -- ---- what the calls of the ledger say where they are answered
-abbrev pub IssuedKept : Ledger → Ledger → Option ℕ → Change → Type 0
+abbrev pub IssuedKept : RunLedger → RunLedger → Option ℕ → Change → Type 0
 IssuedKept l m said c = (size : Size) (old new : Kept) → TellsWhole size l old → CarriesWhole size c → IssuedTold said c old new → TellsWhole size m new
 
-abbrev pub Already : Ledger → Ledger → Option ℕ → Type 0
+abbrev pub Already : RunLedger → RunLedger → Option ℕ → Type 0
 Already l m said = (size : Size) (kept : Kept) (d : Change) (n : ℕ) → TellsWhole size l kept → kept.doubt ≡ Some d → said ≡ Some n → TellsWhole size m kept
 
 -- the table refused it, since memory did not
-abbrev StayedBy : Ledger → Ledger → Change → Refusal → Type 0
+abbrev StayedBy : RunLedger → RunLedger → Change → Refusal → Type 0
 StayedBy l m c e = (m ≡ l) × ((refusal_of (state_in l.state) c ≡ Some (number_of_refusal e)) ⊎ (e ≡ Memory))
 
-pub refused_kept : {E : Type 0} (r : Result (Unit {0}) E) (l m : Ledger) (said : Option ℕ) (c : Change) (e : Refusal) → StayedBy l m c e → OnOk r (e ≡ Memory → ⊥) → OnOk r (IssuedKept l m said c)
+pub refused_kept : {E : Type 0} (r : Result (Unit {0}) E) (l m : RunLedger) (said : Option ℕ) (c : Change) (e : Refusal) → StayedBy l m c e → OnOk r (e ≡ Memory → ⊥) → OnOk r (IssuedKept l m said c)
 refused_kept (Err f) l m said c e stayed other = tt
 refused_kept (Ok u) l m said c e (same, inl table) other = λ size old new was carries told. refused size l m c old new was carries said told same (number_of_refusal e) table
 refused_kept (Ok u) l m said c e (same, inr memory) other = absurd (other memory)
 
-pub refused_already : {E : Type 0} (r : Result (Unit {0}) E) (l m : Ledger) (said : Option ℕ) → m ≡ l → OnOk r (Already l m said)
+pub refused_already : {E : Type 0} (r : Result (Unit {0}) E) (l m : RunLedger) (said : Option ℕ) → m ≡ l → OnOk r (Already l m said)
 refused_already (Err f) l m said same = tt
-refused_already (Ok u) l m said same = λ size kept d n was is refused_by. (let P : Ledger → Type 0 = λ x. TellsWhole size x kept in subst P (sym same) was)
+refused_already (Ok u) l m said same = λ size kept d n was is refused_by. (let P : RunLedger → Type 0 = λ x. TellsWhole size x kept in subst P (sym same) was)
 
-abbrev pub ResumedKept : Ledger → Ledger → Type 0
+abbrev pub ResumedKept : RunLedger → RunLedger → Type 0
 ResumedKept l m = (size : Size) (old new : Kept) → TellsWhole size l old → IssuedTold None Consume old new → TellsWhole size m new
 
-pub no_resume : {E : Type 0} (r : Result (Unit {0}) E) (l m : Ledger) (e : Refusal) → (e ≡ Memory) ⊎ ((e ≡ NoImage) × (l.state.image ≡ None) × (m ≡ l)) → OnOk r (e ≡ Memory → ⊥) → OnOk r (ResumedKept l m)
+pub no_resume : {E : Type 0} (r : Result (Unit {0}) E) (l m : RunLedger) (e : Refusal) → (e ≡ Memory) ⊎ ((e ≡ NoImage) × (l.state.image ≡ None) × (m ≡ l)) → OnOk r (e ≡ Memory → ⊥) → OnOk r (ResumedKept l m)
 no_resume (Err f) l m e why other = tt
 no_resume (Ok u) l m e (inl memory) other = absurd (other memory)
 no_resume (Ok u) l m e (inr none) other = λ size old new was told. no_image (found_of old.changes) l.state was.tells.state none.1 told.1
 
 -- a hart goes on, and a command is in doubt
-pub doubted_kept : {E : Type 0} (r : Result (Unit {0}) E) (l m : Ledger) (board : SimBoard) (e : Entry) (bytes : List ℕ) → store_doubt (store_in board) ≡ Some (change_in e bytes)
+pub doubted_kept : {E : Type 0} (r : Result (Unit {0}) E) (l m : RunLedger) (board : SimBoard) (e : Entry) (bytes : List ℕ) → store_doubt (store_in board) ≡ Some (change_in e bytes)
     → OnOk r (Already l m (Some 6)) → OnOk r (IssuedKept l m (Some 6) (change_in e (machine_in board).memory))
     → OnOk r ((size : Size) (b new : Bench) (did : Did) → Follows size b l → HartMoves size b (words.Goes did) new board → Follows size new m)
 doubted_kept (Err f) l m board e bytes some stays takes = tt
 doubted_kept (Ok u) l m board e bytes some stays takes = λ size b new did was moved. doubted_hart size b new board l was did e bytes m moved some (λ z k d t is. stays z k d 6 t is refl) takes
 
 -- a board sleeps
-pub asleep_kept : {E : Type 0} (r : Result (Unit {0}) E) (l m : Ledger) (board : SimBoard) (head : ImageHead) → (durable_of (store_now (store_in board))).image ≡ Some head
+pub asleep_kept : {E : Type 0} (r : Result (Unit {0}) E) (l m : RunLedger) (board : SimBoard) (head : ImageHead) → (durable_of (store_now (store_in board))).image ≡ Some head
     → OnOk r (IssuedKept l m None (Suspend head.hart head.address head.opaque (machine_in board).memory))
     → OnOk r ((size : Size) (b new : Bench) → Follows size b l → HartMoves size b (words.Over life_ends.Asleep) new board → Follows size new m)
 asleep_kept (Err f) l m board head is takes = tt
@@ -283,13 +283,13 @@ asleep_kept (Ok u) l m board head is takes = λ size b new was moved.
     record { formatted = moved.same ∙ was.formatted; kept = takes size b.kept new.kept was.kept (subst C f t.4) (subst I f t.5); enough = moved.enough ∙ was.enough })
 
 -- there is an image then
-pub asleep_has : {A : Type 0} (size : Size) (b new : Bench) (board : SimBoard) (l : Ledger) → Follows size b l → HartMoves size b (words.Over life_ends.Asleep) new board → (durable_of (store_now (store_in board))).image ≡ None → A
+pub asleep_has : {A : Type 0} (size : Size) (b new : Bench) (board : SimBoard) (l : RunLedger) → Follows size b l → HartMoves size b (words.Over life_ends.Asleep) new board → (durable_of (store_now (store_in board))).image ≡ None → A
 asleep_has size b new board l was moved none =
     let t = asleep size b new board l was moved in
     absurd (let e : Some (record { serial = (found_of b.kept.changes).next; hart = t.0; address = t.1; opaque = t.2 }) ≡ None = sym t.3 ∙ none in let no : ⊥ = cc in no)
 
 -- a board was reset
-pub reset_kept : {E : Type 0} (r : Result (Unit {0}) E) (l m : Ledger) (board : SimBoard) (cause : Reason) → (durable_of (store_now (store_in board))).reason ≡ cause → OnOk r (IssuedKept l m None (Reset cause))
+pub reset_kept : {E : Type 0} (r : Result (Unit {0}) E) (l m : RunLedger) (board : SimBoard) (cause : Reason) → (durable_of (store_now (store_in board))).reason ≡ cause → OnOk r (IssuedKept l m None (Reset cause))
     → OnOk r ((size : Size) (b new : Bench) (kind : ResetType) → Follows size b l → HartMoves size b (words.Over (life_ends.Reset kind)) new board → Follows size new m)
 reset_kept (Err f) l m board cause is takes = tt
 reset_kept (Ok u) l m board cause is takes = λ size b new kind was moved.
@@ -297,37 +297,37 @@ reset_kept (Ok u) l m board cause is takes = λ size b new kind was moved.
     record { formatted = moved.same ∙ was.formatted; kept = takes size b.kept new.kept was.kept tt (subst I is (reset size b new board l was kind moved)); enough = moved.enough ∙ was.enough })
 
 -- ---- a turn or a call of a hart, by its word
-abbrev pub HartKept : Ledger → Ledger → Word → SimBoard → Type 0
+abbrev pub HartKept : RunLedger → RunLedger → Word → SimBoard → Type 0
 HartKept l m word board = (size : Size) (b new : Bench) → Follows size b l → HartMoves size b word new board → Follows size new m
 
-pub by_word : {E : Type 0} (r : Result (Unit {0}) E) (l m : Ledger) (board : SimBoard) (word x : Word) → word ≡ x → OnOk r (HartKept l m x board) → OnOk r (HartKept l m word board)
+pub by_word : {E : Type 0} (r : Result (Unit {0}) E) (l m : RunLedger) (board : SimBoard) (word x : Word) → word ≡ x → OnOk r (HartKept l m x board) → OnOk r (HartKept l m word board)
 by_word r l m board word x is kept = let P : Word → Type 0 = λ w. OnOk r (HartKept l m w board) in subst P (sym is) kept
 
-pub own_kept : {E : Type 0} (r : Result (Unit {0}) E) (l m : Ledger) (board : SimBoard) (did : Did) → OnOk r ((size : Size) (b new : Bench) (did : Did) → Follows size b l → HartMoves size b (words.Goes did) new board → Follows size new m)
+pub own_kept : {E : Type 0} (r : Result (Unit {0}) E) (l m : RunLedger) (board : SimBoard) (did : Did) → OnOk r ((size : Size) (b new : Bench) (did : Did) → Follows size b l → HartMoves size b (words.Goes did) new board → Follows size new m)
     → OnOk r (HartKept l m (words.Goes did) board)
 own_kept (Err f) l m board did kept = tt
 own_kept (Ok u) l m board did kept = λ size b new was moved. kept size b new did was moved
 
-pub resets_kept : {E : Type 0} (r : Result (Unit {0}) E) (l m : Ledger) (board : SimBoard) (kind : ResetType) → OnOk r ((size : Size) (b new : Bench) (kind : ResetType) → Follows size b l → HartMoves size b (words.Over (life_ends.Reset kind)) new board → Follows size new m)
+pub resets_kept : {E : Type 0} (r : Result (Unit {0}) E) (l m : RunLedger) (board : SimBoard) (kind : ResetType) → OnOk r ((size : Size) (b new : Bench) (kind : ResetType) → Follows size b l → HartMoves size b (words.Over (life_ends.Reset kind)) new board → Follows size new m)
     → OnOk r (HartKept l m (words.Over (life_ends.Reset kind)) board)
 resets_kept (Err f) l m board kind kept = tt
 resets_kept (Ok u) l m board kind kept = λ size b new was moved. kept size b new kind was moved
 
 -- ---- what is told in other words
 -- where Told holds of what was kept before and after, the ledger follows
-abbrev pub TakesKept : Ledger → Ledger → (Kept → Kept → Type 0) → Type 0
+abbrev pub TakesKept : RunLedger → RunLedger → (Kept → Kept → Type 0) → Type 0
 TakesKept l m Told = (size : Size) (old new : Kept) → TellsWhole size l old → Told old new → TellsWhole size m new
 
-pub weaker : {E : Type 0} (r : Result (Unit {0}) E) (l m : Ledger) (P Q : Kept → Kept → Type 0) → ((old new : Kept) → Q old new → P old new) → OnOk r (TakesKept l m P) → OnOk r (TakesKept l m Q)
+pub weaker : {E : Type 0} (r : Result (Unit {0}) E) (l m : RunLedger) (P Q : Kept → Kept → Type 0) → ((old new : Kept) → Q old new → P old new) → OnOk r (TakesKept l m P) → OnOk r (TakesKept l m Q)
 weaker (Err f) l m P Q from kept = tt
 weaker (Ok u) l m P Q from kept = λ size old new was told. kept size old new was (from old new told)
 
-pub issued_told : {E : Type 0} (r : Result (Unit {0}) E) (l m : Ledger) (said : Option ℕ) (c : Change) → ((size : Size) → CarriesWhole size c) → OnOk r (IssuedKept l m said c) → OnOk r (TakesKept l m (IssuedTold said c))
+pub issued_told : {E : Type 0} (r : Result (Unit {0}) E) (l m : RunLedger) (said : Option ℕ) (c : Change) → ((size : Size) → CarriesWhole size c) → OnOk r (IssuedKept l m said c) → OnOk r (TakesKept l m (IssuedTold said c))
 issued_told (Err f) l m said c carries kept = tt
 issued_told (Ok u) l m said c carries kept = λ size old new was told. kept size old new was (carries size) told
 
 -- a command of the console, by what it says
-pub commands_kept : {E : Type 0} (r : Result (Unit {0}) E) (l m : Ledger) (line x : Printed) (said : Option ℕ) (c : ConsoleCommand) → line ≡ x → ((old new : Kept) → CommandTold x (console_change c) old new → IssuedTold said (console_change c) old new)
+pub commands_kept : {E : Type 0} (r : Result (Unit {0}) E) (l m : RunLedger) (line x : Printed) (said : Option ℕ) (c : ConsoleCommand) → line ≡ x → ((old new : Kept) → CommandTold x (console_change c) old new → IssuedTold said (console_change c) old new)
     → OnOk r (IssuedKept l m said (console_change c)) → OnOk r (TakesKept l m (CommandTold line (console_change c)))
 commands_kept (Err f) l m line x said c is tells kept = tt
 commands_kept (Ok u) l m line x said c is tells kept = λ size old new was told.

@@ -49,7 +49,7 @@ use Rattle.bench_report.proofs.Sides.{sides_stay}
 use Rattle.bench_report.proofs.Issues.{GoesOn, IsSound}
 use Rattle.script_lang.specs.declared.line.Line.{Line}
 use Rattle.script_lang.specs.declared.line.Line.TheVariants as lines
-use Rattle.bench_sweep.specs.declared.ledgers.Ledger.{Ledger}
+use Rattle.bench_sweep.specs.declared.ledgers.RunLedger.{RunLedger}
 use Rattle.bench_sweep.specs.Ledgers.{Tells}
 use Rattle.bench_report.specs.Prefix.{AskedLine, Boot, asked_by}
 use Rattle.bench_sweep.specs.Lines.{LineMoves, LineSays}
@@ -72,7 +72,7 @@ left_off goes_on size b old new off left m = (
 )
 
 -- of the disk of a run, with a ledger that tells the same
-pub left_by : (size : Size) (b : Bench) (old new : OffDisk) (slots now : List (List ℕ)) (was ledger : Ledger) → Runs size b (Off old) slots was → OffIs size (unpowered b) new.disk → now ≡ slots → ((kept : Kept) → Tells was kept → Tells ledger kept)
+pub left_by : (size : Size) (b : Bench) (old new : OffDisk) (slots now : List (List ℕ)) (was ledger : RunLedger) → Runs size b (Off old) slots was → OffIs size (unpowered b) new.disk → now ≡ slots → ((kept : Kept) → Tells was kept → Tells ledger kept)
     → LeftOff size (unpowered b) new now ledger
 left_by size b old new slots now was ledger r cut same tells = record {
   off = cut;
@@ -153,14 +153,14 @@ settles_at one size z b old new found s content l same only stands is off slots 
     }
 
 -- nothing has struck it
-pub calm_off : (size : Size) (b : Bench) (disk : OffDisk) (slots : List (List ℕ)) (ledger : Ledger) → LeftOff size b disk slots ledger → RunsCalm size b (Off disk) slots ledger
+pub calm_off : (size : Size) (b : Bench) (disk : OffDisk) (slots : List (List ℕ)) (ledger : RunLedger) → LeftOff size b disk slots ledger → RunsCalm size b (Off disk) slots ledger
 calm_off size b disk slots ledger l = record { agrees = l.off; same = l.same; follows = l.follows; calm = ap (λ (m : FaultState). m.struck) l.left }
 
-pub off_sits : (size : Size) (b : Bench) (disk : OffDisk) (slots : List (List ℕ)) (ledger : Ledger) → LeftOff size b disk slots ledger → Runs size b (Off disk) slots ledger
+pub off_sits : (size : Size) (b : Bench) (disk : OffDisk) (slots : List (List ℕ)) (ledger : RunLedger) → LeftOff size b disk slots ledger → Runs size b (Off disk) slots ledger
 off_sits size b disk slots ledger l = record { agrees = l.off; same = l.same; follows = l.follows }
 
 -- a cut or a failure is armed
-pub armed_runs : (size : Size) (b : Bench) (old new : Power) (fault is : ArmedFault) (slots : List (List ℕ)) (ledger : Ledger) → fault ≡ is → RunsCalm size b old slots ledger
+pub armed_runs : (size : Size) (b : Bench) (old new : Power) (fault is : ArmedFault) (slots : List (List ℕ)) (ledger : RunLedger) → fault ≡ is → RunsCalm size b old slots ledger
     → ((z : Size) (c : Bench) → Agrees z c old → Agrees z (armed_with fault c) new) → RunsCalm size (armed_with is b) new slots ledger
 armed_runs size b old new fault is slots ledger e r arms =
     let B : ArmedFault → Type 0 = λ f. Agrees size (armed_with f b) new in record {
@@ -171,7 +171,7 @@ armed_runs size b old new fault is slots ledger e r arms =
     }
 
 -- the board was copied, with its payloads and the ledger
-pub copied_runs : (size : Size) (b : Bench) (old new : Power) (slots now : List (List ℕ)) (was ledger : Ledger) → RunsCalm size b old slots was → Agrees size b new → now ≡ slots → ((kept : Kept) → Tells was kept → Tells ledger kept)
+pub copied_runs : (size : Size) (b : Bench) (old new : Power) (slots now : List (List ℕ)) (was ledger : RunLedger) → RunsCalm size b old slots was → Agrees size b new → now ≡ slots → ((kept : Kept) → Tells was kept → Tells ledger kept)
     → RunsCalm size b new now ledger
 copied_runs size b old new slots now was ledger r agrees same tells = record {
   agrees = agrees;
@@ -190,7 +190,7 @@ unstruck size b (Off off) agrees calm = refl
 unstruck size b (On board) agrees calm = ap (λ (m : FaultState). m.struck) (sym agrees.1.0) ∙ calm
 
 -- the board is off
-pub off_runs : (size : Size) (b : Bench) (power : Power) (disk : OffDisk) (slots : List (List ℕ)) (ledger : Ledger) → Runs size b power slots ledger → ((z : Size) (c : Bench) → Agrees z c power → OffIs z (off c) disk.disk) → Runs size (off b) (Off disk) slots ledger
+pub off_runs : (size : Size) (b : Bench) (power : Power) (disk : OffDisk) (slots : List (List ℕ)) (ledger : RunLedger) → Runs size b power slots ledger → ((z : Size) (c : Bench) → Agrees z c power → OffIs z (off c) disk.disk) → Runs size (off b) (Off disk) slots ledger
 off_runs size b power disk slots ledger r ends = record {
   agrees = ends size b r.agrees;
   same = r.same;
@@ -208,7 +208,7 @@ sound_of size b power formatted agrees = (formatted, by power agrees)
     by (Off disk) is = let P : Option BenchLife → Type 0 = λ p. GoesOn b.kept p in subst P (sym is.0) tt
     by (On board) is = let M : DiskState → Type 0 = λ m. BoardIs size m b.kept b.power board in life b.power board (subst M formatted is.0)
 
-line_runs : (size : Size) (line : Line) (b : Bench) (old new : Power) (slots now : List (List ℕ)) (answer : Answer) (was ledger : Ledger) → IsPlainLine line → moves_harts line ≡ false → powers_on line ≡ false → RunsCalm size b old slots was → ShowsEnoughMemory answer.line
+line_runs : (size : Size) (line : Line) (b : Bench) (old new : Power) (slots now : List (List ℕ)) (answer : Answer) (was ledger : RunLedger) → IsPlainLine line → moves_harts line ≡ false → powers_on line ≡ false → RunsCalm size b old slots was → ShowsEnoughMemory answer.line
     → ((x : Bench) × Step size line b answer x × Matches size x new now)
     → ((z : Size) (k n : Kept) → TellsWhole z was k → LineTold line answer k n → TellsWhole z ledger n) → LineSays size line b answer.line new now ledger
 line_runs size line b old new slots now answer was ledger plain none unasked r enough (x, step, matches) follows =
@@ -220,7 +220,7 @@ line_runs size line b old new slots now answer was ledger plain none unasked r e
       runs = record { agrees = matches.0; same = matches.1; follows = record { formatted = told.1 ∙ r.follows.formatted; kept = follows size b.kept x.kept r.follows.kept told.0; enough = line_grows size line b answer x (inr none) enough step ∙ r.follows.enough } };
     }
 
-pub answered_says : (size : Size) (line : Line) (b : Bench) (old new : Power) (slots now : List (List ℕ)) (answer : Result Answer Refusal) (a : Answer) (was ledger : Ledger) → answer ≡ Ok a → IsPlainLine line → moves_harts line ≡ false → powers_on line ≡ false
+pub answered_says : (size : Size) (line : Line) (b : Bench) (old new : Power) (slots now : List (List ℕ)) (answer : Result Answer Refusal) (a : Answer) (was ledger : RunLedger) → answer ≡ Ok a → IsPlainLine line → moves_harts line ≡ false → powers_on line ≡ false
     → RunsCalm size b old slots was → MatchResult answer (λ a. (x : Bench) × Step size line b a x × Matches size x new now) (λ e. (e ≡ Memory) × Matches size b new now)
     → MatchResult answer (λ a. ShowsEnoughMemory a.line × ((z : Size) (k n : Kept) → TellsWhole z was k → LineTold line a k n → TellsWhole z ledger n)) (λ e. ⊥) → LineSays size line b a.line new now ledger
 answered_says size line b old new slots now answer a was ledger is plain none unasked r did told =
@@ -234,19 +234,19 @@ still_resumes : (asked : AskedLine) (a : Answer) → is_boot asked ≡ false →
 still_resumes (Boot mode) a unasked = absurd (let no : ⊥ = cc in no)
 still_resumes asked a unasked = refl
 
-pub same_serials : (was ledger : Ledger) → ledger.resumed ≡ was.resumed → Resumes was ledger []
+pub same_serials : (was ledger : RunLedger) → ledger.resumed ≡ was.resumed → Resumes was ledger []
 same_serials was ledger same = ap (λ (v : _). v.items) same ∙ sym (append-nil was.resumed.items)
 
-pub no_serials : (line : Line) (a : Answer) (was ledger : Ledger) → powers_on line ≡ false → ledger.resumed ≡ was.resumed → Resumes was ledger (line_resumes line a)
+pub no_serials : (line : Line) (a : Answer) (was ledger : RunLedger) → powers_on line ≡ false → ledger.resumed ≡ was.resumed → Resumes was ledger (line_resumes line a)
 no_serials line a was ledger unasked same =
     let P : List ℕ → Type 0 = λ xs. Resumes was ledger xs in subst P (sym (still_resumes (asked_by line) a unasked)) (same_serials was ledger same)
 
-pub says_moves : (size : Size) (line : Line) (b : Bench) (said : Printed) (power : Power) (slots : List (List ℕ)) (was ledger : Ledger) → powers_on line ≡ false → ledger.resumed ≡ was.resumed → LineSays size line b said power slots ledger
+pub says_moves : (size : Size) (line : Line) (b : Bench) (said : Printed) (power : Power) (slots : List (List ℕ)) (was ledger : RunLedger) → powers_on line ≡ false → ledger.resumed ≡ was.resumed → LineSays size line b said power slots ledger
     → LineMoves size line b power slots was ledger
 says_moves size line b said power slots was ledger unasked same s = record { bench = s.bench; does = (s.answer, s.does); resumed = no_serials line s.answer was ledger unasked same; runs = s.runs }
 
 -- a line that powers a board on, which was off
-pub power_runs : (size : Size) (mode : BootMode) (b : Bench) (old new : Power) (disk : OffDisk) (slots : List (List ℕ)) (answer : Answer) (now : Option Durable) (was ledger : Ledger) → old ≡ Off disk → RunsCalm size b old slots was → ShowsEnoughMemory answer.line
+pub power_runs : (size : Size) (mode : BootMode) (b : Bench) (old new : Power) (disk : OffDisk) (slots : List (List ℕ)) (answer : Answer) (now : Option Durable) (was ledger : RunLedger) → old ≡ Off disk → RunsCalm size b old slots was → ShowsEnoughMemory answer.line
     → (OffIs size b disk.disk → slots ≡ b.payloads → StepsTo size b new (λ x. PowersOn size mode b answer x × TellsNow answer.found now x))
     → ((z : Size) (k n : Kept) → TellsWhole z was k → PowerTold mode answer.found answer.line now k n → TellsWhole z ledger n)
     → ((z : Size) (k n : Kept) → TellsWhole z was k → PowerTold mode answer.found answer.line now k n → Resumes was ledger (power_resumes mode answer.found answer.line)) → LineMoves size (lines.On mode) b new slots was ledger
@@ -263,7 +263,7 @@ power_runs size mode b old new disk slots answer now was ledger is r enough powe
     }
 
 -- a line of the console
-pub command_runs : {E : Type 0} (r : Result (Unit {0}) E) (c : ConsoleCommand) (old new : Power) (slots : List (List ℕ)) (answer : Answer) (was ledger : Ledger)
+pub command_runs : {E : Type 0} (r : Result (Unit {0}) E) (c : ConsoleCommand) (old new : Power) (slots : List (List ℕ)) (answer : Answer) (was ledger : RunLedger)
     → ((z : Size) (b : Bench) → Agrees z b old → StepsTo z b new (ConsoleStep c b.power b answer))
     → OnOk r ((z : Size) (k n : Kept) → TellsWhole z was k → CommandTold answer.line (console_change c) k n → TellsWhole z ledger n) → ledger.resumed ≡ was.resumed → OnOk r ((size : Size) (b : Bench) → RunsCalm size b old slots was → LineMoves size (lines.Command c) b new slots was ledger)
 command_runs (Err e) c old new slots answer was ledger issues follows same = tt
@@ -281,7 +281,7 @@ busy : (size : Size) (mode : BootMode) (b : Bench) (p : Option BenchLife) (board
 busy size mode b None board at = absurd at
 busy size mode b (Some life) board at = (refl, refl)
 
-pub busy_runs : (size : Size) (mode : BootMode) (b : Bench) (old : Power) (board : SimBoard) (slots : List (List ℕ)) (ledger : Ledger) → old ≡ On board → RunsCalm size b old slots ledger → LineMoves size (lines.On mode) b (On board) slots ledger ledger
+pub busy_runs : (size : Size) (mode : BootMode) (b : Bench) (old : Power) (board : SimBoard) (slots : List (List ℕ)) (ledger : RunLedger) → old ≡ On board → RunsCalm size b old slots ledger → LineMoves size (lines.On mode) b (On board) slots ledger ledger
 busy_runs size mode b old board slots ledger is r =
     let A : Power → Type 0 = λ p. Agrees size b p in
     let on : OnIs size b board = subst A is r.agrees in
@@ -464,7 +464,7 @@ module _ (size : Size) (b : Bench) (a : Answer) (new : Bench) (formatted : b.dis
       ∙ ap (λ (l : Printed). record { found = Some (durable_of (state_in p)); line = l }) k.line
 
   -- what was found is what the ledger tells
-  pub finds : (ledger : Ledger) (power : Power) (found : Option Plain) → IsSize size → TellsWhole size ledger b.kept → PowersOn size modes.Keep b a new → Agrees size new power → PowerFinds size power a.found a.line found → Finds ledger found a
+  pub finds : (ledger : RunLedger) (power : Power) (found : Option Plain) → IsSize size → TellsWhole size ledger b.kept → PowersOn size modes.Keep b a new → Agrees size new power → PowerFinds size power a.found a.line found → Finds ledger found a
   finds ledger (Off off) found is_size tells did agrees sees = elim (powers did) [
     | inl k ↦ absurd (let e : None ≡ Some k.life = sym agrees.0 ∙ k.on in let no : ⊥ = cc in no)
     | inr u ↦ absurd (sees (spoilt off.disk u agrees))

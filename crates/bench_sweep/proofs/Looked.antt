@@ -10,7 +10,7 @@ use Rattle.report_lines.specs.declared.printed.Answer.{Answer}
 use Rattle.report_lines.specs.declared.printed.Printed.{Printed}
 use Rattle.script_lang.specs.declared.line.Line.{Line}
 use Rattle.script_lang.specs.declared.line.Line.TheVariants as lines
-use Rattle.bench_sweep.specs.declared.ledgers.Ledger.{Ledger}
+use Rattle.bench_sweep.specs.declared.ledgers.RunLedger.{RunLedger}
 use Rattle.bench_sweep.specs.Lines.{LineAdds}
 use Rattle.bench_sweep.specs.Made.{Recovers}
 use Rattle.bench_sweep.specs.Recovers.{is_look, look_said, looks_of}
@@ -34,7 +34,7 @@ looks_more (k ∷ ls) (x ∷ ys) l a e =
     ap (λ zs. look_said k x ++ zs) (looks_more ls ys l a (let f : length ys ≡ length ls = omega (arith, e) in f)) ∙ sym (append_assoc (look_said k x) (looks_of ls ys) (look_said l a))
 
 -- the lines so far were run to their end, no armed cut has struck, and the looks among them said that
-pub record Looked (size : Size) (b : Bench) (lines : List Line) (said : List Printed) (power : Power) (slots : List (List ℕ)) (ledger : Ledger) : Type 0 where
+pub record Looked (size : Size) (b : Bench) (lines : List Line) (said : List Printed) (power : Power) (slots : List (List ℕ)) (ledger : RunLedger) : Type 0 where
   pub bench : Bench
   pub answers : List Answer
   pub run : Run size b lines answers bench
@@ -42,10 +42,10 @@ pub record Looked (size : Size) (b : Bench) (lines : List Line) (said : List Pri
   pub long : length answers ≡ length lines
   pub says : said ≡ looks_of lines answers
 
-pub looked_none : (size : Size) (b : Bench) (said : List Printed) (power : Power) (slots : List (List ℕ)) (ledger : Ledger) → said ≡ [] → RunsCalm size b power slots ledger → Looked size b [] said power slots ledger
+pub looked_none : (size : Size) (b : Bench) (said : List Printed) (power : Power) (slots : List (List ℕ)) (ledger : RunLedger) → said ≡ [] → RunsCalm size b power slots ledger → Looked size b [] said power slots ledger
 looked_none size b said power slots ledger none r = record { bench = b; answers = []; run = refl; runs = r; long = refl; says = none }
 
-pub looked_more : (size : Size) (b : Bench) (lines : List Line) (i : ℕ) (line d : Line) (said new : List Printed) (old power : Power) (before slots : List (List ℕ)) (was ledger : Ledger) → i < length lines → line ≡ get_or lines i d
+pub looked_more : (size : Size) (b : Bench) (lines : List Line) (i : ℕ) (line d : Line) (said new : List Printed) (old power : Power) (before slots : List (List ℕ)) (was ledger : RunLedger) → i < length lines → line ≡ get_or lines i d
     → (so_far : Looked size b (take i lines) said old before was) → (adds : LineAdds size line so_far.bench said new power slots ledger) → adds.bench.fault_state.struck ≡ false → Looked size b (take (i + 1) lines) new power slots ledger
 looked_more size b lines i line d said new old power before slots was ledger less is so_far adds calm =
     let more = take_more lines i d less in
@@ -61,5 +61,5 @@ looked_more size b lines i line d said new old power before slots was ledger les
           ∙ sym (looks_more (take i lines) so_far.answers (get_or lines i d) adds.answer so_far.long) ∙ ap (λ (ls : List Line). looks_of ls (so_far.answers ++ adds.answer ∷ [])) (sym more);
     }
 
-pub recovers_of : (size : Size) (b : Bench) (lines : List Line) (said : List Printed) (power : Power) (slots : List (List ℕ)) (ledger : Ledger) → (l : Looked size b lines said power slots ledger) → l.bench.fault_state.own ≡ 0 → Recovers size b lines said
+pub recovers_of : (size : Size) (b : Bench) (lines : List Line) (said : List Printed) (power : Power) (slots : List (List ℕ)) (ledger : RunLedger) → (l : Looked size b lines said power slots ledger) → l.bench.fault_state.own ≡ 0 → Recovers size b lines said
 recovers_of size b lines said power slots ledger l none = record { answers = l.answers; end = l.bench; run = l.run; refused_none = (l.runs.follows.enough, none); says = l.says }

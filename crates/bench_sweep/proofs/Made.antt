@@ -13,7 +13,7 @@ use Rattle.bench_report.specs.Bench.{Bench}
 use Rattle.bench_report.specs.Happens.{off, unpowered, armed_with}
 use Rattle.bench_report.specs.Steps.{Run}
 use Rattle.bench_report.specs.Views.{fault_state}
-use Rattle.bench_sweep.specs.declared.ledgers.Ledger.{Ledger}
+use Rattle.bench_sweep.specs.declared.ledgers.RunLedger.{RunLedger}
 use Rattle.bench_sweep.specs.declared.points.BenchKind.{BenchKind}
 use Rattle.bench_sweep.specs.declared.points.BenchKind.TheVariants.{Cuts, Fails}
 use Rattle.bench_sweep.specs.declared.points.Caller.{Caller}
@@ -31,7 +31,7 @@ use Rattle.bench_sweep.specs.Took.{RunTook}
 use Rattle.bench_sweep.proofs.Took.{took_both}
 
 -- ---- a run with a fault armed
-module _ (size : Size) (kind : BenchKind) (at : Point) (b : Bench) (lines : List Line) (count : ℕ) (power : Power) (slots : List (List ℕ)) (first ledger : Ledger) (few : count ≤ length lines) (ran : RanTo size (armed_with (fault_at kind at.caller at.call) b) (take count lines) power slots first ledger) where
+module _ (size : Size) (kind : BenchKind) (at : Point) (b : Bench) (lines : List Line) (count : ℕ) (power : Power) (slots : List (List ℕ)) (first ledger : RunLedger) (few : count ≤ length lines) (ran : RanTo size (armed_with (fault_at kind at.caller at.call) b) (take count lines) power slots first ledger) where
   made : (rest : Compared) (row : Row) → row.caller ≡ at.caller → row.number ≡ at.number → unpowered ran.bench ≡ unpowered ran.end → EndsAs kind lines count ran.answers ran.end → ran.bench.fault_state.own ≡ 0 → IsLeft size (off ran.bench) rest row → RunsRow size kind at.before b lines rest row
   made rest row caller number same ends none ((after, said), finds, recovered) =
       let P : Bench → Type 0 = λ x. LooksAt size x row.left after in
@@ -53,12 +53,12 @@ module _ (size : Size) (kind : BenchKind) (at : Point) (b : Bench) (lines : List
       }
 
 -- up to the line in which a cut struck
-pub to_cut : (size : Size) (at : Point) (b : Bench) (lines : List Line) (count : ℕ) (power : Power) (slots : List (List ℕ)) (first ledger : Ledger) → count ≤ length lines → (ran : RanTo size (armed_with (fault_at Cuts at.caller at.call) b) (take count lines) power slots first ledger)
+pub to_cut : (size : Size) (at : Point) (b : Bench) (lines : List Line) (count : ℕ) (power : Power) (slots : List (List ℕ)) (first ledger : RunLedger) → count ≤ length lines → (ran : RanTo size (armed_with (fault_at Cuts at.caller at.call) b) (take count lines) power slots first ledger)
     → ran.bench.fault_state.struck ≡ true → ran.bench.fault_state.own ≡ 0 → (rest : Compared) (row : Row) → row.caller ≡ at.caller → row.number ≡ at.number → IsLeft size (off ran.bench) rest row → RunsRow size Cuts at.before b lines rest row
 to_cut size at b lines count power slots first ledger few ran hit none rest row caller number left = let s = ran.struck hit in made size Cuts at b lines count power slots first ledger few ran rest row caller number (ap (λ (x : Bench). unpowered x) s.0) s.1 none left
 
 -- or to the last of them
-pub past_failure : (size : Size) (at : Point) (b : Bench) (lines : List Line) (count : ℕ) (power : Power) (slots : List (List ℕ)) (first ledger : Ledger) → count ≡ length lines → (ran : RanTo size (armed_with (fault_at Fails at.caller at.call) b) (take count lines) power slots first ledger)
+pub past_failure : (size : Size) (at : Point) (b : Bench) (lines : List Line) (count : ℕ) (power : Power) (slots : List (List ℕ)) (first ledger : RunLedger) → count ≡ length lines → (ran : RanTo size (armed_with (fault_at Fails at.caller at.call) b) (take count lines) power slots first ledger)
     → ran.bench.fault_state.struck ≡ false → ran.bench.fault_state.own ≡ 0 → ran.bench.fault_state.armed ≡ Unarmed → (rest : Compared) (row : Row) → row.caller ≡ at.caller → row.number ≡ at.number → IsLeft size (off ran.bench) rest row
     → RunsRow size Fails at.before b lines rest row
 past_failure size at b lines count power slots first ledger all ran calm none struck rest row caller number left =

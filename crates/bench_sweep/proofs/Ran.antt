@@ -11,7 +11,7 @@ use Rattle.bench_report.specs.declared.power.Power.{Power}
 use Rattle.report_lines.specs.declared.printed.Answer.{Answer}
 use Rattle.report_lines.specs.declared.printed.Printed.TheVariants as printed
 use Rattle.script_lang.specs.declared.line.Line.{Line}
-use Rattle.bench_sweep.specs.declared.ledgers.Ledger.{Ledger}
+use Rattle.bench_sweep.specs.declared.ledgers.RunLedger.{RunLedger}
 use Rattle.bench_sweep.specs.declared.site.Site.{Site}
 use Rattle.bench_sweep.specs.Lines.{LineMoves}
 use Rattle.bench_sweep.specs.Resumes.{line_resumes, lines_resume, Resumes}
@@ -26,7 +26,7 @@ lines_more (k ∷ ls) (x ∷ ys) l a e =
     ap (λ zs. line_resumes k x ++ zs) (lines_more ls ys l a (let f : length ys ≡ length ls = omega (arith, e) in f)) ∙ sym (append_assoc (line_resumes k x) (lines_resume ls ys) (line_resumes l a))
 
 -- the lines so far were run to their end, and no armed cut has struck
-pub record Runs_to (size : Size) (b : Bench) (lines : List Line) (power : Power) (slots : List (List ℕ)) (first ledger : Ledger) : Type 0 where
+pub record Runs_to (size : Size) (b : Bench) (lines : List Line) (power : Power) (slots : List (List ℕ)) (first ledger : RunLedger) : Type 0 where
   pub bench : Bench
   pub answers : List Answer
   pub run : Run size b lines answers bench
@@ -34,11 +34,11 @@ pub record Runs_to (size : Size) (b : Bench) (lines : List Line) (power : Power)
   pub long : length answers ≡ length lines
   pub resumed : Resumes first ledger (lines_resume lines answers)
 
-pub ran_none : (size : Size) (b : Bench) (power : Power) (slots : List (List ℕ)) (first ledger : Ledger) → ledger ≡ first → RunsCalm size b power slots ledger → Runs_to size b [] power slots first ledger
-ran_none size b power slots first ledger same r = record { bench = b; answers = []; run = refl; runs = r; long = refl; resumed = ap (λ (l : Ledger). l.resumed.items) same ∙ sym (append-nil first.resumed.items) }
+pub ran_none : (size : Size) (b : Bench) (power : Power) (slots : List (List ℕ)) (first ledger : RunLedger) → ledger ≡ first → RunsCalm size b power slots ledger → Runs_to size b [] power slots first ledger
+ran_none size b power slots first ledger same r = record { bench = b; answers = []; run = refl; runs = r; long = refl; resumed = ap (λ (l : RunLedger). l.resumed.items) same ∙ sym (append-nil first.resumed.items) }
 
 -- that is where they may end
-pub ran_calm : (size : Size) (b : Bench) (lines : List Line) (power : Power) (slots : List (List ℕ)) (first ledger : Ledger) → Runs_to size b lines power slots first ledger → RanTo size b lines power slots first ledger
+pub ran_calm : (size : Size) (b : Bench) (lines : List Line) (power : Power) (slots : List (List ℕ)) (first ledger : RunLedger) → Runs_to size b lines power slots first ledger → RanTo size b lines power slots first ledger
 ran_calm size b lines power slots first ledger r = record {
   answers = r.answers;
   end = r.bench;
@@ -53,7 +53,7 @@ ran_calm size b lines power slots first ledger r = record {
   resumed = r.resumed;
 }
 
-module _ (size : Size) (b : Bench) (lines : List Line) (i : ℕ) (line d : Line) (old power : Power) (before slots : List (List ℕ)) (first was ledger : Ledger) (less : i < length lines) (is : line ≡ get_or lines i d) (so_far : Runs_to size b (take i lines) old before first was)
+module _ (size : Size) (b : Bench) (lines : List Line) (i : ℕ) (line d : Line) (old power : Power) (before slots : List (List ℕ)) (first was ledger : RunLedger) (less : i < length lines) (is : line ≡ get_or lines i d) (so_far : Runs_to size b (take i lines) old before first was)
     (moves : LineMoves size line so_far.bench power slots was ledger) where
   abbrev mid : Bench
   mid = so_far.bench
@@ -106,7 +106,7 @@ module _ (size : Size) (b : Bench) (lines : List Line) (i : ℕ) (line d : Line)
       by false calm = ran_calm size b (take (i + 1) lines) power slots first ledger (ran_more calm)
 
 -- the board was turned off behind lines in which nothing was armed
-pub life_of : (size : Size) (b : Bench) (lines : List Line) (count : ℕ) (power : Power) (slots : List (List ℕ)) (first ledger : Ledger) (site : Site) → (r : RanTo size (unpowered b) (take count lines) power slots first ledger)
+pub life_of : (size : Size) (b : Bench) (lines : List Line) (count : ℕ) (power : Power) (slots : List (List ℕ)) (first ledger : RunLedger) (site : Site) → (r : RanTo size (unpowered b) (take count lines) power slots first ledger)
     → (r.bench.fault_state.struck ≡ false) × RunsAt size (off r.bench) site → (count < length lines → StopsOff power) → IsLife size b lines count site
 life_of size b lines count power slots first ledger site r (calm, left) stops =
     let P : Bench → Type 0 = λ x. RunsAt size (off x) site in

@@ -7,17 +7,17 @@ use Rattle.script_lang.specs.Lines.{IsLineInRange}
 use Rattle.script_lang.specs.declared.line.Line.{Line}
 use Rattle.bench_sweep.specs.declared.points.BenchKind.{BenchKind}
 use Rattle.bench_sweep.specs.declared.rows.Row.{Row}
-use Rattle.bench_sweep.specs.declared.sweeps.Report.{Report}
+use Rattle.bench_sweep.specs.declared.sweeps.SweepReport.{SweepReport}
 use Rattle.bench_sweep.specs.Reports.{Reports}
 use Rattle.bench_sweep.specs.Swept.{Spot, runs_at, IsPlainLine, AreSwept, Writes}
 use Rattle.bench_sweep.proofs.Written.{runs_more, writes_none, writes_more, writes_as, writes_weaker}
 
 -- no row
-pub reports_none : {W : Type 0} (contents : W → Option (List ℕ)) (kind : BenchKind) (Is : Row → Type 0) (now : Report W) → Reports contents kind Is now now []
+pub reports_none : {W : Type 0} (contents : W → Option (List ℕ)) (kind : BenchKind) (Is : Row → Type 0) (now : SweepReport W) → Reports contents kind Is now now []
 reports_none contents kind Is now = record { same = refl; quiet = refl; wrote = writes_none _ Is _ _ }
 
 -- and then more of them
-pub reports_more : {W : Type 0} (contents : W → Option (List ℕ)) (kind : BenchKind) (Is : Row → Type 0) (a b c : Report W) (xs ys : List Spot) → Reports contents kind Is a b xs → Reports contents kind Is b c ys → Reports contents kind Is a c (xs ++ ys)
+pub reports_more : {W : Type 0} (contents : W → Option (List ℕ)) (kind : BenchKind) (Is : Row → Type 0) (a b c : SweepReport W) (xs ys : List Spot) → Reports contents kind Is a b xs → Reports contents kind Is b c ys → Reports contents kind Is a c (xs ++ ys)
 reports_more contents kind Is a b c xs ys first second =
     let P : Bool → Type 0 = λ quiet. Writes quiet Is (contents b.out.now) (contents c.out.now) b.done c.done (runs_at kind ys) (length ys) in record {
       same = second.same ∙ first.same;
@@ -26,11 +26,11 @@ reports_more contents kind Is a b c xs ys first second =
     }
 
 -- the same points
-pub reports_as : {W : Type 0} (contents : W → Option (List ℕ)) (kind : BenchKind) (Is : Row → Type 0) (a b : Report W) (xs ys : List Spot) → xs ≡ ys → Reports contents kind Is a b xs → Reports contents kind Is a b ys
+pub reports_as : {W : Type 0} (contents : W → Option (List ℕ)) (kind : BenchKind) (Is : Row → Type 0) (a b : SweepReport W) (xs ys : List Spot) → xs ≡ ys → Reports contents kind Is a b xs → Reports contents kind Is a b ys
 reports_as contents kind Is a b xs ys e r = subst (λ (zs : List Spot). Reports contents kind Is a b zs) e r
 
 -- rows of which another thing holds too
-pub reports_weaker : {W : Type 0} (contents : W → Option (List ℕ)) (kind : BenchKind) (Is So : Row → Type 0) (a b : Report W) (xs : List Spot) → ((row : Row) → Is row → So row) → Reports contents kind Is a b xs → Reports contents kind So a b xs
+pub reports_weaker : {W : Type 0} (contents : W → Option (List ℕ)) (kind : BenchKind) (Is So : Row → Type 0) (a b : SweepReport W) (xs : List Spot) → ((row : Row) → Is row → So row) → Reports contents kind Is a b xs → Reports contents kind So a b xs
 reports_weaker contents kind Is So a b xs then r = record { same = r.same; quiet = r.quiet; wrote = writes_weaker _ Is So _ _ _ _ _ _ then r.wrote }
 
 -- ---- some of the lines

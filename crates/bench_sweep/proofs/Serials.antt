@@ -14,22 +14,22 @@ use Rattle.board_model.specs.declared.plain.PlainImage.{PlainImage}
 use Rattle.board_model.specs.declared.refusal.Refusal.{Refusal}
 use Rattle.board_model.specs.declared.refusal.Refusal.TheVariants.{Memory, NoImage}
 use Rattle.report_lines.specs.declared.printed.Printed.{Printed}
-use Rattle.bench_sweep.specs.declared.ledgers.Ledger.{Ledger}
+use Rattle.bench_sweep.specs.declared.ledgers.RunLedger.{RunLedger}
 use Rattle.bench_sweep.specs.Ledgers.{Tells, settled}
 use Rattle.bench_sweep.specs.Runs.{TellsWhole}
 use Rattle.bench_sweep.specs.Resumes.{image_told, serial_of, booted, powered, power_resumes, Resumes}
 use Rattle.bench_sweep.specs.Told.{PowerTold}
 
 -- none more
-none_more : (l m : Ledger) → m.resumed ≡ l.resumed → Resumes l m []
+none_more : (l m : RunLedger) → m.resumed ≡ l.resumed → Resumes l m []
 none_more l m same = ap (λ (v : _). v.items) same ∙ sym (append-nil l.resumed.items)
 
-pub kept_none : {E : Type 0} (r : Result (Unit {0}) E) (l m : Ledger) → m.resumed ≡ l.resumed → OnOk r (Resumes l m [])
+pub kept_none : {E : Type 0} (r : Result (Unit {0}) E) (l m : RunLedger) → m.resumed ≡ l.resumed → OnOk r (Resumes l m [])
 kept_none (Err f) l m same = tt
 kept_none (Ok u) l m same = none_more l m same
 
 -- the same, told in other words
-pub as_told : {E A : Type 0} (r : Result (Unit {0}) E) (l m : Ledger) (F : A → List ℕ) (x y : A) → x ≡ y → OnOk r (Resumes l m (F y)) → OnOk r (Resumes l m (F x))
+pub as_told : {E A : Type 0} (r : Result (Unit {0}) E) (l m : RunLedger) (F : A → List ℕ) (x y : A) → x ≡ y → OnOk r (Resumes l m (F y)) → OnOk r (Resumes l m (F x))
 as_told {A = A} r l m F x y is h = let P : A → Type 0 = λ z. OnOk r (Resumes l m (F z)) in subst P (sym is) h
 
 pub refused_boot : (n : ℕ) (mode : BootMode) (image : Option ImageHead) → booted (Some n) mode image ≡ []
@@ -39,25 +39,25 @@ refused_boot n modes.Discard image = refl
 refused_boot n modes.Resume image = refl
 
 -- the image that stands is resumed
-pub one_more : (l m : Ledger) (image : PlainImage) → l.state.image ≡ Some image → m.resumed.items ≡ l.resumed.items ++ image.head.serial ∷ [] → Resumes l m (serial_of (image_told l))
+pub one_more : (l m : RunLedger) (image : PlainImage) → l.state.image ≡ Some image → m.resumed.items ≡ l.resumed.items ++ image.head.serial ∷ [] → Resumes l m (serial_of (image_told l))
 one_more l m image is more = let P : Option PlainImage → Type 0 = λ o. Resumes l m (serial_of (head_of (image_in o))) in subst P (sym is) more
 
 -- or none stands
-pub no_serial : {E : Type 0} (r : Result (Unit {0}) E) (l m : Ledger) (e : Refusal) → (e ≡ Memory) ⊎ ((e ≡ NoImage) × (l.state.image ≡ None) × (m ≡ l)) → OnOk r (e ≡ Memory → ⊥) → OnOk r (Resumes l m (serial_of (image_told l)))
+pub no_serial : {E : Type 0} (r : Result (Unit {0}) E) (l m : RunLedger) (e : Refusal) → (e ≡ Memory) ⊎ ((e ≡ NoImage) × (l.state.image ≡ None) × (m ≡ l)) → OnOk r (e ≡ Memory → ⊥) → OnOk r (Resumes l m (serial_of (image_told l)))
 no_serial (Err f) l m e why other = tt
 no_serial (Ok u) l m e (inl memory) other = absurd (other memory)
 no_serial (Ok u) l m e (inr (is, none, same)) other =
-    let P : Option PlainImage → Type 0 = λ o. Resumes l m (serial_of (head_of (image_in o))) in subst P (sym none) (none_more l m (ap (λ (x : Ledger). x.resumed) same))
+    let P : Option PlainImage → Type 0 = λ o. Resumes l m (serial_of (head_of (image_in o))) in subst P (sym none) (none_more l m (ap (λ (x : RunLedger). x.resumed) same))
 
 -- a power-on
-abbrev pub PowerResumes : Ledger → Ledger → BootMode → Option Durable → Printed → Option Durable → Type 0
+abbrev pub PowerResumes : RunLedger → RunLedger → BootMode → Option Durable → Printed → Option Durable → Type 0
 PowerResumes l m mode found said now = (size : Size) (old new : Kept) → TellsWhole size l old → PowerTold mode found said now old new → Resumes l m (power_resumes mode found said)
 
-pub resumes_none : (l : Ledger) (mode : BootMode) (found : Option Durable) (said : Printed) (now : Option Durable) → found ≡ None → PowerResumes l l mode found said now
+pub resumes_none : (l : RunLedger) (mode : BootMode) (found : Option Durable) (said : Printed) (now : Option Durable) → found ≡ None → PowerResumes l l mode found said now
 resumes_none l mode found said now none size old new was told =
     let P : Option Durable → Type 0 = λ o. Resumes l l (power_resumes mode o said) in subst P (sym none) (none_more l l refl)
 
-pub resumes_found : {E : Type 0} (r : Result (Unit {0}) E) (l s m : Ledger) (mode : BootMode) (found : Option Durable) (said : Printed) (now : Option Durable) (d : Durable) → found ≡ Some d
+pub resumes_found : {E : Type 0} (r : Result (Unit {0}) E) (l s m : RunLedger) (mode : BootMode) (found : Option Durable) (said : Printed) (now : Option Durable) (d : Durable) → found ≡ Some d
     → ((kept : Kept) (changes : List Change) → Tells l kept → MayKeep kept changes → d ≡ durable_of (found_of changes) → Tells s (settled changes)) → s.resumed ≡ l.resumed
     → OnOk r (Resumes s m (powered said mode (image_told s))) → OnOk r (PowerResumes l m mode found said now)
 resumes_found (Err f) l s m mode found said now d some settles_it same more = tt

@@ -16,7 +16,7 @@ use Rattle.script_lang.specs.declared.line.Line.TheVariants as lines
 use Rattle.bench_report.specs.Bench.{Bench}
 use Rattle.bench_report.specs.Happens.{armed_with}
 use Rattle.bench_report.specs.declared.power.Power.{Power}
-use Rattle.bench_sweep.specs.declared.ledgers.Ledger.{Ledger}
+use Rattle.bench_sweep.specs.declared.ledgers.RunLedger.{RunLedger}
 use Rattle.bench_sweep.specs.declared.points.BenchKind.{BenchKind}
 use Rattle.bench_sweep.specs.declared.points.BenchKind.TheVariants.{Cuts, Fails}
 use Rattle.bench_sweep.specs.Points.{cut_fill, fault_at}
@@ -25,7 +25,7 @@ use Rattle.bench_sweep.specs.Shown.{arming, cut_part, row_lines, HasRun, IsEnded
 use Rattle.bench_sweep.specs.Swept.{Cell}
 
 -- a run with that armed, by how it ended
-pub runs_armed : (size : Size) (kind : BenchKind) (run : Cell) (b : Bench) (those : List Line) (count : ℕ) (power : Power) (slots : List (List ℕ)) (first ledger : Ledger) → count ≤ length those → (ran : RanTo size (armed_with (fault_at kind run.caller run.number) b) (take count those) power slots first ledger)
+pub runs_armed : (size : Size) (kind : BenchKind) (run : Cell) (b : Bench) (those : List Line) (count : ℕ) (power : Power) (slots : List (List ℕ)) (first ledger : RunLedger) → count ≤ length those → (ran : RanTo size (armed_with (fault_at kind run.caller run.number) b) (take count those) power slots first ledger)
     → IsEnded kind count (length those) ran.bench → RunsArmed size kind run b those count
 runs_armed size Cuts run b those count power slots first ledger few ran (hit, none) =
     let s = ran.struck hit in record {

@@ -8,7 +8,7 @@ use Rattle.bench_report.specs.Agree.{HasDisk}
 use Rattle.bench_report.specs.Bench.{Bench}
 use Rattle.bench_report.specs.declared.power.Power.{Power}
 use Rattle.bench_report.specs.declared.power.Power.TheVariants.{Off, On}
-use Rattle.bench_sweep.specs.declared.ledgers.Ledger.{Ledger}
+use Rattle.bench_sweep.specs.declared.ledgers.RunLedger.{RunLedger}
 use Rattle.bench_sweep.specs.Lines.{LineMoves}
 use Rattle.bench_sweep.specs.Runs.{RunsCalm}
 use Rattle.bench_sweep.specs.Took.{CountsAlike, LineTook, RunTook, disk_at, line_took}
@@ -24,7 +24,7 @@ disk_is (On board) disk has = has
 
 -- ---- lines
 -- a line's step was made
-pub moved_took : (size : Size) (line : Line) (b : Bench) (old now : Power) (before slots : List (List ℕ)) (was ledger : Ledger) → RunsCalm size b old before was → LineMoves size line b now slots was ledger → LineTook size line (disk_at old) (disk_at now)
+pub moved_took : (size : Size) (line : Line) (b : Bench) (old now : Power) (before slots : List (List ℕ)) (was ledger : RunLedger) → RunsCalm size b old before was → LineMoves size line b now slots was ledger → LineTook size line (disk_at old) (disk_at now)
 moved_took size line b old now before slots was ledger r m =
     line_took size line b m.bench m.does.0 (disk_at old) (disk_at now) (old, r.agrees, has_disk old) m.does.1 (now, m.runs.agrees, has_disk now)
 

@@ -47,7 +47,7 @@ use Rattle.bench_report.proofs.Lines.{stands_by}
 use Rattle.bench_report.specs.declared.power.Power.{Power}
 use Rattle.bench_report.specs.declared.power.OffDisk.{OffDisk}
 use Rattle.bench_report.specs.declared.power.Power.TheVariants.{Off, On}
-use Rattle.bench_sweep.specs.declared.ledgers.Ledger.{Ledger}
+use Rattle.bench_sweep.specs.declared.ledgers.RunLedger.{RunLedger}
 use Rattle.bench_sweep.specs.Runs.{Follows, Runs, HartMoves}
 use Rattle.bench_sweep.specs.Lines.{TurnsOnce, TurnsMany, DoesLine, HartGoes, LineGoes, LineMoves}
 use Rattle.bench_report.specs.Prefix.{AskedLine, Boot, asked_by}
@@ -232,14 +232,14 @@ module _ (size : Size) (b : Bench) (old new : SimBoard) (h : ℕ) (formatted : b
 
 -- ---- the ledger follows
 -- one turn
-pub turn_goes : (size : Size) (b : Bench) (old new : SimBoard) (h : ℕ) (word : Word) (l m : Ledger) → OnIs size b old → Follows size b l → was_refused_memory (store_in new) ≡ false → boards.TurnsHeld h (machine_in old) (machine_in new) (store_in old) (store_in new) word
+pub turn_goes : (size : Size) (b : Bench) (old new : SimBoard) (h : ℕ) (word : Word) (l m : RunLedger) → OnIs size b old → Follows size b l → was_refused_memory (store_in new) ≡ false → boards.TurnsHeld h (machine_in old) (machine_in new) (store_in old) (store_in new) word
     → ((n : Bench) → Follows size b l → HartMoves size b word n new → Follows size n m) → HartGoes size b (TurnsOnce h b word) word new m
 turn_goes size b old new h word l m was told enough turned followed =
     let did = turn_moves size b old new h told.formatted word was enough turned in
     record { bench = did.0; does = did.2; slots = did.1.slots; after = did.1.after; follows = followed did.0 told did.1 }
 
 -- a call that was not made
-module _ (size : Size) (b : Bench) (old new : SimBoard) (h : ℕ) (asked : CallWords) (l : Ledger) (has : HasHart (machine_in old) h) (was : OnIs size b old) (told : Follows size b l) where
+module _ (size : Size) (b : Bench) (old new : SimBoard) (h : ℕ) (asked : CallWords) (l : RunLedger) (has : HasHart (machine_in old) h) (was : OnIs size b old) (told : Follows size b l) where
   abbrev Calls : Option Word → Type 0
   Calls said = boards.CallsHeld h asked (machine_in old) (machine_in new) (store_in old) (store_in new) said
 
@@ -249,7 +249,7 @@ module _ (size : Size) (b : Bench) (old new : SimBoard) (h : ℕ) (asked : CallW
       (did.0, did.6, did.4, did.1, follows_same size b did.0 l told did.2 did.3 did.5)
 
   -- and one that was
-  pub call_made : (word : Word) (m : Ledger) → was_refused_memory (store_in new) ≡ false → Calls (Some word) → ((n : Bench) → Follows size b l → HartMoves size b word n new → Follows size n m) → HartGoes size b (λ n. (a : Answer) × CallStep b.power h asked b a n) word new m
+  pub call_made : (word : Word) (m : RunLedger) → was_refused_memory (store_in new) ≡ false → Calls (Some word) → ((n : Bench) → Follows size b l → HartMoves size b word n new → Follows size n m) → HartGoes size b (λ n. (a : Answer) × CallStep b.power h asked b a n) word new m
   call_made word m enough held followed =
       let did = call_moves size b old new h told.formatted asked has (Some word) was held enough in
       record { bench = did.0; does = did.2; slots = did.1.slots; after = did.1.after; follows = followed did.0 told did.1 }
@@ -285,16 +285,16 @@ struck_as size (words.Over end) b board is = ap (λ (m : FaultState). m.struck) 
 
 module _ (size : Size) (h count : ℕ) (b : Bench) where
   -- the turns so far
-  abbrev pub GoesFar : ℕ → Word → SimBoard → Ledger → Type 0
+  abbrev pub GoesFar : ℕ → Word → SimBoard → RunLedger → Type 0
   GoesFar left word board l = HartGoes size b (SoFar h left count b word) word board l
 
-  pub far_first : (left : ℕ) (word : Word) (board : SimBoard) (l : Ledger) → left ≡ count - 1 → 1 ≤ count → HartGoes size b (TurnsOnce h b word) word board l → GoesFar left word board l
+  pub far_first : (left : ℕ) (word : Word) (board : SimBoard) (l : RunLedger) → left ≡ count - 1 → 1 ≤ count → HartGoes size b (TurnsOnce h b word) word board l → GoesFar left word board l
   far_first left word board l is some r =
       let e : suc left ≡ count = omega (arith, is, some) in
       let P : ℕ → Type 0 = λ k. SoFar h left k b word r.bench in
       record { bench = r.bench; does = subst P e (first_turn h left b word r.bench r.does); slots = r.slots; after = r.after; follows = r.follows }
 
-  pub far_more : (left rest : ℕ) (word said : Word) (board new : SimBoard) (l m : Ledger) → rest ≡ left - 1 → 0 < left → ends word ≡ false → (store_fault_state (store_in board)).struck ≡ false → GoesFar left word board l
+  pub far_more : (left rest : ℕ) (word said : Word) (board new : SimBoard) (l m : RunLedger) → rest ≡ left - 1 → 0 < left → ends word ≡ false → (store_fault_state (store_in board)).struck ≡ false → GoesFar left word board l
       → ((x : Bench) → OnIs size x board → Follows size x l → HartGoes size x (TurnsOnce h x said) said new m) → GoesFar rest said new m
   far_more left rest word said board new l m is some on calm r turns_it =
       let e : left ≡ suc rest = omega (arith, is, some) in
@@ -302,7 +302,7 @@ module _ (size : Size) (h count : ℕ) (b : Bench) where
       let t = turns_it r.bench (goes_still size word r.bench board on r.after) r.follows in
       record { bench = t.bench; does = next_turn h rest count b word r.bench said t.bench (subst P e r.does) on (struck_as size word r.bench board r.after ∙ calm) t.does; slots = t.slots ∙ r.slots; after = t.after; follows = t.follows }
 
-  pub far_all : (left : ℕ) (word : Word) (board : SimBoard) (l : Ledger) → (ends word ≡ true) ⊎ (left ≡ 0) ⊎ ((store_fault_state (store_in board)).struck ≡ true) → GoesFar left word board l → HartGoes size b (TurnsMany h count b word) word board l
+  pub far_all : (left : ℕ) (word : Word) (board : SimBoard) (l : RunLedger) → (ends word ≡ true) ⊎ (left ≡ 0) ⊎ ((store_fault_state (store_in board)).struck ≡ true) → GoesFar left word board l → HartGoes size b (TurnsMany h count b word) word board l
   far_all left word board l last r = record { bench = r.bench; does = r.does.last (by last); slots = r.slots; after = r.after; follows = r.follows }
     where
       by : ((ends word ≡ true) ⊎ (left ≡ 0) ⊎ ((store_fault_state (store_in board)).struck ≡ true)) → IsLastTurn word left r.bench
@@ -316,7 +316,7 @@ module _ (size : Size) (b : Bench) (line x : Line) (is : line ≡ x) where
   does_as : (n : Bench) → DoesLine size x b n → DoesLine size line b n
   does_as n d = let P : Line → Type 0 = λ k. DoesLine size k b n in subst P (sym is) d
 
-  pub hart_line : (Does : Bench → Type 0) (word : Word) (board : SimBoard) (l : Ledger) → ((n : Bench) → Does n → DoesLine size x b n) → HartGoes size b Does word board l → HartGoes size b (DoesLine size line b) word board l
+  pub hart_line : (Does : Bench → Type 0) (word : Word) (board : SimBoard) (l : RunLedger) → ((n : Bench) → Does n → DoesLine size x b n) → HartGoes size b Does word board l → HartGoes size b (DoesLine size line b) word board l
   hart_line Does word board l steps r = record { bench = r.bench; does = does_as r.bench (steps r.bench r.does); slots = r.slots; after = r.after; follows = r.follows }
 
 -- turns of a hart that the board has
@@ -330,18 +330,18 @@ turn_line size b old h count word n has was (made, turns_it) = by_life size b ol
         (shows (shown.Turn h made word), subst P (sym on) (inl (subst H is.1 has, made, word, turns_it, refl)))
 
 -- a line whose hart the board lacks
-module _ (size : Size) (b : Bench) (line x : Line) (is : line ≡ x) (board : SimBoard) (h : ℕ) (l : Ledger) (lacks : HasHart (machine_in board) h → ⊥) (was : OnIs size b board) (told : Follows size b l) where
+module _ (size : Size) (b : Bench) (line x : Line) (is : line ≡ x) (board : SimBoard) (h : ℕ) (l : RunLedger) (lacks : HasHart (machine_in board) h → ⊥) (was : OnIs size b board) (told : Follows size b l) where
   off_line : ((life : BenchLife) → b.power ≡ Some life → (HasHart life.machine h → ⊥) → DoesLine size x b b) → LineGoes size b (DoesLine size line b) None board l
   off_line does = (b, does_as size b line x is b (by_life size b board (DoesLine size x b b) was by), refl, was, told)
     where
       by : (life : BenchLife) → b.power ≡ Some life → BoardIs size b.disk_state b.kept (Some life) board → DoesLine size x b b
       by life on at = let H : Machine → Type 0 = λ m. HasHart m h in does life on (λ has. lacks (subst H (sym at.1) has))
 
-pub turn_lacks : (size : Size) (b : Bench) (line : Line) (board : SimBoard) (h count : ℕ) (l : Ledger) → line ≡ lines.Turn h count → (HasHart (machine_in board) h → ⊥) → OnIs size b board → Follows size b l → LineGoes size b (DoesLine size line b) None board l
+pub turn_lacks : (size : Size) (b : Bench) (line : Line) (board : SimBoard) (h count : ℕ) (l : RunLedger) → line ≡ lines.Turn h count → (HasHart (machine_in board) h → ⊥) → OnIs size b board → Follows size b l → LineGoes size b (DoesLine size line b) None board l
 turn_lacks size b line board h count l is lacks was told = off_line size b line (lines.Turn h count) is board h l lacks was told (λ life on not.
     (let P : Option BenchLife → Type 0 = λ p. TurnStep p h count b (shows shown.Off) b in (shows shown.Off, subst P (sym on) (inr (not, refl, refl)))))
 
-pub call_lacks : (size : Size) (b : Bench) (line : Line) (board : SimBoard) (h : ℕ) (asked : CallWords) (l : Ledger) → line ≡ lines.Call h asked → (HasHart (machine_in board) h → ⊥) → OnIs size b board → Follows size b l → LineGoes size b (DoesLine size line b) None board l
+pub call_lacks : (size : Size) (b : Bench) (line : Line) (board : SimBoard) (h : ℕ) (asked : CallWords) (l : RunLedger) → line ≡ lines.Call h asked → (HasHart (machine_in board) h → ⊥) → OnIs size b board → Follows size b l → LineGoes size b (DoesLine size line b) None board l
 call_lacks size b line board h asked l is lacks was told = off_line size b line (lines.Call h asked) is board h l lacks was told (λ life on not.
     (let P : Option BenchLife → Type 0 = λ p. CallStep p h asked b (shows shown.Off) b in (shows shown.Off, subst P (sym on) (inr (not, refl, refl)))))
 
@@ -358,13 +358,13 @@ abbrev pub LeavesBy : Size → Option Word → SimBoard → Power → Type 0
 LeavesBy size None board now = (n : Bench) → OnIs size n board → Agrees size n now
 LeavesBy size (Some word) board now = (n : Bench) → BoardAfter size word n board → Agrees size n now
 
-line_left : (size : Size) (line : Line) (b : Bench) (said : Option Word) (board : SimBoard) (now : Power) (slots : List (List ℕ)) (l m : Ledger) → moves_harts line ≡ true → m.resumed ≡ l.resumed → slots ≡ b.payloads → LeavesBy size said board now
+line_left : (size : Size) (line : Line) (b : Bench) (said : Option Word) (board : SimBoard) (now : Power) (slots : List (List ℕ)) (l m : RunLedger) → moves_harts line ≡ true → m.resumed ≡ l.resumed → slots ≡ b.payloads → LeavesBy size said board now
     → LineGoes size b (DoesLine size line b) said board m → LineMoves size line b now slots l m
 line_left size line b None board now slots l m of_harts serials same leaves (n, does, kept, on, follows) = record { bench = n; does = does; resumed = no_serials line does.0 l m (no_boot line of_harts) serials; runs = record { agrees = leaves n on; same = same ∙ sym kept; follows = follows } }
 line_left size line b (Some word) board now slots l m of_harts serials same leaves r = record { bench = r.bench; does = r.does; resumed = no_serials line r.does.0 l m (no_boot line of_harts) serials; runs = record { agrees = leaves r.bench r.after; same = same ∙ sym r.slots; follows = r.follows } }
 
 -- on a board that is on
-pub line_on : (size : Size) (line : Line) (b : Bench) (power now : Power) (old new : SimBoard) (said is_said : Option Word) (slots : List (List ℕ)) (l m : Ledger) → moves_harts line ≡ true → m.resumed ≡ l.resumed → power ≡ On old → said ≡ is_said → LeavesBy size is_said new now
+pub line_on : (size : Size) (line : Line) (b : Bench) (power now : Power) (old new : SimBoard) (said is_said : Option Word) (slots : List (List ℕ)) (l m : RunLedger) → moves_harts line ≡ true → m.resumed ≡ l.resumed → power ≡ On old → said ≡ is_said → LeavesBy size is_said new now
     → ((c : Bench) → OnIs size c old → Follows size c l → LineGoes size c (DoesLine size line c) said new m) → Runs size b power slots l → LineMoves size line b now slots l m
 line_on size line b power now old new said is_said slots l m of_harts serials is e leaves goes r =
     let P : Power → Type 0 = λ p. Agrees size b p in
@@ -377,7 +377,7 @@ off_does size (lines.Turn h n) b of_harts off = let P : Option BenchLife → Typ
 off_does size (lines.Call h asked) b of_harts off = let P : Option BenchLife → Type 0 = λ p. CallStep p h asked b (shows shown.Off) b in (shows shown.Off, subst P (sym off) (refl, refl))
 off_does size line b of_harts off = absurd (let no : ⊥ = cc in no)
 
-pub line_off : (size : Size) (line : Line) (b : Bench) (power : Power) (disk : OffDisk) (slots : List (List ℕ)) (l : Ledger) → moves_harts line ≡ true → power ≡ Off disk → Runs size b power slots l → LineMoves size line b (Off disk) slots l l
+pub line_off : (size : Size) (line : Line) (b : Bench) (power : Power) (disk : OffDisk) (slots : List (List ℕ)) (l : RunLedger) → moves_harts line ≡ true → power ≡ Off disk → Runs size b power slots l → LineMoves size line b (Off disk) slots l l
 line_off size line b power disk slots l of_harts is r =
     let P : Power → Type 0 = λ p. Agrees size b p in
     let off : OffIs size b disk.disk = subst P is r.agrees in

@@ -11,7 +11,7 @@ use Rattle.std.proofs.Math.Seq.{drop-append_seam, take-append_seam}
 use Rattle.jobs.specs.Parts.{window, piece, own_of, joined}
 use Rattle.jobs.specs.declared.part.Part.{Part}
 use Rattle.jobs.proofs.Pieces.{window_at, window_cut, window_more, joined_all}
-use Rattle.bench_sweep.specs.declared.plan.Plan.{Plan}
+use Rattle.bench_sweep.specs.declared.plan.SweepPlan.{SweepPlan}
 use Rattle.std.specs.Io.KnownBytes.{Appends, Keeps}
 use Rattle.disk.specs.Facts.{counted}
 use Rattle.bench_sweep.specs.declared.points.BenchKind.{BenchKind}
@@ -291,7 +291,7 @@ pub parts_join : (bench : BenchKind) (of : ℕ) (counts : List ℕ) → 0 < of �
 parts_join bench of counts some = joined_part bench of of counts ∙ ap (runs_at bench) (joined_all of (all_points callers counts) some) ∙ runs_of_all bench callers counts
 
 -- all rows
-pub wrote_rows : (plan : Plan) (size : Size) (start : List (List ℕ)) (lines after : List Line) (numbers : List ℕ) (a b : Option (List ℕ)) (s t : Recovered) (begin : ℕ) (first : Bench) (origin ended : SimDisk) (counts : List ℕ) (own : List Printed) → s.sweep.points ≡ 0 → s.sweep.runs ≡ 0 → s.sweep.wrong ≡ 0
+pub wrote_rows : (plan : SweepPlan) (size : Size) (start : List (List ℕ)) (lines after : List Line) (numbers : List ℕ) (a b : Option (List ℕ)) (s t : Recovered) (begin : ℕ) (first : Bench) (origin ended : SimDisk) (counts : List ℕ) (own : List Printed) → s.sweep.points ≡ 0 → s.sweep.runs ≡ 0 → s.sweep.wrong ≡ 0
     → s.differ ≡ 0 → IsFormatted size start (take begin lines) first → StandsOn size (off first) origin → IsPlainRun size (unpowered first) (drop begin lines) → IsUncut size (unpowered first) (drop begin lines) after own → RunTook size (drop begin lines) origin ended
     → AllZip (MadeCalls origin ended) callers counts
     → Writes plan.quiet (λ row. IsRunOf size plan.bench origin row.caller row.number (unpowered first) (drop begin lines) (record { lines = after; numbers = numbers; own = own }) row.left row.recovered) a b s t
@@ -325,7 +325,7 @@ nothing_said : (size : Size) (first : Bench) (lines : List Line) (own : List Pri
 nothing_said size first lines own uncut = uncut.recovers.says
 
 -- without a recovery, and then the last line
-pub wrote_all : (plan : Plan) (size : Size) (start : List (List ℕ)) (lines : List Line) (a b c : Option (List ℕ)) (t : Recovered) → WroteRows plan size start lines [] [] a b t → Appends b c (sweep_text plan.part t.sweep ++ 10 ∷ []) → WroteAll plan size start lines a c t.sweep
+pub wrote_all : (plan : SweepPlan) (size : Size) (start : List (List ℕ)) (lines : List Line) (a b c : Option (List ℕ)) (t : Recovered) → WroteRows plan size start lines [] [] a b t → Appends b c (sweep_text plan.part t.sweep ++ 10 ∷ []) → WroteAll plan size start lines a c t.sweep
 wrote_all plan size start lines a b c t wrote last =
     let none = nothing_said size (unpowered wrote.first) (drop wrote.begin lines) wrote.own wrote.uncut in
     let E : List Printed → Type 0 = λ own. All (λ (row : Row). IsRunOf size plan.bench wrote.origin row.caller row.number (unpowered wrote.first) (drop wrote.begin lines) (record { lines = []; numbers = []; own = own }) row.left row.recovered) wrote.rows in record {

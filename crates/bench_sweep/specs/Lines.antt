@@ -11,7 +11,7 @@ use Rattle.bench_report.specs.Steps.{Step}
 use Rattle.bench_report.specs.Turns.{GuestTurn, GuestTurns}
 use Rattle.bench_report.specs.Agree.{OnIs, BoardAfter}
 use Rattle.bench_report.specs.Views.{SimBoard}
-use Rattle.bench_sweep.specs.declared.ledgers.Ledger.{Ledger}
+use Rattle.bench_sweep.specs.declared.ledgers.RunLedger.{RunLedger}
 use Rattle.bench_sweep.specs.Recovers.{look_said}
 use Rattle.bench_sweep.specs.Resumes.{line_resumes, Resumes}
 use Rattle.bench_sweep.specs.Runs.{Follows, Runs}
@@ -29,7 +29,7 @@ abbrev pub DoesLine : Size → Line → Bench → Bench → Type 0
 DoesLine size line b new = (answer : Answer) × Step size line b answer new
 
 -- A hart came to that word by a step from b of which this holds; the board and the ledger then.
-pub record HartGoes (size : Size) (b : Bench) (Does : Bench → Type 0) (word : Word) (board : SimBoard) (ledger : Ledger)
+pub record HartGoes (size : Size) (b : Bench) (Does : Bench → Type 0) (word : Word) (board : SimBoard) (ledger : RunLedger)
     : Type 0 where
   pub bench : Bench
   pub does : Does bench
@@ -38,13 +38,13 @@ pub record HartGoes (size : Size) (b : Bench) (Does : Bench → Type 0) (word : 
   pub follows : Follows size bench ledger
 
 -- the same of a line of harts, of which no word is said where it did nothing
-abbrev pub LineGoes : Size → Bench → (Bench → Type 0) → Option Word → SimBoard → Ledger → Type 0
+abbrev pub LineGoes : Size → Bench → (Bench → Type 0) → Option Word → SimBoard → RunLedger → Type 0
 LineGoes size b Does None board ledger =
     (new : Bench) × Does new × (new.payloads ≡ b.payloads) × OnIs size new board × Follows size new ledger
 LineGoes size b Does (Some word) board ledger = HartGoes size b Does word board ledger
 
 -- The line's step was made, and the ledger has the serial of the image that it resumed besides those of the old one.
-pub record LineMoves (size : Size) (line : Line) (b : Bench) (power : Power) (slots : List (List ℕ)) (old ledger : Ledger)
+pub record LineMoves (size : Size) (line : Line) (b : Bench) (power : Power) (slots : List (List ℕ)) (old ledger : RunLedger)
     : Type 0 where
   pub bench : Bench
   pub does : DoesLine size line b bench
@@ -52,7 +52,7 @@ pub record LineMoves (size : Size) (line : Line) (b : Bench) (power : Power) (sl
   pub runs : Runs size bench power slots ledger
 
 -- The same, and the line said that.
-pub record LineSays (size : Size) (line : Line) (b : Bench) (said : Printed) (power : Power) (slots : List (List ℕ)) (ledger : Ledger)
+pub record LineSays (size : Size) (line : Line) (b : Bench) (said : Printed) (power : Power) (slots : List (List ℕ)) (ledger : RunLedger)
     : Type 0 where
   pub bench : Bench
   pub answer : Answer
@@ -61,7 +61,7 @@ pub record LineSays (size : Size) (line : Line) (b : Bench) (said : Printed) (po
   pub runs : Runs size bench power slots ledger
 
 -- The same, and what the line says where it looks is kept behind what was kept before.
-pub record LineAdds (size : Size) (line : Line) (b : Bench) (old new : List Printed) (power : Power) (slots : List (List ℕ)) (ledger : Ledger)
+pub record LineAdds (size : Size) (line : Line) (b : Bench) (old new : List Printed) (power : Power) (slots : List (List ℕ)) (ledger : RunLedger)
     : Type 0 where
   pub bench : Bench
   pub answer : Answer

@@ -19,7 +19,7 @@ use Rattle.bench_sweep.specs.declared.points.Caller.{Caller}
 use Rattle.bench_sweep.specs.declared.rows.Row.{Row}
 use Rattle.bench_sweep.specs.declared.judging.PointRows.{PointRows}
 use Rattle.bench_sweep.specs.declared.site.Site.{Site}
-use Rattle.bench_sweep.specs.declared.sweeps.Report.{Report}
+use Rattle.bench_sweep.specs.declared.sweeps.SweepReport.{SweepReport}
 use Rattle.bench_sweep.specs.declared.recovery.Differs.{Differs}
 use Rattle.bench_sweep.specs.Made.{LooksAt, ShowsState, IsFormatted, IsPlainRun, IsUncut, IsRecovered, Recovers, RunsWith, IsRunOf}
 use Rattle.bench_sweep.specs.Points.{cut_fill, MadeCalls}
@@ -35,7 +35,7 @@ use Rattle.jobs.specs.declared.part.Part.{Part}
 
 -- The report goes on in the same writer: the runs at these points were made, what the bench says of each was written, and each
 -- was counted. None was wrong, and of each row that holds.
-pub record Reports {W : Type 0} (contents : W → Option (List ℕ)) (kind : BenchKind) (Is : Row → Type 0) (old new : Report W) (made : List Spot) : Type 0 where
+pub record Reports {W : Type 0} (contents : W → Option (List ℕ)) (kind : BenchKind) (Is : Row → Type 0) (old new : SweepReport W) (made : List Spot) : Type 0 where
   pub same : new.out.ghost_name ≡ old.out.ghost_name
   pub quiet : new.quiet ≡ old.quiet
   pub wrote : Writes old.quiet Is (contents old.out.now) (contents new.out.now) old.done new.done (runs_at kind made) (length made)
@@ -128,7 +128,7 @@ IsOfCall size kind caller before lines rest site done rows =
     → Judged (RunsAlong size kind caller site before (unpowered b) lines rest) rows (runs_of kind caller (before + done + 1))
 
 -- What the bench says of these rows was written, where none is wrong, and the point and its runs are counted with those before.
-pub record TakesPoint {W : Type 0} (contents : W → Option (List ℕ)) (old : Report W) (rows : PointRows) (new : Report W) : Type 0 where
+pub record TakesPoint {W : Type 0} (contents : W → Option (List ℕ)) (old : SweepReport W) (rows : PointRows) (new : SweepReport W) : Type 0 where
   pub same : new.out.ghost_name ≡ old.out.ghost_name
   pub quiet : new.quiet ≡ old.quiet
   pub text : rows.sweep.wrong ≡ 0 → Appends (contents old.out.now) (contents new.out.now) (rows_text old.quiet rows.rows.items)
@@ -141,7 +141,7 @@ pub record TakesPoint {W : Type 0} (contents : W → Option (List ℕ)) (old : R
 -- All lines from that bench on are run as they are, from that disk on, and then the runs at the points of each caller are made, or at
 -- those of a part: it has as many as it made calls in the lines.
 pub record ReportsAll {W : Type 0} (contents : W → Option (List ℕ)) (size : Size) (kind : BenchKind) (part : Option Part) (origin : SimDisk)
-    (first : Bench) (lines : List Line) (after : List Line) (numbers : List ℕ) (old new : Report W) : Type 0 where
+    (first : Bench) (lines : List Line) (after : List Line) (numbers : List ℕ) (old new : SweepReport W) : Type 0 where
   pub plain : IsPlainRun size first lines
   pub ended : SimDisk
   pub took : RunTook size lines origin ended
@@ -153,7 +153,7 @@ pub record ReportsAll {W : Type 0} (contents : W → Option (List ℕ)) (size : 
 
 -- the same of the lines of a script behind its first format, where it begins with these payloads
 pub record ReportsScript {W : Type 0} (contents : W → Option (List ℕ)) (size : Size) (kind : BenchKind) (part : Option Part) (start : List (List ℕ)) (lines : List Line)
-    (after : List Line) (numbers : List ℕ) (old new : Report W) : Type 0 where
+    (after : List Line) (numbers : List ℕ) (old new : SweepReport W) : Type 0 where
   pub begin : ℕ
   pub first : Bench
   pub format : IsFormatted size start (take begin lines) first

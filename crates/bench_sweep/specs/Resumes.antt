@@ -11,10 +11,10 @@ use Rattle.report_lines.specs.declared.printed.Printed.{Printed}
 use Rattle.report_lines.specs.declared.printed.Printed.TheVariants as printed
 use Rattle.script_lang.specs.declared.line.Line.{Line}
 use Rattle.bench_report.specs.Prefix.{AskedLine, Boot, asked_by}
-use Rattle.bench_sweep.specs.declared.ledgers.Ledger.{Ledger}
+use Rattle.bench_sweep.specs.declared.ledgers.RunLedger.{RunLedger}
 
 -- the image that stands after the commands that a ledger tells, without its memory
-abbrev pub image_told : Ledger → Option ImageHead
+abbrev pub image_told : RunLedger → Option ImageHead
 image_told ledger = (durable_of (state_in ledger.state)).image
 
 -- the serial of the image that stands, where one does
@@ -43,7 +43,7 @@ power_resumes mode None said = []
 power_resumes mode (Some d) said = powered said mode d.image
 
 -- these were resumed more
-abbrev pub Resumes : Ledger → Ledger → List ℕ → Type 0
+abbrev pub Resumes : RunLedger → RunLedger → List ℕ → Type 0
 Resumes old new serials = new.resumed.items ≡ old.resumed.items ++ serials
 
 -- a line, by what it asks and answers: only a power-on resumes

@@ -24,7 +24,7 @@ use Rattle.bench_report.specs.Agree.{OffIs, BoardAfter, Agrees, IsBench}
 use Rattle.bench_report.specs.Views.{SimStore, SimBoard, machine_in, fault_state, store_in, store_size, store_now, store_fault_state}
 use Rattle.bench_sweep.specs.Judged.{IsRight}
 use Rattle.bench_sweep.specs.Ledgers.{Tells}
-use Rattle.bench_sweep.specs.declared.ledgers.Ledger.{Ledger}
+use Rattle.bench_sweep.specs.declared.ledgers.RunLedger.{RunLedger}
 use Rattle.bench_sweep.specs.declared.points.BenchKind.TheVariants.{Cuts}
 use Rattle.bench_sweep.specs.declared.moments.Moment.{Moment}
 use Rattle.bench_sweep.specs.declared.site.Going.{Going}
@@ -34,25 +34,25 @@ use Rattle.bench_sweep.specs.Resumes.{lines_resume, Resumes}
 use Rattle.bench_sweep.specs.Told.{HartTold}
 
 -- The ledger tells the commands kept; an image that stands, or is in doubt, has the memory of a board of that size.
-pub record TellsWhole (size : Size) (ledger : Ledger) (kept : Kept) : Type 0 where
+pub record TellsWhole (size : Size) (ledger : RunLedger) (kept : Kept) : Type 0 where
   pub tells : Tells ledger kept
   pub whole : IsWhole size (found_of kept.changes)
   pub doubt : (c : Change) → kept.doubt ≡ Some c → CarriesWhole size c
 
 -- the same of a bench whose disk was formatted, and to which memory was never refused
-pub record Follows (size : Size) (b : Bench) (ledger : Ledger) : Type 0 where
+pub record Follows (size : Size) (b : Bench) (ledger : RunLedger) : Type 0 where
   pub formatted : b.disk_state ≡ Formatted
   pub kept : TellsWhole size ledger b.kept
   pub enough : b.growths ≡ 0
 
 -- The board with its payloads stands for that bench, and the ledger follows it.
-pub record Runs (size : Size) (b : Bench) (power : Power) (slots : List (List ℕ)) (ledger : Ledger) : Type 0 where
+pub record Runs (size : Size) (b : Bench) (power : Power) (slots : List (List ℕ)) (ledger : RunLedger) : Type 0 where
   pub agrees : Agrees size b power
   pub same : slots ≡ b.payloads
   pub follows : Follows size b ledger
 
 -- and no armed cut has struck
-pub record RunsCalm (size : Size) (b : Bench) (power : Power) (slots : List (List ℕ)) (ledger : Ledger) : Type 0 where
+pub record RunsCalm (size : Size) (b : Bench) (power : Power) (slots : List (List ℕ)) (ledger : RunLedger) : Type 0 where
   pub agrees : Agrees size b power
   pub same : slots ≡ b.payloads
   pub follows : Follows size b ledger
@@ -72,7 +72,7 @@ pub record CameAlong (size : Size) (b : Bench) (lines : List Line) (moment : Mom
   pub runs : RunsCalm size at moment.going.power moment.going.payloads moment.going.ledger
 
 -- the same of a disk that a power cut has left: nothing is armed
-pub record LeftOff (size : Size) (b : Bench) (disk : OffDisk) (slots : List (List ℕ)) (ledger : Ledger) : Type 0 where
+pub record LeftOff (size : Size) (b : Bench) (disk : OffDisk) (slots : List (List ℕ)) (ledger : RunLedger) : Type 0 where
   pub off : OffIs size b disk.disk
   pub same : slots ≡ b.payloads
   pub follows : Follows size b ledger
@@ -109,7 +109,7 @@ pub record LostIn (size : Size) (b : Bench) (lines : List Line) (answers would :
 -- Lines were run from that bench: to their end, or an armed cut struck in the last of them, and power is still to be
 -- taken. The ledger has the serials of the images that they resumed besides those of the old one, by what they answered, and the
 -- last of them by what it would have answered had no cut struck.
-pub record RanTo (size : Size) (b : Bench) (lines : List Line) (power : Power) (slots : List (List ℕ)) (old ledger : Ledger)
+pub record RanTo (size : Size) (b : Bench) (lines : List Line) (power : Power) (slots : List (List ℕ)) (old ledger : RunLedger)
     : Type 0 where
   pub answers : List Answer
   pub end : Bench
@@ -211,7 +211,7 @@ pub record FindsState (size : Size) (store : SimStore) : Type 0 where
   pub left : store_fault_state store ≡ fault_state_left (store_fault_state store)
 
 -- A state was found, which the commands that the ledger tells let an open find; and it is the one that was said.
-pub record Finds (ledger : Ledger) (found : Option Plain) (left : Answer) : Type 0 where
+pub record Finds (ledger : RunLedger) (found : Option Plain) (left : Answer) : Type 0 where
   pub kept : Kept
   pub tells : Tells ledger kept
   pub plain : Plain
@@ -220,7 +220,7 @@ pub record Finds (ledger : Ledger) (found : Option Plain) (left : Answer) : Type
   pub says : left ≡ shows (durable_of (state_in plain))
 
 -- What was said is the state that was judged, with its memory, which is right by the ledger.
-pub record IsJudged (ledger : Ledger) (left : Answer) : Type 0 where
+pub record IsJudged (ledger : RunLedger) (left : Answer) : Type 0 where
   pub plain : Plain
   pub right : IsRight ledger.state ledger.doubt (Some plain) ledger.resumed.items
   pub says : left ≡ shows (durable_of (state_in plain))

@@ -18,7 +18,7 @@ use Rattle.bench_report.specs.Bench.{Bench}
 use Rattle.bench_report.specs.Happens.{off, unpowered}
 use Rattle.bench_report.specs.Deeds.{ArmFault, CutPower, WritePast, Deed, Format, Beside, deed_of}
 use Rattle.bench_sweep.specs.declared.judges.Sweep.{Sweep}
-use Rattle.bench_sweep.specs.declared.plan.Plan.{Plan}
+use Rattle.bench_sweep.specs.declared.plan.SweepPlan.{SweepPlan}
 use Rattle.bench_sweep.specs.declared.points.BenchKind.{BenchKind}
 use Rattle.bench_sweep.specs.declared.points.BenchKind.TheVariants.{Cuts, Fails}
 use Rattle.bench_sweep.specs.declared.points.Caller.{Caller}
@@ -159,13 +159,13 @@ joined_runs bench zero of counts = []
 joined_runs bench (suc k) of counts = joined_runs bench k of counts ++ runs_at bench (piece (suc k) of (all_points callers counts))
 
 -- the whole of a bench
-abbrev pub whole : BenchKind → Plan
+abbrev pub whole : BenchKind → SweepPlan
 whole bench = record { bench = bench; part = None; quiet = false }
 
 -- Of each caller as many points as it made calls in the script's own run behind its first format, from the origin, the disk of the
 -- board there, to the end; the runs at them, or at those of the plan's part, in order, each of those lines, what the plan has of each,
 -- and then the line of the counts. No run was wrong.
-pub record WroteAll (plan : Plan) (size : Size) (start : List (List ℕ)) (lines : List Line) (old now : Option (List ℕ)) (sweep : Sweep)
+pub record WroteAll (plan : SweepPlan) (size : Size) (start : List (List ℕ)) (lines : List Line) (old now : Option (List ℕ)) (sweep : Sweep)
     : Type 0 where
   pub begin : ℕ
   pub first : Bench
@@ -188,7 +188,7 @@ pub record WroteAll (plan : Plan) (size : Size) (start : List (List ℕ)) (lines
 -- The rows of a bench with a recovery of these lines, of which the looks have those numbers: it runs behind the script's own
 -- end, and over what each run left; behind the line of a run of which a look says something else than behind that end there
 -- stands a line that tells the first, and those runs are counted.
-pub record WroteRows (plan : Plan) (size : Size) (start : List (List ℕ)) (lines after : List Line) (numbers : List ℕ)
+pub record WroteRows (plan : SweepPlan) (size : Size) (start : List (List ℕ)) (lines after : List Line) (numbers : List ℕ)
     (old now : Option (List ℕ)) (done : Recovered) : Type 0 where
   pub begin : ℕ
   pub first : Bench
@@ -213,18 +213,18 @@ pub record WroteRows (plan : Plan) (size : Size) (start : List (List ℕ)) (line
   pub differ : done.differ ≡ counted 0 (differing_rows rows)
 
 -- and then the line of the counts
-abbrev pub WroteRecovered : Plan → Size → List (List ℕ) → List Line → List Line → List ℕ → Option (List ℕ) → Option (List ℕ) → Recovered → Type 0
+abbrev pub WroteRecovered : SweepPlan → Size → List (List ℕ) → List Line → List Line → List ℕ → Option (List ℕ) → Option (List ℕ) → Recovered → Type 0
 WroteRecovered plan size start lines after numbers old now done =
     (mid : Option (List ℕ)) × WroteRows plan size start lines after numbers old mid done
     × Appends mid now (recovered_text plan.part done.sweep done.differ ++ 10 ∷ [])
 
 -- what a bench makes by that plan of a script that begins with these payloads
-abbrev pub IsBenchOf : Plan → List (List ℕ) → List ℕ → Option (List ℕ) → Option (List ℕ) → Sweep → Type 0
+abbrev pub IsBenchOf : SweepPlan → List (List ℕ) → List ℕ → Option (List ℕ) → Option (List ℕ) → Sweep → Type 0
 IsBenchOf plan start script old now sweep =
     (said : Script) × (script_of script ≡ Ok said) × WroteAll plan said.size start said.lines old now sweep
 
 -- what it makes of a script with that recovery, of whose lines these are the numbers
-abbrev pub IsRecoveredBenchOf : Plan → List (List ℕ) → List ℕ → List ℕ → List ℕ → Option (List ℕ) → Option (List ℕ) → Recovered → Type 0
+abbrev pub IsRecoveredBenchOf : SweepPlan → List (List ℕ) → List ℕ → List ℕ → List ℕ → Option (List ℕ) → Option (List ℕ) → Recovered → Type 0
 IsRecoveredBenchOf plan start script recovery numbers old now done =
     (said : Script) × (after : List Line) × (script_of script ≡ Ok said) × Says said.size recovery after
     × All IsPlainLine after × All IsNoFormat after × (look_numbers after numbers ≢ [])

@@ -10,7 +10,7 @@ ghost use Rattle.bench_sweep.specs.Told.{ShowsEnoughMemory};
 ghost use Rattle.bench_sweep.specs.Runs.{Begun, IsFormattedAt, Formats, StopsOff};
 
 use crate::follows::enough_memory;
-use crate::ledgers::Ledger;
+use crate::ledgers::RunLedger;
 use crate::site::Site;
 use crate::sites::is_off;
 use bench_report::{
@@ -115,7 +115,7 @@ fn formatted_site(alloc: Global, shape: &Shape, bench: BenchBoard) -> Result<Sit
     Ok(Site {
         off: OffDisk { disk },
         payloads,
-        ledger: Ledger::formatted(alloc),
+        ledger: RunLedger::formatted(alloc),
     })
 }
 

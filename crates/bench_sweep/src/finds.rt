@@ -20,7 +20,7 @@ ghost use Rattle.bench_sweep.specs.Runs.{LeftOff, Finds, FindsState, IsJudged, I
 
 use crate::follows::enough_memory;
 use crate::judges::Sweep;
-use crate::ledgers::Ledger;
+use crate::ledgers::RunLedger;
 use bench_report::{Answer, OffDisk, Power, Printed, power_on};
 use board::{Board, Parts, Payloads};
 use board_model::{BootMode, Durable, Plain, Refusal, Shape};
@@ -136,7 +136,7 @@ fn sizes(shape: &Shape)
 /// Powers a board on that keeps its image, and looks what was found. Its slots are empty, whatever the script's are:
 /// it makes no turn, and is not refused for a payload that is longer than RAM. Refused `Memory` alone.
 fn look_at(alloc: Global, shape: &Shape, off: OffDisk) -> Result<FoundPlain, Refusal>
-    ensures finds { IfOk result (λ found. (b : Bench) (slots : List (List ℕ)) (ledger : Ledger)
+    ensures finds { IfOk result (λ found. (b : Bench) (slots : List (List ℕ)) (ledger : RunLedger)
         → LeftOff shape.now b off slots ledger → Finds ledger found.plain found.left) }
     ensures says { IfOk result (λ found. (b : Bench) → OffIs shape.now b off.disk
         → (after : Bench) × LooksAt shape.now b found.left after) }
@@ -155,7 +155,7 @@ pub fn count_run(
     alloc: Global,
     shape: &Shape,
     off: OffDisk,
-    ledger: &Ledger,
+    ledger: &RunLedger,
     sweep: &mut Sweep,
 ) -> Result<Answer, Refusal>
     requires { (slots : List (List ℕ)) × (b : Bench) × LeftOff shape.now b off slots ledger.now }

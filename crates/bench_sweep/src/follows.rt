@@ -18,7 +18,7 @@ ghost use Rattle.bench_sweep.specs.Runs.{TellsWhole, Follows, HartMoves};
 ghost use Rattle.bench_sweep.specs.Resumes.{image_told, serial_of, consumed, booted, powered, power_resumes, Resumes};
 ghost use Rattle.bench_sweep.specs.Told.{ShowsEnoughMemory, IssuedTold, CommandTold, BootTold, BootSaid, NowTold, PowerTold, LineTold, commands_told};
 
-use crate::ledgers::Ledger;
+use crate::ledgers::RunLedger;
 use bench_report::{Answer, Printed};
 use board::Board;
 use board_model::{BootMode, Command, ConsoleCommand, Durable, Entry, Refusal, Trial};
@@ -41,7 +41,7 @@ fn only_memory(refusal: Refusal) -> Result<(), Refusal>
 
 /// A command was answered, by its receipt or by the number with which it was refused. Refused `Memory` alone.
 fn record_command(
-    ledger: &mut Ledger,
+    ledger: &mut RunLedger,
     alloc: Global,
     entry: Entry,
     memory: &[u8],
@@ -62,7 +62,7 @@ fn record_command(
 }
 
 /// The image that stands was resumed. Refused `Memory` alone.
-fn record_resume(ledger: &mut Ledger, alloc: Global) -> Result<(), Refusal>
+fn record_resume(ledger: &mut RunLedger, alloc: Global) -> Result<(), Refusal>
     ensures kept { OnOk result ((size : Size) (old new : Kept) → TellsWhole size ledger.old old
         → IssuedTold None Consume old new → TellsWhole size ledger.new new) }
     ensures serial { OnOk result (Resumes ledger.old ledger.new (serial_of (image_told ledger.old))) }
@@ -75,7 +75,11 @@ fn record_resume(ledger: &mut Ledger, alloc: Global) -> Result<(), Refusal>
 }
 
 /// The Consume of a resume was acknowledged, or refused by that number.
-fn record_consume(ledger: &mut Ledger, alloc: Global, refused: Option<u32>) -> Result<(), Refusal>
+fn record_consume(
+    ledger: &mut RunLedger,
+    alloc: Global,
+    refused: Option<u32>,
+) -> Result<(), Refusal>
     ensures kept { OnOk result ((size : Size) (old new : Kept) → TellsWhole size ledger.old old
         → IssuedTold refused Consume old new → TellsWhole size ledger.new new) }
     ensures serial { OnOk result (Resumes ledger.old ledger.new (consumed refused (image_told ledger.old))) }
@@ -93,7 +97,7 @@ fn record_consume(ledger: &mut Ledger, alloc: Global, refused: Option<u32>) -> R
 /// The attempt of a boot was acknowledged, or refused by that number, where the slot is on trial so. Refused `Memory`
 /// alone.
 fn record_attempt(
-    ledger: &mut Ledger,
+    ledger: &mut RunLedger,
     alloc: Global,
     trial: Option<Trial>,
     refused: Option<u32>,
@@ -124,7 +128,7 @@ fn is_dropped(found: &Durable, now: Option<Durable>) -> bool
 
 /// A boot that drops the image was refused by that number, at its first command or behind it, by the state then.
 fn record_stopped_discard(
-    ledger: &mut Ledger,
+    ledger: &mut RunLedger,
     alloc: Global,
     found: &Durable,
     now: Option<Durable>,
@@ -148,7 +152,7 @@ fn record_stopped_discard(
 
 /// A boot that drops the image was made, or refused by that number.
 fn record_discard(
-    ledger: &mut Ledger,
+    ledger: &mut RunLedger,
     alloc: Global,
     found: &Durable,
     now: Option<Durable>,
@@ -174,7 +178,7 @@ fn record_discard(
 /// A boot by that mode was made, or refused by that number, of the state that its open found, and the state is then
 /// that one.
 fn record_boot(
-    ledger: &mut Ledger,
+    ledger: &mut RunLedger,
     alloc: Global,
     mode: BootMode,
     found: &Durable,
@@ -197,7 +201,7 @@ fn record_boot(
 
 /// What a power-on by that mode said behind its found line. Refused `Memory` where it was.
 fn record_answer(
-    ledger: &mut Ledger,
+    ledger: &mut RunLedger,
     alloc: Global,
     mode: BootMode,
     found: &Durable,
@@ -251,7 +255,7 @@ pub fn enough_memory(said: Printed) -> Result<(), Refusal>
 /// A power-on by that mode gave that answer, and the state is then that one: what the open found settles the command
 /// in doubt. Refused `Memory` where the power-on was, or the ledger is; then the ledger is of no use.
 fn record_power_on(
-    ledger: &mut Ledger,
+    ledger: &mut RunLedger,
     alloc: Global,
     mode: BootMode,
     answer: &Answer,
@@ -275,7 +279,7 @@ fn record_power_on(
 
 /// Keeps what a power-on said, where enough memory shows in it. Refused `Memory` also where it does not.
 pub fn record_powered(
-    ledger: &mut Ledger,
+    ledger: &mut RunLedger,
     alloc: Global,
     mode: BootMode,
     answer: &Answer,
@@ -295,7 +299,7 @@ pub fn record_powered(
 
 /// A command of the console gave that answer.
 pub fn record_console(
-    ledger: &mut Ledger,
+    ledger: &mut RunLedger,
     alloc: Global,
     command: ConsoleCommand,
     said: Printed,
@@ -321,7 +325,7 @@ pub fn record_console(
 /// A line that moves no hart and powers no board on gave that answer. Refused `Memory` where the ledger is; then the
 /// ledger is of no use.
 fn record_line(
-    ledger: &mut Ledger,
+    ledger: &mut RunLedger,
     alloc: Global,
     line: &Line,
     answer: &Answer,
@@ -339,7 +343,7 @@ fn record_line(
 
 /// Keeps what a line said, where it was refused no memory. Refused `Memory` also where it was.
 pub fn record_answered(
-    ledger: &mut Ledger,
+    ledger: &mut RunLedger,
     alloc: Global,
     line: &Line,
     answer: Result<Answer, Refusal>,
@@ -362,7 +366,7 @@ pub fn record_answered(
 
 /// A hart of that board goes on: a command of it may be in doubt.
 fn record_in_doubt(
-    ledger: &mut Ledger,
+    ledger: &mut RunLedger,
     alloc: Global,
     board: &Board<SimDisk>,
 ) -> Result<(), Refusal>
@@ -390,7 +394,11 @@ fn suspension_in(now: Durable) -> Option<Entry>
 }
 
 /// That board sleeps; the memory of its suspension is still the one of the call.
-fn record_sleep(ledger: &mut Ledger, alloc: Global, board: &Board<SimDisk>) -> Result<(), Refusal>
+fn record_sleep(
+    ledger: &mut RunLedger,
+    alloc: Global,
+    board: &Board<SimDisk>,
+) -> Result<(), Refusal>
     ensures kept { OnOk result ((size : Size) (b new : Bench) → Follows size b ledger.old
         → HartMoves size b (words.Over life_ends.Asleep) new board.now → Follows size new ledger.new) }
     ensures resumed { ledger.new.resumed ≡ ledger.old.resumed }
@@ -406,7 +414,11 @@ fn record_sleep(ledger: &mut Ledger, alloc: Global, board: &Board<SimDisk>) -> R
 }
 
 /// That board was reset.
-fn record_reset(ledger: &mut Ledger, alloc: Global, board: &Board<SimDisk>) -> Result<(), Refusal>
+fn record_reset(
+    ledger: &mut RunLedger,
+    alloc: Global,
+    board: &Board<SimDisk>,
+) -> Result<(), Refusal>
     ensures kept { OnOk result ((size : Size) (b new : Bench) (kind : ResetType) → Follows size b ledger.old
         → HartMoves size b (words.Over (life_ends.Reset kind)) new board.now → Follows size new ledger.new) }
     ensures resumed { ledger.new.resumed ≡ ledger.old.resumed }
@@ -418,7 +430,7 @@ fn record_reset(ledger: &mut Ledger, alloc: Global, board: &Board<SimDisk>) -> R
 
 /// A hart of that board ended the life so.
 fn record_end(
-    ledger: &mut Ledger,
+    ledger: &mut RunLedger,
     alloc: Global,
     board: &Board<SimDisk>,
     end: LifeEnd,
@@ -437,7 +449,7 @@ fn record_end(
 /// A turn of a hart of that board, or its call, ended so. The hart asked for one command at most, and the memory
 /// is still the one that the command found.
 pub fn record_hart(
-    ledger: &mut Ledger,
+    ledger: &mut RunLedger,
     alloc: Global,
     board: &Board<SimDisk>,
     word: Word,

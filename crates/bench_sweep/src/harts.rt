@@ -14,7 +14,7 @@ ghost use Rattle.bench_sweep.specs.Lines.{TurnsOnce, TurnsMany, DoesLine, HartGo
 ghost use Rattle.bench_sweep.specs.Told.{moves_harts};
 
 use crate::follows::record_hart;
-use crate::ledgers::Ledger;
+use crate::ledgers::RunLedger;
 use bench_report::{Power, after};
 use board::Board;
 use board_model::{CallWords, HartId, Refusal, Shape};
@@ -41,7 +41,7 @@ fn turn_once<C: Crew>(
     crew: &C,
     board: &mut Board<SimDisk>,
     hart: HartId,
-    ledger: &mut Ledger,
+    ledger: &mut RunLedger,
 ) -> Result<Word, Refusal>
     requires hart { hart < length (machine_in board.old).harts }
     ensures harts { length (machine_in board.new).harts ≡ length (machine_in board.old).harts }
@@ -63,7 +63,7 @@ fn turn_many<C: Crew>(
     board: &mut Board<SimDisk>,
     hart: HartId,
     count: u32,
-    ledger: &mut Ledger,
+    ledger: &mut RunLedger,
 ) -> Result<Word, Refusal>
     requires hart { hart < length (machine_in board.old).harts }
     requires some { 1 ≤ count }
@@ -88,7 +88,7 @@ fn call_once<C: Crew>(
     board: &mut Board<SimDisk>,
     hart: HartId,
     words: CallWords,
-    ledger: &mut Ledger,
+    ledger: &mut RunLedger,
 ) -> Result<Option<Word>, Refusal>
     requires hart { hart < length (machine_in board.old).harts }
     ensures goes { IfOk result (λ said. (size : Size) (b : Bench) → OnIs size b board.old → Follows size b ledger.old
@@ -113,7 +113,7 @@ fn run_in_place<C: Crew>(
     shape: &Shape,
     board: &mut Board<SimDisk>,
     line: &Line,
-    ledger: &mut Ledger,
+    ledger: &mut RunLedger,
 ) -> Result<Option<Word>, Refusal>
     requires range { IsLineInRange shape.now line.now }
     requires of_harts { moves_harts line.now ≡ true }
@@ -150,7 +150,7 @@ pub fn run_hart_line<C: Crew>(
     shape: &Shape,
     line: &Line,
     power: Power,
-    ledger: &mut Ledger,
+    ledger: &mut RunLedger,
 ) -> Result<Power, Refusal>
     requires range { IsLineInRange shape.now line.now }
     requires of_harts { moves_harts line.now ≡ true }

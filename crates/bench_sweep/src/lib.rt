@@ -28,8 +28,8 @@ mod sweeps;
 
 pub use apart::line_apart;
 pub use judges::{Sweep, judge};
-pub use ledgers::Ledger;
-pub use plan::Plan;
+pub use ledgers::RunLedger;
+pub use plan::SweepPlan;
 pub use points::BenchKind;
 pub use recovery::RecoveryFile;
 pub use shown::{WantedRow, show_row};

@@ -5,7 +5,7 @@ use jobs::Part;
 
 /// What a bench is asked to do over a script.
 #[derive(Clone, Copy, Drop)]
-pub struct Plan {
+pub struct SweepPlan {
     pub bench: BenchKind,
     /// Of all points, in the order of the report, those of this part alone; where there is none, all.
     pub part: Option<Part>,

@@ -1,6 +1,6 @@
 //! A bench between two lines of its script.
 
-use crate::ledgers::Ledger;
+use crate::ledgers::RunLedger;
 use bench_report::{OffDisk, Power};
 use board::Payloads;
 
@@ -9,7 +9,7 @@ use board::Payloads;
 pub struct Site {
     pub off: OffDisk,
     pub payloads: Payloads,
-    pub ledger: Ledger,
+    pub ledger: RunLedger,
 }
 
 /// A run that is under way.
@@ -17,5 +17,5 @@ pub struct Site {
 pub struct Going {
     pub power: Power,
     pub payloads: Payloads,
-    pub ledger: Ledger,
+    pub ledger: RunLedger,
 }

@@ -27,7 +27,7 @@ ghost use Rattle.bench_sweep.specs.declared.points.Caller.{Caller};
 
 use crate::follows::{record_answered, record_console, record_powered};
 use crate::harts::{is_of_harts, run_hart_line};
-use crate::ledgers::Ledger;
+use crate::ledgers::RunLedger;
 use crate::site::{Going, Site};
 use bench_report::{
     OffDisk, Power, Printed, Setting, console, disk_left, line_alone, power_on, struck,
@@ -181,7 +181,7 @@ fn run_power_on(
     mode: BootMode,
     power: Power,
     payloads: &Payloads,
-    ledger: &mut Ledger,
+    ledger: &mut RunLedger,
 ) -> Result<Power, Refusal>
     ensures runs { IfOk result (λ now. (b : Bench) → RunsCalm shape.now b power payloads.now ledger.old
         → LineMoves shape.now (lines.On mode) b now payloads.now ledger.old ledger.new) }
@@ -203,7 +203,7 @@ pub fn say_still_line<C: Crew>(
     line: &Line,
     power: Power,
     payloads: &mut Payloads,
-    ledger: &mut Ledger,
+    ledger: &mut RunLedger,
 ) -> Result<(Power, Printed), Refusal>
     requires range { IsLineInRange setting.now.shape.now line.now }
     requires plain { IsPlainLine line.now }
@@ -229,7 +229,7 @@ fn run_still_line<C: Crew>(
     line: &Line,
     power: Power,
     payloads: &mut Payloads,
-    ledger: &mut Ledger,
+    ledger: &mut RunLedger,
 ) -> Result<Power, Refusal>
     requires range { IsLineInRange setting.now.shape.now line.now }
     requires plain { IsPlainLine line.now }
@@ -261,7 +261,7 @@ fn run_on_power<C: Crew>(
     line: &Line,
     power: Power,
     payloads: &mut Payloads,
-    ledger: &mut Ledger,
+    ledger: &mut RunLedger,
 ) -> Result<Power, Refusal>
     requires range { IsLineInRange setting.now.shape.now line.now }
     requires plain { IsPlainLine line.now }

@@ -21,7 +21,7 @@ use crate::begins::run_to_format;
 use crate::chunks::{RunsAtCalls, chunk_size, marks_of};
 use crate::judges::Sweep;
 use crate::judging::{PointRows, turn_off};
-use crate::plan::Plan;
+use crate::plan::SweepPlan;
 use crate::points::{CALLERS, Caller};
 use crate::recovery::{Recovery, RecoveryFile, looks_of, numbers_of_looks, recovery_lines};
 use crate::rows::{differing, write_recovered, write_rows, write_sweep};
@@ -40,14 +40,14 @@ use std::thread::Threads;
 
 /// What a bench writes, and what it counts.
 #[derive(Drop)]
-struct Report<'a, W> {
+struct SweepReport<'a, W> {
     out: &'a mut W,
     done: Recovered,
     /// Only runs of which a look differs are written.
     quiet: bool,
 }
 
-impl<'a, W: Write> Report<'a, W> {
+impl<'a, W: Write> SweepReport<'a, W> {
     /// Writes the lines of a point, and counts it and its runs. Where one is wrong, all are written.
     fn take_point<P: Progress>(&mut self, made: &PointRows, progress: &P) -> Result<(), Refusal>
         ensures took { OnOk result (TakesPoint W.contents self.old made.now self.new) }
@@ -70,7 +70,7 @@ impl<'a, W: Write> Report<'a, W> {
     }
 }
 
-impl<'a, W: Write> Sink<Chunk<PointRows>> for Report<'a, W> {
+impl<'a, W: Write> Sink<Chunk<PointRows>> for SweepReport<'a, W> {
     ghost use Rattle.std.specs.Prelude.{◌≡◌, true};
     ghost use Rattle.jobs.specs.Handed.{TakesAll};
     ghost use Rattle.bench_sweep.specs.Reports.{TakesPoint};
@@ -107,7 +107,7 @@ fn run_at_calls<R: Threads + Sync, P: Progress, C: Crew + Sync, W: Write>(
     site: &Site,
     calls: Calls,
     within: Window,
-    report: &mut Report<'_, W>,
+    report: &mut SweepReport<'_, W>,
 ) -> Result<(), Refusal>
     requires few { count ≤ length runner.now.lines.now }
     requires numbers { calls.made + calls.count < 2 ^ 64 }
@@ -197,7 +197,7 @@ fn sweep_stretch<R: Threads + Sync, P: Progress, C: Crew + Sync, W: Write>(
     caller: Caller,
     made: u64,
     within: Window,
-    report: &mut Report<'_, W>,
+    report: &mut SweepReport<'_, W>,
 ) -> Result<(usize, u64), Refusal>
     requires lines { AreSwept runner.now.setting.shape.now runner.now.lines.now }
     requires recovery { AreSwept runner.now.setting.shape.now runner.now.recovery.lines.now }
@@ -239,7 +239,7 @@ fn sweep_caller<R: Threads + Sync, P: Progress, C: Crew + Sync, W: Write>(
     begin: &Site,
     caller: Caller,
     within: Window,
-    report: &mut Report<'_, W>,
+    report: &mut SweepReport<'_, W>,
 ) -> Result<u64, Refusal>
     requires lines { AreSwept runner.now.setting.shape.now runner.now.lines.now }
     requires recovery { AreSwept runner.now.setting.shape.now runner.now.recovery.lines.now }
@@ -325,7 +325,7 @@ fn sweep_all_callers<R: Threads + Sync, P: Progress, C: Crew + Sync, W: Write>(
     site: &Site,
     end: &Site,
     part: Option<Part>,
-    report: &mut Report<'_, W>,
+    report: &mut SweepReport<'_, W>,
 ) -> Result<(), Refusal>
     requires lines { AreSwept runner.now.setting.shape.now runner.now.lines.now }
     requires recovery { AreSwept runner.now.setting.shape.now runner.now.recovery.lines.now }
@@ -357,7 +357,7 @@ fn sweep_site<R: Threads + Sync, P: Progress, C: Crew + Sync, W: Write>(
     runner: &Runner<'_, C>,
     site: &Site,
     part: Option<Part>,
-    report: &mut Report<'_, W>,
+    report: &mut SweepReport<'_, W>,
 ) -> Result<(), Refusal>
     requires lines { AreSwept runner.now.setting.shape.now runner.now.lines.now }
     requires recovery { AreSwept runner.now.setting.shape.now runner.now.recovery.lines.now }
@@ -457,11 +457,11 @@ pub struct Recovered {
 fn sweep_lines<'a, R: Threads + Sync, P: Progress, C: Crew + Sync, W: Write>(
     jobs: &Jobs<'_, R, P>,
     setting: &Setting<'a, C>,
-    plan: Plan,
+    plan: SweepPlan,
     lines: &'a [Line],
     recovery: Recovery<'a>,
     payloads: &Payloads,
-    report: &mut Report<'_, W>,
+    report: &mut SweepReport<'_, W>,
 ) -> Result<(), Refusal>
     requires lines { AreSwept setting.now.shape.now lines.now }
     requires recovery { AreSwept setting.now.shape.now recovery.lines.now }
@@ -483,7 +483,7 @@ fn sweep_lines<'a, R: Threads + Sync, P: Progress, C: Crew + Sync, W: Write>(
 fn write_swept<'a, R: Threads + Sync, P: Progress, C: Crew + Sync, W: Write>(
     jobs: &Jobs<'_, R, P>,
     setting: &Setting<'a, C>,
-    plan: Plan,
+    plan: SweepPlan,
     lines: &'a [Line],
     recovery: Recovery<'a>,
     payloads: &Payloads,
@@ -501,7 +501,7 @@ fn write_swept<'a, R: Threads + Sync, P: Progress, C: Crew + Sync, W: Write>(
         wrong: 0,
     };
     let done = Recovered { sweep, differ: 0 };
-    let mut report = Report {
+    let mut report = SweepReport {
         out,
         done,
         quiet: plan.quiet,
@@ -514,7 +514,7 @@ fn write_swept<'a, R: Threads + Sync, P: Progress, C: Crew + Sync, W: Write>(
 fn sweep_plain_script<R: Threads + Sync, P: Progress, W: Write>(
     jobs: &Jobs<'_, R, P>,
     alloc: Global,
-    plan: Plan,
+    plan: SweepPlan,
     script: &Script,
     recovery: Recovery<'_>,
     payloads: &Payloads,
@@ -558,7 +558,7 @@ pub fn parts_make_a_bench()
 pub fn run_bench<R: Threads + Sync, P: Progress, W: Write>(
     jobs: &Jobs<'_, R, P>,
     alloc: Global,
-    plan: Plan,
+    plan: SweepPlan,
     script: &[u8],
     payloads: Payloads,
     out: &mut W,
@@ -599,7 +599,7 @@ pub fn run_bench<R: Threads + Sync, P: Progress, W: Write>(
 pub fn run_bench_recovered<R: Threads + Sync, P: Progress, W: Write>(
     jobs: &Jobs<'_, R, P>,
     alloc: Global,
-    plan: Plan,
+    plan: SweepPlan,
     script: &[u8],
     recovery: RecoveryFile<'_>,
     payloads: Payloads,

@@ -43,9 +43,9 @@ impl fmt::Display for DozeName {
 
 /// Why a loop ended.
 #[derive(Drop)]
-struct Reason(Why, Option<ShutBy>);
+struct ShutReason(Why, Option<ShutBy>);
 
-impl fmt::Display for Reason {
+impl fmt::Display for ShutReason {
     ghost output = { λ r. Some (reason_text r.0 r.1) };
 
     fn fmt<W: fmt::Write>(&self, f: &mut fmt::Formatter<W>) -> fmt::Result {
@@ -63,13 +63,13 @@ impl fmt::Display for Reason {
 
 /// Which hart, its state, and whether its board dozes by it.
 #[derive(Drop)]
-struct Place {
+struct HartPlace {
     number: u32,
     state: State,
     dozing: bool,
 }
 
-impl fmt::Display for Place {
+impl fmt::Display for HartPlace {
     ghost output = { λ p. Some (place_text p.number p.state p.dozing) };
 
     fn fmt<W: fmt::Write>(&self, f: &mut fmt::Formatter<W>) -> fmt::Result {
@@ -113,17 +113,17 @@ impl fmt::Display for LoopEnd {
     ghost output = { λ l. Some (loop_text l.made l.why l.by) };
 
     fn fmt<W: fmt::Write>(&self, f: &mut fmt::Formatter<W>) -> fmt::Result {
-        let (made, why) = (self.made, Reason(self.why, self.by));
+        let (made, why) = (self.made, ShutReason(self.why, self.by));
         write!(f, "turns {made} ended {why}")
     }
 }
 
-fn place_of(end: &HartEnd) -> Place
+fn place_of(end: &HartEnd) -> HartPlace
     ensures number { result.number ≡ end.now.number }
     ensures state { result.state ≡ end.now.state }
     ensures dozing { result.dozing ≡ end.now.dozing }
 {
-    Place {
+    HartPlace {
         number: end.hart().number(),
         state: end.state(),
         dozing: end.dozing(),

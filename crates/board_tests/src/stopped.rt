@@ -5,7 +5,7 @@ ghost use Rattle.store.specs.Leaves.{IsIdle};
 
 use crate::fixtures::same;
 use crate::told::{START, Short, in_turn};
-use bench_report::{Stopped, run_left};
+use bench_report::{StoppedRun, run_left};
 use board::{Board, Payloads};
 use board_model::{BootMode, Refusal, Shape};
 use disk::Disk;
@@ -45,7 +45,7 @@ fn ended<R: Threads + Sync>(
     match run_left(alloc, script, &crew, &mut out) {
         Ok((report, disk)) => Ok((Ok(report.lines), Some(powered(alloc, disk, BootMode::Keep)))),
         Err(stopped) => {
-            let Stopped { refusal, disk } = stopped;
+            let StoppedRun { refusal, disk } = stopped;
             match disk {
                 Some(disk) => Ok((Err(refusal), Some(powered(alloc, disk, BootMode::Keep)))),
                 None => Ok((Err(refusal), None)),

@@ -19,14 +19,14 @@ use thiserror::Error;
 pub struct FileFault {
     /// The fault.
     pub fault: ProgramFault,
-    reason: Option<Reason>,
+    reason: Option<FaultReason>,
     is_loss: bool,
 }
 
 /// Which file could not be read or written, and what the system says of it.
 #[derive(Debug, Drop, Error)]
 #[error("{path}: {why}")]
-struct Reason {
+struct FaultReason {
     path: String,
     why: io::Error,
 }
@@ -39,7 +39,7 @@ impl FileFault {
     {
         let fault = file_fault(why.kind());
         let reason = match path.to_string(alloc) {
-            Ok(path) => Some(Reason { path, why }),
+            Ok(path) => Some(FaultReason { path, why }),
             Err(_) => None,
         };
         FileFault {

@@ -12,7 +12,7 @@ use Rattle.debug_options.specs.Limits.{IsUpTo}
 use Rattle.debug_options.specs.Lines.{sbigdb}
 use Rattle.debug_options.specs.declared.given.Begin.{Begin}
 use Rattle.debug_options.specs.declared.given.Begin.TheVariants.{Cut, End, Failure, Order, Schedule}
-use Rattle.debug_options.specs.declared.given.Options.{Options}
+use Rattle.debug_options.specs.declared.given.DebugOptions.{DebugOptions}
 use lib.Chars.{codes}
 
 -- a number from 1 to so many
@@ -90,7 +90,7 @@ begin_in f =
     (first_value f (codes "order")))
 
 -- each option is what the value of its name says
-pub record ReadsOptions (f : Found) (o : Options) : Type 0 where
+pub record ReadsOptions (f : Found) (o : DebugOptions) : Type 0 where
   pub script : path_named (first_value f (codes "SCRIPT")) ≡ Some (string_bytes o.script)
   pub payloads : map (option_map string_bytes) o.payloads ≡ payload_paths f
   pub begin : begin_in f ≡ Some o.begin
@@ -98,12 +98,12 @@ pub record ReadsOptions (f : Found) (o : Options) : Type 0 where
   pub most : option_and_then number_of (first_value f (codes "most")) ≡ Some o.most
 
 -- what the words of a command line name, as the command's parser reads them
-abbrev pub IsNamedBy : List (List ℕ) → Options → Type 0
+abbrev pub IsNamedBy : List (List ℕ) → DebugOptions → Type 0
 IsNamedBy words o = (f : Found) × AreParsed sbigdb words f × ReadsOptions f o
 
 -- no options within their limits are what these values say
 abbrev pub GivesNone : Found → Type 0
-GivesNone f = (o : Options) → ReadsOptions f o → IsUpTo 1000000 o.quantum → IsUpTo 1000000000 o.most → ⊥
+GivesNone f = (o : DebugOptions) → ReadsOptions f o → IsUpTo 1000000 o.quantum → IsUpTo 1000000000 o.most → ⊥
 
 -- The words name no session, and an error of that kind says so: it is one by which the command's parser refuses them, as it
 -- does where they ask for the help; or the parser takes them, and their values give no options.

@@ -6,7 +6,7 @@ ghost use Rattle.script_lang.specs.Words.{number_of};
 ghost use Rattle.debug_options.specs.Limits.{IsBounded, IsUpTo};
 ghost use Rattle.debug_options.specs.Reads.{begin_alone, begin_named, drawn_by, is_true, number_up_to, order_named, ordered_by, row_by, row_named, seed_of, with_row, without_order};
 
-use crate::given::{Begin, Drawn, Preempted};
+use crate::given::{Begin, OrderChoice, ScheduleChoice};
 use crate::help::{MOST_NUMBER, MOST_PREEMPTIONS};
 use script_lang::number;
 
@@ -40,7 +40,7 @@ fn drawn(number: &str, seed: Option<&str>) -> Option<Begin>
     ensures bounded { IfSome result IsBounded }
 {
     match (number_up_to(MOST_NUMBER, number), seed_of(seed)) {
-        (Some(number), Some(seed)) => Some(Begin::Schedule(Drawn { seed, number })),
+        (Some(number), Some(seed)) => Some(Begin::Schedule(ScheduleChoice { seed, number })),
         (_, _) => None,
     }
 }
@@ -54,7 +54,7 @@ fn ordered(most: &str, number: &str) -> Option<Begin>
         number_up_to(MOST_PREEMPTIONS, most),
         number_up_to(MOST_NUMBER, number),
     ) {
-        (Some(most), Some(number)) => Some(Begin::Order(Preempted { most, number })),
+        (Some(most), Some(number)) => Some(Begin::Order(OrderChoice { most, number })),
         (_, _) => None,
     }
 }

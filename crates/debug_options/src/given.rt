@@ -4,7 +4,7 @@ ghost use Rattle.debug_options.specs.Limits.{IsUpTo};
 
 /// A schedule of the script (docs/SCRIPT.md, "Schedules").
 #[derive(Clone, Copy, Drop)]
-pub struct Drawn {
+pub struct ScheduleChoice {
     /// What it is drawn from.
     pub seed: u64,
     /// Its number, 1 to 1,000,000.
@@ -13,7 +13,7 @@ pub struct Drawn {
 
 /// An order of the script's turns that differs (docs/SCRIPT.md, "Preemptions").
 #[derive(Clone, Copy, Drop)]
-pub struct Preempted {
+pub struct OrderChoice {
     /// How many preemptions an order has at most, 1 to 3.
     pub most: u64,
     /// Its number among the orders that differ, 1 to 1,000,000.
@@ -26,9 +26,9 @@ pub enum Begin {
     /// At the end of the script.
     End,
     /// Where a schedule parts from it.
-    Schedule(Drawn),
+    Schedule(ScheduleChoice),
     /// Where an order that differs parts from it.
-    Order(Preempted),
+    Order(OrderChoice),
     /// Where the cut of that row of the power-cut bench strikes, 1 to 1,000,000 (docs/SCRIPT.md, "The benches").
     Cut(u64),
     /// Where the failure of that row of the fault bench strikes, 1 to 1,000,000.
@@ -37,7 +37,7 @@ pub enum Begin {
 
 /// What the command line asks for.
 #[derive(Drop)]
-pub struct Options {
+pub struct DebugOptions {
     /// The script's file.
     pub script: String,
     /// The file of each boot slot's payload, where one is named. The others are empty.

@@ -7,6 +7,6 @@ mod given;
 mod help;
 mod parsed;
 
-pub use given::{Begin, Drawn, Options, Preempted};
+pub use given::{Begin, DebugOptions, OrderChoice, ScheduleChoice};
 pub use help::USAGE;
 pub use parsed::options_of;

@@ -9,7 +9,7 @@ ghost use Rattle.debug_options.specs.Lines.{sbigdb};
 ghost use Rattle.debug_options.specs.Reads.{GivesNone, IsNamedBy, NamesNone, ReadsOptions, begin_in};
 
 use crate::begins::{begin_named, with_row};
-use crate::given::{Begin, Options};
+use crate::given::{Begin, DebugOptions};
 use crate::help::{
     FAULTS, MOST, MOST_QUANTUM, MOST_TURNS, ORDER, PREEMPTIONS, QUANTUM, ROW, SCHEDULE, SCRIPT,
     SEED, SWEEP, command,
@@ -67,7 +67,7 @@ fn begin(matches: &ArgMatches<'_>) -> Option<Begin>
 
 /// The options of a command line that was parsed. None where a value is missing or out of range, which the parser's own
 /// checks let through nowhere, or where two of them do not go together.
-fn options_in(alloc: Global, matches: &ArgMatches<'_>) -> Result<Option<Options>, AllocError>
+fn options_in(alloc: Global, matches: &ArgMatches<'_>) -> Result<Option<DebugOptions>, AllocError>
     ensures reads { IfOk result (λ found. IfSome found (ReadsOptions (found_of matches.now))) }
     ensures bounded { IfOk result (λ found. IfSome found (λ o. IsBounded o.begin)) }
     ensures none { IfOk result (λ found. found ≡ None → GivesNone (found_of matches.now)) }
@@ -85,7 +85,7 @@ fn options_in(alloc: Global, matches: &ArgMatches<'_>) -> Result<Option<Options>
     let Some(most) = number(matches, MOST, MOST_TURNS) else {
         return Ok(None);
     };
-    Ok(Some(Options {
+    Ok(Some(DebugOptions {
         script,
         payloads,
         begin,
@@ -112,7 +112,7 @@ fn apart(alloc: Global) -> Result<Error, AllocError>
 
 /// Reads a command line, the program's name first. The error is the command line's own text, which is the help or the
 /// version too, or says that memory was refused.
-pub fn options_of<'a, S: AsStr>(alloc: Global, words: &'a [S]) -> Result<Options, Error>
+pub fn options_of<'a, S: AsStr>(alloc: Global, words: &'a [S]) -> Result<DebugOptions, Error>
     // Each option is what the words say, as the command line's parser reads them.
     ensures named { IfOk result (IsNamedBy (map S.text words.now)) }
     ensures bounded { IfOk result (λ o. IsBounded o.begin) }

@@ -5,7 +5,7 @@ use Rattle.debug_session.specs.Points.{with_point, with_watch, without_point, wi
 use Rattle.debug_session.specs.Sessions.{size_of}
 use Rattle.debug_session.specs.declared.halts.Stop.{Stop}
 use Rattle.debug_session.specs.declared.stops.Stops.{Stops}
-use Rattle.debug_session.specs.declared.stops.Watch.{Watch}
+use Rattle.debug_session.specs.declared.stops.Watchpoint.{Watchpoint}
 use Rattle.debug_session.specs.declared.stops.WatchKind.{WatchKind}
 use Rattle.debug_session.specs.declared.stops.WatchKind.TheVariants as kinds
 use Rattle.gdb_protocol.specs.declared.requests.GdbLook.{GdbLook}
@@ -30,11 +30,11 @@ kind_of watching.Writes = kinds.Changes
 kind_of watching.Reads = kinds.Reads
 kind_of watching.Accesses = kinds.Accesses
 
-abbrev pub watch_of : Watching → ℕ → ℕ → Watch
+abbrev pub watch_of : Watching → ℕ → ℕ → Watchpoint
 watch_of what address count = record { kind = kind_of what; address = address; count = count }
 
 -- the watchpoints behind it
-abbrev pub watches_after : GdbLook → List Watch → List Watch
+abbrev pub watches_after : GdbLook → List Watchpoint → List Watchpoint
 watches_after (looks.SetWatch what address count) watches = with_watch (watch_of what address count) watches
 watches_after (looks.ClearWatch what address count) watches = without_watch (watch_of what address count) watches
 watches_after look watches = watches

@@ -19,7 +19,7 @@ use Rattle.debug_session.specs.Steps.{IsStep, Went}
 use Rattle.debug_session.specs.Texts.{history_text}
 use Rattle.debug_session.specs.Turns.{WentTo, turns_made}
 use Rattle.debug_session.specs.Withins.{StepsWithin, within_plan}
-use Rattle.debug_session.specs.declared.halts.Halt.TheVariants as halts
+use Rattle.debug_session.specs.declared.halts.HaltReason.TheVariants as halts
 use Rattle.debug_session.specs.declared.halts.Stop.{Stop}
 use Rattle.debug_session.specs.declared.session.Session.{Session}
 use Rattle.debug_session.specs.declared.stops.Stops.{Stops}

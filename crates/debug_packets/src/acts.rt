@@ -17,7 +17,7 @@ use crate::texts::{answer_text, tell};
 use bench_report::Answer;
 use board_model::{HartId, Refusal};
 use crew::Crew;
-use debug_session::{Halt, Stop};
+use debug_session::{HaltReason, Stop};
 use gdb_protocol::Move;
 use std::sync::atomic::AtomicBool;
 
@@ -197,7 +197,7 @@ impl<'a, C: Crew> Talk<'a, C> {
         ensures last { OnOk result (self.new.last ≡ stop) }
         ensures talk { IsTalk self.new.last self.old.runner self.old.takes_swbreak self.old.acknowledges self.old.is_over self.new }
     {
-        if stop.halt != Halt::Idle {
+        if stop.halt != HaltReason::Idle {
             return self.after(stop, told, out);
         }
         let alloc = self.alloc();

@@ -15,7 +15,7 @@ ghost use Rattle.gdb_protocol.specs.declared.requests.GdbRequest.TheVariants as 
 use crate::talk::Talk;
 use board_model::Refusal;
 use crew::Crew;
-use debug_session::{Halt, Session, Stop};
+use debug_session::{HaltReason, Session, Stop};
 use gdb_protocol::{GdbLook, GdbRequest, Move, request_of};
 use std::alloc::Global;
 use std::sync::atomic::AtomicBool;
@@ -29,7 +29,7 @@ impl<'a, C: Crew> Talk<'a, C> {
         ensures session { IfOk result (λ talk. session_in talk ≡ session.entry) }
         ensures first { IfOk result (λ talk. hart_in talk ≡ 0) }
         ensures runner { IfOk result (λ talk. runner_in talk ≡ None) }
-        ensures last { IfOk result (λ talk. last_in talk ≡ record { hart = 0; halt = Halt.Stepped }) }
+        ensures last { IfOk result (λ talk. last_in talk ≡ record { hart = 0; halt = HaltReason.Stepped }) }
         ensures acknowledges { IfOk result (λ talk. acknowledges_in talk ≡ true) }
         ensures ongoing { IfOk result (λ talk. is_over_in talk ≡ false) }
         ensures sent { IfOk result (λ talk. sent_in talk ≡ []) }
@@ -40,7 +40,7 @@ impl<'a, C: Crew> Talk<'a, C> {
         let alloc = session.setting().alloc;
         let last = Stop {
             hart,
-            halt: Halt::Stepped,
+            halt: HaltReason::Stepped,
         };
         Ok(Talk {
             session,

@@ -12,11 +12,11 @@ use crate::replies::{hart_of, reply_of};
 use crate::talk::Talk;
 use board_model::Refusal;
 use crew::Crew;
-use debug_session::{Watch, WatchKind};
+use debug_session::{WatchKind, Watchpoint};
 use gdb_protocol::{GdbLook, Watching, behind, parts};
 
 /// The watchpoint that a packet names. A watch on writes sees changes.
-fn watch_of(what: Watching, address: u64, count: u64) -> Watch
+fn watch_of(what: Watching, address: u64, count: u64) -> Watchpoint
     ensures { result ≡ watch_of what address count }
 {
     let kind = match what {
@@ -24,7 +24,7 @@ fn watch_of(what: Watching, address: u64, count: u64) -> Watch
         Watching::Reads => WatchKind::Reads,
         Watching::Accesses => WatchKind::Accesses,
     };
-    Watch {
+    Watchpoint {
         kind,
         address,
         count,

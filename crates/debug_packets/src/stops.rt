@@ -4,20 +4,21 @@ ghost use Rattle.std.specs.Prelude.{◌≡◌, ◌++◌, IfOk, OnOk};
 ghost use Rattle.debug_packets.specs.Stops.{reason_text, signal_text, stop_text, watch_text, watch_word};
 
 use board_model::HartId;
-use debug_session::{Halt, Stop, Watch, WatchKind};
+use debug_session::{HaltReason, Stop, WatchKind, Watchpoint};
 use gdb_protocol::digit;
 use std::alloc::{AllocError, Global};
 
 /// The number of GDB's signal that says why nothing runs, as two digits: SIGINT, SIGPWR where the board is off or
 /// dozes, none where nothing was to be done or the turns of a command were made, and else SIGTRAP.
-fn signal_text(halt: Halt) -> &'static [u8; 2]
+fn signal_text(halt: HaltReason) -> &'static [u8; 2]
     ensures { result.now ≡ signal_text halt }
 {
     match halt {
-        Halt::Interrupted => b"02",
-        Halt::Ended | Halt::Off => b"20",
-        Halt::Idle | Halt::Spent => b"00",
-        Halt::Stepped | Halt::Point | Halt::Watched(_) | Halt::Begin => b"05",
+        HaltReason::Interrupted => b"02",
+        HaltReason::Ended | HaltReason::Off => b"20",
+        HaltReason::Idle | HaltReason::Spent => b"00",
+        HaltReason::Stepped | HaltReason::Point | HaltReason::Watched(_) | HaltReason::Begin =>
+            b"05",
     }
 }
 
@@ -26,15 +27,15 @@ fn signal_text(halt: Halt) -> &'static [u8; 2]
 fn put_reason(
     alloc: Global,
     out: &mut Vec<u8>,
-    halt: Halt,
+    halt: HaltReason,
     takes_swbreak: bool,
 ) -> Result<(), AllocError>
     ensures { OnOk result (out.new.items ≡ out.old.items ++ reason_text halt takes_swbreak) }
 {
     match halt {
-        Halt::Point if takes_swbreak => out.extend_from_slice(b"swbreak:;"),
-        Halt::Watched(watch) => put_watch(alloc, out, watch),
-        Halt::Begin => out.extend_from_slice(b"replaylog:begin;"),
+        HaltReason::Point if takes_swbreak => out.extend_from_slice(b"swbreak:;"),
+        HaltReason::Watched(watch) => put_watch(alloc, out, watch),
+        HaltReason::Begin => out.extend_from_slice(b"replaylog:begin;"),
         _ => Ok(()),
     }
 }
@@ -51,7 +52,7 @@ fn watch_word(kind: WatchKind) -> &'static str
 }
 
 /// Writes the watchpoint that was touched.
-fn put_watch(alloc: Global, out: &mut Vec<u8>, watch: Watch) -> Result<(), AllocError>
+fn put_watch(alloc: Global, out: &mut Vec<u8>, watch: Watchpoint) -> Result<(), AllocError>
     ensures { OnOk result (out.new.items ≡ out.old.items ++ watch_text watch) }
 {
     let word = watch_word(watch.kind);
@@ -80,10 +81,10 @@ pub fn idle_text(alloc: Global, hart: HartId, state: &str) -> Result<String, All
 }
 
 /// What the console says of a stop of harts that went on, where GDB has no words for it.
-pub fn told_of(halt: Halt) -> &'static str {
+pub fn told_of(halt: HaltReason) -> &'static str {
     match halt {
-        Halt::Idle => "every hart that may run has nothing to do\n",
-        Halt::Spent => "the turns of one command are made: continue goes on\n",
+        HaltReason::Idle => "every hart that may run has nothing to do\n",
+        HaltReason::Spent => "the turns of one command are made: continue goes on\n",
         _ => "",
     }
 }

@@ -18,12 +18,12 @@ use Rattle.debug_session.proofs.Histories.{left_moments, place_at, place_before}
 use Rattle.debug_session.specs.Backs.{BackTo, EndsAt, FoundIn, FoundOf, IsEnd, IsPassed, IsRowPast, IsSeen, IsWhyBack, MayMove, PassBack, before_place, halt_back, later_place, later_turn}
 use Rattle.debug_session.specs.Firsts.{Touches, is_at_point, one_turn}
 use Rattle.debug_session.specs.Steps.{MakesNone}
-use Rattle.debug_session.specs.declared.back.Place.{Place}
-use Rattle.debug_session.specs.declared.halts.Halt.{Halt}
-use Rattle.debug_session.specs.declared.halts.Halt.TheVariants as halts
+use Rattle.debug_session.specs.declared.back.TurnPlace.{TurnPlace}
+use Rattle.debug_session.specs.declared.halts.HaltReason.{HaltReason}
+use Rattle.debug_session.specs.declared.halts.HaltReason.TheVariants as halts
 use Rattle.debug_session.specs.declared.halts.Stop.{Stop}
 use Rattle.debug_session.specs.declared.stops.Stops.{Stops}
-use Rattle.debug_session.specs.declared.stops.Watch.{Watch}
+use Rattle.debug_session.specs.declared.stops.Watchpoint.{Watchpoint}
 
 -- a run, and then another
 run_append : (size : Size) (xs ys : List Line) (answers : List Answer) (a b c : Bench) → Run size a xs answers b → Leaves size b ys c → Leaves size a (xs ++ ys) c
@@ -52,7 +52,7 @@ some_more None P Q R p q more = tt
 some_more (Some x) P Q R p q more = more x p q
 
 -- of the last place that was found
-pub later_within : (found : Option (ℕ × Stop)) (k h turns : ℕ) (halt : Option Halt) → k < turns → IfSome found (λ f. (f.1.hart ≡ h) × (f.0 < turns)) → IfSome (later_turn found k h halt) (λ f. (f.1.hart ≡ h) × (f.0 < turns))
+pub later_within : (found : Option (ℕ × Stop)) (k h turns : ℕ) (halt : Option HaltReason) → k < turns → IfSome found (λ f. (f.1.hart ≡ h) × (f.0 < turns)) → IfSome (later_turn found k h halt) (λ f. (f.1.hart ≡ h) × (f.0 < turns))
 later_within found k h turns None less was = was
 later_within found k h turns (Some halt) less was = (refl, less)
 
@@ -60,7 +60,7 @@ pub row_past : (found : Option (ℕ × Stop)) (line : Line) (h n : ℕ) → line
 row_past None line h n is within = tt
 row_past (Some f) line h n is within = (n, is ∙ ap (λ (x : ℕ). lines.Turn x n) (sym within.0), within.1)
 
-pub later_at : (found : Option Place) (last : Option (ℕ × Stop)) (past : List Line) (i : ℕ) (d : Line) → i < length past → IfSome found (λ place. IsPlace place.stop.hart place.line place.turns past) → IfSome last (IsRowPast (get_or past i d))
+pub later_at : (found : Option TurnPlace) (last : Option (ℕ × Stop)) (past : List Line) (i : ℕ) (d : Line) → i < length past → IfSome found (λ place. IsPlace place.stop.hart place.line place.turns past) → IfSome last (IsRowPast (get_or past i d))
     → IfSome (later_place found i last) (λ place. IsPlace place.stop.hart place.line place.turns past)
 later_at found None past i d less was row = was
 later_at found (Some f) past i d less was (n, is, few) = place_at f.1.hart i f.0 n past d less is few
@@ -79,7 +79,7 @@ module _ (size : Size) (stops : Stops) where
   pass_run (x ∷ xs) b new (next, (move, is), passed) = let more = pass_run xs next new passed in (move.0 ∷ more.0, (next, move.1, more.1))
 
   -- what is seen of a turn
-  pub is_seen : (h : ℕ) (b new : Bench) (stands : Bool) (touched : Option Watch) → is_at_point stops h b ≡ stands → Touches stops h b new touched → IsSeen (halt_back stands touched) stops h b new
+  pub is_seen : (h : ℕ) (b new : Bench) (stands : Bool) (touched : Option Watchpoint) → is_at_point stops h b ≡ stands → Touches stops h b new touched → IsSeen (halt_back stands touched) stops h b new
   is_seen h b new true None at told = at
   is_seen h b new false None at told = (at, told)
   is_seen h b new stands (Some w) at told = told
@@ -129,7 +129,7 @@ module _ (size : Size) (stops : Stops) where
   found_more None all more b mid new was passed = pass_more all more b mid new was passed
   found_more (Some f) all more b mid new was passed = ends_more (IsSeen (Some f.1.halt) stops f.1.hart) f.1.hart (replicate f.0 (one_turn f.1.hart)) all more b mid new was passed
 
-  pub found_turn : (found : Option (ℕ × Stop)) (h k : ℕ) (halt : Option Halt) (b mid new : Bench) → FoundIn size stops found (replicate k (one_turn h)) b mid → MayMove size (one_turn h) mid new × IsSeen halt stops h mid new
+  pub found_turn : (found : Option (ℕ × Stop)) (h k : ℕ) (halt : Option HaltReason) (b mid new : Bench) → FoundIn size stops found (replicate k (one_turn h)) b mid → MayMove size (one_turn h) mid new × IsSeen halt stops h mid new
       → FoundIn size stops (later_turn found k h halt) (replicate (k + 1) (one_turn h)) b new
   found_turn found h k None b mid new was did =
       let P : List Line → Type 0 = λ xs. FoundIn size stops found xs b new in
@@ -146,28 +146,28 @@ module _ (size : Size) (stops : Stops) where
   }
 
   -- ---- in a history
-  place_run : (found : Option Place) (past all : List Line) (b new : Bench) → FoundOf size stops found past all b new → Leaves size b all new
+  place_run : (found : Option TurnPlace) (past all : List Line) (b new : Bench) → FoundOf size stops found past all b new → Leaves size b all new
   place_run None past all b new passed = pass_run all b new passed
   place_run (Some place) past all b new e = ends_run (IsSeen (Some place.stop.halt) stops place.stop.hart) place.stop.hart (before_place place past) all b new e
 
-  place_more : (found : Option Place) (past all more : List Line) (b mid new : Bench) → FoundOf size stops found past all b mid → PassBack size stops more mid new → FoundOf size stops found past (all ++ more) b new
+  place_more : (found : Option TurnPlace) (past all more : List Line) (b mid new : Bench) → FoundOf size stops found past all b mid → PassBack size stops more mid new → FoundOf size stops found past (all ++ more) b new
   place_more None past all more b mid new was passed = pass_more all more b mid new was passed
   place_more (Some place) past all more b mid new was passed = ends_more (IsSeen (Some place.stop.halt) stops place.stop.hart) place.stop.hart (before_place place past) all more b mid new was passed
 
-  either_line : (found : Option Place) (last : Option (ℕ × Stop)) (past : List Line) (i : ℕ) (line : Line) (b mid new : Bench) → FoundOf size stops found past (moments (take i past)) b mid → FoundIn size stops last (singles line) mid new
+  either_line : (found : Option TurnPlace) (last : Option (ℕ × Stop)) (past : List Line) (i : ℕ) (line : Line) (b mid new : Bench) → FoundOf size stops found past (moments (take i past)) b mid → FoundIn size stops last (singles line) mid new
       → FoundOf size stops (later_place found i last) past (moments (take i past) ++ singles line) b new
   either_line found None past i line b mid new was passed = place_more found past (moments (take i past)) (singles line) b mid new was passed
   either_line found (Some f) past i line b mid new was e =
       ends_behind (IsSeen (Some f.1.halt) stops f.1.hart) f.1.hart (moments (take i past)) (replicate f.0 (one_turn f.1.hart)) (singles line) b mid new (place_run found past (moments (take i past)) b mid was) e
 
-  pub found_line : (found : Option Place) (last : Option (ℕ × Stop)) (past : List Line) (i : ℕ) (d : Line) (b mid new : Bench) → i < length past → FoundOf size stops found past (moments (take i past)) b mid → FoundIn size stops last (singles (get_or past i d)) mid new
+  pub found_line : (found : Option TurnPlace) (last : Option (ℕ × Stop)) (past : List Line) (i : ℕ) (d : Line) (b mid new : Bench) → i < length past → FoundOf size stops found past (moments (take i past)) b mid → FoundIn size stops last (singles (get_or past i d)) mid new
       → FoundOf size stops (later_place found i last) past (moments (take (i + 1) past)) b new
   found_line found last past i d b mid new less was did =
       let P : List Line → Type 0 = λ xs. FoundOf size stops (later_place found i last) past xs b new in
       subst P (sym (moments_more past i d less)) (either_line found last past i (get_or past i d) b mid new was did)
 
   -- ---- where the way back ends
-  why_back : (halt : Halt) (h : ℕ) (before : List Line) (b new : Bench) → IsSeen (Some halt) stops h b new → IsWhyBack halt stops h before b new
+  why_back : (halt : HaltReason) (h : ℕ) (before : List Line) (b new : Bench) → IsSeen (Some halt) stops h b new → IsWhyBack halt stops h before b new
   why_back halts.Begin h before b new seen = absurd seen
   why_back halts.Stepped h before b new seen = seen
   why_back halts.Point h before b new seen = seen
@@ -178,7 +178,7 @@ module _ (size : Size) (stops : Stops) where
   why_back halts.Spent h before b new seen = seen
   why_back halts.Interrupted h before b new seen = seen
 
-  pub end_found : (place : Place) (past : List Line) (b last : Bench) → FoundOf size stops (Some place) past (moments past) b last → IsEnd size stops place past b
+  pub end_found : (place : TurnPlace) (past : List Line) (b last : Bench) → FoundOf size stops (Some place) past (moments past) b last → IsEnd size stops place past b
   end_found place past b last e = (
     last,
     record {
@@ -193,7 +193,7 @@ module _ (size : Size) (stops : Stops) where
     },
   )
 
-  pub end_first : (place : Place) (past : List Line) (b last : Bench) → IsPlace place.stop.hart place.line place.turns past → place.turns ≡ 0 → place.stop.halt ≡ halts.Begin → All MakesNone (take place.line past) → PassBack size stops (moments past) b last
+  pub end_first : (place : TurnPlace) (past : List Line) (b last : Bench) → IsPlace place.stop.hart place.line place.turns past → place.turns ≡ 0 → place.stop.halt ≡ halts.Begin → All MakesNone (take place.line past) → PassBack size stops (moments past) b last
       → IsEnd size stops place past b
   end_first place past b last at zero begin none passed =
       let h = place.stop.hart in
@@ -207,7 +207,7 @@ module _ (size : Size) (stops : Stops) where
       let empty : replicate place.turns (one_turn h) ≡ [] = ap (λ (k : ℕ). replicate k (one_turn h)) zero in
       let same : before ≡ front = ap (λ (xs : List Line). moments front ++ xs) empty ∙ append-nil (moments front) ∙ none_same front none in
       let Q : List Line → Type 0 = λ xs. All MakesNone xs in
-      let R : Halt → Type 0 = λ halt. IsWhyBack halt stops h before parts.0 parts.2.0 in (
+      let R : HaltReason → Type 0 = λ halt. IsWhyBack halt stops h before parts.0 parts.2.0 in (
         last,
         record {
           after = rest.0;
@@ -222,7 +222,7 @@ module _ (size : Size) (stops : Stops) where
       )
 
   -- the history is cut there
-  pub went_back : (place : Place) (old new : Timeline) → new.history ≡ take place.line old.history ++ some_turns place.stop.hart place.turns → IsEnd size stops place old.history (bench_with old.begins) → BackTo size stops place.stop old new
+  pub went_back : (place : TurnPlace) (old new : Timeline) → new.history ≡ take place.line old.history ++ some_turns place.stop.hart place.turns → IsEnd size stops place old.history (bench_with old.begins) → BackTo size stops place.stop old new
   went_back place old new cut (last, e) =
       let h = place.stop.hart in
       let same : moments new.history ≡ before_place place old.history = ap moments cut ∙ left_moments h place.line place.turns old.history in

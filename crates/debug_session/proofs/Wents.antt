@@ -15,9 +15,9 @@ use Rattle.bench_report.specs.Bench.{Bench}
 use Rattle.debug_session.specs.Passes.{GoesTo, Passes}
 use Rattle.debug_session.specs.Ats.{IsAt}
 use Rattle.debug_session.specs.Lives.{machine_of, pc_in}
-use Rattle.debug_session.specs.declared.forth.Part.{Part}
-use Rattle.debug_session.specs.declared.halts.Halt.{Halt}
-use Rattle.debug_session.specs.declared.halts.Halt.TheVariants as halts
+use Rattle.debug_session.specs.declared.forth.RoundPart.{RoundPart}
+use Rattle.debug_session.specs.declared.halts.HaltReason.{HaltReason}
+use Rattle.debug_session.specs.declared.halts.HaltReason.TheVariants as halts
 use Rattle.debug_session.specs.Firsts.{Stretched}
 use Rattle.debug_session.specs.Steps.{EndsStep, IsStep, IsTurnOf, Went, halt_step}
 use Rattle.debug_session.specs.Withins.{HaltsBy, MadeOne}
@@ -70,20 +70,20 @@ one_turn size h points (rows.Lost n) b new within (mid, passed, last) =
     (mid, subst Q (sym none) (subst P none passed), last)
 
 -- one turn, as a step
-step_ends : (row : TurnRow) (rests : Bool) (pc : Option ℕ) (made : ℕ) (halt : Option Halt) → IsWithin 1 row → made ≡ made_in row → HaltsBy row rests pc halt → EndsStep row rests pc (halt_step halt made)
+step_ends : (row : TurnRow) (rests : Bool) (pc : Option ℕ) (made : ℕ) (halt : Option HaltReason) → IsWithin 1 row → made ≡ made_in row → HaltsBy row rests pc halt → EndsStep row rests pc (halt_step halt made)
 step_ends rows.Off true pc made halt within count by =
-    let P : Option Halt → Type 0 = λ x. halt_step x made ≡ halts.Idle in
+    let P : Option HaltReason → Type 0 = λ x. halt_step x made ≡ halts.Idle in
     let Q : ℕ → Type 0 = λ k. halt_step None k ≡ halts.Idle in
     subst P (sym by) (subst Q (sym count) refl)
-step_ends rows.Off false pc made halt within count by = (ap (λ (x : Option Halt). halt_step x made) by.0, by.1)
+step_ends rows.Off false pc made halt within count by = (ap (λ (x : Option HaltReason). halt_step x made) by.0, by.1)
 step_ends (rows.Made n word) rests pc made None within count by = inl (stepped made (omega (arith, within, count)))
   where
     stepped : (k : ℕ) → k ≡ 1 → halt_step None k ≡ halts.Stepped
     stepped k is = let P : ℕ → Type 0 = λ x. halt_step None x ≡ halts.Stepped in subst P (sym is) refl
 step_ends (rows.Made n word) rests pc made (Some halt) within count by = inr by
-step_ends (rows.Lost n) rests pc made halt within count by = ap (λ (x : Option Halt). halt_step x made) by
+step_ends (rows.Lost n) rests pc made halt within count by = ap (λ (x : Option HaltReason). halt_step x made) by
 
-pub step_of : (size : Size) (h : ℕ) (points : List ℕ) (part : Part) (old new : Timeline) → MadeOne size h points part old new → IsStep size h (halt_step part.halt part.made) old new
+pub step_of : (size : Size) (h : ℕ) (points : List ℕ) (part : RoundPart) (old new : Timeline) → MadeOne size h points part old new → IsStep size h (halt_step part.halt part.made) old new
 step_of size h points part old new (row, turns, within, count, by) = (
   row,
   part.rests,
@@ -92,7 +92,7 @@ step_of size h points part old new (row, turns, within, count, by) = (
   step_ends row part.rests (pc_in h (machine_of new.bench)) part.made part.halt within count by,
 )
 
-pub few_of : (size : Size) (h most made : ℕ) (points : List ℕ) (rests : Bool) (halt : Option Halt) (old new : Timeline) → Stretched size h most points made rests halt old new
+pub few_of : (size : Size) (h most made : ℕ) (points : List ℕ) (rests : Bool) (halt : Option HaltReason) (old new : Timeline) → Stretched size h most points made rests halt old new
     → made ≤ most
 few_of size h most made points rests halt old new (row, turns, e, within, why, is) = few row e within
   where

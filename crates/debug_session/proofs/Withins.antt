@@ -15,16 +15,16 @@ use Rattle.debug_session.specs.Ats.{IsLeft, MadeTurns}
 use Rattle.debug_session.specs.Lives.{Rests, machine_of, pc_in}
 use Rattle.debug_session.specs.Passes.{machine_left}
 use Rattle.debug_session.proofs.Passed.{shown_machine}
-use Rattle.debug_session.specs.declared.forth.Part.{Part}
-use Rattle.debug_session.specs.declared.forth.Within.{Within}
-use Rattle.debug_session.specs.declared.halts.Halt.{Halt}
-use Rattle.debug_session.specs.declared.halts.Halt.TheVariants as halts
-use Rattle.debug_session.specs.declared.stops.Watch.{Watch}
+use Rattle.debug_session.specs.declared.forth.RoundPart.{RoundPart}
+use Rattle.debug_session.specs.declared.forth.StepRange.{StepRange}
+use Rattle.debug_session.specs.declared.halts.HaltReason.{HaltReason}
+use Rattle.debug_session.specs.declared.halts.HaltReason.TheVariants as halts
+use Rattle.debug_session.specs.declared.stops.Watchpoint.{Watchpoint}
 use Rattle.debug_session.specs.Firsts.{Stretched, halt_after, halt_seen, halts_all, is_of_turn, one_turn}
 use Rattle.debug_session.specs.Withins.{HaltsBy, LeftBy, MadeOne, StayedWithin, StaysWithin, IsSpent, StepsTo, StepsWithin, TurnsOnce, is_in, is_pc_in}
 
 -- ---- one turn at most
-behind_turn : (ended stands : Bool) (changed : Option Watch) → IfSome (halt_seen (if ended then Some halts.Ended else (if stands then Some halts.Point else None)) changed) (λ x. is_of_turn x ≡ true)
+behind_turn : (ended stands : Bool) (changed : Option Watchpoint) → IfSome (halt_seen (if ended then Some halts.Ended else (if stands then Some halts.Point else None)) changed) (λ x. is_of_turn x ≡ true)
 behind_turn true stands changed = refl
 behind_turn false true None = refl
 behind_turn false true (Some w) = refl
@@ -34,20 +34,20 @@ behind_turn false false (Some w) = refl
 or_never : (P : Type 0) → (◌≡◌ {A = ℕ} 1 0) ⊎ P → P
 or_never P either = elim either [ inl never ↦ absurd (omega (arith, never)) | inr p ↦ p ]
 
-halts_by : (row : TurnRow) (rests stands : Bool) (pc : Option ℕ) (changed : Option Watch) (halt : Option Halt) → halt ≡ halt_seen (halt_after row rests stands) changed → (made_in row ≡ 0 → changed ≡ None)
+halts_by : (row : TurnRow) (rests stands : Bool) (pc : Option ℕ) (changed : Option Watchpoint) (halt : Option HaltReason) → halt ≡ halt_seen (halt_after row rests stands) changed → (made_in row ≡ 0 → changed ≡ None)
     → (is_off row ≡ true → rests ≡ false → (◌≡◌ {A = ℕ} 1 0) ⊎ (pc ≡ None)) → HaltsBy row rests pc halt
 halts_by rows.Off true stands pc changed halt is none why = is ∙ ap (halt_seen None) (none refl)
 halts_by rows.Off false stands pc changed halt is none why = (is, or_never (pc ≡ None) (why refl refl))
 halts_by (rows.Made n word) rests stands pc changed halt is none why =
-    let P : Option Halt → Type 0 = λ x. IfSome x (λ y. is_of_turn y ≡ true) in subst P (sym is) (behind_turn (halts_all word) stands changed)
+    let P : Option HaltReason → Type 0 = λ x. IfSome x (λ y. is_of_turn y ≡ true) in subst P (sym is) (behind_turn (halts_all word) stands changed)
 halts_by (rows.Lost n) rests stands pc changed halt is none why = is
 
-pub made_one : (size : Size) (h made : ℕ) (points : List ℕ) (rests : Bool) (at halt : Option Halt) (changed : Option Watch) (old new : Timeline) → Stretched size h 1 points made rests at old new → halt ≡ halt_seen at changed → (made ≡ 0 → changed ≡ None)
+pub made_one : (size : Size) (h made : ℕ) (points : List ℕ) (rests : Bool) (at halt : Option HaltReason) (changed : Option Watchpoint) (old new : Timeline) → Stretched size h 1 points made rests at old new → halt ≡ halt_seen at changed → (made ≡ 0 → changed ≡ None)
     → (row : TurnRow) × MadeTurns size h points row rests old new × IsWithin 1 row × (made ≡ made_in row) × HaltsBy row rests (pc_in h (machine_of new.bench)) halt
 made_one size h made points rests at halt changed old new (row, turns, count, within, why, is) seen none =
-    (row, turns, within, count, halts_by row rests _ (pc_in h (machine_of new.bench)) changed halt (seen ∙ ap (λ (x : Option Halt). halt_seen x changed) is) (λ e. none (count ∙ e)) why)
+    (row, turns, within, count, halts_by row rests _ (pc_in h (machine_of new.bench)) changed halt (seen ∙ ap (λ (x : Option HaltReason). halt_seen x changed) is) (λ e. none (count ∙ e)) why)
 
-left_by : (within : Within) (h : ℕ) (halt : Halt) (b : Bench) → is_of_turn halt ≡ true → LeftBy within h halt b
+left_by : (within : StepRange) (h : ℕ) (halt : HaltReason) (b : Bench) → is_of_turn halt ≡ true → LeftBy within h halt b
 left_by within h halts.Stepped b of_turn = absurd (let never : ⊥ = cc in never)
 left_by within h halts.Point b of_turn = of_turn
 left_by within h (halts.Watched w) b of_turn = of_turn
@@ -58,11 +58,11 @@ left_by within h halts.Spent b of_turn = of_turn
 left_by within h halts.Interrupted b of_turn = of_turn
 left_by within h halts.Begin b of_turn = of_turn
 
-some_is : (o : Option Halt) (halt : Halt) (P : Halt → Type 0) → o ≡ Some halt → IfSome o P → P halt
+some_is : (o : Option HaltReason) (halt : HaltReason) (P : HaltReason → Type 0) → o ≡ Some halt → IfSome o P → P halt
 some_is None halt P e has = absurd (let never : ⊥ = cc in never)
 some_is (Some x) halt P e has = let same : x ≡ halt = cc in subst P same has
 
-module _ (size : Size) (within : Within) (h : ℕ) where
+module _ (size : Size) (within : StepRange) (h : ℕ) where
   is_shown : (t : Timeline) (b : Bench) → IsLeft size t b → is_in within (pc_in h (machine_of t.bench)) ≡ is_pc_in within h b
   is_shown t b left = ap (λ (m : Option Machine). is_in within (pc_in h m)) (shown_machine size b t.bench.live.power t.bench.live.payloads left.2)
 
@@ -86,7 +86,7 @@ module _ (size : Size) (within : Within) (h : ℕ) where
   stayed_none t = record { grew = sym (append-nil (moments t.history)); ran = λ b left. (b, refl, left) }
 
   -- the hart steps no more, though each turn left the pc within
-  of_stayed : (n : ℕ) (halt : Halt) (first last : Timeline) → StayedWithin size within h n first last → ((b : Bench) → IsSpent size within h halt n b) → StepsWithin size within h halt first last
+  of_stayed : (n : ℕ) (halt : HaltReason) (first last : Timeline) → StayedWithin size within h n first last → ((b : Bench) → IsSpent size within h halt n b) → StepsWithin size within h halt first last
   of_stayed n halt first last stayed spent = record {
     count = n;
     grew = stayed.grew;
@@ -99,7 +99,7 @@ module _ (size : Size) (within : Within) (h : ℕ) where
   pub steps_asked : (n : ℕ) (first last : Timeline) → StayedWithin size within h n first last → StepsWithin size within h halts.Interrupted first last
   steps_asked n first last stayed = of_stayed n halts.Interrupted first last stayed (λ b. tt)
 
-  module _ (n : ℕ) (points : List ℕ) (part : Part) (first mid last : Timeline) (stayed : StayedWithin size within h n first mid) where
+  module _ (n : ℕ) (points : List ℕ) (part : RoundPart) (first mid last : Timeline) (stayed : StayedWithin size within h n first mid) where
     -- a turn was made
     once_grew : (row : TurnRow) → MadeTurns size h points row part.rests mid last → made_in row ≡ 1 → moments last.history ≡ moments first.history ++ replicate (n + 1) (one_turn h)
     once_grew row turns one =
@@ -114,7 +114,7 @@ module _ (size : Size) (within : Within) (h : ℕ) where
     }
 
     -- and is the last
-    once_left : (row : TurnRow) (halt : Halt) → MadeTurns size h points row part.rests mid last → made_in row ≡ 1 → ((b : Bench) → IsLeft size last b → LeftBy within h halt b) → StepsWithin size within h halt first last
+    once_left : (row : TurnRow) (halt : HaltReason) → MadeTurns size h points row part.rests mid last → made_in row ≡ 1 → ((b : Bench) → IsLeft size last b → LeftBy within h halt b) → StepsWithin size within h halt first last
     once_left row halt turns one why = record {
       count = n + 1;
       grew = once_grew row turns one;
@@ -125,7 +125,7 @@ module _ (size : Size) (within : Within) (h : ℕ) where
     steps_out (row, turns, few, count, found) made is = once_left row halts.Stepped turns (sym count ∙ made) (λ b left. sym (is_shown last b left) ∙ is)
 
     -- no turn was made
-    none_made : (halt : Halt) → MadeTurns size h points rows.Off part.rests mid last → ((b : Bench) → IsLeft size last b → Rests size h part.rests b → IsSpent size within h halt n b) → StepsWithin size within h halt first last
+    none_made : (halt : HaltReason) → MadeTurns size h points rows.Off part.rests mid last → ((b : Bench) → IsLeft size last b → Rests size h part.rests b → IsSpent size within h halt n b) → StepsWithin size within h halt first last
     none_made halt turns spent = record {
       count = n;
       grew = (let same : n + 0 ≡ n = omega arith in
@@ -141,26 +141,26 @@ module _ (size : Size) (within : Within) (h : ℕ) where
     -- since the hart has nothing to do
     idle_none : (rests : Bool) → part.rests ≡ rests → MadeTurns size h points rows.Off part.rests mid last → HaltsBy rows.Off rests (pc_in h (machine_of last.bench)) part.halt → part.halt ≡ None → StepsWithin size within h halts.Idle first last
     idle_none true idle turns found none = none_made halts.Idle turns (λ b left so. let P : Bool → Type 0 = λ x. Rests size h x b in subst P idle so)
-    idle_none false idle turns found none = absurd (let never : ◌≡◌ {A = Option Halt} None (Some halts.Off) = sym none ∙ found.0 in let never_so : ⊥ = cc in never_so)
+    idle_none false idle turns found none = absurd (let never : ◌≡◌ {A = Option HaltReason} None (Some halts.Off) = sym none ∙ found.0 in let never_so : ⊥ = cc in never_so)
 
     pub steps_idle : MadeOne size h points part mid last → part.made ≡ 0 → part.halt ≡ None → StepsWithin size within h halts.Idle first last
     steps_idle (rows.Off, turns, few, count, found) empty none = idle_none part.rests refl turns found none
     steps_idle (rows.Made k word, turns, few, count, found) empty none = absurd (omega (arith, few, count, empty))
     steps_idle (rows.Lost k, turns, few, count, found) empty none = absurd (omega (arith, few, count, empty))
 
-    off_none : (why : Halt) (rests : Bool) → part.rests ≡ rests → MadeTurns size h points rows.Off part.rests mid last → HaltsBy rows.Off rests (pc_in h (machine_of last.bench)) part.halt → part.halt ≡ Some why → StepsWithin size within h why first last
-    off_none why true idle turns found is = absurd (let never : ◌≡◌ {A = Option Halt} None (Some why) = sym found ∙ is in let never_so : ⊥ = cc in never_so)
+    off_none : (why : HaltReason) (rests : Bool) → part.rests ≡ rests → MadeTurns size h points rows.Off part.rests mid last → HaltsBy rows.Off rests (pc_in h (machine_of last.bench)) part.halt → part.halt ≡ Some why → StepsWithin size within h why first last
+    off_none why true idle turns found is = absurd (let never : ◌≡◌ {A = Option HaltReason} None (Some why) = sym found ∙ is in let never_so : ⊥ = cc in never_so)
     off_none why false idle turns found is =
-        let both : ◌≡◌ {A = Option Halt} (Some halts.Off) (Some why) = sym found.0 ∙ is in
+        let both : ◌≡◌ {A = Option HaltReason} (Some halts.Off) (Some why) = sym found.0 ∙ is in
         let same : halts.Off ≡ why = cc in
-        let P : Halt → Type 0 = λ x. StepsWithin size within h x first last in
+        let P : HaltReason → Type 0 = λ x. StepsWithin size within h x first last in
         subst P same (none_made halts.Off turns (λ b left so. off_so found.1 b left))
 
-    pub steps_halt : (why : Halt) → MadeOne size h points part mid last → part.halt ≡ Some why → StepsWithin size within h why first last
+    pub steps_halt : (why : HaltReason) → MadeOne size h points part mid last → part.halt ≡ Some why → StepsWithin size within h why first last
     steps_halt why (rows.Off, turns, few, count, found) is = off_none why part.rests refl turns found is
     steps_halt why (rows.Made k word, turns, few, count, found) is = once_left (rows.Made k word) why turns (omega (arith, few)) (λ b left. left_by within h why b (some_is part.halt why (λ x. is_of_turn x ≡ true) is found))
     steps_halt why (rows.Lost k, turns, few, count, found) is =
-        let both : ◌≡◌ {A = Option Halt} (Some halts.Ended) (Some why) = sym found ∙ is in
+        let both : ◌≡◌ {A = Option HaltReason} (Some halts.Ended) (Some why) = sym found ∙ is in
         let same : halts.Ended ≡ why = cc in
-        let P : Halt → Type 0 = λ x. StepsWithin size within h x first last in
+        let P : HaltReason → Type 0 = λ x. StepsWithin size within h x first last in
         subst P same (once_left (rows.Lost k) halts.Ended turns (omega (arith, few)) (λ b left. refl))

@@ -9,14 +9,14 @@ use Rattle.bench_report.specs.Bench.{Bench, bench_with}
 use Rattle.bench_report.specs.Steps.{Moves}
 use Rattle.bench_live.specs.Notes.{Leaves}
 use Rattle.debug_session.specs.declared.timeline.Timeline.{Timeline}
-use Rattle.debug_session.specs.declared.back.Place.{Place}
+use Rattle.debug_session.specs.declared.back.TurnPlace.{TurnPlace}
 use Rattle.debug_session.specs.declared.back.Way.{Way}
 use Rattle.debug_session.specs.declared.back.Way.TheVariants as ways
-use Rattle.debug_session.specs.declared.halts.Halt.{Halt}
-use Rattle.debug_session.specs.declared.halts.Halt.TheVariants as halts
+use Rattle.debug_session.specs.declared.halts.HaltReason.{HaltReason}
+use Rattle.debug_session.specs.declared.halts.HaltReason.TheVariants as halts
 use Rattle.debug_session.specs.declared.halts.Stop.{Stop}
 use Rattle.debug_session.specs.declared.stops.Stops.{Stops}
-use Rattle.debug_session.specs.declared.stops.Watch.{Watch}
+use Rattle.debug_session.specs.declared.stops.Watchpoint.{Watchpoint}
 use Rattle.debug_session.specs.Firsts.{KeepsWatched, Touches, is_at_point, one_turn}
 use Rattle.debug_session.specs.Steps.{MakesNone}
 
@@ -25,7 +25,7 @@ abbrev pub MayMove : Size → Line → Bench → Bench → Type 0
 MayMove size line b new = (answer : Answer) × Moves size line b answer new
 
 -- Whether the way back ends before a turn of hart h: the hart stood at a breakpoint, or the turn touched a watchpoint.
-abbrev pub IsSeen : Option Halt → Stops → ℕ → Bench → Bench → Type 0
+abbrev pub IsSeen : Option HaltReason → Stops → ℕ → Bench → Bench → Type 0
 IsSeen None stops h b new = (is_at_point stops h b ≡ false) × KeepsWatched stops h b new
 IsSeen (Some halts.Point) stops h b new = is_at_point stops h b ≡ true
 IsSeen (Some (halts.Watched w)) stops h b new = Touches stops h b new (Some w)
@@ -55,7 +55,7 @@ pub record EndsAt (size : Size) (stops : Stops) (Why : Bench → Bench → Type 
   pub passed : PassBack size stops after mid new
 
 -- why the way back ends behind these lines: a turn at which it ends comes next, or none was made before
-abbrev pub IsWhyBack : Halt → Stops → ℕ → List Line → Bench → Bench → Type 0
+abbrev pub IsWhyBack : HaltReason → Stops → ℕ → List Line → Bench → Bench → Type 0
 IsWhyBack halts.Begin stops h before b new = All MakesNone before × IsSeen None stops h b new
 IsWhyBack halt stops h before b new = IsSeen (Some halt) stops h b new
 
@@ -72,7 +72,7 @@ StaysBack stop h old new =
 
 -- ---- how the code finds it
 -- what holds where looking for a place came to its end
-abbrev pub IfEnded : Way → (Option Place → Type 0) → Type 0
+abbrev pub IfEnded : Way → (Option TurnPlace → Type 0) → Type 0
 IfEnded (ways.Ended found) P = P found
 IfEnded ways.Interrupted P = ⊤
 
@@ -83,17 +83,17 @@ FoundIn size stops (Some f) all b new =
     EndsAt size stops (IsSeen (Some f.1.halt) stops f.1.hart) f.1.hart (replicate f.0 (one_turn f.1.hart)) all b new
 
 -- what stands before a place in a history
-abbrev pub before_place : Place → List Line → List Line
+abbrev pub before_place : TurnPlace → List Line → List Line
 before_place place past = moments (take place.line past) ++ replicate place.turns (one_turn place.stop.hart)
 
 -- the same of the first lines of a history, by the place
-abbrev pub FoundOf : Size → Stops → Option Place → List Line → List Line → Bench → Bench → Type 0
+abbrev pub FoundOf : Size → Stops → Option TurnPlace → List Line → List Line → Bench → Bench → Type 0
 FoundOf size stops None past all b new = PassBack size stops all b new
 FoundOf size stops (Some place) past all b new =
     EndsAt size stops (IsSeen (Some place.stop.halt) stops place.stop.hart) place.stop.hart (before_place place past) all b new
 
 -- a place where the way back ends
-abbrev pub IsEnd : Size → Stops → Place → List Line → Bench → Type 0
+abbrev pub IsEnd : Size → Stops → TurnPlace → List Line → Bench → Type 0
 IsEnd size stops place past b =
     (last : Bench) × EndsAt size stops (IsWhyBack place.stop.halt stops place.stop.hart (before_place place past)) place.stop.hart
     (before_place place past) (moments past) b last
@@ -103,16 +103,16 @@ abbrev pub IsRowPast : Line → ℕ × Stop → Type 0
 IsRowPast line f = (n : ℕ) × (line ≡ lines.Turn f.1.hart n) × (f.0 < n)
 
 -- by whether the hart stood at a breakpoint, and the watchpoint that was touched
-abbrev pub halt_back : Bool → Option Watch → Option Halt
+abbrev pub halt_back : Bool → Option Watchpoint → Option HaltReason
 halt_back stands None = if stands then Some halts.Point else None
 halt_back stands (Some w) = Some (halts.Watched w)
 
 -- what was found before, or later: the turn of hart h behind k others
-abbrev pub later_turn : Option (ℕ × Stop) → ℕ → ℕ → Option Halt → Option (ℕ × Stop)
+abbrev pub later_turn : Option (ℕ × Stop) → ℕ → ℕ → Option HaltReason → Option (ℕ × Stop)
 later_turn found k h None = found
 later_turn found k h (Some halt) = Some (k, record { hart = h; halt = halt })
 
 -- or in line i
-abbrev pub later_place : Option Place → ℕ → Option (ℕ × Stop) → Option Place
+abbrev pub later_place : Option TurnPlace → ℕ → Option (ℕ × Stop) → Option TurnPlace
 later_place found i None = found
 later_place found i (Some f) = Some (record { line = i; turns = f.0; stop = f.1 })

@@ -19,11 +19,11 @@ use Rattle.debug_session.specs.Lives.{machine_of, memory_in, pc_in, stands_in}
 use Rattle.debug_session.specs.Loads.{LoadsNext}
 use Rattle.debug_session.specs.Passes.{machine_left}
 use Rattle.debug_session.specs.declared.loads.Load.{Load}
-use Rattle.debug_session.specs.declared.halts.Halt.{Halt}
-use Rattle.debug_session.specs.declared.halts.Halt.TheVariants as halts
-use Rattle.debug_session.specs.declared.stops.Seen.{Seen}
+use Rattle.debug_session.specs.declared.halts.HaltReason.{HaltReason}
+use Rattle.debug_session.specs.declared.halts.HaltReason.TheVariants as halts
+use Rattle.debug_session.specs.declared.stops.SeenBytes.{SeenBytes}
 use Rattle.debug_session.specs.declared.stops.Stops.{Stops}
-use Rattle.debug_session.specs.declared.stops.Watch.{Watch}
+use Rattle.debug_session.specs.declared.stops.Watchpoint.{Watchpoint}
 use Rattle.debug_session.specs.declared.stops.WatchKind.{WatchKind}
 use Rattle.debug_session.specs.declared.stops.WatchKind.TheVariants as kinds
 
@@ -32,7 +32,7 @@ abbrev pub bytes_seen : Option (List ℕ) → List ℕ
 bytes_seen None = []
 bytes_seen (Some bytes) = bytes
 
-abbrev pub seen_by : Option Machine → Watch → List ℕ
+abbrev pub seen_by : Option Machine → Watchpoint → List ℕ
 seen_by m w = bytes_seen (memory_in w.address w.count m)
 
 -- what a watchpoint of that kind minds
@@ -47,22 +47,22 @@ minds_reads kinds.Reads = true
 minds_reads kinds.Accesses = true
 
 -- one of its bytes at least is read
-abbrev pub is_read : Watch → Option Load → Bool
+abbrev pub is_read : Watchpoint → Option Load → Bool
 is_read w None = false
 is_read w (Some load) = nat_lt w.address (load.address + load.count) && nat_lt load.address (w.address + w.count)
 
 -- its bytes are as they were, where it minds that; and none of them is read, where it minds that
-abbrev pub is_kept : Watch → List ℕ → List ℕ → Bool
+abbrev pub is_kept : Watchpoint → List ℕ → List ℕ → Bool
 is_kept w was now = if minds_changes w.kind then bytes_eq was now else true
 
-abbrev pub is_unread : Watch → Option Load → Bool
+abbrev pub is_unread : Watchpoint → Option Load → Bool
 is_unread w load = if minds_reads w.kind then not (is_read w load) else true
 
-abbrev pub is_quiet : Option Load → Watch → List ℕ → List ℕ → Bool
+abbrev pub is_quiet : Option Load → Watchpoint → List ℕ → List ℕ → Bool
 is_quiet load w was now = is_kept w was now && is_unread w load
 
 -- the first of these that a turn touches, which reads that
-abbrev pub touched_in : Option Machine → Option Machine → Option Load → List Watch → Option Watch
+abbrev pub touched_in : Option Machine → Option Machine → Option Load → List Watchpoint → Option Watchpoint
 touched_in before now load [] = None
 touched_in before now load (w ∷ more) =
     if is_quiet load w (seen_by before w) (seen_by now w) then touched_in before now load more else Some w
@@ -87,11 +87,11 @@ abbrev pub is_at_point : Stops → ℕ → Bench → Bool
 is_at_point stops h b = stands_in stops.points.items (pc_in h (machine_left b.power))
 
 -- the first watchpoint that a turn touches, which reads that
-abbrev pub touched_by : Stops → Option Load → Bench → Bench → Option Watch
+abbrev pub touched_by : Stops → Option Load → Bench → Bench → Option Watchpoint
 touched_by stops load b new = touched_in (machine_left b.power) (machine_left new.power) load stops.watches.items
 
 -- The first watchpoint that a turn of hart h touches, if it touches one. It reads what the hart's next turn reads before it.
-abbrev pub Touches : Stops → ℕ → Bench → Bench → Option Watch → Type 0
+abbrev pub Touches : Stops → ℕ → Bench → Bench → Option Watchpoint → Type 0
 Touches stops h b new found = (load : Option Load) → LoadsNext (machine_left b.power) h load → touched_by stops load b new ≡ found
 
 -- it touches none
@@ -111,13 +111,13 @@ PassAll size stops (h ∷ more) b new = (mid : Bench) × PassesBy size stops h b
 
 -- ---- why all halts
 -- a turn may be why
-abbrev pub is_of_turn : Halt → Bool
+abbrev pub is_of_turn : HaltReason → Bool
 is_of_turn halts.Ended = true
 is_of_turn halts.Point = true
 is_of_turn (halts.Watched w) = true
 is_of_turn halt = false
 
-abbrev pub IsWhy : Halt → Stops → ℕ → TurnRow → Bench → Bench → Type 0
+abbrev pub IsWhy : HaltReason → Stops → ℕ → TurnRow → Bench → Bench → Type 0
 IsWhy halts.Ended stops h row b new = ends_all row ≡ true
 IsWhy halts.Point stops h row b new = is_at_point stops h new ≡ true
 IsWhy (halts.Watched w) stops h row b new = Touches stops h b new (Some w)
@@ -125,13 +125,13 @@ IsWhy halt stops h row b new = ⊥
 
 -- Turns of these harts, one after another. Where a turn is why all halts, it is the last, of hart h; behind each other nothing
 -- halts.
-abbrev pub RanBy : Bool → Size → Stops → ℕ → Halt → List ℕ → Bench → Bench → Type 0
+abbrev pub RanBy : Bool → Size → Stops → ℕ → HaltReason → List ℕ → Bench → Bench → Type 0
 RanBy false size stops h halt harts b new = PassAll size stops harts b new
 RanBy true size stops h halt harts b new =
     (before : List ℕ) × (mid : Bench) × (row : TurnRow) × (harts ≡ before ++ h ∷ []) × PassAll size stops before b mid
     × (made_in row ≡ 1) × RowMoves size h row mid new × IsWhy halt stops h row mid new
 
-abbrev pub RanTo : Size → Stops → ℕ → Option Halt → List ℕ → Bench → Bench → Type 0
+abbrev pub RanTo : Size → Stops → ℕ → Option HaltReason → List ℕ → Bench → Bench → Type 0
 RanTo size stops h None harts b new = PassAll size stops harts b new
 RanTo size stops h (Some halt) harts b new = RanBy (is_of_turn halt) size stops h halt harts b new
 
@@ -139,50 +139,50 @@ abbrev pub one_turn : ℕ → Line
 one_turn h = lines.Turn h 1
 
 -- Turns became part of the history, up to the first halt; where a turn is why, it is one of hart h.
-pub record ToHalt (size : Size) (stops : Stops) (h : ℕ) (halt : Option Halt) (old new : Timeline) : Type 0 where
+pub record ToHalt (size : Size) (stops : Stops) (h : ℕ) (halt : Option HaltReason) (old new : Timeline) : Type 0 where
   pub harts : List ℕ
   pub grew : moments new.history ≡ moments old.history ++ map one_turn harts
   pub ran : (b : Bench) → IsLeft size old b → (after : Bench) × RanTo size stops h halt harts b after × IsLeft size new after
 
 -- ---- how the code finds it
 -- behind a row, by where the hart stands then
-abbrev pub halt_after : TurnRow → Bool → Bool → Option Halt
+abbrev pub halt_after : TurnRow → Bool → Bool → Option HaltReason
 halt_after rows.Off rests stands = if rests then None else Some halts.Off
 halt_after (rows.Lost n) rests stands = Some halts.Ended
 halt_after (rows.Made n word) rests stands =
     if halts_all word then Some halts.Ended else (if stands then Some halts.Point else None)
 
 -- and where a watchpoint is touched, by the first that is
-abbrev pub watch_or : Option Halt → Option Watch → Option Halt
+abbrev pub watch_or : Option HaltReason → Option Watchpoint → Option HaltReason
 watch_or halt None = halt
 watch_or halt (Some w) = Some (halts.Watched w)
 
-abbrev pub halt_seen : Option Halt → Option Watch → Option Halt
+abbrev pub halt_seen : Option HaltReason → Option Watchpoint → Option HaltReason
 halt_seen None touched = watch_or None touched
 halt_seen (Some halts.Point) touched = watch_or (Some halts.Point) touched
 halt_seen (Some halt) touched = Some halt
 
 -- what is watched, with the bytes that were seen of it
-abbrev pub seen_all : Option Machine → List Watch → List (Watch × List ℕ)
+abbrev pub seen_all : Option Machine → List Watchpoint → List (Watchpoint × List ℕ)
 seen_all m watches = map (λ w. (w, seen_by m w)) watches
 
 -- the first of that which a turn touched, which read that
-abbrev pub touched_since : Option Machine → Option Load → List (Watch × List ℕ) → Option Watch
+abbrev pub touched_since : Option Machine → Option Load → List (Watchpoint × List ℕ) → Option Watchpoint
 touched_since now load [] = None
 touched_since now load (was ∷ more) =
     if is_quiet load was.0 was.1 (seen_by now was.0) then touched_since now load more else Some was.0
 
 -- the same of the code
-abbrev pub seen_in : List Seen → List (Watch × List ℕ)
+abbrev pub seen_in : List SeenBytes → List (Watchpoint × List ℕ)
 seen_in all = map (λ was. (was.watch, was.bytes.items)) all
 
 -- what was seen tells what a turn touches, from that machine on
-abbrev pub TellsTouched : Option Machine → List Watch → List (Watch × List ℕ) → Type 0
+abbrev pub TellsTouched : Option Machine → List Watchpoint → List (Watchpoint × List ℕ) → Type 0
 TellsTouched m watches before =
     (now : Option Machine) (load : Option Load) → touched_since now load before ≡ touched_in m now load watches
 
 -- a row of a hart to the first that halts there
-abbrev pub Stretched : Size → ℕ → ℕ → List ℕ → ℕ → Bool → Option Halt → Timeline → Timeline → Type 0
+abbrev pub Stretched : Size → ℕ → ℕ → List ℕ → ℕ → Bool → Option HaltReason → Timeline → Timeline → Type 0
 Stretched size h most points made rests halt old new =
     (row : TurnRow) × MadeTurns size h points row rests old new × (made ≡ made_in row) × IsWithin most row
     × (is_off row ≡ true → rests ≡ false → (most ≡ 0) ⊎ (pc_in h (machine_of new.bench) ≡ None))

@@ -2,7 +2,7 @@
 -- `z` and `Z`: a packet sets one or takes it away. To set one that is set, or to take away one that is not, changes nothing.
 use Rattle.std.specs.Prelude.{ℕ, Bool, true, false, List, [], ◌∷◌, ◌++◌, ◌==◌, ◌&&◌, not, if◌then◌else◌}
 use Rattle.std.specs.List.{filter, list_any}
-use Rattle.debug_session.specs.declared.stops.Watch.{Watch}
+use Rattle.debug_session.specs.declared.stops.Watchpoint.{Watchpoint}
 use Rattle.debug_session.specs.declared.stops.WatchKind.{WatchKind}
 use Rattle.debug_session.specs.declared.stops.WatchKind.TheVariants as kinds
 
@@ -21,13 +21,13 @@ is_kind kinds.Accesses kinds.Accesses = true
 is_kind a b = false
 
 -- the same kind, of the same bytes
-abbrev pub is_same : Watch → Watch → Bool
+abbrev pub is_same : Watchpoint → Watchpoint → Bool
 is_same watch w = is_kind w.kind watch.kind && (w.address == watch.address && w.count == watch.count)
 
 -- a watchpoint more: it stands once
-abbrev pub with_watch : Watch → List Watch → List Watch
+abbrev pub with_watch : Watchpoint → List Watchpoint → List Watchpoint
 with_watch watch watches = if list_any (is_same watch) watches then watches else watches ++ watch ∷ []
 
 -- all but that one
-abbrev pub without_watch : Watch → List Watch → List Watch
+abbrev pub without_watch : Watchpoint → List Watchpoint → List Watchpoint
 without_watch watch watches = filter (λ w. not (is_same watch w)) watches

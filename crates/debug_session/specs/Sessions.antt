@@ -5,8 +5,8 @@ use Rattle.machine.specs.Machine.{Machine}
 use Rattle.script_lang.specs.declared.line.Line.{Line}
 use Rattle.debug_session.specs.declared.debugged.DebuggedBench.{DebuggedBench}
 use Rattle.debug_session.specs.declared.stops.Stops.{Stops}
-use Rattle.debug_session.specs.declared.stops.Watch.{Watch}
-use Rattle.debug_session.specs.declared.session.Plan.{Plan}
+use Rattle.debug_session.specs.declared.stops.Watchpoint.{Watchpoint}
+use Rattle.debug_session.specs.declared.session.SessionPlan.{SessionPlan}
 use Rattle.debug_session.specs.declared.session.Session.{Session}
 use Rattle.debug_session.specs.declared.timeline.Timeline.{Timeline}
 use Rattle.debug_session.specs.Lives.{machine_of}
@@ -45,9 +45,9 @@ module _ {C : Type 0} where
   points_of s = s.stops.points.items
 
   -- the bytes that are watched
-  abbrev pub watches_of : Session C → List Watch
+  abbrev pub watches_of : Session C → List Watchpoint
   watches_of s = s.stops.watches.items
 
   -- how it goes on
-  abbrev pub plan_of : Session C → Plan
+  abbrev pub plan_of : Session C → SessionPlan
   plan_of s = s.plan

@@ -11,8 +11,8 @@ use Rattle.bench_live.specs.Rows.{IsWithin}
 use Rattle.debug_session.specs.declared.timeline.Timeline.{Timeline}
 use Rattle.debug_session.specs.Ats.{IsAt, IsNoted, MadeTurns}
 use Rattle.debug_session.specs.Lives.{machine_of, pc_in}
-use Rattle.debug_session.specs.declared.halts.Halt.{Halt}
-use Rattle.debug_session.specs.declared.halts.Halt.TheVariants as halts
+use Rattle.debug_session.specs.declared.halts.HaltReason.{HaltReason}
+use Rattle.debug_session.specs.declared.halts.HaltReason.TheVariants as halts
 use Rattle.debug_session.specs.Firsts.{is_of_turn}
 
 -- these lines became part of it, one after another
@@ -22,20 +22,20 @@ AreNoted (line ∷ more) old new = (answer : Answer) × (mid : List Line) × IsN
 
 -- Why a step ends so, by what came of its turn, whether the next one is idle, and the pc behind it: the turn was made, and may be
 -- why all halts; or none was, since the hart has nothing to do, or the board is off or lacks the hart.
-abbrev pub EndsStep : TurnRow → Bool → Option ℕ → Halt → Type 0
+abbrev pub EndsStep : TurnRow → Bool → Option ℕ → HaltReason → Type 0
 EndsStep rows.Off true pc halt = halt ≡ halts.Idle
 EndsStep rows.Off false pc halt = (halt ≡ halts.Off) × (pc ≡ None)
 EndsStep (rows.Made n word) rests pc halt = (halt ≡ halts.Stepped) ⊎ (is_of_turn halt ≡ true)
 EndsStep (rows.Lost n) rests pc halt = halt ≡ halts.Ended
 
 -- One turn of hart h became part of the history, and nothing else; or none did. The step ends so.
-abbrev pub IsStep : Size → ℕ → Halt → Timeline → Timeline → Type 0
+abbrev pub IsStep : Size → ℕ → HaltReason → Timeline → Timeline → Type 0
 IsStep size h halt old new =
     (row : TurnRow) × (rests : Bool) × IsWithin 1 row × MadeTurns size h [] row rests old new
     × EndsStep row rests (pc_in h (machine_of new.bench)) halt
 
 -- why it ends so where all halts, or nothing does and so many turns were made
-abbrev pub halt_step : Option Halt → ℕ → Halt
+abbrev pub halt_step : Option HaltReason → ℕ → HaltReason
 halt_step None made = if made == 0 then halts.Idle else halts.Stepped
 halt_step (Some halt) made = halt
 

@@ -10,24 +10,24 @@ use Rattle.debug_session.specs.declared.timeline.Timeline.{Timeline}
 use Rattle.debug_session.specs.Ats.{IsLeft, MadeTurns}
 use Rattle.debug_session.specs.Lives.{Rests, machine_of, pc_in}
 use Rattle.debug_session.specs.Passes.{machine_left}
-use Rattle.debug_session.specs.declared.forth.Part.{Part}
-use Rattle.debug_session.specs.declared.forth.Within.{Within}
-use Rattle.debug_session.specs.declared.halts.Halt.{Halt}
-use Rattle.debug_session.specs.declared.session.Plan.{Plan}
-use Rattle.debug_session.specs.declared.halts.Halt.TheVariants as halts
+use Rattle.debug_session.specs.declared.forth.RoundPart.{RoundPart}
+use Rattle.debug_session.specs.declared.forth.StepRange.{StepRange}
+use Rattle.debug_session.specs.declared.halts.HaltReason.{HaltReason}
+use Rattle.debug_session.specs.declared.session.SessionPlan.{SessionPlan}
+use Rattle.debug_session.specs.declared.halts.HaltReason.TheVariants as halts
 use Rattle.debug_session.specs.Firsts.{is_of_turn, one_turn}
 
 -- addresses within which a hart steps, with as many turns as a plan has
-abbrev pub within_plan : ℕ → ℕ → Plan → Within
+abbrev pub within_plan : ℕ → ℕ → SessionPlan → StepRange
 within_plan first end plan = record { first = first; end = end; most = plan.most }
 
 -- a pc lies from the first address on and before the end
-abbrev pub is_in : Within → Option ℕ → Bool
+abbrev pub is_in : StepRange → Option ℕ → Bool
 is_in within None = false
 is_in within (Some pc) = nat_le within.first pc && nat_lt pc within.end
 
 -- that of hart h
-abbrev pub is_pc_in : Within → ℕ → Bench → Bool
+abbrev pub is_pc_in : StepRange → ℕ → Bench → Bool
 is_pc_in within h b = is_in within (pc_in h (machine_left b.power))
 
 -- one turn of hart h
@@ -35,14 +35,14 @@ abbrev pub TurnsOnce : Size → ℕ → Bench → Bench → Type 0
 TurnsOnce size h b new = (row : TurnRow) × (made_in row ≡ 1) × RowMoves size h row b new
 
 -- so many, of which each left the pc within the addresses
-abbrev pub StaysWithin : Size → Within → ℕ → ℕ → Bench → Bench → Type 0
+abbrev pub StaysWithin : Size → StepRange → ℕ → ℕ → Bench → Bench → Type 0
 StaysWithin size within h zero b new = new ≡ b
 StaysWithin size within h (suc n) b new =
     (mid : Bench) × StaysWithin size within h n b mid × (TurnsOnce size h mid new × (is_pc_in within h new ≡ true))
 
 -- why the hart steps no more, though each turn left the pc within: it has nothing to do, all turns that it may make were made,
 -- the debugger asked for it, or the board is off or lacks the hart
-abbrev pub IsSpent : Size → Within → ℕ → Halt → ℕ → Bench → Type 0
+abbrev pub IsSpent : Size → StepRange → ℕ → HaltReason → ℕ → Bench → Type 0
 IsSpent size within h halts.Idle n b = Rests size h true b
 IsSpent size within h halts.Spent n b = n ≡ within.most
 IsSpent size within h halts.Interrupted n b = ⊤
@@ -50,36 +50,36 @@ IsSpent size within h halts.Off n b = pc_in h (machine_left b.power) ≡ None
 IsSpent size within h halt n b = ⊥
 
 -- the last turn left the pc outside, or is why all halts
-abbrev pub LeftBy : Within → ℕ → Halt → Bench → Type 0
+abbrev pub LeftBy : StepRange → ℕ → HaltReason → Bench → Type 0
 LeftBy within h halts.Stepped b = is_pc_in within h b ≡ false
 LeftBy within h halt b = is_of_turn halt ≡ true
 
 -- the turns of a hart that steps within addresses
-abbrev pub StepsTo : Size → Within → ℕ → Halt → ℕ → Bench → Bench → Type 0
+abbrev pub StepsTo : Size → StepRange → ℕ → HaltReason → ℕ → Bench → Bench → Type 0
 StepsTo size within h halt n b new =
     (StaysWithin size within h n b new × IsSpent size within h halt n new)
     ⊎ ((k : ℕ) × (mid : Bench) × (n ≡ k + 1) × StaysWithin size within h k b mid × TurnsOnce size h mid new × LeftBy within h halt new)
 
 -- They became part of the history.
-pub record StepsWithin (size : Size) (within : Within) (h : ℕ) (halt : Halt) (old new : Timeline) : Type 0 where
+pub record StepsWithin (size : Size) (within : StepRange) (h : ℕ) (halt : HaltReason) (old new : Timeline) : Type 0 where
   pub count : ℕ
   pub grew : moments new.history ≡ moments old.history ++ replicate count (one_turn h)
   pub ran : (b : Bench) → IsLeft size old b → (after : Bench) × StepsTo size within h halt count b after × IsLeft size new after
 
 -- the same of turns behind which the hart steps on
-pub record StayedWithin (size : Size) (within : Within) (h count : ℕ) (old new : Timeline) : Type 0 where
+pub record StayedWithin (size : Size) (within : StepRange) (h count : ℕ) (old new : Timeline) : Type 0 where
   pub grew : moments new.history ≡ moments old.history ++ replicate count (one_turn h)
   pub ran : (b : Bench) → IsLeft size old b → (after : Bench) × StaysWithin size within h count b after × IsLeft size new after
 
 -- ---- one turn at most
 -- why all halts behind it, if it does
-abbrev pub HaltsBy : TurnRow → Bool → Option ℕ → Option Halt → Type 0
+abbrev pub HaltsBy : TurnRow → Bool → Option ℕ → Option HaltReason → Type 0
 HaltsBy rows.Off true pc halt = halt ≡ None
 HaltsBy rows.Off false pc halt = (halt ≡ Some halts.Off) × (pc ≡ None)
 HaltsBy (rows.Made n word) rests pc halt = IfSome halt (λ x. is_of_turn x ≡ true)
 HaltsBy (rows.Lost n) rests pc halt = halt ≡ Some halts.Ended
 
-abbrev pub MadeOne : Size → ℕ → List ℕ → Part → Timeline → Timeline → Type 0
+abbrev pub MadeOne : Size → ℕ → List ℕ → RoundPart → Timeline → Timeline → Type 0
 MadeOne size h points part old new =
     (row : TurnRow) × MadeTurns size h points row part.rests old new × IsWithin 1 row × (part.made ≡ made_in row)
     × HaltsBy row part.rests (pc_in h (machine_of new.bench)) part.halt

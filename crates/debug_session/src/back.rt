@@ -14,9 +14,9 @@ ghost use Rattle.debug_session.specs.Lives.{IsSound, Shows};
 ghost use Rattle.script_lang.specs.Lines.{IsLineInRange};
 
 use crate::debugged::DebuggedBench;
-use crate::halts::{Halt, Stop};
+use crate::halts::{HaltReason, Stop};
 use crate::replays::replay;
-use crate::stops::{Stops, Watch, first_touched};
+use crate::stops::{Stops, Watchpoint, first_touched};
 use crate::timeline::Timeline;
 use bench_report::Setting;
 use board_model::{HartId, Refusal};
@@ -26,7 +26,7 @@ use std::sync::atomic::{AtomicBool, Ordering};
 
 /// A place in a history: a line, and how many of its turns stand before it.
 #[derive(Clone, Copy, Drop)]
-pub(crate) struct Place {
+pub(crate) struct TurnPlace {
     pub(crate) line: usize,
     pub(crate) turns: u32,
     pub(crate) stop: Stop,
@@ -36,28 +36,28 @@ pub(crate) struct Place {
 #[derive(Clone, Copy, Drop)]
 enum Way {
     /// That place was found, or there is none.
-    Ended(Option<Place>),
+    Ended(Option<TurnPlace>),
     /// The debugger asked that it end.
     Interrupted,
 }
 
 /// The first turn of a history.
 #[tactic(auto, using(crate::proofs::Histories::place_at, crate::proofs::Histories::row_some))]
-fn first_turn<C: Crew>(setting: &Setting<'_, C>, lines: &[Line]) -> Option<Place>
+fn first_turn<C: Crew>(setting: &Setting<'_, C>, lines: &[Line]) -> Option<TurnPlace>
     requires { AreInRange setting.now.shape.now lines.now }
     ensures some { IfSome result (λ place. IsPlace place.stop.hart place.line place.turns lines.now) }
-    ensures first { IfSome result (λ place. (place.turns ≡ 0) × (place.stop.halt ≡ Halt.Begin)
+    ensures first { IfSome result (λ place. (place.turns ≡ 0) × (place.stop.halt ≡ HaltReason.Begin)
         × All MakesNone (take place.line lines.now)) }
     ensures none { IfNone result (All MakesNone lines.now) }
 {
     for (i, line) in lines.iter().enumerate() {
         if let Line::Turn(by, _) = line {
-            return Some(Place {
+            return Some(TurnPlace {
                 line: i,
                 turns: 0,
                 stop: Stop {
                     hart: *by,
-                    halt: Halt::Begin,
+                    halt: HaltReason::Begin,
                 },
             });
         }
@@ -66,12 +66,18 @@ fn first_turn<C: Crew>(setting: &Setting<'_, C>, lines: &[Line]) -> Option<Place
 }
 
 /// Why the way back ends before a turn, by whether the hart stood at a breakpoint, and the watchpoint that it touched.
-fn halt_back(stands: bool, touched: Option<Watch>) -> Option<Halt>
+fn halt_back(stands: bool, touched: Option<Watchpoint>) -> Option<HaltReason>
     ensures { result ≡ halt_back stands touched }
 {
     match touched {
-        Some(watch) => Some(Halt::Watched(watch)),
-        None => { if stands { Some(Halt::Point) } else { None } }
+        Some(watch) => Some(HaltReason::Watched(watch)),
+        None => {
+            if stands {
+                Some(HaltReason::Point)
+            } else {
+                None
+            }
+        }
     }
 }
 
@@ -82,7 +88,7 @@ fn seen_back<C: Crew>(
     stops: &Stops,
     bench: &mut DebuggedBench,
     hart: HartId,
-) -> Result<Option<Halt>, Refusal>
+) -> Result<Option<HaltReason>, Refusal>
     requires sound { IsSound bench.old }
     ensures seen { IfOk result (λ halt. (size : Size) (b : Bench) → Shows size b bench.old → (new : Bench)
         × (MayMove size (one_turn hart) b new × IsSeen halt stops.now hart b new) × Shows size new bench.new) }
@@ -102,7 +108,7 @@ fn later_turn(
     found: Option<(u32, Stop)>,
     turns: u32,
     hart: HartId,
-    halt: Option<Halt>,
+    halt: Option<HaltReason>,
 ) -> Option<(u32, Stop)>
     ensures { result ≡ later_turn found turns hart halt }
 {
@@ -113,11 +119,15 @@ fn later_turn(
 }
 
 /// What was found before, or later: in a line.
-fn later_place(found: Option<Place>, line: usize, last: Option<(u32, Stop)>) -> Option<Place>
+fn later_place(
+    found: Option<TurnPlace>,
+    line: usize,
+    last: Option<(u32, Stop)>,
+) -> Option<TurnPlace>
     ensures { result ≡ later_place found line last }
 {
     match last {
-        Some((turns, stop)) => Some(Place { line, turns, stop }),
+        Some((turns, stop)) => Some(TurnPlace { line, turns, stop }),
         None => found,
     }
 }
@@ -266,18 +276,18 @@ pub(crate) fn go_back<C: Crew>(
     let Way::Ended(found) = place_back(setting, stops, timeline, interrupt)? else {
         return Ok(Stop {
             hart,
-            halt: Halt::Interrupted,
+            halt: HaltReason::Interrupted,
         });
     };
     match found {
         Some(place) => {
-            let Place { line, turns, stop } = place;
+            let TurnPlace { line, turns, stop } = place;
             timeline.go_back(setting, stop.hart, line, turns)?;
             Ok(stop)
         }
         None => Ok(Stop {
             hart,
-            halt: Halt::Begin,
+            halt: HaltReason::Begin,
         }),
     }
 }

@@ -11,9 +11,9 @@ ghost use Rattle.debug_session.specs.Firsts.{Stretched, ToHalt, halt_after, halt
 ghost use Rattle.debug_session.specs.Lives.{machine_of, pc_in, stands_in};
 ghost use Rattle.debug_session.specs.Loads.{LoadsNext};
 
-use crate::halts::{Halt, Stop};
+use crate::halts::{HaltReason, Stop};
 use crate::loads::Load;
-use crate::stops::{Seen, Stops, Watch, first_touched};
+use crate::stops::{SeenBytes, Stops, Watchpoint, first_touched};
 use crate::timeline::Timeline;
 use bench_live::TurnRow;
 use bench_report::{Answer, Setting};
@@ -27,9 +27,9 @@ const MOST_TURNS: u32 = 1_000_000;
 
 /// What came of a hart's part of a round.
 #[derive(Clone, Copy, Drop)]
-pub(crate) struct Part {
+pub(crate) struct RoundPart {
     /// Why everything halts, if it does.
-    pub(crate) halt: Option<Halt>,
+    pub(crate) halt: Option<HaltReason>,
     /// How many turns were made.
     pub(crate) made: u32,
     /// Whether the hart has nothing to do.
@@ -38,7 +38,7 @@ pub(crate) struct Part {
 
 /// Addresses within which a hart steps, from the first on and before the end, and how many turns it makes at most.
 #[derive(Clone, Copy, Drop)]
-pub(crate) struct Within {
+pub(crate) struct StepRange {
     pub(crate) first: u64,
     pub(crate) end: u64,
     pub(crate) most: u64,
@@ -128,18 +128,18 @@ fn halt_behind(
     hart: HartId,
     row: TurnRow,
     rests: bool,
-) -> Option<Halt>
+) -> Option<HaltReason>
     ensures { result ≡ halt_after row rests (stands_in points.now (pc_in hart (machine_of timeline.now.bench))) }
 {
     match row {
         TurnRow::Off if rests => None,
-        TurnRow::Off => Some(Halt::Off),
-        TurnRow::Lost(_) => Some(Halt::Ended),
+        TurnRow::Off => Some(HaltReason::Off),
+        TurnRow::Lost(_) => Some(HaltReason::Ended),
         TurnRow::Made(_, word) => {
             if halts_all(word) {
-                Some(Halt::Ended)
+                Some(HaltReason::Ended)
             } else if timeline.bench().stands_at(hart, points) {
-                Some(Halt::Point)
+                Some(HaltReason::Point)
             } else {
                 None
             }
@@ -148,12 +148,12 @@ fn halt_behind(
 }
 
 /// Why a turn halts, which may have touched a watchpoint.
-fn halt_seen(halt: Option<Halt>, touched: Option<Watch>) -> Option<Halt>
+fn halt_seen(halt: Option<HaltReason>, touched: Option<Watchpoint>) -> Option<HaltReason>
     ensures { result ≡ halt_seen halt touched }
 {
     match (halt, touched) {
-        (None, Some(watch)) => Some(Halt::Watched(watch)),
-        (Some(Halt::Point), Some(watch)) => Some(Halt::Watched(watch)),
+        (None, Some(watch)) => Some(HaltReason::Watched(watch)),
+        (Some(HaltReason::Point), Some(watch)) => Some(HaltReason::Watched(watch)),
         (_, _) => halt,
     }
 }
@@ -163,8 +163,8 @@ fn touched_behind(
     timeline: &Timeline,
     made: u32,
     load: Option<Load>,
-    before: &Vec<Seen>,
-) -> Option<Watch>
+    before: &Vec<SeenBytes>,
+) -> Option<Watchpoint>
     ensures none { made ≡ 0 → result ≡ None }
     ensures told { (made ≡ 0 → ⊥) → result ≡ touched_since (machine_of timeline.now.bench) load (seen_in before.now.items) }
 {
@@ -183,7 +183,7 @@ fn stretch<C: Crew>(
     hart: HartId,
     most: u32,
     told: &mut Vec<Answer>,
-) -> Result<Part, Refusal>
+) -> Result<RoundPart, Refusal>
     requires at { IsAt setting.now.shape.now timeline.old }
     requires hart { hart < setting.now.shape.now.harts }
     requires most { most ≤ 1000000 }
@@ -195,10 +195,10 @@ fn stretch<C: Crew>(
 {
     let (row, rests) = timeline.turns_to(setting, hart, most, points)?;
     let halt = halt_behind(timeline, points, hart, row, rests);
-    if halt == Some(Halt::Ended) || halt == Some(Halt::Off) {
+    if halt == Some(HaltReason::Ended) || halt == Some(HaltReason::Off) {
         told.push(row.last().answer(hart))?;
     }
-    Ok(Part {
+    Ok(RoundPart {
         halt,
         made: row.made(),
         rests,
@@ -209,12 +209,12 @@ fn stretch<C: Crew>(
 fn loading_turn<C: Crew>(
     setting: &Setting<'_, C>,
     stops: &Stops,
-    before: &Vec<Seen>,
+    before: &Vec<SeenBytes>,
     timeline: &mut Timeline,
     hart: HartId,
     load: &Option<Load>,
     told: &mut Vec<Answer>,
-) -> Result<Part, Refusal>
+) -> Result<RoundPart, Refusal>
     requires at { IsAt setting.now.shape.now timeline.old }
     requires hart { hart < setting.now.shape.now.harts }
     requires loads { LoadsNext (machine_of timeline.old.bench) hart load.now }
@@ -232,7 +232,7 @@ fn loading_turn<C: Crew>(
     let part = stretch(setting, stops.points(), timeline, hart, 1, told)?;
     let touched = touched_behind(timeline, part.made, *load, before);
     let halt = halt_seen(part.halt, touched);
-    Ok(Part {
+    Ok(RoundPart {
         halt,
         made: part.made,
         rests: part.rests,
@@ -243,11 +243,11 @@ fn loading_turn<C: Crew>(
 fn watched_turn<C: Crew>(
     setting: &Setting<'_, C>,
     stops: &Stops,
-    before: &Vec<Seen>,
+    before: &Vec<SeenBytes>,
     timeline: &mut Timeline,
     hart: HartId,
     told: &mut Vec<Answer>,
-) -> Result<Part, Refusal>
+) -> Result<RoundPart, Refusal>
     requires at { IsAt setting.now.shape.now timeline.old }
     requires hart { hart < setting.now.shape.now.harts }
     requires tells { TellsTouched (machine_of timeline.old.bench) stops.now.watches.items (seen_in before.now.items) }
@@ -273,7 +273,7 @@ fn watched_part<C: Crew>(
     hart: HartId,
     most: u32,
     told: &mut Vec<Answer>,
-) -> Result<Part, Refusal>
+) -> Result<RoundPart, Refusal>
     requires at { IsAt setting.now.shape.now timeline.old }
     requires hart { hart < setting.now.shape.now.harts }
     ensures went { IfOk result (λ part. Went (λ h. h ≡ hart) part.made setting.now.shape.now timeline.old timeline.new) }
@@ -287,14 +287,14 @@ fn watched_part<C: Crew>(
         let part = watched_turn(setting, stops, &before, timeline, hart, told)?;
         sum += part.made;
         if part.halt.is_some() || part.rests || part.made == 0 {
-            return Ok(Part {
+            return Ok(RoundPart {
                 halt: part.halt,
                 made: sum,
                 rests: part.rests,
             });
         }
     }
-    Ok(Part {
+    Ok(RoundPart {
         halt: None,
         made: sum,
         rests: false,
@@ -309,7 +309,7 @@ fn run_part<C: Crew>(
     hart: HartId,
     most: u32,
     told: &mut Vec<Answer>,
-) -> Result<Part, Refusal>
+) -> Result<RoundPart, Refusal>
     requires at { IsAt setting.now.shape.now timeline.old }
     requires hart { hart < setting.now.shape.now.harts }
     requires most { most ≤ 1000000 }
@@ -349,18 +349,18 @@ pub(crate) fn step<C: Crew>(
 }
 
 /// Why a step ends so: of no turn, since the hart has nothing to do.
-fn halt_step(halt: Option<Halt>, made: u32) -> Halt
+fn halt_step(halt: Option<HaltReason>, made: u32) -> HaltReason
     ensures { result ≡ halt_step halt made }
 {
     match halt {
         Some(halt) => halt,
-        None if made == 0 => Halt::Idle,
-        None => Halt::Stepped,
+        None if made == 0 => HaltReason::Idle,
+        None => HaltReason::Stepped,
     }
 }
 
 /// Whether the pc of a hart lies within these addresses.
-fn stands_within(timeline: &Timeline, hart: HartId, within: Within) -> bool
+fn stands_within(timeline: &Timeline, hart: HartId, within: StepRange) -> bool
     ensures { result ≡ is_in within (pc_in hart (machine_of timeline.now.bench)) }
 {
     match timeline.bench().pc(hart) {
@@ -375,7 +375,7 @@ pub(crate) fn step_within<C: Crew>(
     stops: &Stops,
     timeline: &mut Timeline,
     hart: HartId,
-    within: Within,
+    within: StepRange,
     interrupt: &AtomicBool,
     told: &mut Vec<Answer>,
 ) -> Result<Stop, Refusal>
@@ -397,26 +397,26 @@ pub(crate) fn step_within<C: Crew>(
         if part.made == 0 {
             return Ok(Stop {
                 hart,
-                halt: Halt::Idle,
+                halt: HaltReason::Idle,
             });
         }
         done += 1;
         if !stands_within(timeline, hart, within) {
             return Ok(Stop {
                 hart,
-                halt: Halt::Stepped,
+                halt: HaltReason::Stepped,
             });
         }
         if interrupt.swap(false, Ordering::SeqCst) {
             return Ok(Stop {
                 hart,
-                halt: Halt::Interrupted,
+                halt: HaltReason::Interrupted,
             });
         }
     }
     Ok(Stop {
         hart,
-        halt: Halt::Spent,
+        halt: HaltReason::Spent,
     })
 }
 
@@ -428,7 +428,7 @@ fn round_part<C: Crew>(
     hart: HartId,
     round: &mut Round,
     told: &mut Vec<Answer>,
-) -> Result<Option<Halt>, Refusal>
+) -> Result<Option<HaltReason>, Refusal>
     requires at { IsAt setting.now.shape.now timeline.old }
     requires hart { hart < setting.now.shape.now.harts }
     ensures went { OnOk result ((n : ℕ) × (round.new.left + n ≡ round.old.left)
@@ -470,7 +470,7 @@ pub(crate) fn go<C: Crew>(
         if setting.shape.harts() <= round.resting {
             return Ok(Stop {
                 hart: first,
-                halt: Halt::Idle,
+                halt: HaltReason::Idle,
             });
         }
         let Some(hart) = round.next(setting.shape) else {
@@ -479,7 +479,7 @@ pub(crate) fn go<C: Crew>(
         if interrupt.swap(false, Ordering::SeqCst) {
             return Ok(Stop {
                 hart,
-                halt: Halt::Interrupted,
+                halt: HaltReason::Interrupted,
             });
         }
         if let Some(halt) = round_part(setting, stops, timeline, hart, &mut round, told)? {
@@ -488,6 +488,6 @@ pub(crate) fn go<C: Crew>(
     }
     Ok(Stop {
         hart: first,
-        halt: Halt::Spent,
+        halt: HaltReason::Spent,
     })
 }

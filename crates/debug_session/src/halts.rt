@@ -1,17 +1,17 @@
 //! Why a board stands.
 
-use crate::stops::Watch;
+use crate::stops::Watchpoint;
 use board_model::HartId;
 
 /// Why nothing runs.
 #[derive(Clone, Copy, PartialEq, Eq, Drop)]
-pub enum Halt {
+pub enum HaltReason {
     /// The step was made, or nothing was asked yet.
     Stepped,
     /// A hart came to a breakpoint.
     Point,
     /// A turn touched this watchpoint.
-    Watched(Watch),
+    Watched(Watchpoint),
     /// The board dozes, its life is over, or an armed cut struck: the console has the line.
     Ended,
     /// The board is off.
@@ -32,5 +32,5 @@ pub struct Stop {
     /// The hart that is shown.
     pub hart: HartId,
     /// Why nothing runs.
-    pub halt: Halt,
+    pub halt: HaltReason,
 }

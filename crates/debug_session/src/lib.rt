@@ -20,10 +20,10 @@ mod timeline;
 
 pub use bench_live::TurnRow;
 pub use debugged::DebuggedBench;
-pub use halts::{Halt, Stop};
+pub use halts::{HaltReason, Stop};
 pub use loads::Load;
 pub use looks::{PC, REGISTERS};
 pub use replays::replay;
-pub use session::{Plan, Session};
-pub use stops::{Watch, WatchKind};
+pub use session::{Session, SessionPlan};
+pub use stops::{WatchKind, Watchpoint};
 pub use timeline::Timeline;

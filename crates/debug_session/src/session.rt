@@ -20,9 +20,9 @@ ghost use Rattle.script_lang.specs.Scripts.{script_of};
 ghost use Rattle.script_lang.specs.Spellings.{IsWritable};
 
 use crate::debugged::DebuggedBench;
-use crate::forth::{self, Round, Within};
-use crate::halts::{Halt, Stop};
-use crate::stops::{Stops, Watch};
+use crate::forth::{self, Round, StepRange};
+use crate::halts::{HaltReason, Stop};
+use crate::stops::{Stops, Watchpoint};
 use crate::timeline::Timeline;
 use crate::{back, counts, script};
 use bench_report::{Answer, Setting};
@@ -35,7 +35,7 @@ use std::sync::atomic::AtomicBool;
 
 /// How a session goes on.
 #[derive(Clone, Copy, Drop)]
-pub struct Plan {
+pub struct SessionPlan {
     /// How many turns a hart makes before the next one's, 1 to 1,000,000: more are as many.
     pub quantum: u32,
     /// How many turns a command makes at most.
@@ -46,7 +46,7 @@ pub struct Plan {
 #[derive(Drop)]
 pub struct Session<'a, C> {
     setting: Setting<'a, C>,
-    plan: Plan,
+    plan: SessionPlan,
     timeline: Timeline,
     stops: Stops,
 }
@@ -97,7 +97,7 @@ impl<'a, C: Crew> Session<'a, C> {
     /// A session behind those lines, of a script that begins with these payloads. Refused `Memory` alone.
     pub fn new(
         setting: Setting<'a, C>,
-        plan: Plan,
+        plan: SessionPlan,
         begins: Payloads,
         lines: Vec<Line>,
     ) -> Result<Session<'a, C>, Refusal>
@@ -222,7 +222,7 @@ impl<'a, C: Crew> Session<'a, C> {
     }
 
     /// Watches bytes, once.
-    pub fn set_watch(&mut self, watch: Watch) -> Result<(), Refusal>
+    pub fn set_watch(&mut self, watch: Watchpoint) -> Result<(), Refusal>
         ensures watches { OnOk result (watches_of self.new ≡ with_watch watch (watches_of self.old)) }
         ensures unset { OnErr result (watches_of self.new ≡ watches_of self.old) }
         ensures points { points_of self.new ≡ points_of self.old }
@@ -235,7 +235,7 @@ impl<'a, C: Crew> Session<'a, C> {
     }
 
     /// Watches them no more, where they are watched.
-    pub fn clear_watch(&mut self, watch: Watch)
+    pub fn clear_watch(&mut self, watch: Watchpoint)
         ensures watches { watches_of self.new ≡ without_watch watch (watches_of self.old) }
         ensures points { points_of self.new ≡ points_of self.old }
         ensures timeline { timeline_of self.new ≡ timeline_of self.old }
@@ -305,7 +305,7 @@ impl<'a, C: Crew> Session<'a, C> {
         ensures plan { plan_of self.new ≡ plan_of self.old }
         ensures refused { IfErr result (λ e. e ≡ Memory) }
     {
-        let within = Within {
+        let within = StepRange {
             first,
             end,
             most: self.plan.most,
@@ -417,8 +417,8 @@ impl<'a, C: Crew> Session<'a, C> {
         requires hart { hart < (size_of self.old).harts }
         ensures at { OnOk result (IsAt (size_of self.new) (timeline_of self.new)) }
         ensures back { IfOk result (λ stop. (stop.hart ≡ hart)
-            × (((stop.halt ≡ Halt.Stepped) × IsBack hart (history_of self.old) (history_of self.new))
-            ⊎ ((stop.halt ≡ Halt.Begin) × NoRow hart (history_of self.old) × (timeline_of self.new ≡ timeline_of self.old)))) }
+            × (((stop.halt ≡ HaltReason.Stepped) × IsBack hart (history_of self.old) (history_of self.new))
+            ⊎ ((stop.halt ≡ HaltReason.Begin) × NoRow hart (history_of self.old) × (timeline_of self.new ≡ timeline_of self.old)))) }
         ensures there { IfOk result (λ stop. stop.hart < (size_of self.old).harts) }
         ensures size { size_of self.new ≡ size_of self.old }
         ensures stops { stops_of self.new ≡ stops_of self.old }
@@ -427,7 +427,11 @@ impl<'a, C: Crew> Session<'a, C> {
         ensures refused { IfErr result (λ e. e ≡ Memory) }
     {
         let found = self.timeline.step_back(&self.setting, hart)?;
-        let halt = if found { Halt::Stepped } else { Halt::Begin };
+        let halt = if found {
+            HaltReason::Stepped
+        } else {
+            HaltReason::Begin
+        };
         Ok(Stop { hart, halt })
     }
 

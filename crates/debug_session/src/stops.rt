@@ -46,7 +46,7 @@ impl WatchKind {
 
 /// A watchpoint: bytes of memory that a turn is not to touch unseen.
 #[derive(Clone, Copy, PartialEq, Eq, Drop)]
-pub struct Watch {
+pub struct Watchpoint {
     /// What it minds.
     pub kind: WatchKind,
     /// Where the bytes begin.
@@ -57,8 +57,8 @@ pub struct Watch {
 
 /// What is watched, as it was before a turn.
 #[derive(Drop)]
-pub(crate) struct Seen {
-    watch: Watch,
+pub(crate) struct SeenBytes {
+    watch: Watchpoint,
     bytes: Vec<u8>,
 }
 
@@ -66,7 +66,7 @@ pub(crate) struct Seen {
 #[derive(Drop)]
 pub struct Stops {
     points: Vec<u64>,
-    watches: Vec<Watch>,
+    watches: Vec<Watchpoint>,
 }
 
 impl Stops {
@@ -117,7 +117,7 @@ impl Stops {
     }
 
     /// Watches bytes, once.
-    pub(crate) fn set_watch(&mut self, watch: Watch) -> Result<(), Refusal>
+    pub(crate) fn set_watch(&mut self, watch: Watchpoint) -> Result<(), Refusal>
         ensures watches { OnOk result (self.new.watches.items ≡ with_watch watch self.old.watches.items) }
         ensures unset { OnErr result (self.new.watches.items ≡ self.old.watches.items) }
         ensures points { self.new.points.items ≡ self.old.points.items }
@@ -130,7 +130,7 @@ impl Stops {
     }
 
     /// Watches them no more.
-    pub(crate) fn clear_watch(&mut self, watch: Watch)
+    pub(crate) fn clear_watch(&mut self, watch: Watchpoint)
         ensures watches { self.new.watches.items ≡ without_watch watch self.old.watches.items }
         ensures points { self.new.points.items ≡ self.old.points.items }
     {
@@ -139,14 +139,18 @@ impl Stops {
 
     /// What is watched, as it is now. It tells what the next turn touches; and behind turns that touched nothing what the one behind them
     /// does, since all that is minded is as it was.
-    pub(crate) fn watched(&self, alloc: Global, bench: &DebuggedBench) -> Result<Vec<Seen>, Refusal>
+    pub(crate) fn watched(
+        &self,
+        alloc: Global,
+        bench: &DebuggedBench,
+    ) -> Result<Vec<SeenBytes>, Refusal>
         ensures seen { IfOk result (λ all. seen_in all.items ≡ seen_all (machine_of bench.now) self.now.watches.items) }
         ensures refused { IfErr result (λ e. e ≡ Memory) }
     {
         let mut all = Vec::new(alloc);
         for watch in &self.watches {
             let bytes = Vec::from_slice(alloc, bytes_of(bench, *watch))?;
-            all.push(Seen {
+            all.push(SeenBytes {
                 watch: *watch,
                 bytes,
             })?;
@@ -156,7 +160,7 @@ impl Stops {
 }
 
 /// The bytes that are watched, where the board has them; else none.
-fn bytes_of(bench: &DebuggedBench, watch: Watch) -> &[u8]
+fn bytes_of(bench: &DebuggedBench, watch: Watchpoint) -> &[u8]
     ensures { result.now ≡ seen_by (machine_of bench.now) watch }
 {
     match bench.memory(watch.address, watch.count) {
@@ -176,7 +180,7 @@ fn is_before(address: u64, first: u64, count: u64) -> bool
 }
 
 /// Whether a turn that reads that reads one of the bytes that are watched.
-fn is_read(watch: Watch, load: Option<Load>) -> bool
+fn is_read(watch: Watchpoint, load: Option<Load>) -> bool
     ensures { result ≡ is_read watch load }
 {
     match load {
@@ -189,7 +193,7 @@ fn is_read(watch: Watch, load: Option<Load>) -> bool
 }
 
 /// Whether nothing is changed that a watchpoint minds of what was seen. One that minds no changes is not compared.
-fn is_kept(bench: &DebuggedBench, was: &Seen) -> bool
+fn is_kept(bench: &DebuggedBench, was: &SeenBytes) -> bool
     ensures { result ≡ is_kept was.now.watch was.now.bytes.items (seen_by (machine_of bench.now) was.now.watch) }
 {
     if was.watch.kind.minds_changes() {
@@ -200,7 +204,7 @@ fn is_kept(bench: &DebuggedBench, was: &Seen) -> bool
 }
 
 /// Whether nothing is read that a watchpoint minds.
-fn is_unread(watch: Watch, load: Option<Load>) -> bool
+fn is_unread(watch: Watchpoint, load: Option<Load>) -> bool
     ensures { result ≡ is_unread watch load }
 {
     if watch.kind.minds_reads() {
@@ -211,7 +215,7 @@ fn is_unread(watch: Watch, load: Option<Load>) -> bool
 }
 
 /// The watchpoint of what was seen, where a turn that read that touched it.
-fn other_now(bench: &DebuggedBench, load: Option<Load>, was: &Seen) -> Option<Watch>
+fn other_now(bench: &DebuggedBench, load: Option<Load>, was: &SeenBytes) -> Option<Watchpoint>
     ensures { result ≡ other_of (machine_of bench.now) load (was.now.watch, was.now.bytes.items) }
 {
     let kept = is_kept(bench, was);
@@ -223,7 +227,7 @@ fn other_now(bench: &DebuggedBench, load: Option<Load>, was: &Seen) -> Option<Wa
 }
 
 /// The first of these that a turn touched, which read that.
-fn first_in(bench: &DebuggedBench, load: Option<Load>, before: &[Seen]) -> Option<Watch>
+fn first_in(bench: &DebuggedBench, load: Option<Load>, before: &[SeenBytes]) -> Option<Watchpoint>
     ensures { result ≡ first_other (machine_of bench.now) load (seen_in before.now) }
 {
     for was in before {
@@ -239,8 +243,8 @@ fn first_in(bench: &DebuggedBench, load: Option<Load>, before: &[Seen]) -> Optio
 pub(crate) fn first_touched(
     bench: &DebuggedBench,
     load: Option<Load>,
-    before: &Vec<Seen>,
-) -> Option<Watch>
+    before: &Vec<SeenBytes>,
+) -> Option<Watchpoint>
     ensures { result ≡ touched_since (machine_of bench.now) load (seen_in before.now.items) }
 {
     first_in(bench, load, before)

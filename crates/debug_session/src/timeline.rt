@@ -17,7 +17,7 @@ ghost use Rattle.script_lang.specs.declared.line.Line.TheVariants as lines;
 use crate::debugged::DebuggedBench;
 use crate::loads::Load;
 use crate::replays::replayed;
-use bench_live::{History, TurnRow, note};
+use bench_live::{LineHistory, TurnRow, note};
 use bench_report::{Answer, Setting};
 use board::Payloads;
 use board_model::{HartId, Refusal, Shape};
@@ -31,7 +31,7 @@ use std::mem::replace;
 #[derive(Drop)]
 pub struct Timeline {
     begins: Payloads,
-    history: History,
+    history: LineHistory,
     joins: bool,
     bench: DebuggedBench,
 }
@@ -47,7 +47,7 @@ impl Timeline {
         let bench = DebuggedBench::blank(alloc, shape, &begins)?;
         Ok(Timeline {
             begins,
-            history: History::new(alloc),
+            history: LineHistory::new(alloc),
             joins: false,
             bench,
         })

@@ -19,7 +19,7 @@ use Rattle.disk.specs.Facts.{Content, Facts, IsFresh}
 use Rattle.disk_program.specs.Examined.{IfLookedAt, IsFaultOf, IsFaultOver, IsWorked, RefusesBytes, RefusesLines, RefusesMemory, WritesMemory, WritesNothing, WritesSeen, WritesWork}
 use Rattle.disk_program.specs.Texts.{seen_text}
 use Rattle.disk_program.specs.Usage.{AskForNone, sbidisk}
-use Rattle.disk_program.specs.declared.usage.Work.{Work}
+use Rattle.disk_program.specs.declared.usage.DiskWork.{DiskWork}
 use Rattle.examined.specs.Memories.{HoldsMemory, MemoryRefused}
 use Rattle.examined.specs.Sights.{IsSeen, SeeRefused}
 use Rattle.examined.specs.declared.sees.Seen.{Seen}
@@ -110,13 +110,13 @@ both_err P Q (Err e) p q = (p, q)
 pub output_failed : (fault : ProgramFault) (e : Refusal) (old now : Option (List ℕ)) → fault ≡ Refused e → e ≡ Output → WritesNothing fault old now
 output_failed fault e old now is output = λ other. let P : Refusal → Type 0 = λ x. fault ≡ Refused x in absurd (other (subst P output is))
 
-pub ends_closed : (disk_at : List ℕ → Option (List ℕ)) (work : Work) (old now : Option (List ℕ)) (held : List ℕ) (closed : Bool)
+pub ends_closed : (disk_at : List ℕ → Option (List ℕ)) (work : DiskWork) (old now : Option (List ℕ)) (held : List ℕ) (closed : Bool)
     (r : Result (Unit {0}) FileFault) → closed ≡ true → OnOk r (WritesWork disk_at work old now) → OnOk r (held ≡ [])
     → IfErr r (λ e. IsFaultOf disk_at work e.fault) → IfErr r (λ e. WritesNothing e.fault old now) → IsWorked disk_at work old now held closed 1
 ends_closed disk_at work old now held closed r is did whole failed spared =
     (fault_of r, rw is refl, on_ok _ _ r did whole, both_err (IsFaultOf disk_at work) (λ fault. WritesNothing fault old now) r failed spared)
 
-pub ends_open : (disk_at : List ℕ → Option (List ℕ)) (work : Work) (old now : Option (List ℕ)) (held : List ℕ) (closed : Bool) (status : ℕ)
+pub ends_open : (disk_at : List ℕ → Option (List ℕ)) (work : DiskWork) (old now : Option (List ℕ)) (held : List ℕ) (closed : Bool) (status : ℕ)
     (r : Result (Unit {0}) FileFault) → closed ≡ false → status ≡ status_after (fault_of r)
     → OnOk r (WritesWork disk_at work old now) → OnOk r (held ≡ []) → IfErr r (λ e. IsFaultOf disk_at work e.fault)
     → IfErr r (λ e. WritesNothing e.fault old now) → IsWorked disk_at work old now held closed status

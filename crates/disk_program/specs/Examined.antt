@@ -12,8 +12,8 @@ use Rattle.command_line.specs.declared.fault.ProgramFault.TheVariants.{Refused}
 use Rattle.disk.specs.Facts.{Content}
 use Rattle.disk_program.specs.Texts.{seen_text}
 use Rattle.disk_program.specs.Usage.{AskForNone, IsNamedBy}
-use Rattle.disk_program.specs.declared.usage.Work.{Work}
-use Rattle.disk_program.specs.declared.usage.Work.TheVariants.{Lines, Memory}
+use Rattle.disk_program.specs.declared.usage.DiskWork.{DiskWork}
+use Rattle.disk_program.specs.declared.usage.DiskWork.TheVariants.{Lines, Memory}
 use Rattle.examined.specs.Memories.{HoldsBadImage, HoldsMemory, HoldsNoImage}
 use Rattle.examined.specs.Sights.{IsSeen}
 use Rattle.examined.specs.declared.sees.Seen.{Seen}
@@ -32,7 +32,7 @@ abbrev pub WritesMemory : Option (List ℕ) → Option (List ℕ) → Option (Li
 WritesMemory bytes old now = (memory : List ℕ) × IfLookedAt bytes (λ c. HoldsMemory c memory) × Appends old now memory
 
 -- what was asked for was written
-abbrev pub WritesWork : (List ℕ → Option (List ℕ)) → Work → Option (List ℕ) → Option (List ℕ) → Type 0
+abbrev pub WritesWork : (List ℕ → Option (List ℕ)) → DiskWork → Option (List ℕ) → Option (List ℕ) → Type 0
 WritesWork disk_at (Lines path) old now = WritesSeen (disk_at path.now) old now
 WritesWork disk_at (Memory path) old now = WritesMemory (disk_at path.now) old now
 
@@ -69,7 +69,7 @@ IsFaultOver Refuses bytes fault =
     ⊎ ((e : Refusal) × (fault ≡ Refused e) × IfSome bytes (λ all. RefusesBytes Refuses all e))
 
 -- a fault that the work may have: it is none of the command line
-abbrev pub IsFaultOf : (List ℕ → Option (List ℕ)) → Work → ProgramFault → Type 0
+abbrev pub IsFaultOf : (List ℕ → Option (List ℕ)) → DiskWork → ProgramFault → Type 0
 IsFaultOf disk_at (Lines path) fault = IsFaultOver RefusesLines (disk_at path.now) fault
 IsFaultOf disk_at (Memory path) fault = IsFaultOver RefusesMemory (disk_at path.now) fault
 
@@ -85,7 +85,7 @@ WritesNothing fault old now = (fault ≡ Refused Output → ⊥) → now ≡ old
 
 -- The status is the one of the work, which was done whole where it has no fault, or of a fault that it may have: then nothing
 -- was written, unless the output failed. `held` is what the writer holds back.
-abbrev pub IsWorked : (List ℕ → Option (List ℕ)) → Work → Option (List ℕ) → Option (List ℕ) → List ℕ → Bool → ℕ → Type 0
+abbrev pub IsWorked : (List ℕ → Option (List ℕ)) → DiskWork → Option (List ℕ) → Option (List ℕ) → List ℕ → Bool → ℕ → Type 0
 IsWorked disk_at work old now held closed status = (done : Result (Unit {0}) ProgramFault) × (status ≡ status_by closed done)
     × OnOk done (WritesWork disk_at work old now × (held ≡ []))
     × IfErr done (λ fault. IsFaultOf disk_at work fault × WritesNothing fault old now)
@@ -93,5 +93,5 @@ IsWorked disk_at work old now held closed status = (done : Result (Unit {0}) Pro
 -- What comes of the words: the work that they name was done, or has a fault; or they ask for none.
 abbrev pub IsExamined : (List ℕ → Option (List ℕ)) → List (List ℕ) → Option (List ℕ) → Option (List ℕ) → List ℕ → Bool → ℕ → Type 0
 IsExamined disk_at words old now held closed status =
-    ((work : Work) × IsNamedBy words work × IsWorked disk_at work old now held closed status)
+    ((work : DiskWork) × IsNamedBy words work × IsWorked disk_at work old now held closed status)
     ⊎ ((why : NoWork) × AskForNone words why × (status ≡ status_after (without_work why)))

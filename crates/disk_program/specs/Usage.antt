@@ -11,8 +11,8 @@ use Rattle.command_line.specs.Parses.{AreParsed}
 use Rattle.command_line.specs.Programs.{named_app}
 use Rattle.command_line.specs.declared.NoWork.{NoWork}
 use Rattle.command_line.specs.declared.NoWork.TheVariants as whys
-use Rattle.disk_program.specs.declared.usage.Work.{Work}
-use Rattle.disk_program.specs.declared.usage.Work.TheVariants.{Lines, Memory}
+use Rattle.disk_program.specs.declared.usage.DiskWork.{DiskWork}
+use Rattle.disk_program.specs.declared.usage.DiskWork.TheVariants.{Lines, Memory}
 use lib.Chars.{codes}
 
 -- the disk's file, a word of its own
@@ -23,7 +23,7 @@ abbrev pub sbidisk : App
 sbidisk = with_rule (with_rule (named_app (codes "sbidisk")) path_rule) (flag_rule (codes "memory"))
 
 -- the work that these values ask for: the memory only where the flag stands there
-abbrev pub ReadsWork : Found → Work → Type 0
+abbrev pub ReadsWork : Found → DiskWork → Type 0
 ReadsWork f (Lines path) =
     (first_value f (codes "PATH") ≡ Some path.now) × (one_text f (codes "memory") ≡ Some (codes "true") → ⊥)
 ReadsWork f (Memory path) =
@@ -31,12 +31,12 @@ ReadsWork f (Memory path) =
     × (one_text f (codes "memory") ≡ None → ⊥)
 
 -- the work of a path, by whether the flag stands there
-abbrev pub asked_of : Bor (List ℕ) → Bool → Work
+abbrev pub asked_of : Bor (List ℕ) → Bool → DiskWork
 asked_of path true = Memory path
 asked_of path false = Lines path
 
 -- the work that the words name, as the command's parser reads them
-abbrev pub IsNamedBy : List (List ℕ) → Work → Type 0
+abbrev pub IsNamedBy : List (List ℕ) → DiskWork → Type 0
 IsNamedBy words work = (f : Found) × AreParsed sbidisk words f × ReadsWork f work
 
 -- the words name no path

@@ -7,7 +7,7 @@ ghost use Rattle.command_line.specs.Pipes.{is_closed_pipe, pipe_contents};
 ghost use Rattle.disk_program.specs.Examined.{IsExamined, IsFaultOf, IsFaultOver, IsWorked, RefusesLines, RefusesMemory, WritesMemory, WritesNothing, WritesSeen, WritesWork};
 
 use crate::shows::write_seen;
-use crate::usage::{Work, work_of};
+use crate::usage::{DiskWork, work_of};
 use board_files::{DiskFiles, seen_in};
 use command_line::{FileFault, NoWork, Pipe, end_with, show_on, without_work};
 use examined::{image_memory, see_disk, write_memory};
@@ -78,7 +78,7 @@ fn recall<D: DiskFiles, W: Write + Drop>(
 fn do_work<D: DiskFiles, W: Write + Drop>(
     alloc: Global,
     files: &D,
-    work: Work<'_>,
+    work: DiskWork<'_>,
     out: &mut Out<W>,
 ) -> Result<(), FileFault>
     ensures done { OnOk result (WritesWork (D.disk_at files.now) work.entry
@@ -89,8 +89,8 @@ fn do_work<D: DiskFiles, W: Write + Drop>(
         (writer_contents (pipe_contents W.contents) out.old) (writer_contents (pipe_contents W.contents) out.new)) }
 {
     match work {
-        Work::Lines(path) => look(alloc, files, path, out),
-        Work::Memory(path) => recall(alloc, files, path, out),
+        DiskWork::Lines(path) => look(alloc, files, path, out),
+        DiskWork::Memory(path) => recall(alloc, files, path, out),
     }
 }
 
@@ -99,7 +99,7 @@ fn do_work<D: DiskFiles, W: Write + Drop>(
 fn examine_by<D: DiskFiles, W: Write + Drop, F: Write + IsTerminal>(
     alloc: Global,
     files: &D,
-    work: Work<'_>,
+    work: DiskWork<'_>,
     out: &mut Out<W>,
     faults: &mut F,
 ) -> u8

@@ -57,7 +57,7 @@ const MEMORY: &str = "memory";
 
 /// What the command line asks for.
 #[derive(Clone, Copy, Drop)]
-pub enum Work<'a> {
+pub enum DiskWork<'a> {
     /// What stands in the file of that path.
     Lines(&'a str),
     /// The memory of the image that stands there.
@@ -98,19 +98,19 @@ fn parsed<'a, S: AsStr>(alloc: Global, words: &'a [S]) -> Result<ArgMatches<'a>,
 }
 
 /// The work over the file at a path, by whether the memory is asked for.
-fn asked_of(path: &str, is_memory: bool) -> Work<'_>
+fn asked_of(path: &str, is_memory: bool) -> DiskWork<'_>
     ensures { result ≡ asked_of path.entry is_memory }
 {
     if is_memory {
-        Work::Memory(path)
+        DiskWork::Memory(path)
     } else {
-        Work::Lines(path)
+        DiskWork::Lines(path)
     }
 }
 
 /// The work that the words of a command line ask for, the program's name first. None where they name no path. The error is the
 /// command line's own text: a fault, the help, the version, or that memory was refused.
-pub fn work_of<'a, S: AsStr>(alloc: Global, words: &'a [S]) -> Result<Option<Work<'a>>, Error>
+pub fn work_of<'a, S: AsStr>(alloc: Global, words: &'a [S]) -> Result<Option<DiskWork<'a>>, Error>
     ensures named { IfOk result (λ found. IfSome found (IsNamedBy (map S.text words.entry.now))) }
     ensures none { IfOk result (λ found. found ≡ None → NamesNoPath (map S.text words.entry.now)) }
     // Else memory was refused, or the parser refuses the words. The kind of the error says which.

@@ -6,8 +6,8 @@ use Rattle.std.proofs.lemmas.Bool.{eqb-true, or_cases, or_parts, lt-leb}
 use Rattle.std.proofs.lemmas.List.{append_assoc, append-nil, length-append}
 use Rattle.gdb_protocol.specs.declared.heard.PacketEvent.{PacketEvent}
 use Rattle.gdb_protocol.specs.declared.heard.PacketEvent.TheVariants as heards
-use Rattle.gdb_protocol.specs.declared.heard.Place.{Place}
-use Rattle.gdb_protocol.specs.declared.heard.Place.TheVariants.{Between, Body, Sum, LastDigit}
+use Rattle.gdb_protocol.specs.declared.heard.PacketPlace.{PacketPlace}
+use Rattle.gdb_protocol.specs.declared.heard.PacketPlace.TheVariants.{Between, Body, Sum, LastDigit}
 use Rattle.gdb_protocol.specs.Packets.{is_special, toggled, body_of, sum_of, digit_of, framed_of, payload_read}
 use Rattle.gdb_protocol.specs.Streams.{Standing, Completes, EndsPacket, Hears, packet_told, packets_in, packets_read, payload_in, standing_after}
 use Rattle.gdb_protocol.proofs.Spelled.{frame_read}
@@ -82,7 +82,7 @@ ended_packet (Some payload) heards.Interrupt never = absurd never
 ended_packet None what is = ap payload_in is
 
 -- a byte completes a packet just where the packets of the bytes have it
-completed : (place : Place) (body : List ℕ) (b : ℕ) (what : PacketEvent) → Completes place body b what → payload_in what ≡ packet_told place body b
+completed : (place : PacketPlace) (body : List ℕ) (b : ℕ) (what : PacketEvent) → Completes place body b what → payload_in what ≡ packet_told place body b
 completed Between body b what is = ap payload_in is ∙ sign_is_none (b == 43) (b == 45) (b == 3)
 completed Body body b what is = ap payload_in is ∙ body_is_none ((b == 36) || (b == 35)) (nat_le 65536 (length body))
 completed Sum body b what is = ap payload_in is

@@ -5,16 +5,16 @@ use Rattle.std.specs.Option.{option_to_list}
 use Rattle.gdb_protocol.specs.Packets.{payload_read}
 use Rattle.gdb_protocol.specs.declared.heard.PacketEvent.{PacketEvent}
 use Rattle.gdb_protocol.specs.declared.heard.PacketEvent.TheVariants as heards
-use Rattle.gdb_protocol.specs.declared.heard.Place.{Place}
-use Rattle.gdb_protocol.specs.declared.heard.Place.TheVariants.{Between, Body, Sum, LastDigit}
+use Rattle.gdb_protocol.specs.declared.heard.PacketPlace.{PacketPlace}
+use Rattle.gdb_protocol.specs.declared.heard.PacketPlace.TheVariants.{Between, Body, Sum, LastDigit}
 
 -- where a reader stands, and what came since $
 pub record Standing : Type 0 where
-  pub place : Place
+  pub place : PacketPlace
   pub body : List ℕ
 
 -- where it stands after a byte; of what is longer than 65,536 bytes nothing is read
-abbrev pub standing_after : Place → List ℕ → ℕ → Standing
+abbrev pub standing_after : PacketPlace → List ℕ → ℕ → Standing
 standing_after Between body b = if b == 36 then record { place = Body; body = [] } else record { place = Between; body = body }
 standing_after Body body b =
     if b == 36 then record { place = Body; body = [] } else
@@ -24,7 +24,7 @@ standing_after Sum body b = record { place = LastDigit b; body = body }
 standing_after (LastDigit high) body b = record { place = Between; body = body }
 
 -- the payload of the packet that a byte completes
-abbrev pub packet_told : Place → List ℕ → ℕ → Option (List ℕ)
+abbrev pub packet_told : PacketPlace → List ℕ → ℕ → Option (List ℕ)
 packet_told Between body b = None
 packet_told Body body b = None
 packet_told Sum body b = None
@@ -49,7 +49,7 @@ EndsPacket (Some payload) heard = ⊥
 EndsPacket None heard = heard ≡ heards.Damaged
 
 -- What a byte completes: all that a reader hears, and where. Behind # it is a packet with the sum that the two digits say.
-abbrev pub Completes : Place → List ℕ → ℕ → PacketEvent → Type 0
+abbrev pub Completes : PacketPlace → List ℕ → ℕ → PacketEvent → Type 0
 Completes Between body b heard = heard ≡ sign_of b
 Completes Body body b heard =
     heard ≡ (if (b == 36) || (b == 35) then heards.Nothing else (if nat_le 65536 (length body) then heards.Damaged else heards.Nothing))
@@ -69,7 +69,7 @@ abbrev pub packets_in : List PacketEvent → List (List ℕ)
 packets_in heard = flat_map (λ what. option_to_list (payload_in what)) heard
 
 -- the payloads of the packets in a stream of bytes
-abbrev pub packets_read : Place → List ℕ → List ℕ → List (List ℕ)
+abbrev pub packets_read : PacketPlace → List ℕ → List ℕ → List (List ℕ)
 packets_read place body [] = []
 packets_read place body (b ∷ more) =
     option_to_list (packet_told place body b) ++ packets_read (standing_after place body b).place (standing_after place body b).body more

@@ -1,7 +1,7 @@
 //! Bytes as they come, read as packets.
 
 use crate::frames::payload_of;
-use crate::heard::{PacketEvent, Place};
+use crate::heard::{PacketEvent, PacketPlace};
 use crate::signs::sign;
 use std::alloc::{AllocError, Global};
 use std::marker::Model;
@@ -13,7 +13,7 @@ const LONGEST: usize = 65_536;
 #[derive(Drop)]
 pub struct Decoder {
     alloc: Global,
-    place: Place,
+    place: PacketPlace,
     body: Vec<u8>,
 }
 
@@ -28,7 +28,7 @@ impl Model for Decoder {
 impl Decoder {
     ghost use Rattle.std.specs.Prelude.{◌≡◌, [], IfOk};
     ghost use Rattle.gdb_protocol.specs.Streams.{Completes, Standing, standing_after};
-    ghost use Rattle.gdb_protocol.specs.declared.heard.Place.TheVariants as places;
+    ghost use Rattle.gdb_protocol.specs.declared.heard.PacketPlace.TheVariants as places;
 
     /// One that stands between packets.
     pub fn new(alloc: Global) -> Decoder
@@ -36,7 +36,7 @@ impl Decoder {
     {
         Decoder {
             alloc,
-            place: Place::Between,
+            place: PacketPlace::Between,
             body: Vec::new(alloc),
         }
     }
@@ -46,7 +46,7 @@ impl Decoder {
         ensures { self.new ≡ record { place = places.Body; body = [] } }
     {
         self.body.clear();
-        self.place = Place::Body;
+        self.place = PacketPlace::Body;
     }
 
     /// A byte between packets.
@@ -71,9 +71,9 @@ impl Decoder {
         if byte == b'$' {
             self.begin();
         } else if byte == b'#' {
-            self.place = Place::Sum;
+            self.place = PacketPlace::Sum;
         } else if LONGEST <= self.body.len() {
-            self.place = Place::Between;
+            self.place = PacketPlace::Between;
             return Ok(PacketEvent::Damaged);
         } else {
             self.body.push(byte)?;
@@ -86,7 +86,7 @@ impl Decoder {
         ensures standing { IfOk result (λ _. self.new ≡ standing_after (places.LastDigit high) self.old.body low) }
         ensures told { IfOk result (λ heard. Completes (places.LastDigit high) self.old.body low heard) }
     {
-        self.place = Place::Between;
+        self.place = PacketPlace::Between;
         match payload_of(self.alloc, &self.body, high, low)? {
             Some(payload) => Ok(PacketEvent::Packet(payload)),
             None => Ok(PacketEvent::Damaged),
@@ -99,13 +99,13 @@ impl Decoder {
         ensures told { IfOk result (λ heard. Completes self.old.place self.old.body byte heard) }
     {
         match self.place {
-            Place::Between => Ok(self.outside(byte)),
-            Place::Body => self.inside(byte),
-            Place::Sum => {
-                self.place = Place::LastDigit(byte);
+            PacketPlace::Between => Ok(self.outside(byte)),
+            PacketPlace::Body => self.inside(byte),
+            PacketPlace::Sum => {
+                self.place = PacketPlace::LastDigit(byte);
                 Ok(PacketEvent::Nothing)
             }
-            Place::LastDigit(high) => self.end(high, byte),
+            PacketPlace::LastDigit(high) => self.end(high, byte),
         }
     }
 }

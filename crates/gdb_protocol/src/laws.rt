@@ -4,7 +4,7 @@ ghost use Rattle.std.specs.Prelude.{◌≡◌, ◌/◌, ◌%◌, ◌≤◌, ℕ,
 ghost use Rattle.gdb_protocol.specs.Packets.{body_of, digit_of, framed_of, payload_read, sum_of};
 ghost use Rattle.gdb_protocol.specs.Streams.{Hears, Standing, packets_in, packets_read};
 ghost use Rattle.gdb_protocol.specs.declared.heard.PacketEvent.{PacketEvent};
-ghost use Rattle.gdb_protocol.specs.declared.heard.Place.TheVariants as places;
+ghost use Rattle.gdb_protocol.specs.declared.heard.PacketPlace.TheVariants as places;
 
 /// What is framed is read back.
 #[tactic(auto, using(crate::proofs::Spelled::frame_read))]

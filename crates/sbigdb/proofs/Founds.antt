@@ -13,8 +13,8 @@ use Rattle.script_lang.specs.declared.line.Line.{Line}
 use Rattle.script_lang.specs.declared.line.Line.TheVariants as lines
 use Rattle.script_lang.specs.declared.scripts.Script as code
 use Rattle.bench_schedules.specs.Numbers.{numbers_of}
-use Rattle.debug_options.specs.declared.given.Drawn.{Drawn}
-use Rattle.debug_options.specs.declared.given.Preempted.{Preempted}
+use Rattle.debug_options.specs.declared.given.ScheduleChoice.{ScheduleChoice}
+use Rattle.debug_options.specs.declared.given.OrderChoice.{OrderChoice}
 use Rattle.bench_sweep.specs.Shown.{NoRowOf, NoneBehindOf, ShownRow}
 use Rattle.bench_sweep.specs.Swept.{NoBenchRuns}
 use Rattle.bench_sweep.specs.declared.points.BenchKind.{BenchKind}
@@ -39,7 +39,7 @@ both_parts : (r : Result code.Script Refusal) (own found : code.Script) → IfOk
 both_parts (Ok s) own found board parts = (board, parts)
 both_parts (Err e) own found board parts = tt
 
-pub begins_schedule : (drawn : Drawn) (text : List ℕ) (payloads : List (List ℕ)) (own found : code.Script) (said : Script) (r : Result code.Script Refusal) → script_of text ≡ Ok said → script_of text ≡ Ok (view own)
+pub begins_schedule : (drawn : ScheduleChoice) (text : List ℕ) (payloads : List (List ℕ)) (own found : code.Script) (said : Script) (r : Result code.Script Refusal) → script_of text ≡ Ok said → script_of text ≡ Ok (view own)
     → IsDrawn drawn said (view found) → IfOk r (λ s. s.shape ≡ own.shape) → IfOk r (λ s. PartsAt own.lines.items found.lines.items s.lines.items) → IfOk r (λ s. BeginsAt (Schedule drawn) text payloads (view s))
 begins_schedule drawn text payloads own found said r one other is board parts =
     let same = same_script _ _ _ one other in
@@ -54,7 +54,7 @@ begins_schedule drawn text payloads own found said r one other is board parts =
     })
     (both_parts r own found board parts)
 
-pub begins_order : (order : Preempted) (text : List ℕ) (payloads : List (List ℕ)) (own found : code.Script) (said : Script) (r : Result code.Script Refusal) → script_of text ≡ Ok said → script_of text ≡ Ok (view own)
+pub begins_order : (order : OrderChoice) (text : List ℕ) (payloads : List (List ℕ)) (own found : code.Script) (said : Script) (r : Result code.Script Refusal) → script_of text ≡ Ok said → script_of text ≡ Ok (view own)
     → IsFound (Order order) said payloads (numbers_of text) (view found) → IfOk r (λ s. s.shape ≡ own.shape) → IfOk r (λ s. PartsAt own.lines.items found.lines.items s.lines.items) → IfOk r (λ s. BeginsAt (Order order) text payloads (view s))
 begins_order order text payloads own found said r one other is board parts =
     let same = same_script _ _ _ one other in

@@ -9,13 +9,13 @@ use Rattle.gdb_protocol.specs.declared.heard.PacketEvent.TheVariants as heards
 use Rattle.debug_session.specs.Ats.{IsAt}
 use Rattle.debug_session.specs.Sessions.{begins_of, history_of, plan_of, points_of, size_of, timeline_of, watches_of}
 use Rattle.debug_session.specs.Steps.{AreNoted}
-use Rattle.debug_session.specs.declared.session.Plan.{Plan}
+use Rattle.debug_session.specs.declared.session.SessionPlan.{SessionPlan}
 use Rattle.debug_session.specs.declared.session.Session.{Session}
 use Rattle.debug_packets.specs.Talks.{acknowledges_in, hart_in, is_over_in, runner_in, sent_in, session_in}
 use Rattle.debug_packets.specs.declared.talk.Talk.{Talk}
 use Rattle.sbigdb.specs.Responses.{AnswersAll, AnswersFrom, Begins, Responds, RespondsAll, Says, ack_text, first_ack}
 
-pub begun : {C : Type 0} (size : Size) (plan : Plan) (payloads : List (List ℕ)) (lines : List Line) (session : Session C) (talk : Talk C) → session_in talk ≡ session → IsAt (size_of session) (timeline_of session) → size_of session ≡ size
+pub begun : {C : Type 0} (size : Size) (plan : SessionPlan) (payloads : List (List ℕ)) (lines : List Line) (session : Session C) (talk : Talk C) → session_in talk ≡ session → IsAt (size_of session) (timeline_of session) → size_of session ≡ size
     → AreNoted lines [] (history_of session) → begins_of session ≡ payloads → plan_of session ≡ plan → points_of session ≡ [] → watches_of session ≡ [] → hart_in talk ≡ 0 → runner_in talk ≡ None → acknowledges_in talk ≡ true → is_over_in talk ≡ false → sent_in talk ≡ [] → Begins size plan payloads lines talk
 begun {C} size plan payloads lines session talk same at board noted begins goes_by points watches hart runner acknowledges ongoing sent =
     let Q : Size → Type 0 = λ x. IsAt x (timeline_of session) in

@@ -22,7 +22,7 @@ use Rattle.bench_sweep.specs.declared.points.BenchKind.{BenchKind}
 use Rattle.bench_sweep.specs.declared.points.BenchKind.TheVariants.{Cuts, Fails}
 use Rattle.debug_options.specs.declared.given.Begin.{Begin}
 use Rattle.debug_options.specs.declared.given.Begin.TheVariants.{Cut, End, Failure, Order, Schedule}
-use Rattle.debug_options.specs.declared.given.Drawn.{Drawn}
+use Rattle.debug_options.specs.declared.given.ScheduleChoice.{ScheduleChoice}
 use Rattle.sbigdb.specs.Strikes.{StopsBefore}
 
 -- the turns that both lines make, where these are rows of one hart
@@ -47,7 +47,7 @@ pub record PartsAt (own other lines : List Line) : Type 0 where
   pub stands : lines ≡ front ++ both_turn left right
 
 -- it is the schedule of that number that is drawn from that seed
-abbrev pub IsDrawn : Drawn → Script → Script → Type 0
+abbrev pub IsDrawn : ScheduleChoice → Script → Script → Type 0
 IsDrawn drawn said found =
     (fronts : List Front) × IsNumbered (record { seed = drawn.seed; fronts = fronts }) drawn.number said.lines found.lines
     × IsScheduleOf said found

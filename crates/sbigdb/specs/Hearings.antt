@@ -9,7 +9,7 @@ use Rattle.gdb_protocol.specs.Asked.{request_of}
 use Rattle.gdb_protocol.specs.declared.requests.GdbLook.TheVariants as looks
 use Rattle.gdb_protocol.specs.declared.requests.GdbRequest.{GdbRequest}
 use Rattle.gdb_protocol.specs.declared.requests.GdbRequest.TheVariants as asks
-use Rattle.gdb_protocol.specs.declared.heard.Place.TheVariants.{Between}
+use Rattle.gdb_protocol.specs.declared.heard.PacketPlace.TheVariants.{Between}
 use Rattle.sbigdb.specs.declared.listening.Silence.{Silence}
 use Rattle.sbigdb.specs.declared.listening.Silence.TheVariants as silences
 

@@ -6,7 +6,7 @@ use Rattle.script_lang.specs.declared.line.Line.{Line}
 use Rattle.debug_session.specs.Ats.{IsAt}
 use Rattle.debug_session.specs.Sessions.{begins_of, history_of, plan_of, points_of, size_of, timeline_of, watches_of}
 use Rattle.debug_session.specs.Steps.{AreNoted}
-use Rattle.debug_session.specs.declared.session.Plan.{Plan}
+use Rattle.debug_session.specs.declared.session.SessionPlan.{SessionPlan}
 use Rattle.gdb_protocol.specs.declared.heard.PacketEvent.{PacketEvent}
 use Rattle.gdb_protocol.specs.declared.heard.PacketEvent.TheVariants as heards
 use Rattle.gdb_protocol.specs.Replies.{packets_of}
@@ -67,7 +67,7 @@ AnswersFrom {I} {C} (Some what) gives from old new sent =
     × (sent ≡ said ++ rest)
 
 -- A talk that begins: about the board that these lines leave, with no breakpoint, and hart 0 is shown.
-pub record Begins {C : Type 0} (size : Size) (plan : Plan) (begins : List (List ℕ)) (lines : List Line) (talk : Talk C) : Type 0 where
+pub record Begins {C : Type 0} (size : Size) (plan : SessionPlan) (begins : List (List ℕ)) (lines : List Line) (talk : Talk C) : Type 0 where
   pub at : IsAt size (timeline_of (session_in talk))
   pub board : size_of (session_in talk) ≡ size
   pub noted : AreNoted lines [] (history_of (session_in talk))

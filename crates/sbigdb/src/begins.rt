@@ -21,7 +21,7 @@ use bench_schedules::{Wanted, show, show_order};
 use bench_sweep::{BenchKind, WantedRow, show_row};
 use board::Payloads;
 use board_model::Refusal;
-use debug_options::{Begin, Drawn, Preempted};
+use debug_options::{Begin, OrderChoice, ScheduleChoice};
 use jobs::Jobs;
 use script_lang::{Line, Script, parse_script};
 use std::alloc::{AllocError, Global};
@@ -154,7 +154,7 @@ fn read_back(alloc: Global, text: &[u8]) -> Result<Script, Refusal>
 /// The schedule of a script that [`bench_schedules::show`] writes.
 fn schedule_found<R: Threads + Sync>(
     alloc: Global,
-    drawn: Drawn,
+    drawn: ScheduleChoice,
     script: &[u8],
     payloads: &Payloads,
 ) -> Result<Script, Refusal>
@@ -182,7 +182,7 @@ fn jobs_of<R: Threads>(threads: &R) -> usize
 fn order_found<R: Threads + Sync>(
     threads: &R,
     alloc: Global,
-    order: Preempted,
+    order: OrderChoice,
     script: &[u8],
     payloads: &Payloads,
 ) -> Result<Script, Refusal>

@@ -10,7 +10,7 @@ use crate::begins::begun;
 use crate::start::Start;
 use board_files::read_payloads;
 use command_line::{FileFault, read_file};
-use debug_options::Options;
+use debug_options::DebugOptions;
 use script_lang::parse_script;
 use std::thread::Threads;
 
@@ -30,7 +30,7 @@ fn script_bytes(rt: &HostRuntime, path: &str) -> Result<Vec<u8>, FileFault> {
 pub fn start_read<R: Threads + Sync>(
     rt: &HostRuntime,
     threads: &R,
-    options: &Options,
+    options: &DebugOptions,
 ) -> Result<Start, FileFault>
     requires bounded { IsBounded options.now.begin }
     ensures ranges { IfOk result (λ start. All (IsLineInRange start.script.shape) start.script.lines.items) }

@@ -14,8 +14,8 @@ use command_line::{
     FileFault, NoWork, ProgramFault, explain_fault, show, status_of, tell_fault, without_work,
     words,
 };
-use debug_options::{Options, USAGE, options_of};
-use debug_session::Plan;
+use debug_options::{DebugOptions, USAGE, options_of};
+use debug_session::SessionPlan;
 use std::io::{IsTerminal, Write};
 use std::process::ExitCode;
 use std::sync::Wait;
@@ -25,12 +25,12 @@ use std::thread::Threads;
 fn run_session<R: Threads + Wait + Sync>(
     rt: &HostRuntime,
     threads: &R,
-    options: &Options,
+    options: &DebugOptions,
 ) -> Result<(), FileFault>
     requires { IsBounded options.now.begin }
 {
     let start = start_read(rt, threads, options)?;
-    let plan = Plan {
+    let plan = SessionPlan {
         quantum: options.quantum,
         most: u64::from(options.most),
     };
@@ -38,7 +38,7 @@ fn run_session<R: Threads + Wait + Sync>(
 }
 
 /// Reads the command line, and shows what it asks to be shown, or its fault.
-fn asked(rt: &HostRuntime) -> Result<Options, NoWork>
+fn asked(rt: &HostRuntime) -> Result<DebugOptions, NoWork>
     ensures { IfOk result (λ options. IsBounded options.begin) }
 {
     let words = words(rt, USAGE)?;

@@ -18,7 +18,7 @@ use board_model::Refusal;
 use crew::{Crew, Sequential};
 use crossbeam_channel::{Receiver, bounded};
 use debug_packets::{Talk, acknowledge, prepare, reply_again, send_answer};
-use debug_session::{Plan, Session};
+use debug_session::{Session, SessionPlan};
 use gdb_protocol::PacketEvent;
 use script_lang::Script;
 use std::alloc::Global;
@@ -180,7 +180,7 @@ fn confirm_first<W: Write>(first: &Option<PacketEvent>, out: &mut W) -> Result<(
 /// a debugger asks again where that takes long.
 fn discuss<I: Iterator<Item = PacketEvent>, C: Crew, W: Write>(
     setting: Setting<'_, C>,
-    plan: Plan,
+    plan: SessionPlan,
     told: PayloadScript,
     heard: I,
     signals: &Signals,
@@ -209,7 +209,7 @@ fn serve<R: Threads + Wait + Sync>(
     rt: &R,
     host: &HostRuntime,
     start: Start,
-    plan: Plan,
+    plan: SessionPlan,
     heard: Receiver<PacketEvent>,
     signals: &Signals,
 ) -> Result<(), Refusal>
@@ -235,7 +235,7 @@ pub fn converse<R: Threads + Wait + Sync>(
     host: &HostRuntime,
     rt: &R,
     start: Start,
-    plan: Plan,
+    plan: SessionPlan,
 ) -> Result<(), Refusal>
     requires ranges { All (IsLineInRange start.script.shape) start.script.lines.items }
     requires four { length start.payloads ≡ 4 }

@@ -23,4 +23,4 @@ pub use headline::{
 };
 pub use resumes::resumed_byte_for_byte;
 pub use scripts::{a_script, a_script_in_any_spelling};
-pub use sessions::{Said, a_session, power_lost_between_sessions};
+pub use sessions::{SessionSaid, a_session, power_lost_between_sessions};

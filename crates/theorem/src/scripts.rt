@@ -7,7 +7,7 @@ ghost use Rattle.report_lines.specs.Texts.{report_text};
 ghost use Rattle.report_lines.specs.declared.printed.Answer.{Answer};
 ghost use Rattle.bench_report.specs.Laws.{KeepsLaws};
 
-use bench_report::{Report, Stopped, run_left_with};
+use bench_report::{Report, StoppedRun, run_left_with};
 use board::Payloads;
 use crew::Crew;
 use disk::Disk;
@@ -27,7 +27,7 @@ pub fn a_script<C: Crew, W: Write>(
     crew: &C,
     payloads: Payloads,
     out: &mut W,
-) -> Result<(Report, SimDisk), Stopped>
+) -> Result<(Report, SimDisk), StoppedRun>
     ensures { (said : Said) → IsWritable said → script.now ≡ script_text said
         → IfOk result (λ left. (answers : List Answer)
         × Appends (W.contents out.old) (W.contents out.new) (report_text answers)
@@ -44,7 +44,7 @@ pub fn a_script_in_any_spelling<C: Crew, W: Write>(
     crew: &C,
     payloads: Payloads,
     out: &mut W,
-) -> Result<(Report, SimDisk), Stopped>
+) -> Result<(Report, SimDisk), StoppedRun>
     ensures { IfOk result (λ left. (said : Said) × (answers : List Answer) × (script_of script.now ≡ Ok said)
         × Appends (W.contents out.old) (W.contents out.new) (report_text answers)
         × KeepsLaws said answers (⟦<SimDisk as Disk>⟧.facts left.1)) }

@@ -68,7 +68,7 @@ pub fn a_session<R: Threads + Wait + Sync, D: Disk + Drop + Send, I: Read + Drop
 
 /// What a session gives back but for its disk.
 #[derive(Drop)]
-pub struct Said<I: Read + Drop, W: Write + Drop> {
+pub struct SessionSaid<I: Read + Drop, W: Write + Drop> {
     /// Why it was refused, if it was.
     pub ran: Result<(), Refusal>,
     /// What the console left of its input, and its output.
@@ -91,7 +91,10 @@ pub fn power_lost_between_sessions<R: Threads + Wait + Sync, I: Read + Drop, W: 
     payloads: &Payloads,
     streams: Streams<I, W>,
     fill: Fill,
-) -> (Said<I, W>, Result<Store<SimDisk>, (SimDisk, Refusal)>)
+) -> (
+    SessionSaid<I, W>,
+    Result<Store<SimDisk>, (SimDisk, Refusal)>,
+)
     requires { IsIdle (⟦<SimDisk as Disk>⟧.facts disk) }
     ensures { (size : Size) (s : DurableState) → options.now.new ≡ false
         → StandsFor (⟦<SimDisk as Disk>⟧.facts disk).content size s → (result.0.console_left ≡ None → ⊥)
@@ -109,7 +112,7 @@ pub fn power_lost_between_sessions<R: Threads + Wait + Sync, I: Read + Drop, W: 
         heard,
         harts,
     } = session(rt, alloc, options, disk, payloads, streams);
-    let said = Said {
+    let said = SessionSaid {
         ran,
         streams,
         console_left,

@@ -9,7 +9,7 @@ use Rattle.bench_program.specs.Written.{IsFault, IsFaultOf, IsUnread}
 use Rattle.bench_program.specs.declared.fault.BenchFault.{BenchFault}
 use Rattle.bench_program.specs.declared.fault.BenchFault.TheVariants.{Refused}
 use Rattle.board_model.specs.declared.refusal.Refusal.TheVariants.{Memory}
-use Rattle.bench_program.specs.declared.usage.Options.{Options}
+use Rattle.bench_program.specs.declared.usage.BenchOptions.{BenchOptions}
 use Rattle.bench_program.proofs.Ends.{nothing_more, line_fault, on_ok_both}
 use Rattle.bench_program.proofs.Told.{of_options}
 use Rattle.bench_program.proofs.streams.run_words.Goals as goal
@@ -27,7 +27,7 @@ pub returns-in-Ok-clause-faults : goal.returns-in-Ok-clause-faults
 returns-in-Ok-clause-faults g c =
     let words : List (List ℕ) = map g.S.AsStr.text c.args.words.now in
     let input : Option (List ℕ) = g.I.Read.remaining c.args.input in
-    let options : Options = c.in-Ok.options in
+    let options : BenchOptions = c.in-Ok.options in
     let bytes_at : List ℕ → Option (List ℕ) = g.P.PayloadFiles.bytes_at c.args.files.now in
     let gone : Bool = is_closed_pipe (writer_inner c.run_options.new.out) in
     let Of : BenchFault → Type 0 = λ fault. IsUnread options fault ⊎ (fault ≡ Refused Memory) ⊎ IsFaultOf options bytes_at input gone fault in
@@ -40,5 +40,5 @@ returns-in-Err-clause-faults g c =
     let input : Option (List ℕ) = g.I.Read.remaining c.args.input in
     let bytes_at : List ℕ → Option (List ℕ) = g.P.PayloadFiles.bytes_at c.args.files.now in
     let gone : Bool = is_closed_pipe (writer_inner c.show_on.new.out) in
-    let Of : BenchFault → Type 0 = λ fault. (options : Options) × IsNamedBy words options × (IsUnread options fault ⊎ IsFaultOf options bytes_at input gone fault) in
+    let Of : BenchFault → Type 0 = λ fault. (options : BenchOptions) × IsNamedBy words options × (IsUnread options fault ⊎ IsFaultOf options bytes_at input gone fault) in
     line_fault (kind_of c.in-Err.text) c.without_work.result Of (NamesConflict words) (NamesNoWork words) (c.without_work.ensures ∙ ap without_work c.show_on.ensures) c.in-Err.ensures.refused

@@ -9,7 +9,7 @@ use Rattle.script_lang.specs.Lines.{IsLineInRange}
 use Rattle.script_lang.specs.declared.line.Line.{Line}
 use Rattle.debug_session.specs.Ats.{IsPlace}
 use Rattle.debug_session.specs.Lives.{Shows}
-use Rattle.debug_session.specs.declared.back.Place.{Place}
+use Rattle.debug_session.specs.declared.back.TurnPlace.{TurnPlace}
 use Rattle.debug_session.specs.declared.halts.Stop.{Stop}
 use Rattle.debug_session.specs.Backs.{FoundIn, FoundOf, IsRowPast}
 use Rattle.debug_session.proofs.Backs.{found_line, later_at}
@@ -37,12 +37,12 @@ loop-number-preserved g c =
     let last = c.in_ok-last.last in
     let seen = c.in_ok-last.ensures in
     let same = sym c.later_place-found.ensures in
-    let P : Option Place → Type 0 = λ found. IfSome found (λ place. IsPlace place.stop.hart place.line place.turns lines) in
+    let P : Option TurnPlace → Type 0 = λ found. IfSome found (λ place. IsPlace place.stop.hart place.line place.turns lines) in
     let R : Line → Type 0 = λ line. IfSome last (IsRowPast line) in
     let had = was.found in
     let did = seen.found had.0 had.2 in
     let S : Line → Type 0 = λ line. FoundIn size stops last (singles line) had.0 did.0 in
-    let Q : Option Place → Type 0 = λ found. FoundOf size stops found lines (moments (take (i + 1) lines)) (bench_with c.args.timeline.now.begins) did.0 in
+    let Q : Option TurnPlace → Type 0 = λ found. FoundOf size stops found lines (moments (take (i + 1) lines)) (bench_with c.args.timeline.now.begins) did.0 in
     record {
       place = subst P same (later_at c.loop-number.found last lines i d c.loop-number-test.true was.place (subst R c.index-lines-number.is seen.row));
       found = (did.0, subst Q same (found_line size stops c.loop-number.found last lines i d (bench_with c.args.timeline.now.begins) had.0 did.0 c.loop-number-test.true had.1 (subst S c.index-lines-number.is did.1)), did.2);

@@ -6,7 +6,7 @@ use Rattle.debug_session.specs.Loads.{LoadsNext}
 use Rattle.debug_session.specs.declared.debugged.DebuggedBench.{DebuggedBench}
 use Rattle.debug_session.specs.Passes.{machine_left}
 use Rattle.debug_session.proofs.Passed.{shown_machine}
-use Rattle.debug_session.specs.declared.halts.Halt.{Halt}
+use Rattle.debug_session.specs.declared.halts.HaltReason.{HaltReason}
 use Rattle.debug_session.specs.Backs.{IsSeen}
 use Rattle.debug_session.proofs.Backs.{is_seen}
 use Rattle.debug_session.proofs.Firsts.{touched_along}
@@ -30,5 +30,5 @@ returns-clause-seen g c = λ size b shows.
     let seen_now : machine_of now ≡ machine_left new.power = shown_machine size new now.live.power now.live.payloads did.3 in
     let stands = ap (λ (m : Option Machine). stands_in stops.points.items (pc_in h m)) (sym seen_was) ∙ ap (λ (ps : List ℕ). stands_in ps (pc_in h (machine_of was))) (sym c.points.ensures) ∙ sym c.stands_at-stands.ensures in
     let told = touched_along size stops h (machine_of was) (machine_of now) load _ touched b new c.in_ok-before.ensures.seen seen_was seen_now (subst L same c.next_load-load.ensures.loads) c.first_touched-touched.ensures in
-    let P : Option Halt → Type 0 = λ halt. IsSeen halt stops h b new in
+    let P : Option HaltReason → Type 0 = λ halt. IsSeen halt stops h b new in
     (new, ((row_answer h c.turns.result, did.2), subst P (sym c.halt_back.ensures) (is_seen size stops h b new c.stands_at-stands.result touched stands told)), did.3)

@@ -1,5 +1,5 @@
 use Rattle.std.proofs.Common.{None, Some, refl, ◌≡◌, ◌≤◌, ◌+◌, sym, ◌∙◌, arith, subst}
-use Rattle.debug_session.specs.declared.halts.Halt.TheVariants as halts
+use Rattle.debug_session.specs.declared.halts.HaltReason.TheVariants as halts
 use Rattle.debug_session.specs.Firsts.{TellsTouched, seen_in}
 use Rattle.debug_session.specs.Lives.{machine_of}
 use Rattle.debug_session.specs.declared.debugged.DebuggedBench.{DebuggedBench}
