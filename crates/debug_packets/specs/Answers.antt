@@ -33,7 +33,7 @@ pub record IsAnswer {C : Type 0} (packet : List ℕ) (old new : Talk C) (payload
 abbrev pub IsAllBut : {C : Type 0} → Talk C → Talk C → Type 0
 IsAllBut old new = (session_in new ≡ session_in old) × (hart_in new ≡ hart_in old) × StaysOpen old new
 
--- The same, and the talk that the answer leaves keeps it as it is sent.
+-- A packet is answered with these payloads, and the talk that the answer leaves keeps it as it is sent.
 abbrev pub IsReplied : {C : Type 0} → List ℕ → Talk C → Talk C → List (List ℕ) → Type 0
 IsReplied {C} packet old new payloads =
     (mid : Talk C) × IsAnswer packet old mid payloads × IsAllBut mid new × (sent_in new ≡ packets_of payloads)

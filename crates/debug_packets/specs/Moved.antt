@@ -122,11 +122,14 @@ LineRan None size old new said = new ≡ old
 LineRan (Some line) size old new said = (answer : Answer) × Ran size line answer old new × (said ≡ answer_text answer)
 
 -- the history as a script; a comment behind it says where it is longer than a script may be
+abbrev pub ended_text : ℕ → List ℕ → List ℕ
+ended_text lines text =
+    if nat_lt 65535 lines
+    then (text ++ codes "\n") ++ codes "# this is longer than a script may be: 65,535 lines behind the board line\n"
+    else text ++ codes "\n"
+
 abbrev pub script_text : Size → List (List ℕ) → List Line → List ℕ
-script_text size begins past =
-    if nat_lt 65535 (length past)
-    then (history_text size begins past ++ codes "\n") ++ codes "# this is longer than a script may be: 65,535 lines behind the board line\n"
-    else history_text size begins past ++ codes "\n"
+script_text size begins past = ended_text (length past) (history_text size begins past)
 
 -- the number of turns to which `goto` is to go, where a text says one
 abbrev pub goto_in : List ℕ → Option ℕ

@@ -12,6 +12,7 @@ ghost use Rattle.gdb_protocol.specs.Asked.{request_of};
 ghost use Rattle.gdb_protocol.specs.declared.requests.GdbLook.{GdbLook};
 ghost use Rattle.gdb_protocol.specs.declared.requests.GdbRequest.TheVariants as asks;
 
+use crate::replies::payload;
 use crate::talk::Talk;
 use board_model::Refusal;
 use crew::Crew;
@@ -20,8 +21,8 @@ use gdb_protocol::{GdbLook, GdbRequest, Move, request_of};
 use std::alloc::Global;
 use std::sync::atomic::AtomicBool;
 
-/// Payloads to be sent, in their order.
-pub type Payloads = Vec<Vec<u8>>;
+/// The payloads of packets to be sent, in their order.
+pub type PacketPayloads = Vec<Vec<u8>>;
 
 impl<'a, C: Crew> Talk<'a, C> {
     /// A talk about a session, whose hart 0 is shown.
@@ -34,9 +35,8 @@ impl<'a, C: Crew> Talk<'a, C> {
         ensures ongoing { IfOk result (λ talk. is_over_in talk ≡ false) }
         ensures sent { IfOk result (λ talk. sent_in talk ≡ []) }
     {
-        let Some(hart) = session.setting().shape.hart(0) else {
-            return Err(Refusal::BadShape);
-        };
+        // Each board has one.
+        let hart = session.setting().shape.hart(0).unwrap();
         let alloc = session.setting().alloc;
         let last = Stop {
             hart,
@@ -57,7 +57,7 @@ impl<'a, C: Crew> Talk<'a, C> {
     /// Answers a packet: the payloads to be sent, in their order. The interrupt stops what goes on.
     ///
     /// Refused `Memory`, and then the talk is of no use.
-    pub fn answer(&mut self, packet: &[u8], interrupt: &AtomicBool) -> Result<Payloads, Refusal>
+    pub fn answer(&mut self, packet: &[u8], interrupt: &AtomicBool) -> Result<PacketPayloads, Refusal>
         requires at { IsAt (size_of (session_in self.old)) (timeline_of (session_in self.old)) }
         ensures at { OnOk result (IsAt (size_of (session_in self.new)) (timeline_of (session_in self.new))) }
         ensures size { size_of (session_in self.new) ≡ size_of (session_in self.old) }
@@ -87,7 +87,7 @@ impl<'a, C: Crew> Talk<'a, C> {
     }
 
     /// Answers what looks: one payload, or none.
-    fn answer_look(&mut self, asked: GdbLook, packet: &[u8]) -> Result<Payloads, Refusal>
+    fn answer_look(&mut self, asked: GdbLook, packet: &[u8]) -> Result<PacketPayloads, Refusal>
         ensures same { timeline_of self.new.session ≡ timeline_of self.old.session }
         ensures size { size_of self.new.session ≡ size_of self.old.session }
         ensures shown { OnOk result (self.new.hart ≡ hart_shown asked (size_of self.old.session) self.old.hart) }
@@ -114,7 +114,7 @@ impl<'a, C: Crew> Talk<'a, C> {
         asked: Move,
         packet: &[u8],
         interrupt: &AtomicBool,
-    ) -> Result<Payloads, Refusal>
+    ) -> Result<PacketPayloads, Refusal>
         requires at { IsAt (size_of self.old.session) (timeline_of self.old.session) }
         ensures at { OnOk result (IsAt (size_of self.new.session) (timeline_of self.new.session)) }
         ensures size { size_of self.new.session ≡ size_of self.old.session }
@@ -152,6 +152,6 @@ impl<'a, C: Crew> Talk<'a, C> {
     pub(crate) fn said(&self, text: &[u8]) -> Result<Vec<u8>, Refusal>
         ensures { IfOk result (λ v. v.items ≡ text.now) }
     {
-        Ok(Vec::from_slice(self.alloc(), text)?)
+        payload(self.alloc(), text)
     }
 }

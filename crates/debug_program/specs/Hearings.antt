@@ -32,7 +32,7 @@ newly = record { place = Between; body = [] }
 abbrev pub AreTaken : {F : Type 0} → (F → PacketEvent → Bool → F → Type 0) → F → List PacketEvent → F → Type 0
 AreTaken gives first heard last = FoldsTo (λ before what after. gives before what true after) first heard last
 
--- The same of all that was heard; but where no more was wanted, that was said after the last of it.
+-- All that was heard was handed on, and more was wanted after each; but where no more was wanted, that was said after the last of it.
 abbrev pub HandsOn : {F : Type 0} → (F → PacketEvent → Bool → F → Type 0) → Silence → F → List PacketEvent → F → Type 0
 HandsOn {F} gives silences.Unwanted first heard last =
     (all : List PacketEvent) × (what : PacketEvent) × (mid : F) × (heard ≡ all ++ what ∷ []) × AreTaken gives first all mid × gives mid what false last

@@ -34,7 +34,7 @@ Says heards.Damaged old new sent = (new ≡ old) × (sent ≡ (if acknowledges_i
 Says heards.Again old new sent = (new ≡ old) × (sent ≡ again_text old)
 Says what old new sent = (new ≡ old) × (sent ≡ [])
 
--- the same behind its acknowledgement
+-- what was heard is acknowledged and answered
 abbrev pub Responds : {C : Type 0} → PacketEvent → Talk C → Talk C → List ℕ → Type 0
 Responds what old new sent =
     (said : List ℕ) × Says what old new said × (sent ≡ ack_text (acknowledges_in old) what ++ said)
@@ -59,7 +59,7 @@ abbrev pub AnswersBehind : {I C : Type 0} → (I → Option PacketEvent → I �
 AnswersBehind gives from mid new rest =
     ((is_over_in mid ≡ true) × (new ≡ mid) × (rest ≡ [])) ⊎ ((is_over_in mid ≡ false) × AnswersAll gives from mid new rest)
 
--- The same where the first thing that was heard, if there was one, is acknowledged already.
+-- The first thing that was heard, if there was one, is acknowledged already. It is answered, and whatever an iterator gives behind it.
 abbrev pub AnswersFrom : {I C : Type 0} → Option PacketEvent → (I → Option PacketEvent → I → Type 0) → I → Talk C → Talk C → List ℕ → Type 0
 AnswersFrom None gives from old new sent = (new ≡ old) × (sent ≡ [])
 AnswersFrom {I} {C} (Some what) gives from old new sent =

@@ -132,7 +132,7 @@ fn row_by(sweep: bool, faults: bool, number: Option<u64>) -> Option<Begin>
     }
 }
 
-/// The same, by the word of `--row`.
+/// Where the row strikes whose number is the word of `--row`, of the one bench that is named.
 fn row_named(sweep: bool, faults: bool, row: &str) -> Option<Begin>
     ensures value { result ≡ row_named sweep faults row.now }
     ensures bounded { IfSome result IsBounded }

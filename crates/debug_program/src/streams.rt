@@ -145,7 +145,7 @@ fn answers_behind<I: Iterator<Item = PacketEvent>, C: Crew, W: Write>(
     answers(alloc, talk, heard, signals, out)
 }
 
-/// The same where the first thing may be missing, and then nothing is heard.
+/// Answers the first thing that was heard, which is acknowledged already, and then whatever is heard; nothing where there was no first.
 fn answers_from<I: Iterator<Item = PacketEvent>, C: Crew, W: Write>(
     alloc: Global,
     talk: &mut Talk<'_, C>,

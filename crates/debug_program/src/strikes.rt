@@ -103,7 +103,7 @@ fn struck_line<C: Crew>(
     Ok(low)
 }
 
-/// The same behind these lines and so many turns of a hart.
+/// Whether a cut or a failure is armed that has not struck, behind these lines and so many turns of a hart. Refused `Memory` alone.
 fn is_armed_in<C: Crew>(
     setting: &Setting<'_, C>,
     payloads: &Payloads,
@@ -125,7 +125,8 @@ fn is_armed_in<C: Crew>(
     Ok(armed)
 }
 
-/// How many turns of a row behind these lines are made before the one in which it strikes, found in the same way.
+/// How many turns of a row behind these lines are made before the one in which it strikes, found by runs of its first turns, half as many
+/// each time. Refused `Memory` alone.
 fn struck_turn<C: Crew>(
     setting: &Setting<'_, C>,
     payloads: &Payloads,

@@ -71,7 +71,7 @@ pub enum GdbLook {
     Actions,
     /// `D` and `vKill`: the talk is over.
     Detach,
-    /// `k`: the same, without an answer.
+    /// `k`: the talk is over, without an answer.
     Kill,
     /// A packet of these whose numbers are none.
     Malformed,
