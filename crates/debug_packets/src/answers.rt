@@ -26,14 +26,14 @@ pub type PacketPayloads = Vec<Vec<u8>>;
 
 impl<'a, C: Crew> Talk<'a, C> {
     /// A talk about a session, whose hart 0 is shown.
-    pub fn new(session: Session<'a, C>) -> Result<Talk<'a, C>, Refusal>
-        ensures session { IfOk result (λ talk. session_in talk ≡ session.entry) }
-        ensures first { IfOk result (λ talk. hart_in talk ≡ 0) }
-        ensures runner { IfOk result (λ talk. runner_in talk ≡ None) }
-        ensures last { IfOk result (λ talk. last_in talk ≡ record { hart = 0; halt = HaltReason.Stepped }) }
-        ensures acknowledges { IfOk result (λ talk. acknowledges_in talk ≡ true) }
-        ensures ongoing { IfOk result (λ talk. is_over_in talk ≡ false) }
-        ensures sent { IfOk result (λ talk. sent_in talk ≡ []) }
+    pub fn new(session: Session<'a, C>) -> Talk<'a, C>
+        ensures session { session_in result ≡ session.entry }
+        ensures first { hart_in result ≡ 0 }
+        ensures runner { runner_in result ≡ None }
+        ensures last { last_in result ≡ record { hart = 0; halt = HaltReason.Stepped } }
+        ensures acknowledges { acknowledges_in result ≡ true }
+        ensures ongoing { is_over_in result ≡ false }
+        ensures sent { sent_in result ≡ [] }
     {
         // Each board has one.
         let hart = session.setting().shape.hart(0).unwrap();
@@ -42,7 +42,7 @@ impl<'a, C: Crew> Talk<'a, C> {
             hart,
             halt: HaltReason::Stepped,
         };
-        Ok(Talk {
+        Talk {
             session,
             hart,
             runner: None,
@@ -51,13 +51,17 @@ impl<'a, C: Crew> Talk<'a, C> {
             acknowledges: true,
             is_over: false,
             sent: Vec::new(alloc),
-        })
+        }
     }
 
     /// Answers a packet: the payloads to be sent, in their order. The interrupt stops what goes on.
     ///
     /// Refused `Memory`, and then the talk is of no use.
-    pub fn answer(&mut self, packet: &[u8], interrupt: &AtomicBool) -> Result<PacketPayloads, Refusal>
+    pub fn answer(
+        &mut self,
+        packet: &[u8],
+        interrupt: &AtomicBool,
+    ) -> Result<PacketPayloads, Refusal>
         requires at { IsAt (size_of (session_in self.old)) (timeline_of (session_in self.old)) }
         ensures at { OnOk result (IsAt (size_of (session_in self.new)) (timeline_of (session_in self.new))) }
         ensures size { size_of (session_in self.new) ≡ size_of (session_in self.old) }

@@ -72,10 +72,6 @@ fn options_in(alloc: Global, matches: &ArgMatches<'_>) -> Result<Option<DebugOpt
     ensures bounded { IfOk result (λ found. IfSome found (λ o. IsBounded o.begin)) }
     ensures none { IfOk result (λ found. found ≡ None → GivesNone (found_of matches.now)) }
 {
-    let Some(script) = path_given(alloc, matches, SCRIPT)? else {
-        return Ok(None);
-    };
-    let payloads = payload_paths(alloc, matches)?;
     let Some(begin) = begin(matches) else {
         return Ok(None);
     };
@@ -85,6 +81,10 @@ fn options_in(alloc: Global, matches: &ArgMatches<'_>) -> Result<Option<DebugOpt
     let Some(most) = number(matches, MOST, MOST_TURNS) else {
         return Ok(None);
     };
+    let Some(script) = path_given(alloc, matches, SCRIPT)? else {
+        return Ok(None);
+    };
+    let payloads = payload_paths(alloc, matches)?;
     Ok(Some(DebugOptions {
         script,
         payloads,

@@ -1,6 +1,6 @@
 //! The talk on the process's own streams. One thread reads, so that an interrupt is heard while turns run.
 
-ghost use Rattle.std.specs.Prelude.{◌≡◌, ℕ, false, List, [], Some, All, length, codes, if◌then◌else◌, OnOk, OnSome};
+ghost use Rattle.std.specs.Prelude.{◌≡◌, ℕ, false, List, [], Some, All, length, codes, if◌then◌else◌, IfOk, OnOk, OnSome};
 ghost use Rattle.std.specs.Io.KnownBytes.{Appends};
 ghost use Rattle.std.specs.Iterator.{IsFinite};
 ghost use Rattle.debug_session.specs.Ats.{IsAt};
@@ -14,7 +14,7 @@ use crate::listening::{Signals, Silence, hand_on, listen};
 use crate::start::Start;
 use crate::told::{PayloadScript, told_payloads};
 use bench_report::Setting;
-use board_model::Refusal;
+use board_model::{Refusal, Shape};
 use crew::{Crew, Sequential};
 use crossbeam_channel::{Receiver, bounded};
 use debug_packets::{Talk, acknowledge, prepare, reply_again, send_answer};
@@ -176,6 +176,22 @@ fn confirm_first<W: Write>(first: &Option<PacketEvent>, out: &mut W) -> Result<(
     }
 }
 
+/// The talk that begins about the board that a script's lines leave.
+fn begin_talk<'a, C: Crew>(
+    setting: Setting<'a, C>,
+    plan: SessionPlan,
+    told: PayloadScript,
+) -> Result<Talk<'a, C>, Refusal>
+    requires ranges { All (IsLineInRange setting.shape.now) told.lines.items }
+    ensures at { IfOk result (λ talk. IsAt (size_of (session_in talk)) (timeline_of (session_in talk))) }
+    ensures begins { IfOk result (Begins setting.entry.shape.now plan told.begins told.lines.items) }
+{
+    let PayloadScript { lines, begins } = told;
+    let session = Session::new(setting, plan, begins, lines)?;
+    let talk = Talk::new(session);
+    Ok(talk)
+}
+
 /// The talk about the board that a script's lines leave. The first packet is acknowledged before the lines are run, since
 /// a debugger asks again where that takes long.
 fn discuss<I: Iterator<Item = PacketEvent>, C: Crew, W: Write>(
@@ -195,13 +211,24 @@ fn discuss<I: Iterator<Item = PacketEvent>, C: Crew, W: Write>(
         × Begins setting.entry.shape.now plan told.begins told.lines.items first
         × AnswersAll I.next_gives heard first last sent × Appends (W.contents out.old) (W.contents out.new) sent) }
 {
-    let PayloadScript { lines, begins } = told;
     let mut heard = heard;
     let first = heard.next();
     confirm_first(&first, out)?;
-    let session = Session::new(setting, plan, begins, lines)?;
-    let mut talk = Talk::new(session)?;
+    let mut talk = begin_talk(setting, plan, told)?;
     answers_from(setting.alloc, &mut talk, first, heard, signals, out)
+}
+
+/// The shape of the board, and the script with its payloads told.
+fn script_told(alloc: Global, start: Start) -> Result<(Shape, PayloadScript), Refusal>
+    requires ranges { All (IsLineInRange start.script.shape) start.script.lines.items }
+    requires four { length start.payloads ≡ 4 }
+    ensures ranges { IfOk result (λ told. All (IsLineInRange told.0) told.1.lines.items) }
+    ensures four { IfOk result (λ told. length told.1.begins ≡ 4) }
+{
+    let Start { script, payloads } = start;
+    let Script { shape, lines } = script;
+    let told = told_payloads(alloc, lines, &payloads)?;
+    Ok((shape, told))
 }
 
 /// The session and its talk. Behind it nothing more is heard.
@@ -217,10 +244,8 @@ fn serve<R: Threads + Wait + Sync>(
     requires four { length start.payloads ≡ 4 }
 {
     let alloc = host.alloc();
+    let (shape, told) = script_told(alloc, start)?;
     let crew = Sequential::<R>::new([0, 1, 2, 3])?;
-    let Start { script, payloads } = start;
-    let Script { shape, lines } = script;
-    let told = told_payloads(alloc, lines, &payloads)?;
     let setting = Setting {
         alloc,
         crew: &crew,

@@ -1,11 +1,13 @@
 //! Where what a row of a bench arms strikes in its script.
 
-ghost use Rattle.std.specs.Prelude.{◌≡◌, ◌≤◌, ◌<◌, ◌+◌, ◌++◌, ◌∷◌, [], List, All, None, Some, true, false, length, take, IfErr, IfOk, OnOk};
+ghost use Rattle.std.specs.Prelude.{◌≡◌, ◌↔◌, ◌≤◌, ◌<◌, ◌+◌, ◌++◌, ◌∷◌, [], List, All, None, Some, true, false, length, take, IfErr, IfOk, OnOk};
 ghost use Rattle.board_model.specs.declared.refusal.Refusal.TheVariants.{Memory};
+ghost use Rattle.disk.specs.FaultState.{Unarmed};
 ghost use Rattle.script_lang.specs.Lines.{IsLineInRange};
 ghost use Rattle.script_lang.specs.declared.line.Line.TheVariants as lines;
 ghost use Rattle.bench_live.specs.Lives.{IsSound};
 ghost use Rattle.bench_live.specs.Pasts.{some_turns};
+ghost use Rattle.bench_report.specs.Views.{fault_state};
 ghost use Rattle.debug_program.specs.Strikes.{ArmedBehind, RanTo, StopsBefore, count_in, hart_in};
 
 use bench_live::LiveBench;
@@ -15,6 +17,7 @@ use board::Payloads;
 use board_model::{HartId, Refusal};
 use crew::{Crew, Sequential};
 use script_lang::{Line, Script};
+use simdisk::SimDisk;
 use std::alloc::Global;
 use std::thread::Threads;
 
@@ -36,6 +39,20 @@ fn run_lines<C: Crew>(
     Ok(())
 }
 
+/// Lets go of a bench. That of its board's many parts is proved here, and not beside what is done with it.
+fn release(_live: LiveBench) {}
+
+/// Whether a cut or a failure is armed on a disk. Refused `Memory` where the disk was refused memory.
+fn is_armed_on(disk: &SimDisk) -> Result<bool, Refusal>
+    ensures told { IfOk result (λ armed. (armed ≡ false) ↔ ((fault_state disk.now).armed ≡ Unarmed)) }
+    ensures refused { IfErr result (λ e. e ≡ Memory) }
+{
+    if disk.refused() != 0 {
+        return Err(Refusal::Memory);
+    }
+    Ok(disk.is_armed())
+}
+
 /// Runs lines from a blank disk on, with these payloads in the slots: whether behind the last a cut or a failure is armed that has not
 /// struck. Refused `Memory` alone.
 fn is_armed_behind<C: Crew>(
@@ -48,12 +65,16 @@ fn is_armed_behind<C: Crew>(
     ensures refused { IfErr result (λ e. e ≡ Memory) }
 {
     let mut live = LiveBench::blank(setting.alloc, setting.shape, payloads)?;
-    run_lines(setting, lines, &mut live)?;
-    let disk = live.into_disk();
-    if disk.refused() != 0 {
-        return Err(Refusal::Memory);
+    match run_lines(setting, lines, &mut live) {
+        Ok(()) => {
+            let disk = live.into_disk();
+            is_armed_on(&disk)
+        }
+        Err(e) => {
+            release(live);
+            Err(e)
+        }
     }
-    Ok(disk.is_armed())
 }
 
 /// The place behind the first line that arms something.

@@ -1,6 +1,6 @@
 //! The payload files in the lines of a session's script, as far as a line has room for them.
 
-ghost use Rattle.std.specs.Prelude.{◌≡◌, ◌≤◌, ◌++◌, All, length, slice_set, IfOk, OnOk};
+ghost use Rattle.std.specs.Prelude.{◌≡◌, ◌≤◌, ◌++◌, ◌∷◌, [], All, length, slice_set, IfOk, OnOk};
 ghost use Rattle.board.specs.Boots.{payload_at};
 ghost use Rattle.board_model.specs.Shapes.{Size};
 ghost use Rattle.script_lang.specs.Lines.{IsLineInRange};
@@ -51,6 +51,29 @@ fn tell(
     Ok(())
 }
 
+/// Tells the payloads of all slots, and then these lines, to a script that says nothing yet.
+fn tell_all(
+    alloc: Global,
+    payloads: &Payloads,
+    lines: &mut Vec<Line>,
+    told: &mut PayloadScript,
+) -> Result<(), AllocError>
+    requires four { length payloads.now ≡ 4 }
+    requires none { told.old.lines.items ≡ [] }
+    requires begins { told.old.begins ≡ [] ∷ [] ∷ [] ∷ [] ∷ [] }
+    ensures told { OnOk result (AreTold payloads.now lines.old.items told.new.lines.items told.new.begins) }
+    ensures four { OnOk result (length told.new.begins ≡ 4) }
+    ensures ranges { OnOk result ((size : Size) → All (IsLineInRange size) lines.old.items
+        → All (IsLineInRange size) told.new.lines.items) }
+{
+    tell(alloc, payloads, 0, told)?;
+    tell(alloc, payloads, 1, told)?;
+    tell(alloc, payloads, 2, told)?;
+    tell(alloc, payloads, 3, told)?;
+    told.lines.append(lines)?;
+    Ok(())
+}
+
 /// The payloads of all slots told, and then these lines.
 pub fn told_payloads(
     alloc: Global,
@@ -67,11 +90,7 @@ pub fn told_payloads(
         lines: Vec::new(alloc),
         begins: Payloads::new(alloc),
     };
-    tell(alloc, payloads, 0, &mut told)?;
-    tell(alloc, payloads, 1, &mut told)?;
-    tell(alloc, payloads, 2, &mut told)?;
-    tell(alloc, payloads, 3, &mut told)?;
     let mut lines = lines;
-    told.lines.append(&mut lines)?;
+    tell_all(alloc, payloads, &mut lines, &mut told)?;
     Ok(told)
 }
