@@ -1,5 +1,5 @@
 -- Two scripts that differ in rows of turns alone: the line in which they part.
-use Rattle.std.proofs.Common.{◌≡◌, ◌∙◌, ◌==◌, ◌<◌, ◌+◌, ◌-◌, ℕ, suc, true, false, List, [], ◌∷◌, ◌++◌, None, Some, Ok, Err, Result, inl, inr, if◌then◌else◌, min, get_or, take, drop, length, refl, ap, ap₂, sym, subst, arith, add-one, length-append}
+use Rattle.std.proofs.Common.{◌≡◌, ◌∙◌, ◌==◌, ◌<◌, ◌+◌, ◌-◌, ℕ, suc, Bool, true, false, List, [], ◌∷◌, ◌++◌, None, Some, Ok, Err, Result, inl, inr, if◌then◌else◌, min, get_or, take, drop, length, refl, ap, ap₂, sym, subst, arith, add-one, length-append}
 use Rattle.std.specs.Prelude.{All, IfErr, IfOk}
 use Rattle.std.specs.Option.{option_to_list}
 use Rattle.std.proofs.Math.Seq.{drop-cons, take-append_seam, take-suc}
@@ -18,6 +18,20 @@ use Rattle.script_lang.specs.declared.line.Line.TheVariants as lines
 use Rattle.bench_orders.specs.Orders.{AreOrderOf, is_other, more_turns, seen_by}
 use Rattle.debug_program.specs.Begins.{PartsAt, both_turn, is_same_row, turns_of_both}
 
+-- ---- what tells lines apart
+no_true : false ≡ true → ⊥
+no_true e = let never : ⊥ = cc in never
+
+-- the first line is no row of turns
+begins_other : List Line → Bool
+begins_other [] = false
+begins_other (x ∷ xs) = is_other x
+
+-- the lines behind the first
+behind_first : List Line → List Line
+behind_first [] = []
+behind_first (x ∷ xs) = xs
+
 -- ---- the same front, as a hart sees it, may be left out
 more_cancel : (n : ℕ) (xs ys : List Line) → more_turns n xs ≡ more_turns n ys → xs ≡ ys
 more_cancel n [] [] e = refl
@@ -28,9 +42,9 @@ more_cancel n (lines.Turn h m ∷ xs) (lines.Turn g k ∷ ys) e =
     let same : n + m ≡ n + k = cc in
     let count : m ≡ k = omega arith in
     cc
-more_cancel n (lines.Turn h m ∷ xs) (y ∷ ys) e = let never : ⊥ = cc in absurd never
+more_cancel n (lines.Turn h m ∷ xs) (y ∷ ys) e = absurd (no_true (ap begins_other e))
 more_cancel n (x ∷ xs) [] e = e
-more_cancel n (x ∷ xs) (lines.Turn g k ∷ ys) e = let never : ⊥ = cc in absurd never
+more_cancel n (x ∷ xs) (lines.Turn g k ∷ ys) e = absurd (no_true (sym (ap begins_other e)))
 more_cancel n (x ∷ xs) (y ∷ ys) e = e
 
 seen_other : (h : ℕ) (x : Line) (more : List Line) → is_other x ≡ true → seen_by h (x ∷ more) ≡ lines.Turn h 0 ∷ x ∷ seen_by h more
@@ -42,7 +56,7 @@ seen_behind : (h : ℕ) (front a b : List Line) → seen_by h (front ++ a) ≡ s
 unfolding seen_by
 seen_behind h [] a b e = e
 seen_behind h (lines.Turn by n ∷ more) a b e = seen_behind h more a b (more_cancel _ (seen_by h (more ++ a)) (seen_by h (more ++ b)) e)
-seen_behind h (line ∷ more) a b e = seen_behind h more a b (cc)
+seen_behind h (line ∷ more) a b e = seen_behind h more a b (ap (λ (xs : List Line). behind_first (behind_first xs)) e)
 
 -- ---- a line of both
 same_others : (x y : Line) (a b : List Line) → is_other x ≡ true → is_other y ≡ true → seen_by 0 (x ∷ a) ≡ seen_by 0 (y ∷ b) → x ≡ y
@@ -50,7 +64,7 @@ same_others x y a b one other e = let first = seen_other 0 x a one in let second
 
 same_row : (x y : Line) (a b : List Line) → is_same_row x y ≡ true → seen_by 0 (x ∷ a) ≡ seen_by 0 (y ∷ b) → x ≡ y
 same_row (lines.Turn h n) (lines.Turn g m) a b is e = grind arith
-same_row (lines.Turn h n) y a b is e = let no : ⊥ = cc in absurd no
+same_row (lines.Turn h n) y a b is e = absurd (no_true is)
 same_row x y a b is e = same_others x y a b refl is e
 
 same_itself : (x : Line) → is_same_row x x ≡ true

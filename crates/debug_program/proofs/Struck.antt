@@ -50,9 +50,12 @@ armed_of size start those first last disk armed shows ran left is =
     let P : FaultState → Type 0 = λ s. (armed ≡ false) ↔ (s.armed ≡ Unarmed) in
     (did.0, did.1, did.2, told_armed armed did.1.fault_state.armed (subst P (sym state) is))
 
+none_is : (h : ℕ) → ◌≡◌ {A = Option ℕ} None (Some h) → ⊥
+none_is h e = let no : ⊥ = cc in no
+
 pub row_is : (line : Line) (h n : ℕ) → hart_in line ≡ Some h → n ≡ count_in line → line ≡ lines.Turn h n
 row_is (lines.Turn g m) h n e many = let same : g ≡ h = cc in ap₂ (λ (x y : ℕ). lines.Turn x y) same (sym many)
-row_is line h n e many = absurd (let no : ⊥ = cc in no)
+row_is line h n e many = absurd (none_is h e)
 
 pub row_ranged : (size : Size) (all : List Line) (p : ℕ) (next : Line) (h n : ℕ) → p < length all → next ≡ get_or all p next → hart_in next ≡ Some h → n ≡ count_in next → All (IsLineInRange size) all → IsLineInRange size (lines.Turn h n)
 row_ranged size all p next h n within is row many ranges =
