@@ -63,7 +63,7 @@ impl<'a, C: Crew> Talk<'a, C> {
     {
         match self.runner {
             Some(hart) => hart,
-            None => self.hart,
+            None => self.selected,
         }
     }
 
@@ -245,6 +245,7 @@ impl<'a, C: Crew> Talk<'a, C> {
     {
         self.last = stop;
         self.hart = stop.hart;
+        self.selected = stop.hart;
         stop_text(self.alloc(), stop, self.takes_swbreak)
     }
 }

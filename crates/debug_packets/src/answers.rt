@@ -7,7 +7,7 @@ ghost use Rattle.debug_packets.specs.Replies.{IsReply, Replied, Shown, hart_show
 ghost use Rattle.debug_packets.specs.Kept.{IsKept, IsTalk, Keeps, Listed, points_after, watches_after};
 ghost use Rattle.debug_packets.specs.Moved.{Moved};
 ghost use Rattle.debug_packets.specs.Stops.{stop_text};
-ghost use Rattle.debug_packets.specs.Talks.{acknowledges_in, hart_in, is_over_in, last_in, runner_in, sent_in, session_in, takes_in};
+ghost use Rattle.debug_packets.specs.Talks.{acknowledges_in, hart_in, is_over_in, last_in, runner_in, selected_in, sent_in, session_in, takes_in};
 ghost use Rattle.gdb_protocol.specs.Asked.{request_of};
 ghost use Rattle.gdb_protocol.specs.declared.requests.GdbLook.{GdbLook};
 ghost use Rattle.gdb_protocol.specs.declared.requests.GdbRequest.TheVariants as asks;
@@ -30,6 +30,7 @@ impl<'a, C: Crew> Talk<'a, C> {
         ensures session { session_in result ≡ session.entry }
         ensures first { hart_in result ≡ 0 }
         ensures runner { runner_in result ≡ None }
+        ensures selected { selected_in result ≡ 0 }
         ensures last { last_in result ≡ record { hart = 0; halt = HaltReason.Stepped } }
         ensures acknowledges { acknowledges_in result ≡ true }
         ensures ongoing { is_over_in result ≡ false }
@@ -46,6 +47,7 @@ impl<'a, C: Crew> Talk<'a, C> {
             session,
             hart,
             runner: None,
+            selected: hart,
             last,
             takes_swbreak: false,
             acknowledges: true,

@@ -275,11 +275,12 @@ impl<'a, C: Crew> Talk<'a, C> {
         ensures at { OnOk result (IsAt (size_of self.new.session) (timeline_of self.new.session)) }
         ensures size { size_of self.new.session ≡ size_of self.old.session }
         ensures moved { IfOk result (λ v. MonitoredBy (behind_prefix (codes "qRcmd,") packet.now) (size_of self.old.session)
-            (stops_of self.old.session) self.old.hart
+            (stops_of self.old.session) self.old.selected
             (timeline_of self.old.session) (timeline_of self.new.session) (map (λ v. v.items) out.new.items) v.items) }
         ensures plan { plan_of self.new.session ≡ plan_of self.old.session }
         ensures stops { stops_of self.new.session ≡ stops_of self.old.session }
         ensures hart { self.new.hart ≡ self.old.hart }
+        ensures selected { self.new.selected ≡ self.old.selected }
         ensures talk { StaysOpen self.old self.new }
     {
         let Some(word) = behind(packet, b"qRcmd,") else {
@@ -303,14 +304,15 @@ impl<'a, C: Crew> Talk<'a, C> {
         ensures at { OnOk result (IsAt (size_of self.new.session) (timeline_of self.new.session)) }
         ensures size { size_of self.new.session ≡ size_of self.old.session }
         ensures moved { IfOk result (λ v. HexSaid (Some line.now) (size_of self.old.session)
-            (stops_of self.old.session) self.old.hart
+            (stops_of self.old.session) self.old.selected
             (timeline_of self.old.session) (timeline_of self.new.session) (map (λ v. v.items) out.new.items) v.items) }
         ensures plan { plan_of self.new.session ≡ plan_of self.old.session }
         ensures stops { stops_of self.new.session ≡ stops_of self.old.session }
         ensures hart { self.new.hart ≡ self.old.hart }
+        ensures selected { self.new.selected ≡ self.old.selected }
         ensures talk { StaysOpen self.old self.new }
     {
-        let text = monitored(&mut self.session, self.hart, line, interrupt)?;
+        let text = monitored(&mut self.session, self.selected, line, interrupt)?;
         tell(self.alloc(), text.as_bytes(), out)?;
         self.said(b"OK")
     }

@@ -189,7 +189,7 @@ fn text_of<C: Crew>(
         GdbLook::FirstThreads => Ok(threads(alloc, shape.harts())?),
         GdbLook::MoreThreads => payload(alloc, b"l"),
         GdbLook::Actions => payload(alloc, b"vCont;c;C;s;S;r"),
-        GdbLook::RunShown
+        GdbLook::RunSelected
         | GdbLook::AnyThread
         | GdbLook::SetPoint(_)
         | GdbLook::ClearPoint(_)

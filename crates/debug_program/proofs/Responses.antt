@@ -11,17 +11,17 @@ use Rattle.debug_session.specs.Sessions.{begins_of, history_of, plan_of, points_
 use Rattle.debug_session.specs.Steps.{AreNoted}
 use Rattle.debug_session.specs.declared.session.SessionPlan.{SessionPlan}
 use Rattle.debug_session.specs.declared.session.Session.{Session}
-use Rattle.debug_packets.specs.Talks.{acknowledges_in, hart_in, is_over_in, runner_in, sent_in, session_in}
+use Rattle.debug_packets.specs.Talks.{acknowledges_in, hart_in, is_over_in, runner_in, selected_in, sent_in, session_in}
 use Rattle.debug_packets.specs.declared.talk.Talk.{Talk}
 use Rattle.debug_program.specs.Responses.{AnswersAll, AnswersFrom, Begins, Responds, RespondsAll, Says, ack_text, first_ack}
 
 pub begun : {C : Type 0} (size : Size) (plan : SessionPlan) (payloads : List (List ℕ)) (lines : List Line) (session : Session C) (talk : Talk C) → session_in talk ≡ session → IsAt (size_of session) (timeline_of session) → size_of session ≡ size
-    → AreNoted lines [] (history_of session) → begins_of session ≡ payloads → plan_of session ≡ plan → points_of session ≡ [] → watches_of session ≡ [] → hart_in talk ≡ 0 → runner_in talk ≡ None → acknowledges_in talk ≡ true → is_over_in talk ≡ false → sent_in talk ≡ [] → Begins size plan payloads lines talk
-begun {C} size plan payloads lines session talk same at board noted begins goes_by points watches hart runner acknowledges ongoing sent =
+    → AreNoted lines [] (history_of session) → begins_of session ≡ payloads → plan_of session ≡ plan → points_of session ≡ [] → watches_of session ≡ [] → hart_in talk ≡ 0 → runner_in talk ≡ None → selected_in talk ≡ 0 → acknowledges_in talk ≡ true → is_over_in talk ≡ false → sent_in talk ≡ [] → Begins size plan payloads lines talk
+begun {C} size plan payloads lines session talk same at board noted begins goes_by points watches hart runner selected acknowledges ongoing sent =
     let Q : Size → Type 0 = λ x. IsAt x (timeline_of session) in
     let P : Session C → Type 0 = λ s. IsAt size (timeline_of s) × (size_of s ≡ size) × AreNoted lines [] (history_of s) × (begins_of s ≡ payloads) × (plan_of s ≡ plan) × (points_of s ≡ []) × (watches_of s ≡ []) in
     let all : P (session_in talk) = subst P (sym same) (subst Q board at, board, noted, begins, goes_by, points, watches) in
-    record { at = all.0; board = all.1; noted = all.2; payloads = all.3; goes_by = all.4; points = all.5; watches = all.6; hart = hart; runner = runner; acknowledges = acknowledges; ongoing = ongoing; sent = sent }
+    record { at = all.0; board = all.1; noted = all.2; payloads = all.3; goes_by = all.4; points = all.5; watches = all.6; hart = hart; runner = runner; selected = selected; acknowledges = acknowledges; ongoing = ongoing; sent = sent }
 
 pub one_more : {C : Type 0} (heard : List PacketEvent) (what : PacketEvent) (old mid new : Talk C) (sent more : List ℕ) → RespondsAll heard old mid sent → is_over_in mid ≡ false → Responds what mid new more → RespondsAll (heard ++ what ∷ []) old new (sent ++ more)
 one_more {C} [] what old mid new sent more (same, none) ongoing does =

@@ -11,7 +11,7 @@ use Rattle.gdb_protocol.specs.declared.heard.PacketEvent.{PacketEvent}
 use Rattle.gdb_protocol.specs.declared.heard.PacketEvent.TheVariants as heards
 use Rattle.gdb_protocol.specs.Replies.{packets_of}
 use Rattle.debug_packets.specs.Answers.{IsReplied, again_text, front_text}
-use Rattle.debug_packets.specs.Talks.{acknowledges_in, hart_in, is_over_in, runner_in, sent_in, session_in}
+use Rattle.debug_packets.specs.Talks.{acknowledges_in, hart_in, is_over_in, runner_in, selected_in, sent_in, session_in}
 use Rattle.debug_packets.specs.declared.talk.Talk.{Talk}
 use lib.Chars.{codes}
 
@@ -66,7 +66,7 @@ AnswersFrom {I} {C} (Some what) gives from old new sent =
     (mid : Talk C) × (said : List ℕ) × (rest : List ℕ) × Says what old mid said × AnswersBehind gives from mid new rest
     × (sent ≡ said ++ rest)
 
--- A talk that begins: about the board that these lines leave, with no breakpoint, and hart 0 is shown.
+-- A talk that begins: about the board that these lines leave, with no breakpoint, and hart 0 is shown and selected.
 pub record Begins {C : Type 0} (size : Size) (plan : SessionPlan) (begins : List (List ℕ)) (lines : List Line) (talk : Talk C) : Type 0 where
   pub at : IsAt size (timeline_of (session_in talk))
   pub board : size_of (session_in talk) ≡ size
@@ -77,6 +77,7 @@ pub record Begins {C : Type 0} (size : Size) (plan : SessionPlan) (begins : List
   pub watches : watches_of (session_in talk) ≡ []
   pub hart : hart_in talk ≡ 0
   pub runner : runner_in talk ≡ None
+  pub selected : selected_in talk ≡ 0
   pub acknowledges : acknowledges_in talk ≡ true
   pub ongoing : is_over_in talk ≡ false
   pub sent : sent_in talk ≡ []
