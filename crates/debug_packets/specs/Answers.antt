@@ -8,7 +8,7 @@ use Rattle.debug_packets.specs.Kept.{Keeps, Listed, StaysOpen}
 use Rattle.debug_packets.specs.Moved.{Moved}
 use Rattle.debug_packets.specs.Replies.{Replied, Shown}
 use Rattle.debug_packets.specs.Stops.{stop_text}
-use Rattle.debug_packets.specs.Talks.{acknowledges_in, hart_in, last_in, sent_in, session_in, takes_in}
+use Rattle.debug_packets.specs.Talks.{acknowledges_in, hart_in, last_in, selected_in, sent_in, session_in, takes_in}
 use lib.Chars.{codes}
 
 -- the acknowledgement of a packet, where these are wanted
@@ -31,9 +31,10 @@ pub record IsAnswer {C : Type 0} (packet : List ℕ) (old new : Talk C) (payload
 
 -- nothing of a talk is other but what was sent last
 abbrev pub IsAllBut : {C : Type 0} → Talk C → Talk C → Type 0
-IsAllBut old new = (session_in new ≡ session_in old) × (hart_in new ≡ hart_in old) × StaysOpen old new
+IsAllBut old new =
+    (session_in new ≡ session_in old) × (hart_in new ≡ hart_in old) × (selected_in new ≡ selected_in old) × StaysOpen old new
 
--- The same, and the talk that the answer leaves keeps it as it is sent.
+-- A packet is answered with these payloads, and the talk that the answer leaves keeps it as it is sent.
 abbrev pub IsReplied : {C : Type 0} → List ℕ → Talk C → Talk C → List (List ℕ) → Type 0
 IsReplied {C} packet old new payloads =
     (mid : Talk C) × IsAnswer packet old mid payloads × IsAllBut mid new × (sent_in new ≡ packets_of payloads)

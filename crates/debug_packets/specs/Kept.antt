@@ -16,7 +16,7 @@ use Rattle.gdb_protocol.specs.declared.requests.GdbRequest.{GdbRequest}
 use Rattle.gdb_protocol.specs.declared.requests.GdbRequest.TheVariants as asks
 use Rattle.debug_packets.specs.declared.talk.Talk.{Talk}
 use Rattle.debug_packets.specs.Replies.{hart_named}
-use Rattle.debug_packets.specs.Talks.{acknowledges_in, is_over_in, last_in, runner_in, session_in, takes_in}
+use Rattle.debug_packets.specs.Talks.{acknowledges_in, hart_or, is_over_in, last_in, runner_in, selected_in, session_in, takes_in}
 
 -- the breakpoints behind it
 abbrev pub points_after : GdbLook → List ℕ → List ℕ
@@ -52,8 +52,13 @@ named_or (Some h) runner = Some h
 
 abbrev pub runner_after : GdbLook → Size → Option ℕ → Option ℕ
 runner_after (looks.Run thread) size runner = named_or (hart_named size thread) runner
-runner_after looks.RunShown size runner = None
+runner_after looks.RunSelected size runner = None
 runner_after look size runner = runner
+
+-- a hart is selected that GDB asks about, where it is there
+abbrev pub selected_after : GdbLook → Size → ℕ → ℕ
+selected_after (looks.IsAlive thread) size selected = hart_or (hart_named size thread) selected
+selected_after look size selected = selected
 
 -- packets are acknowledged until GDB asks that they are not
 abbrev pub acknowledges_after : GdbLook → Bool → Bool
@@ -85,11 +90,12 @@ StaysOpen old new = IsTalk (last_in old) (runner_in old) (takes_in old) (acknowl
 pub record IsKept {C : Type 0} (look : GdbLook) (old new : Talk C) : Type 0 where
   pub last : last_in new ≡ last_in old
   pub runner : runner_in new ≡ runner_after look (size_of (session_in old)) (runner_in old)
+  pub selected : selected_in new ≡ selected_after look (size_of (session_in old)) (selected_in old)
   pub takes : TakesAs look (takes_in old) (takes_in new)
   pub acknowledges : acknowledges_in new ≡ acknowledges_after look (acknowledges_in old)
   pub over : is_over_in new ≡ is_over_after look (is_over_in old)
 
--- the same of any request: one that moves the board leaves all but the stop and the hart that is shown
+-- how a talk changes by any request: one that moves the board leaves all but the stop and the hart that is shown
 abbrev pub Keeps : {C : Type 0} → GdbRequest → Talk C → Talk C → Type 0
 Keeps (asks.Look look) old new = IsKept look old new
 Keeps (asks.Move move) old new = IsTalk (last_in new) (runner_in old) (takes_in old) (acknowledges_in old) (is_over_in old) new

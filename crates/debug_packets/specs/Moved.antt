@@ -10,7 +10,7 @@ use Rattle.board_model.specs.declared.refusal.Refusal.{Refusal}
 use Rattle.debug_packets.specs.Resumes.{IsAskedBy}
 use Rattle.debug_packets.specs.Texts.{HandOver, board_line, hart_lines, when_text}
 use Rattle.debug_packets.specs.Stops.{stop_text}
-use Rattle.debug_packets.specs.Talks.{hart_in, last_in, runs_in, session_in, takes_in}
+use Rattle.debug_packets.specs.Talks.{hart_in, last_in, runs_in, selected_in, session_in, takes_in}
 use Rattle.debug_packets.specs.declared.talk.Talk.{Talk}
 use Rattle.debug_session.specs.Backs.{BackTo, StaysBack}
 use Rattle.debug_session.specs.Firsts.{ToHalt}
@@ -72,13 +72,14 @@ WentFarBack h stop old new =
 
 -- ---- what is told of it
 
--- the stop, whose hart is shown then
+-- the stop, whose hart is shown and selected then
 abbrev pub IsTold : {C : Type 0} → Talk C → Talk C → List ℕ → Type 0
-IsTold old new text = (text ≡ stop_text (last_in new) (takes_in old)) × (hart_in new ≡ (last_in new).hart)
+IsTold old new text =
+    (text ≡ stop_text (last_in new) (takes_in old)) × (hart_in new ≡ (last_in new).hart) × (selected_in new ≡ (last_in new).hart)
 
 -- no stop
 abbrev pub IsUntold : {C : Type 0} → Talk C → Talk C → Type 0
-IsUntold old new = (last_in new ≡ last_in old) × (hart_in new ≡ hart_in old)
+IsUntold old new = (last_in new ≡ last_in old) × (hart_in new ≡ hart_in old) × (selected_in new ≡ selected_in old)
 
 -- ---- vCont
 
@@ -122,11 +123,14 @@ LineRan None size old new said = new ≡ old
 LineRan (Some line) size old new said = (answer : Answer) × Ran size line answer old new × (said ≡ answer_text answer)
 
 -- the history as a script; a comment behind it says where it is longer than a script may be
+abbrev pub ended_text : ℕ → List ℕ → List ℕ
+ended_text lines text =
+    if nat_lt 65535 lines
+    then (text ++ codes "\n") ++ codes "# this is longer than a script may be: 65,535 lines behind the board line\n"
+    else text ++ codes "\n"
+
 abbrev pub script_text : Size → List (List ℕ) → List Line → List ℕ
-script_text size begins past =
-    if nat_lt 65535 (length past)
-    then (history_text size begins past ++ codes "\n") ++ codes "# this is longer than a script may be: 65,535 lines behind the board line\n"
-    else history_text size begins past ++ codes "\n"
+script_text size begins past = ended_text (length past) (history_text size begins past)
 
 -- the number of turns to which `goto` is to go, where a text says one
 abbrev pub goto_in : List ℕ → Option ℕ
@@ -185,7 +189,7 @@ MovedBy moves.GoBack packet old new told text =
     IsTold old new text × WentFarBack (runs_in old) (last_in new) (session_in old) (session_in new)
 MovedBy moves.Resume packet old new told text = ResumedBy (behind_prefix (codes "vCont;") packet) old new text
 MovedBy moves.Monitor packet old new told text =
-    IsUntold old new × MonitoredBy (behind_prefix (codes "qRcmd,") packet) (size_of (session_in old)) (stops_of (session_in old)) (hart_in old)
+    IsUntold old new × MonitoredBy (behind_prefix (codes "qRcmd,") packet) (size_of (session_in old)) (stops_of (session_in old)) (selected_in old)
     (timeline_of (session_in old)) (timeline_of (session_in new)) told text
 
 -- What looks changes neither the bench nor its history. What moves the board tells the console first, and its stop last.

@@ -65,7 +65,7 @@ IsLookReply (looks.Register n) size h b stands out = Says (register_reply n (reg
 IsLookReply (looks.Memory address count) size h b stands out = Says (memory_reply (memory_in address count (machine_of b))) out
 IsLookReply (looks.Show thread) size h b stands out = Says (thread_reply size thread) out
 IsLookReply (looks.Run thread) size h b stands out = Says (thread_reply size thread) out
-IsLookReply looks.RunShown size h b stands out = Says (codes "OK") out
+IsLookReply looks.RunSelected size h b stands out = Says (codes "OK") out
 IsLookReply looks.AnyThread size h b stands out = Says (codes "OK") out
 IsLookReply (looks.IsAlive thread) size h b stands out = Says (thread_reply size thread) out
 IsLookReply (looks.SetPoint address) size h b stands out = Says (codes "OK") out
@@ -101,7 +101,7 @@ abbrev pub hart_shown : GdbLook → Size → ℕ → ℕ
 hart_shown (looks.Show thread) size h = hart_or (hart_named size thread) h
 hart_shown look size h = h
 
--- the same of any request; of one that moves the board it is the stop's
+-- the hart that is shown behind any request; behind one that moves the board it is the stop's
 abbrev pub Shown : GdbRequest → Size → ℕ → ℕ → Type 0
 Shown (asks.Look look) size old new = new ≡ hart_shown look size old
 Shown (asks.Move move) size old new = ⊤

@@ -18,7 +18,7 @@ goes (Some Go) = true
 abbrev pub is_going : ℕ → List (List ℕ) → Bool
 is_going h words = goes (first_asked (h + 1) words)
 
--- the same of all eight harts that a board may have
+-- which harts are to go on, of all eight that a board may have
 abbrev pub goers_by : List (List ℕ) → List Bool
 goers_by words =
     is_going 0 words ∷ is_going 1 words ∷ is_going 2 words ∷ is_going 3 words ∷ is_going 4 words ∷ is_going 5 words

@@ -21,9 +21,13 @@ hart_or (Some g) h = g
 abbrev pub runner_in : {C : Type 0} → Talk C → Option ℕ
 runner_in talk = talk.runner
 
+-- the hart that GDB has selected
+abbrev pub selected_in : {C : Type 0} → Talk C → ℕ
+selected_in talk = talk.selected
+
 -- the hart that steps, and that goes on first
 abbrev pub runs_in : {C : Type 0} → Talk C → ℕ
-runs_in talk = hart_or talk.runner talk.hart
+runs_in talk = hart_or talk.runner talk.selected
 
 -- why nothing runs
 abbrev pub last_in : {C : Type 0} → Talk C → Stop

@@ -8,7 +8,7 @@ ghost use Rattle.debug_packets.specs.Moved.{IsTold, MovedBy, ResumedBy, SteppedO
 ghost use Rattle.debug_packets.specs.Talks.{runs_in};
 ghost use Rattle.gdb_protocol.specs.Fields.{behind_prefix};
 
-use crate::answers::Payloads;
+use crate::answers::PacketPayloads;
 use crate::asked::VCont;
 use crate::resumes::asked_by;
 use crate::stops::{idle_text, stop_text, told_of};
@@ -19,7 +19,14 @@ use board_model::{HartId, Refusal};
 use crew::Crew;
 use debug_session::{HaltReason, Stop};
 use gdb_protocol::Move;
+use std::alloc::Global;
 use std::sync::atomic::AtomicBool;
+
+/// Tells the report of a line.
+fn tell_answer(alloc: Global, answer: &Answer, out: &mut PacketPayloads) -> Result<(), Refusal> {
+    let text = answer_text(alloc, answer)?;
+    tell(alloc, text.as_bytes(), out)
+}
 
 impl<'a, C: Crew> Talk<'a, C> {
     /// Answers a request that may move the board; texts for the console go before.
@@ -28,7 +35,7 @@ impl<'a, C: Crew> Talk<'a, C> {
         asked: Move,
         packet: &[u8],
         interrupt: &AtomicBool,
-        out: &mut Payloads,
+        out: &mut PacketPayloads,
     ) -> Result<Vec<u8>, Refusal>
         requires at { IsAt (size_of self.old.session) (timeline_of self.old.session) }
         requires none { out.old.items ≡ [] }
@@ -56,7 +63,7 @@ impl<'a, C: Crew> Talk<'a, C> {
     {
         match self.runner {
             Some(hart) => hart,
-            None => self.hart,
+            None => self.selected,
         }
     }
 
@@ -97,7 +104,7 @@ impl<'a, C: Crew> Talk<'a, C> {
         &mut self,
         packet: &[u8],
         interrupt: &AtomicBool,
-        out: &mut Payloads,
+        out: &mut PacketPayloads,
     ) -> Result<Vec<u8>, Refusal>
         requires at { IsAt (size_of self.old.session) (timeline_of self.old.session) }
         ensures at { OnOk result (IsAt (size_of self.new.session) (timeline_of self.new.session)) }
@@ -119,7 +126,7 @@ impl<'a, C: Crew> Talk<'a, C> {
     }
 
     /// Steps a hart.
-    fn step(&mut self, hart: HartId, out: &mut Payloads) -> Result<Vec<u8>, Refusal>
+    fn step(&mut self, hart: HartId, out: &mut PacketPayloads) -> Result<Vec<u8>, Refusal>
         requires at { IsAt (size_of self.old.session) (timeline_of self.old.session) }
         requires hart { hart < (size_of self.old.session).harts }
         ensures at { OnOk result (IsAt (size_of self.new.session) (timeline_of self.new.session)) }
@@ -142,7 +149,7 @@ impl<'a, C: Crew> Talk<'a, C> {
         first: u64,
         end: u64,
         interrupt: &AtomicBool,
-        out: &mut Payloads,
+        out: &mut PacketPayloads,
     ) -> Result<Vec<u8>, Refusal>
         requires at { IsAt (size_of self.old.session) (timeline_of self.old.session) }
         requires hart { hart < (size_of self.old.session).harts }
@@ -167,7 +174,7 @@ impl<'a, C: Crew> Talk<'a, C> {
         first: HartId,
         harts: &[bool; 8],
         interrupt: &AtomicBool,
-        out: &mut Payloads,
+        out: &mut PacketPayloads,
     ) -> Result<Vec<u8>, Refusal>
         requires at { IsAt (size_of self.old.session) (timeline_of self.old.session) }
         requires first { first < (size_of self.old.session).harts }
@@ -189,7 +196,7 @@ impl<'a, C: Crew> Talk<'a, C> {
         &mut self,
         stop: Stop,
         told: &Vec<Answer>,
-        out: &mut Payloads,
+        out: &mut PacketPayloads,
     ) -> Result<Vec<u8>, Refusal>
         requires there { stop.hart < (size_of self.old.session).harts }
         ensures same { self.new.session ≡ self.old.session }
@@ -212,7 +219,7 @@ impl<'a, C: Crew> Talk<'a, C> {
         &mut self,
         stop: Stop,
         told: &Vec<Answer>,
-        out: &mut Payloads,
+        out: &mut PacketPayloads,
     ) -> Result<Vec<u8>, Refusal>
         requires there { stop.hart < (size_of self.old.session).harts }
         ensures same { self.new.session ≡ self.old.session }
@@ -222,8 +229,7 @@ impl<'a, C: Crew> Talk<'a, C> {
     {
         let alloc = self.alloc();
         for answer in told {
-            let text = answer_text(alloc, answer)?;
-            tell(alloc, text.as_bytes(), out)?;
+            tell_answer(alloc, answer, out)?;
         }
         tell(alloc, told_of(stop.halt).as_bytes(), out)?;
         self.stopped_at(stop)
@@ -239,6 +245,7 @@ impl<'a, C: Crew> Talk<'a, C> {
     {
         self.last = stop;
         self.hart = stop.hart;
-        Ok(stop_text(self.alloc(), stop, self.takes_swbreak)?)
+        self.selected = stop.hart;
+        stop_text(self.alloc(), stop, self.takes_swbreak)
     }
 }

@@ -7,11 +7,12 @@ ghost use Rattle.debug_packets.specs.Replies.{IsReply, Replied, Shown, hart_show
 ghost use Rattle.debug_packets.specs.Kept.{IsKept, IsTalk, Keeps, Listed, points_after, watches_after};
 ghost use Rattle.debug_packets.specs.Moved.{Moved};
 ghost use Rattle.debug_packets.specs.Stops.{stop_text};
-ghost use Rattle.debug_packets.specs.Talks.{acknowledges_in, hart_in, is_over_in, last_in, runner_in, sent_in, session_in, takes_in};
+ghost use Rattle.debug_packets.specs.Talks.{acknowledges_in, hart_in, is_over_in, last_in, runner_in, selected_in, sent_in, session_in, takes_in};
 ghost use Rattle.gdb_protocol.specs.Asked.{request_of};
 ghost use Rattle.gdb_protocol.specs.declared.requests.GdbLook.{GdbLook};
 ghost use Rattle.gdb_protocol.specs.declared.requests.GdbRequest.TheVariants as asks;
 
+use crate::replies::payload;
 use crate::talk::Talk;
 use board_model::Refusal;
 use crew::Crew;
@@ -20,44 +21,49 @@ use gdb_protocol::{GdbLook, GdbRequest, Move, request_of};
 use std::alloc::Global;
 use std::sync::atomic::AtomicBool;
 
-/// Payloads to be sent, in their order.
-pub type Payloads = Vec<Vec<u8>>;
+/// The payloads of packets to be sent, in their order.
+pub type PacketPayloads = Vec<Vec<u8>>;
 
 impl<'a, C: Crew> Talk<'a, C> {
     /// A talk about a session, whose hart 0 is shown.
-    pub fn new(session: Session<'a, C>) -> Result<Talk<'a, C>, Refusal>
-        ensures session { IfOk result (λ talk. session_in talk ≡ session.entry) }
-        ensures first { IfOk result (λ talk. hart_in talk ≡ 0) }
-        ensures runner { IfOk result (λ talk. runner_in talk ≡ None) }
-        ensures last { IfOk result (λ talk. last_in talk ≡ record { hart = 0; halt = HaltReason.Stepped }) }
-        ensures acknowledges { IfOk result (λ talk. acknowledges_in talk ≡ true) }
-        ensures ongoing { IfOk result (λ talk. is_over_in talk ≡ false) }
-        ensures sent { IfOk result (λ talk. sent_in talk ≡ []) }
+    pub fn new(session: Session<'a, C>) -> Talk<'a, C>
+        ensures session { session_in result ≡ session.entry }
+        ensures first { hart_in result ≡ 0 }
+        ensures runner { runner_in result ≡ None }
+        ensures selected { selected_in result ≡ 0 }
+        ensures last { last_in result ≡ record { hart = 0; halt = HaltReason.Stepped } }
+        ensures acknowledges { acknowledges_in result ≡ true }
+        ensures ongoing { is_over_in result ≡ false }
+        ensures sent { sent_in result ≡ [] }
     {
-        let Some(hart) = session.setting().shape.hart(0) else {
-            return Err(Refusal::BadShape);
-        };
+        // Each board has one.
+        let hart = session.setting().shape.hart(0).unwrap();
         let alloc = session.setting().alloc;
         let last = Stop {
             hart,
             halt: HaltReason::Stepped,
         };
-        Ok(Talk {
+        Talk {
             session,
             hart,
             runner: None,
+            selected: hart,
             last,
             takes_swbreak: false,
             acknowledges: true,
             is_over: false,
             sent: Vec::new(alloc),
-        })
+        }
     }
 
     /// Answers a packet: the payloads to be sent, in their order. The interrupt stops what goes on.
     ///
     /// Refused `Memory`, and then the talk is of no use.
-    pub fn answer(&mut self, packet: &[u8], interrupt: &AtomicBool) -> Result<Payloads, Refusal>
+    pub fn answer(
+        &mut self,
+        packet: &[u8],
+        interrupt: &AtomicBool,
+    ) -> Result<PacketPayloads, Refusal>
         requires at { IsAt (size_of (session_in self.old)) (timeline_of (session_in self.old)) }
         ensures at { OnOk result (IsAt (size_of (session_in self.new)) (timeline_of (session_in self.new))) }
         ensures size { size_of (session_in self.new) ≡ size_of (session_in self.old) }
@@ -87,7 +93,7 @@ impl<'a, C: Crew> Talk<'a, C> {
     }
 
     /// Answers what looks: one payload, or none.
-    fn answer_look(&mut self, asked: GdbLook, packet: &[u8]) -> Result<Payloads, Refusal>
+    fn answer_look(&mut self, asked: GdbLook, packet: &[u8]) -> Result<PacketPayloads, Refusal>
         ensures same { timeline_of self.new.session ≡ timeline_of self.old.session }
         ensures size { size_of self.new.session ≡ size_of self.old.session }
         ensures shown { OnOk result (self.new.hart ≡ hart_shown asked (size_of self.old.session) self.old.hart) }
@@ -114,7 +120,7 @@ impl<'a, C: Crew> Talk<'a, C> {
         asked: Move,
         packet: &[u8],
         interrupt: &AtomicBool,
-    ) -> Result<Payloads, Refusal>
+    ) -> Result<PacketPayloads, Refusal>
         requires at { IsAt (size_of self.old.session) (timeline_of self.old.session) }
         ensures at { OnOk result (IsAt (size_of self.new.session) (timeline_of self.new.session)) }
         ensures size { size_of self.new.session ≡ size_of self.old.session }
@@ -152,6 +158,6 @@ impl<'a, C: Crew> Talk<'a, C> {
     pub(crate) fn said(&self, text: &[u8]) -> Result<Vec<u8>, Refusal>
         ensures { IfOk result (λ v. v.items ≡ text.now) }
     {
-        Ok(Vec::from_slice(self.alloc(), text)?)
+        payload(self.alloc(), text)
     }
 }

@@ -14,6 +14,6 @@ mod talk;
 mod texts;
 mod wire;
 
-pub use answers::Payloads;
+pub use answers::PacketPayloads;
 pub use talk::Talk;
 pub use wire::{acknowledge, prepare, reply_again, send_answer};

@@ -74,8 +74,12 @@ impl<'a, C: Crew> Talk<'a, C> {
                 self.choose(thread);
                 Ok(())
             }
-            GdbLook::RunShown => {
+            GdbLook::RunSelected => {
                 self.runner = None;
+                Ok(())
+            }
+            GdbLook::IsAlive(thread) => {
+                self.select(thread);
                 Ok(())
             }
             GdbLook::SetPoint(address) => self.session.set_point(address),
@@ -104,7 +108,6 @@ impl<'a, C: Crew> Talk<'a, C> {
             | GdbLook::Register(_)
             | GdbLook::Memory(_, _)
             | GdbLook::AnyThread
-            | GdbLook::IsAlive(_)
             | GdbLook::Write
             | GdbLook::Part(_, _, _)
             | GdbLook::CurrentThread
@@ -122,6 +125,7 @@ impl<'a, C: Crew> Talk<'a, C> {
         ensures same { self.new.session ≡ self.old.session }
         ensures talk { StaysOpen self.old self.new }
         ensures shown { self.new.hart ≡ hart_or (hart_named (size_of self.old.session) thread) self.old.hart }
+        ensures selected { self.new.selected ≡ self.old.selected }
     {
         if let Some(hart) = hart_of(self.session.setting().shape, thread) {
             self.hart = hart;
@@ -135,9 +139,22 @@ impl<'a, C: Crew> Talk<'a, C> {
             self.new }
         ensures chosen { self.new.runner ≡ named_or (hart_named (size_of self.old.session) thread) self.old.runner }
         ensures hart { self.new.hart ≡ self.old.hart }
+        ensures selected { self.new.selected ≡ self.old.selected }
     {
         if let Some(hart) = hart_of(self.session.setting().shape, thread) {
             self.runner = Some(hart);
+        }
+    }
+
+    /// The hart of a thread is selected from now on, where there is one.
+    fn select(&mut self, thread: u64)
+        ensures same { self.new.session ≡ self.old.session }
+        ensures talk { StaysOpen self.old self.new }
+        ensures hart { self.new.hart ≡ self.old.hart }
+        ensures selected { self.new.selected ≡ hart_or (hart_named (size_of self.old.session) thread) self.old.selected }
+    {
+        if let Some(hart) = hart_of(self.session.setting().shape, thread) {
+            self.selected = hart;
         }
     }
 
@@ -146,6 +163,7 @@ impl<'a, C: Crew> Talk<'a, C> {
         ensures same { self.new.session ≡ self.old.session }
         ensures talk { IsTalk self.old.last self.old.runner self.new.takes_swbreak self.old.acknowledges self.old.is_over self.new }
         ensures hart { self.new.hart ≡ self.old.hart }
+        ensures selected { self.new.selected ≡ self.old.selected }
     {
         if let Some(offers) = behind(packet, b"qSupported:") {
             let offers = parts(self.alloc(), offers)?;

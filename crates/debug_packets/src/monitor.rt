@@ -1,25 +1,28 @@
 //! The lines that `monitor` hands on.
 
-ghost use Rattle.std.specs.Prelude.{◌≡◌, ◌≤◌, ◌<◌, [], codes, map, string_bytes, IfOk, IfSome, OnOk};
+ghost use Rattle.std.specs.Prelude.{◌≡◌, ◌≤◌, ◌<◌, ◌++◌, [], Some, codes, map, string_bytes, IfOk, IfSome, OnOk};
 ghost use Rattle.std.specs.Option.{option_map};
 ghost use Rattle.debug_session.specs.Ats.{IsAt};
 ghost use Rattle.debug_session.specs.Sessions.{begins_of, history_of, plan_of, size_of, stops_of, timeline_of};
 ghost use Rattle.debug_packets.specs.Kept.{StaysOpen};
-ghost use Rattle.debug_packets.specs.Moved.{GotoOr, LineRan, MonitoredBy, TextSaid, WentForth, WentOver, goto_in, hexed, just_one, line_in, script_text};
+ghost use Rattle.debug_packets.specs.Moved.{GotoOr, HexSaid, LineRan, MonitoredBy, TextSaid, WentForth, WentOver, ended_text, goto_in, hexed, just_one, line_in, script_text};
+ghost use Rattle.debug_packets.specs.Texts.{when_text};
+ghost use Rattle.report_lines.specs.Texts.{report_text};
 ghost use Rattle.debug_session.specs.Turns.{turns_made};
 ghost use Rattle.gdb_protocol.specs.Fields.{behind_prefix};
 ghost use Rattle.script_lang.specs.Lines.{IsLineInRange};
 
-use crate::answers::Payloads;
+use crate::answers::PacketPayloads;
 use crate::talk::Talk;
 use crate::texts::{answer_text, board_text, harts_text, report_text, tell, when_text};
+use bench_report::Answer;
 use board_model::{HartId, Refusal, Shape, command_lines};
 use crew::Crew;
 use debug_session::Session;
 use gdb_protocol::behind;
 use hex::FromHexError;
 use script_lang::{Line, number, parse_script};
-use std::alloc::Global;
+use std::alloc::{AllocError, Global};
 use std::sync::atomic::AtomicBool;
 
 macro_rules! help {
@@ -106,18 +109,27 @@ fn run_text<C: Crew>(session: &mut Session<'_, C>, text: &[u8]) -> Result<String
     }
 }
 
+/// Ends a script of so many lines.
+fn end_script(script: &mut String, lines: usize) -> Result<(), AllocError>
+    ensures { OnOk result (string_bytes script.new ≡ ended_text lines (string_bytes script.old)) }
+{
+    script.push_str("\n")?;
+    if MOST_LINES < lines {
+        script.push_str(
+            "# this is longer than a script may be: 65,535 lines behind the board line\n",
+        )
+    } else {
+        Ok(())
+    }
+}
+
 /// The history as a script; a comment behind it says where it is longer than a script may be.
 fn script_said<C: Crew>(session: &Session<'_, C>) -> Result<String, Refusal>
     ensures { IfOk result (λ said. string_bytes said
         ≡ script_text (size_of session.now) (begins_of session.now) (history_of session.now)) }
 {
     let mut script = session.script()?;
-    script.push_str("\n")?;
-    if MOST_LINES < session.lines() {
-        script.push_str(
-            "# this is longer than a script may be: 65,535 lines behind the board line\n",
-        )?;
-    }
+    end_script(&mut script, session.lines())?;
     Ok(script)
 }
 
@@ -126,6 +138,20 @@ fn goto_in(text: &[u8]) -> Option<u64>
     ensures { result ≡ goto_in text.now }
 {
     number(behind(text, b"goto ")?)
+}
+
+/// A report of lines, and where the history stands.
+fn report_and_when<C: Crew>(
+    session: &Session<'_, C>,
+    hart: HartId,
+    answers: &[Answer],
+) -> Result<String, AllocError>
+    ensures { IfOk result (λ text. string_bytes text ≡ report_text answers.now ++ when_text hart (history_of session.now)) }
+{
+    let alloc = session.setting().alloc;
+    let report = report_text(alloc, answers)?;
+    let when = when_text(session, hart)?;
+    format!(in alloc; "{report}{when}")
 }
 
 /// Goes on until the history has so many turns, to the first halt: what the last of them reports, and where the history stands.
@@ -145,12 +171,9 @@ fn go_forth<C: Crew>(
     ensures moved { IfOk result (λ said. WentForth turns (size_of session.old) (stops_of session.old) hart
         (timeline_of session.old) (timeline_of session.new) (string_bytes said)) }
 {
-    let alloc = session.setting().alloc;
-    let mut told = Vec::new(alloc);
+    let mut told = Vec::new(session.setting().alloc);
     session.go_on_to(hart, turns, interrupt, &mut told)?;
-    let report = report_text(alloc, &told)?;
-    let when = when_text(session, hart)?;
-    Ok(format!(in alloc; "{report}{when}")?)
+    Ok(report_and_when(session, hart, &told)?)
 }
 
 /// Goes back to before the turn that came behind so many; or where none did, on until the history has so many.
@@ -245,18 +268,19 @@ impl<'a, C: Crew> Talk<'a, C> {
         &mut self,
         packet: &[u8],
         interrupt: &AtomicBool,
-        out: &mut Payloads,
+        out: &mut PacketPayloads,
     ) -> Result<Vec<u8>, Refusal>
         requires at { IsAt (size_of self.old.session) (timeline_of self.old.session) }
         requires none { out.old.items ≡ [] }
         ensures at { OnOk result (IsAt (size_of self.new.session) (timeline_of self.new.session)) }
         ensures size { size_of self.new.session ≡ size_of self.old.session }
         ensures moved { IfOk result (λ v. MonitoredBy (behind_prefix (codes "qRcmd,") packet.now) (size_of self.old.session)
-            (stops_of self.old.session) self.old.hart
+            (stops_of self.old.session) self.old.selected
             (timeline_of self.old.session) (timeline_of self.new.session) (map (λ v. v.items) out.new.items) v.items) }
         ensures plan { plan_of self.new.session ≡ plan_of self.old.session }
         ensures stops { stops_of self.new.session ≡ stops_of self.old.session }
         ensures hart { self.new.hart ≡ self.old.hart }
+        ensures selected { self.new.selected ≡ self.old.selected }
         ensures talk { StaysOpen self.old self.new }
     {
         let Some(word) = behind(packet, b"qRcmd,") else {
@@ -265,7 +289,30 @@ impl<'a, C: Crew> Talk<'a, C> {
         let Some(line) = unhex(self.alloc(), word)? else {
             return self.said(b"E01");
         };
-        let text = monitored(&mut self.session, self.hart, &line, interrupt)?;
+        self.monitor_line(&line, interrupt, out)
+    }
+
+    /// Runs what the text of a line asks for; what is said goes to the console, and then comes `OK`.
+    fn monitor_line(
+        &mut self,
+        line: &[u8],
+        interrupt: &AtomicBool,
+        out: &mut PacketPayloads,
+    ) -> Result<Vec<u8>, Refusal>
+        requires at { IsAt (size_of self.old.session) (timeline_of self.old.session) }
+        requires none { out.old.items ≡ [] }
+        ensures at { OnOk result (IsAt (size_of self.new.session) (timeline_of self.new.session)) }
+        ensures size { size_of self.new.session ≡ size_of self.old.session }
+        ensures moved { IfOk result (λ v. HexSaid (Some line.now) (size_of self.old.session)
+            (stops_of self.old.session) self.old.selected
+            (timeline_of self.old.session) (timeline_of self.new.session) (map (λ v. v.items) out.new.items) v.items) }
+        ensures plan { plan_of self.new.session ≡ plan_of self.old.session }
+        ensures stops { stops_of self.new.session ≡ stops_of self.old.session }
+        ensures hart { self.new.hart ≡ self.old.hart }
+        ensures selected { self.new.selected ≡ self.old.selected }
+        ensures talk { StaysOpen self.old self.new }
+    {
+        let text = monitored(&mut self.session, self.selected, line, interrupt)?;
         tell(self.alloc(), text.as_bytes(), out)?;
         self.said(b"OK")
     }

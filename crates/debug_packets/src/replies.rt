@@ -1,9 +1,10 @@
 //! What is replied to a request that moves nothing.
 
-ghost use Rattle.std.specs.Prelude.{◌≡◌, ◌+◌, ◌++◌, ◌∷◌, [], codes, IfOk};
+ghost use Rattle.std.specs.Prelude.{◌≡◌, ◌+◌, ◌++◌, ◌∷◌, [], Some, codes, IfOk};
 ghost use Rattle.std.specs.Option.{option_map};
 ghost use Rattle.gdb_protocol.specs.Packets.{digit_of};
-ghost use Rattle.gdb_protocol.specs.Replies.{registers_text};
+ghost use Rattle.gdb_protocol.specs.Replies.{memory_map_text, part_text, registers_text};
+ghost use Rattle.debug_packets.specs.Texts.{threads_object};
 ghost use Rattle.debug_session.specs.Lives.{memory_in, register_in};
 ghost use Rattle.debug_session.specs.Sessions.{bench_of, machine_of_session, size_of};
 ghost use Rattle.debug_packets.specs.Replies.{features_text, hart_named, memory_reply, register_reply, thread_reply, IsLookReply, IsPart};
@@ -17,10 +18,17 @@ use debug_session::{REGISTERS, Session, Stop};
 use gdb_protocol::{
     DESCRIPTION, GdbLook, Object, digit, memory_map, part, put_hex, put_register, threads,
 };
-use std::alloc::Global;
+use std::alloc::{AllocError, Global};
 
 /// The most bytes of a packet, as GDB is told.
 const PACKET_BYTES: usize = 0x4000;
+
+/// A payload with that text.
+pub(crate) fn payload(alloc: Global, text: &[u8]) -> Result<Vec<u8>, Refusal>
+    ensures { IfOk result (λ v. v.items ≡ text.now) }
+{
+    Ok(Vec::from_slice(alloc, text)?)
+}
 
 /// All registers of a hart, in the order of their numbers.
 fn registers<C: Crew>(session: &mut Session<'_, C>, hart: HartId) -> Result<Vec<u8>, Refusal>
@@ -48,7 +56,7 @@ fn register<C: Crew>(
 {
     let alloc = session.setting().alloc;
     if REGISTERS <= number {
-        return Ok(Vec::from_slice(alloc, b"E01")?);
+        return payload(alloc, b"E01");
     }
     let value = session.register(hart, number);
     let mut out = Vec::new(alloc);
@@ -62,13 +70,13 @@ fn memory<C: Crew>(session: &Session<'_, C>, address: u64, count: u64) -> Result
 {
     let alloc = session.setting().alloc;
     match session.bench().memory(address, count) {
-        Some(bytes) if bytes.is_empty() => Ok(Vec::from_slice(alloc, b"E01")?),
+        Some(bytes) if bytes.is_empty() => payload(alloc, b"E01"),
         Some(bytes) => {
             let mut out = Vec::new(alloc);
             put_hex(&mut out, bytes)?;
             Ok(out)
         }
-        None => Ok(Vec::from_slice(alloc, b"E0e")?),
+        None => payload(alloc, b"E0e"),
     }
 }
 
@@ -76,7 +84,10 @@ fn memory<C: Crew>(session: &Session<'_, C>, address: u64, count: u64) -> Result
 pub(crate) fn hart_of(shape: &Shape, thread: u64) -> Option<HartId>
     ensures { result ≡ hart_named shape.now thread }
 {
-    shape.hart(thread.checked_sub(1)?)
+    match thread.checked_sub(1) {
+        Some(number) => shape.hart(number),
+        None => None,
+    }
 }
 
 /// Whether there is that thread.
@@ -84,8 +95,8 @@ fn alive(alloc: Global, shape: &Shape, thread: u64) -> Result<Vec<u8>, Refusal>
     ensures { IfOk result (λ v. v.items ≡ thread_reply shape.now thread) }
 {
     match hart_of(shape, thread) {
-        Some(_) => Ok(Vec::from_slice(alloc, b"OK")?),
-        None => Ok(Vec::from_slice(alloc, b"E01")?),
+        Some(_) => payload(alloc, b"OK"),
+        None => payload(alloc, b"E01"),
     }
 }
 
@@ -96,6 +107,27 @@ fn current(alloc: Global, hart: HartId) -> Result<Vec<u8>, Refusal>
     let mut out = Vec::from_slice(alloc, b"QC")?;
     out.push(digit(hart.number() as u8 + 1))?;
     Ok(out)
+}
+
+/// A part of the memory map.
+fn map_part(alloc: Global, shape: &Shape, offset: u64, count: u64) -> Result<Vec<u8>, AllocError>
+    ensures { IfOk result (λ v. v.items ≡ part_text (memory_map_text shape.now) offset count) }
+{
+    let text = memory_map(alloc, shape)?;
+    part(alloc, text.as_bytes(), offset, count)
+}
+
+/// A part of the list of threads.
+fn threads_part<C: Crew>(
+    session: &mut Session<'_, C>,
+    offset: u64,
+    count: u64,
+) -> Result<Vec<u8>, Refusal>
+    ensures same { session.new ≡ session.old }
+    ensures text { IfOk result (λ v. v.items ≡ part_text (threads_object (size_of session.old) (bench_of session.old)) offset count) }
+{
+    let text = threads_object(session)?;
+    Ok(part(session.setting().alloc, text.as_bytes(), offset, count)?)
 }
 
 /// A part of an object.
@@ -111,14 +143,8 @@ fn part_of<C: Crew>(
     let alloc = session.setting().alloc;
     match object {
         Object::Description => Ok(part(alloc, DESCRIPTION.as_bytes(), offset, count)?),
-        Object::MemoryMap => {
-            let text = memory_map(alloc, session.setting().shape)?;
-            Ok(part(alloc, text.as_bytes(), offset, count)?)
-        }
-        Object::Threads => {
-            let text = threads_object(session)?;
-            Ok(part(alloc, text.as_bytes(), offset, count)?)
-        }
+        Object::MemoryMap => Ok(map_part(alloc, session.setting().shape, offset, count)?),
+        Object::Threads => threads_part(session, offset, count),
     }
 }
 
@@ -130,7 +156,50 @@ fn features(alloc: Global) -> Result<Vec<u8>, Refusal>
         "PacketSize={PACKET_BYTES:x};QStartNoAckMode+;qXfer:features:read+;qXfer:memory-map:read+;qXfer:threads:read+;\
         ReverseStep+;ReverseContinue+;vContSupported+;swbreak+"
     )?;
-    Ok(Vec::from_slice(alloc, text.as_bytes())?)
+    payload(alloc, text.as_bytes())
+}
+
+/// The text that a request which moves nothing is replied, of a session whose hart is shown and that stands so.
+fn text_of<C: Crew>(
+    session: &mut Session<'_, C>,
+    hart: HartId,
+    last: Stop,
+    takes_swbreak: bool,
+    asked: GdbLook,
+) -> Result<Vec<u8>, Refusal>
+    requires sends { asked ≡ GdbLook.Kill → ⊥ }
+    ensures same { session.new ≡ session.old }
+    ensures replied { IfOk result (λ v. IsLookReply asked (size_of session.old) hart (bench_of session.old)
+        (stop_text last takes_swbreak) (Some v.items)) }
+{
+    let alloc = session.setting().alloc;
+    let shape = session.setting().shape;
+    match asked {
+        GdbLook::Reason => stop_text(alloc, last, takes_swbreak),
+        GdbLook::Registers => registers(session, hart),
+        GdbLook::Register(number) => register(session, hart, number),
+        GdbLook::Memory(address, count) => memory(session, address, count),
+        GdbLook::Show(thread) | GdbLook::Run(thread) | GdbLook::IsAlive(thread) => {
+            alive(alloc, shape, thread)
+        }
+        GdbLook::Supports => features(alloc),
+        GdbLook::Part(object, offset, count) => part_of(session, object, offset, count),
+        GdbLook::CurrentThread => current(alloc, hart),
+        GdbLook::IsAttached => payload(alloc, b"1"),
+        GdbLook::FirstThreads => Ok(threads(alloc, shape.harts())?),
+        GdbLook::MoreThreads => payload(alloc, b"l"),
+        GdbLook::Actions => payload(alloc, b"vCont;c;C;s;S;r"),
+        GdbLook::RunSelected
+        | GdbLook::AnyThread
+        | GdbLook::SetPoint(_)
+        | GdbLook::ClearPoint(_)
+        | GdbLook::SetWatch(_, _, _)
+        | GdbLook::ClearWatch(_, _, _)
+        | GdbLook::NoAcks
+        | GdbLook::Detach => payload(alloc, b"OK"),
+        GdbLook::Write | GdbLook::Malformed => payload(alloc, b"E01"),
+        GdbLook::Unknown | GdbLook::Kill => payload(alloc, b""),
+    }
 }
 
 /// What a request that moves nothing is replied, of a session whose hart is shown and that stands so: none where nothing
@@ -146,33 +215,8 @@ pub(crate) fn reply_of<C: Crew>(
     ensures replied { IfOk result (λ out. IsLookReply asked (size_of session.old) hart (bench_of session.old)
         (stop_text last takes_swbreak) (option_map (λ v. v.items) out)) }
 {
-    let alloc = session.setting().alloc;
-    let shape = session.setting().shape;
     match asked {
-        GdbLook::Reason => Ok(Some(stop_text(alloc, last, takes_swbreak)?)),
-        GdbLook::Registers => Ok(Some(registers(session, hart)?)),
-        GdbLook::Register(number) => Ok(Some(register(session, hart, number)?)),
-        GdbLook::Memory(address, count) => Ok(Some(memory(session, address, count)?)),
-        GdbLook::Show(thread) | GdbLook::Run(thread) | GdbLook::IsAlive(thread) => {
-            Ok(Some(alive(alloc, shape, thread)?))
-        }
-        GdbLook::Supports => Ok(Some(features(alloc)?)),
-        GdbLook::Part(object, offset, count) => Ok(Some(part_of(session, object, offset, count)?)),
-        GdbLook::CurrentThread => Ok(Some(current(alloc, hart)?)),
-        GdbLook::IsAttached => Ok(Some(Vec::from_slice(alloc, b"1")?)),
-        GdbLook::FirstThreads => Ok(Some(threads(alloc, shape.harts())?)),
-        GdbLook::MoreThreads => Ok(Some(Vec::from_slice(alloc, b"l")?)),
-        GdbLook::Actions => Ok(Some(Vec::from_slice(alloc, b"vCont;c;C;s;S;r")?)),
-        GdbLook::RunShown
-        | GdbLook::AnyThread
-        | GdbLook::SetPoint(_)
-        | GdbLook::ClearPoint(_)
-        | GdbLook::SetWatch(_, _, _)
-        | GdbLook::ClearWatch(_, _, _)
-        | GdbLook::NoAcks
-        | GdbLook::Detach => Ok(Some(Vec::from_slice(alloc, b"OK")?)),
-        GdbLook::Write | GdbLook::Malformed => Ok(Some(Vec::from_slice(alloc, b"E01")?)),
-        GdbLook::Unknown => Ok(Some(Vec::new(alloc))),
         GdbLook::Kill => Ok(None),
+        _ => Ok(Some(text_of(session, hart, last, takes_swbreak, asked)?)),
     }
 }

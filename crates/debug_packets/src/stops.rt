@@ -3,7 +3,7 @@
 ghost use Rattle.std.specs.Prelude.{◌≡◌, ◌++◌, IfOk, OnOk};
 ghost use Rattle.debug_packets.specs.Stops.{reason_text, signal_text, stop_text, watch_text, watch_word};
 
-use board_model::HartId;
+use board_model::{HartId, Refusal};
 use debug_session::{HaltReason, Stop, WatchKind, Watchpoint};
 use gdb_protocol::digit;
 use std::alloc::{AllocError, Global};
@@ -61,16 +61,29 @@ fn put_watch(alloc: Global, out: &mut Vec<u8>, watch: Watchpoint) -> Result<(), 
     out.extend_from_slice(text.as_bytes())
 }
 
-/// The stop reply ("Stop Reply Packets").
-pub fn stop_text(alloc: Global, stop: Stop, takes_swbreak: bool) -> Result<Vec<u8>, AllocError>
-    ensures { IfOk result (λ v. v.items ≡ stop_text stop takes_swbreak) }
+/// Writes the stop reply ("Stop Reply Packets").
+fn put_stop(
+    alloc: Global,
+    out: &mut Vec<u8>,
+    stop: Stop,
+    takes_swbreak: bool,
+) -> Result<(), AllocError>
+    ensures { OnOk result (out.new.items ≡ out.old.items ++ stop_text stop takes_swbreak) }
 {
-    let mut out = Vec::from_slice(alloc, b"T")?;
+    out.extend_from_slice(b"T")?;
     out.extend_from_slice(signal_text(stop.halt))?;
     out.extend_from_slice(b"thread:")?;
     out.push(digit(stop.hart.number() as u8 + 1))?;
     out.push(b';')?;
-    put_reason(alloc, &mut out, stop.halt, takes_swbreak)?;
+    put_reason(alloc, out, stop.halt, takes_swbreak)
+}
+
+/// The stop reply.
+pub fn stop_text(alloc: Global, stop: Stop, takes_swbreak: bool) -> Result<Vec<u8>, Refusal>
+    ensures { IfOk result (λ v. v.items ≡ stop_text stop takes_swbreak) }
+{
+    let mut out = Vec::new(alloc);
+    put_stop(alloc, &mut out, stop, takes_swbreak)?;
     Ok(out)
 }
 

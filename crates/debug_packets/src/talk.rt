@@ -13,8 +13,11 @@ pub struct Talk<'a, C> {
     pub(crate) session: Session<'a, C>,
     /// The hart that is shown.
     pub(crate) hart: HartId,
-    /// The hart that steps and goes on first, where `Hc` chose one; else it is the one that is shown.
+    /// The hart that steps and goes on first, where `Hc` chose one; else it is the one that is selected.
     pub(crate) runner: Option<HartId>,
+    /// The hart that GDB has selected: that of the last stop, or of the thread that it asked about since (`T`), as it does where its
+    /// user selects one. It shows harts (`Hg`) that it does not select.
+    pub(crate) selected: HartId,
     /// Why nothing runs.
     pub(crate) last: Stop,
     /// Whether GDB takes `swbreak` as a reason.
@@ -24,5 +27,6 @@ pub struct Talk<'a, C> {
     /// What was sent last in answer to a packet, since it may be wanted again.
     pub(crate) sent: Vec<u8>,
     ghost there: { hart < (size_of session).harts },
+    ghost selected_there: { selected < (size_of session).harts },
     ghost runner_there: { ForSome runner (λ h. h < (size_of session).harts) },
 }

@@ -3,9 +3,9 @@
 ghost use Rattle.std.specs.Prelude.{◌≡◌, ◌++◌, ◌<◌, ℕ, List, map, string_bytes, IfOk, OnOk};
 ghost use Rattle.debug_session.specs.Sessions.{bench_of, history_of, size_of};
 ghost use Rattle.report_lines.specs.Texts.{found_line, answer_text, report_text};
-ghost use Rattle.debug_packets.specs.Texts.{HandOver, board_line, hart_line, hart_lines, thread_line, thread_lines, threads_object, when_text};
+ghost use Rattle.debug_packets.specs.Texts.{HandOver, board_line, console_packet, hart_line, hart_lines, thread_line, thread_lines, threads_object, when_text};
 
-use crate::answers::Payloads;
+use crate::answers::PacketPayloads;
 use bench_report::Answer;
 use board_console::StateText;
 use board_model::{Durable, HartId, Refusal, Shape};
@@ -17,14 +17,22 @@ use std::alloc::{AllocError, Global};
 /// The most bytes of a text for the console in one packet.
 const CONSOLE_BYTES: usize = 4096;
 
+/// The packet of a piece of text for the console.
+fn console_packet(alloc: Global, piece: &[u8]) -> Result<Vec<u8>, AllocError>
+    ensures { IfOk result (λ v. v.items ≡ console_packet piece.now) }
+{
+    let mut packet = Vec::from_slice(alloc, b"O")?;
+    put_hex(&mut packet, piece)?;
+    Ok(packet)
+}
+
 /// Text for the console, in packets that are short enough.
-pub fn tell(alloc: Global, text: &[u8], out: &mut Payloads) -> Result<(), Refusal>
+pub fn tell(alloc: Global, text: &[u8], out: &mut PacketPayloads) -> Result<(), Refusal>
     ensures told { OnOk result ((told : List (List ℕ)) × HandOver text.now told
         × (map (λ v. v.items) out.new.items ≡ map (λ v. v.items) out.old.items ++ told)) }
 {
     for piece in text.chunks(CONSOLE_BYTES) {
-        let mut packet = Vec::from_slice(alloc, b"O")?;
-        put_hex(&mut packet, piece)?;
+        let packet = console_packet(alloc, piece)?;
         out.push(packet)?;
     }
     Ok(())
@@ -52,14 +60,21 @@ pub fn answer_text(alloc: Global, answer: &Answer) -> Result<String, AllocError>
     format!(in alloc; "{found}{line}\n")
 }
 
+/// Adds the lines of a report that a line of a script makes.
+fn add_answer(alloc: Global, answer: &Answer, text: &mut String) -> Result<(), AllocError>
+    ensures { OnOk result (string_bytes text.new ≡ string_bytes text.old ++ answer_text answer.now) }
+{
+    let lines = answer_text(alloc, answer)?;
+    text.push_str(lines.as_str())
+}
+
 /// The lines of a report that lines of a script make, one after another.
 pub fn report_text(alloc: Global, answers: &[Answer]) -> Result<String, AllocError>
     ensures { IfOk result (λ text. string_bytes text ≡ report_text answers.now) }
 {
     let mut text = String::new(alloc);
     for answer in answers {
-        let line = answer_text(alloc, answer)?;
-        text.push_str(line.as_str())?;
+        add_answer(alloc, answer, &mut text)?;
     }
     Ok(text)
 }
@@ -86,6 +101,21 @@ fn hart_line<C: Crew>(session: &Session<'_, C>, hart: HartId) -> Result<String, 
     }
 }
 
+/// Adds where the hart of that number stands.
+fn add_hart<C: Crew>(
+    session: &Session<'_, C>,
+    number: u64,
+    text: &mut String,
+) -> Result<(), Refusal>
+    ensures { OnOk result (string_bytes text.new ≡ string_bytes text.old ++ hart_line (bench_of session.now) number) }
+{
+    let Some(hart) = session.setting().shape.hart(number) else {
+        return Err(Refusal::BadShape);
+    };
+    let line = hart_line(session, hart)?;
+    Ok(text.push_str(line.as_str())?)
+}
+
 /// Where each hart stands.
 pub fn harts_text<C: Crew>(session: &Session<'_, C>) -> Result<String, Refusal>
     ensures { IfOk result (λ text. string_bytes text ≡ hart_lines (size_of session.now).harts (bench_of session.now)) }
@@ -93,11 +123,7 @@ pub fn harts_text<C: Crew>(session: &Session<'_, C>) -> Result<String, Refusal>
     let shape = session.setting().shape;
     let mut text = String::new(session.setting().alloc);
     for number in 0..u64::from(shape.harts()) {
-        let Some(hart) = shape.hart(number) else {
-            return Err(Refusal::BadShape);
-        };
-        let line = hart_line(session, hart)?;
-        text.push_str(line.as_str())?;
+        add_hart(session, number, &mut text)?;
     }
     Ok(text)
 }
@@ -126,6 +152,22 @@ fn thread_line<C: Crew>(session: &mut Session<'_, C>, hart: HartId) -> Result<St
     )?)
 }
 
+/// Adds the hart of that number as a thread.
+fn add_thread<C: Crew>(
+    session: &mut Session<'_, C>,
+    number: u64,
+    text: &mut String,
+) -> Result<(), Refusal>
+    ensures same { session.new ≡ session.old }
+    ensures text { OnOk result (string_bytes text.new ≡ string_bytes text.old ++ thread_line (bench_of session.old) number) }
+{
+    let Some(hart) = session.setting().shape.hart(number) else {
+        return Err(Refusal::BadShape);
+    };
+    let line = thread_line(session, hart)?;
+    Ok(text.push_str(line.as_str())?)
+}
+
 /// All harts as threads.
 fn thread_lines<C: Crew>(session: &mut Session<'_, C>) -> Result<String, Refusal>
     ensures same { session.new ≡ session.old }
@@ -134,11 +176,7 @@ fn thread_lines<C: Crew>(session: &mut Session<'_, C>) -> Result<String, Refusal
     let shape = session.setting().shape;
     let mut text = String::new(session.setting().alloc);
     for number in 0..u64::from(shape.harts()) {
-        let Some(hart) = shape.hart(number) else {
-            return Err(Refusal::BadShape);
-        };
-        let line = thread_line(session, hart)?;
-        text.push_str(line.as_str())?;
+        add_thread(session, number, &mut text)?;
     }
     Ok(text)
 }

@@ -82,13 +82,16 @@ quiet_on m new now load other (w ∷ more) none =
 pub tells_on : (m new : Option Machine) (load : Option Load) (watches : List Watchpoint) (before : List (Watchpoint × List ℕ)) → TellsTouched m watches before → touched_since new load before ≡ None → TellsTouched new watches before
 tells_on m new load watches before tells none = λ now other. tells now other ∙ quiet_on m new now load other watches (sym (tells new load) ∙ none)
 
+some_halts : (halt : HaltReason) → Some halt ≡ None → ⊥
+some_halts halt e = let no : ⊥ = cc in no
+
 -- nothing halts: nothing was touched
 pub untouched : (halt : Option HaltReason) (touched : Option Watchpoint) → halt_seen halt touched ≡ None → touched ≡ None
 untouched None None e = refl
 untouched None (Some w) e = absurd (let no : ⊥ = cc in no)
 untouched (Some halts.Point) None e = refl
 untouched (Some halts.Point) (Some w) e = absurd (let no : ⊥ = cc in no)
-untouched (Some halt) touched e = absurd (let no : ⊥ = cc in no)
+untouched (Some halt) touched e = absurd (some_halts _ e)
 
 module _ (size : Size) (stops : Stops) where
   -- ---- turns, and then others

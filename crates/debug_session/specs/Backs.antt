@@ -86,7 +86,7 @@ FoundIn size stops (Some f) all b new =
 abbrev pub before_place : TurnPlace → List Line → List Line
 before_place place past = moments (take place.line past) ++ replicate place.turns (one_turn place.stop.hart)
 
--- the same of the first lines of a history, by the place
+-- the last turn of a history before which the way back ends, by its place; or that it ends before none
 abbrev pub FoundOf : Size → Stops → Option TurnPlace → List Line → List Line → Bench → Bench → Type 0
 FoundOf size stops None past all b new = PassBack size stops all b new
 FoundOf size stops (Some place) past all b new =

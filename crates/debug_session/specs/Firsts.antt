@@ -172,7 +172,7 @@ touched_since now load [] = None
 touched_since now load (was ∷ more) =
     if is_quiet load was.0 was.1 (seen_by now was.0) then touched_since now load more else Some was.0
 
--- the same of the code
+-- what the code has seen, as pairs of a watchpoint and its bytes
 abbrev pub seen_in : List SeenBytes → List (Watchpoint × List ℕ)
 seen_in all = map (λ was. (was.watch, was.bytes.items)) all
 

@@ -20,7 +20,7 @@ is_kind kinds.Reads kinds.Reads = true
 is_kind kinds.Accesses kinds.Accesses = true
 is_kind a b = false
 
--- the same kind, of the same bytes
+-- they have one kind, and watch the same bytes
 abbrev pub is_same : Watchpoint → Watchpoint → Bool
 is_same watch w = is_kind w.kind watch.kind && (w.address == watch.address && w.count == watch.count)
 

@@ -15,7 +15,7 @@ turns_of line = 0
 abbrev pub turns_made : List Line → ℕ
 turns_made past = sum_by turns_of past
 
--- the same as 64 bits hold it
+-- how many turns it has, as 64 bits hold it
 abbrev pub turns_told : List Line → ℕ
 turns_told past = min (turns_made past) 18446744073709551615
 

@@ -66,7 +66,7 @@ pub record StepsWithin (size : Size) (within : StepRange) (h : ℕ) (halt : Halt
   pub grew : moments new.history ≡ moments old.history ++ replicate count (one_turn h)
   pub ran : (b : Bench) → IsLeft size old b → (after : Bench) × StepsTo size within h halt count b after × IsLeft size new after
 
--- the same of turns behind which the hart steps on
+-- turns behind which the hart steps on became part of the history
 pub record StayedWithin (size : Size) (within : StepRange) (h count : ℕ) (old new : Timeline) : Type 0 where
   pub grew : moments new.history ≡ moments old.history ++ replicate count (one_turn h)
   pub ran : (b : Bench) → IsLeft size old b → (after : Bench) × StaysWithin size within h count b after × IsLeft size new after

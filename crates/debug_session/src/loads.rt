@@ -129,7 +129,7 @@ fn load_in(found: &Option<Instr>, hart: &Hart) -> Option<Load>
     }
 }
 
-/// The same where they are there.
+/// The bytes that are to be loaded, where all of them are there.
 fn made_load(bytes: &[u8], load: Option<Load>) -> Option<Load>
     requires { IfSome load (λ load. 0 < load.count) }
     ensures { result ≡ made_load bytes.now load }
@@ -165,7 +165,7 @@ fn load_at(board: &mut Board<SimDisk>, hart: HartId) -> Option<Load>
     made
 }
 
-/// The same of a board that may be off, or lack the hart.
+/// What the next turn of a hart reads, of a board that may be off, or lack the hart.
 fn load_on(power: &mut Power, hart: HartId) -> Option<Load>
     ensures same { power.new ≡ power.old }
     ensures loads { LoadsNext (machine_on (Some power.old)) hart result }

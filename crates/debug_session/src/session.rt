@@ -179,7 +179,7 @@ impl<'a, C: Crew> Session<'a, C> {
         ensures same { self.new ≡ self.old }
         ensures shown { result ≡ register_in hart number (machine_of_session self.old) }
     {
-        self.timeline.register(hart, number)
+        self.timeline.bench.register(hart, number)
     }
 
     /// Runs a line of the script language, which becomes part of the history: what it says.
@@ -251,7 +251,7 @@ impl<'a, C: Crew> Session<'a, C> {
         ensures same { self.new ≡ self.old }
         ensures text { result.now ≡ state_text hart (bench_of self.old) }
     {
-        match self.timeline.state(hart) {
+        match self.timeline.bench.state(hart) {
             None => "power off",
             Some(State::Started) => "STARTED",
             Some(State::Stopped) => "STOPPED",

@@ -8,7 +8,7 @@ ghost use Rattle.bench_report.specs.Bench.{Bench};
 ghost use Rattle.bench_report.specs.Steps.{Moves};
 ghost use Rattle.bench_live.specs.Notes.{AreInRange};
 ghost use Rattle.debug_session.specs.Ats.{IsAt, IsBefore, IsLeft, IsPlace, MadeTurns, Ran};
-ghost use Rattle.debug_session.specs.Lives.{HasHalted, machine_of, register_in, state_in};
+ghost use Rattle.debug_session.specs.Lives.{HasHalted, machine_of};
 ghost use Rattle.debug_session.specs.Loads.{LoadsNext};
 ghost use Rattle.bench_live.specs.Rows.{IsWithin, made_in, row_answer};
 ghost use Rattle.script_lang.specs.Lines.{IsLineInRange};
@@ -22,7 +22,6 @@ use bench_report::{Answer, Setting};
 use board::Payloads;
 use board_model::{HartId, Refusal, Shape};
 use crew::Crew;
-use machine::State;
 use script_lang::Line;
 use std::alloc::Global;
 use std::mem::replace;
@@ -33,7 +32,8 @@ pub struct Timeline {
     begins: Payloads,
     history: LineHistory,
     joins: bool,
-    bench: DebuggedBench,
+    /// The bench that the history leaves.
+    pub(crate) bench: DebuggedBench,
 }
 
 impl Timeline {
@@ -77,22 +77,6 @@ impl Timeline {
         ensures { result.now ≡ self.now.bench }
     {
         &self.bench
-    }
-
-    /// A register of a hart, as `DebuggedBench::register` shows it.
-    pub fn register(&mut self, hart: HartId, number: u64) -> Option<u64>
-        ensures same { self.new ≡ self.old }
-        ensures shown { result ≡ register_in hart number (machine_of self.old.bench) }
-    {
-        self.bench.register(hart, number)
-    }
-
-    /// The state of a hart, as `DebuggedBench::state` shows it.
-    pub fn state(&mut self, hart: HartId) -> Option<State>
-        ensures same { self.new ≡ self.old }
-        ensures shown { result ≡ state_in hart (machine_of self.old.bench) }
-    {
-        self.bench.state(hart)
     }
 
     /// What the next turn of a hart reads, as `DebuggedBench::next_load` shows it.

@@ -35,9 +35,9 @@ or_other asked other (Some rest) = asked rest
 abbrev pub is_any : List ℕ → Bool
 is_any word = if bytes_eq word (codes "0") then true else bytes_eq word (codes "-1")
 
--- H of any thread: by `c` the one that is shown runs from then on
+-- H of any thread: by `c` the one that is selected runs from then on
 abbrev pub unchosen : ℕ → GdbRequest
-unchosen kind = if kind == 99 then (asks.Look looks.RunShown) else (asks.Look looks.AnyThread)
+unchosen kind = if kind == 99 then (asks.Look looks.RunSelected) else (asks.Look looks.AnyThread)
 
 -- H of a thread: by `g` it is shown from then on, and by `c` it runs
 abbrev pub chosen_thread : ℕ → ℕ → GdbRequest

@@ -29,7 +29,7 @@ fn unchosen(kind: u8) -> GdbRequest
     ensures { result ≡ unchosen kind }
 {
     if kind == b'c' {
-        GdbRequest::Look(GdbLook::RunShown)
+        GdbRequest::Look(GdbLook::RunSelected)
     } else {
         GdbRequest::Look(GdbLook::AnyThread)
     }

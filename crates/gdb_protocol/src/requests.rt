@@ -37,11 +37,11 @@ pub enum GdbLook {
     Show(u64),
     /// `Hc`: that thread steps from now on, and goes on first.
     Run(u64),
-    /// `Hc` of any thread: the one that is shown does so from now on.
-    RunShown,
+    /// `Hc` of any thread: the one that is selected does so from now on.
+    RunSelected,
     /// `H` of any thread, but for `Hc`: nothing is chosen.
     AnyThread,
-    /// `T`, and `H` of another kind: whether there is that thread.
+    /// `T`, and `H` of another kind: whether there is that thread, which GDB asks of one that it selects.
     IsAlive(u64),
     /// `Z0` and `Z1`: a breakpoint at that address.
     SetPoint(u64),
@@ -71,7 +71,7 @@ pub enum GdbLook {
     Actions,
     /// `D` and `vKill`: the talk is over.
     Detach,
-    /// `k`: the same, without an answer.
+    /// `k`: the talk is over, without an answer.
     Kill,
     /// A packet of these whose numbers are none.
     Malformed,

@@ -3,16 +3,7 @@
 //! refusal or a file that could not be read; 2 for a fault of the command line.
 #![tactic(auto)]
 
-mod begins;
-mod files;
-mod listening;
-mod program;
-mod start;
-mod streams;
-mod strikes;
-mod told;
-
-use crate::program::debug;
+use debug_program::debug;
 use std::process::ExitCode;
 
 fn main(rt: HostRuntime) -> ExitCode {

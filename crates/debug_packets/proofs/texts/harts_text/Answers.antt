@@ -1,4 +1,4 @@
-use Rattle.std.proofs.Common.{◌∙◌, ◌++◌, ap, string_bytes, sym}
+use Rattle.std.proofs.Common.{◌∙◌, ◌++◌, ap, sym}
 use Rattle.debug_session.specs.Sessions.{bench_of}
 use Rattle.gdb_protocol.proofs.Counted.{counted_more}
 use Rattle.debug_packets.specs.Texts.{hart_line}
@@ -8,7 +8,4 @@ pub loop-number-preserved : goal.loop-number-preserved
 loop-number-preserved g c =
     let line = hart_line (bench_of c.args.session.now) in
     let n = c.loop-number.number in
-    c.in_ok-push_str.ensures.bytes
-    ∙ ap (λ x. string_bytes c.loop-number.text ++ x) (c.as_str.ensures.value ∙ c.in_ok-line.ensures ∙ ap line c.in-Some.ensures.some.0)
-    ∙ ap (λ x. x ++ line n) c.loop-number.invariant
-    ∙ sym (counted_more line n)
+    c.in_ok-add_hart.ensures ∙ ap (λ x. x ++ line n) c.loop-number.invariant ∙ sym (counted_more line n)

@@ -1,7 +1,6 @@
 use Rattle.std.proofs.Common.{ℕ, List, [], ◌∷◌, ◌++◌, Vec, Global, map, ◌∙◌, refl, sym, ap}
 use Rattle.std.proofs.lemmas.List.{append-nil, map-append, nil_from_length}
 use Rattle.std.specs.Slice.Iter.{chunks_rest}
-use Rattle.gdb_protocol.specs.Replies.{pairs_of}
 use Rattle.debug_packets.specs.Texts.{console_packet}
 use Rattle.debug_packets.proofs.Console.{joined, joined_more, told_more}
 use Rattle.debug_packets.proofs.texts.tell.Goals as goal
@@ -16,7 +15,7 @@ loop-piece-preserved c =
     let cut = c.in-Some.ensures.steps in
     let items : Vec ℕ Global → List ℕ = λ v. v.items in
     let first = map items c.args.out.now.items in
-    let written = c.in_ok-put_hex.ensures ∙ ap (λ (x : List ℕ). x ++ pairs_of piece) c.in_ok-packet.ensures.items in (
+    let written = c.in_ok-packet.ensures in (
       was.0 ++ piece ∷ [],
       joined_more was.0 piece _ _ c.args.text.now was.1 cut.1.0,
       ap (map items) c.in_ok-push.ensures.items ∙ map-append items c.loop-piece.out.items _ ∙ told_more first _ was.0 _ piece was.2 written,

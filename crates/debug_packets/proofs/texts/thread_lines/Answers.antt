@@ -10,11 +10,10 @@ loop-number-preserved g c =
     let n = c.loop-number.number in
     let before = c.loop-number.invariant.same in
     record {
-      same = c.in_ok-line.ensures.same ∙ before;
+      same = c.in_ok-add_thread.ensures.same ∙ before;
       text =
-          c.in_ok-push_str.ensures.bytes
-          ∙ ap (λ x. string_bytes c.loop-number.text ++ x)
-          (c.as_str.ensures.value ∙ c.in_ok-line.ensures.text ∙ ap (λ s. thread_line (bench_of s) c.in-Some.hart) before ∙ ap line c.in-Some.ensures.some.0)
+          c.in_ok-add_thread.ensures.text
+          ∙ ap (λ s. string_bytes c.loop-number.text ++ thread_line (bench_of s) n) before
           ∙ ap (λ x. x ++ line n) c.loop-number.invariant.text
           ∙ sym (counted_more line n);
     }

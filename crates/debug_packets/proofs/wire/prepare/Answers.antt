@@ -8,4 +8,4 @@ returns-clause-prepared g c =
     let by = c.in_ok-payloads.ensures in
     let told : IsAnswer c.args.packet.now c.args.talk.now c.answer.new.self payloads =
     record { replied = by.replied; shown = by.shown; moved = by.moved; listed = by.listed; kept = by.kept; plan = by.plan } in
-    (payloads, (c.answer.new.self, told, (refl, refl, (refl, refl, refl, refl, refl)), search rules))
+    (payloads, (c.answer.new.self, told, (refl, refl, refl, (refl, refl, refl, refl, refl)), search rules))
