@@ -44,7 +44,7 @@ impl Window {
         }
     }
 
-    /// The same ones, counted behind the first n.
+    /// These ones, numbered without the first n of all things: a number up to n becomes 0.
     pub fn behind(self, n: u64) -> Window
         ensures from { result.from ≡ self.from - n }
         ensures to { result.to ≡ self.to - n }

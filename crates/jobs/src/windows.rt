@@ -36,7 +36,7 @@ impl<'a, R> Jobs<'a, R, ()> {
 }
 
 impl<'a, R, P: Progress> Jobs<'a, R, P> {
-    /// The same threads, and who is told how far they are.
+    /// At most so many threads, of which the handle makes them, and who is told how far they are. One hands on each row as it is made.
     pub fn telling(rt: &'a R, count: usize, progress: P) -> Jobs<'a, R, P>
         requires { 0 < count }
     {
