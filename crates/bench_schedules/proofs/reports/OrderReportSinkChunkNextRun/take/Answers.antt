@@ -3,7 +3,7 @@ use Rattle.std.specs.Vec.Iter.{into_iter_items}
 use Rattle.jobs.proofs.HandedOn.{taken_both}
 use Rattle.bench_schedules.specs.Handing.{TellsNext}
 use Rattle.bench_schedules.specs.declared.next_runs.NextRun.{NextRun}
-use Rattle.bench_schedules.proofs.reports.ReportSinkChunkNextRun.take.Goals as goal
+use Rattle.bench_schedules.proofs.reports.OrderReportSinkChunkNextRun.take.Goals as goal
 
 pub loop-run-preserved : goal.loop-run-preserved
 loop-run-preserved g c =

@@ -2,7 +2,7 @@ use Rattle.std.proofs.Common.{◌≡◌, ◌++◌}
 use Rattle.std.specs.Vec.Iter.{into_iter_items}
 use Rattle.jobs.specs.Handed.{TakesAll}
 use Rattle.bench_schedules.specs.Handing.{TellsNext}
-use Rattle.bench_schedules.proofs.reports.ReportSinkChunkNextRun.take.Given as goal
+use Rattle.bench_schedules.proofs.reports.OrderReportSinkChunkNextRun.take.Given as goal
 
 -- those so far are taken
 abbrev pub invariant-loop-run : goal.invariant-loop-run
