@@ -77,7 +77,7 @@ goes_snoc size from ls said old new line a so_far ran =
 pub line_behind : (before ls : List Line) (k : ℕ) (line : Line) → k < length ls → line ≡ get_or ls k line → (before ++ take k ls) ++ line ∷ [] ≡ before ++ take (k + 1) ls
 line_behind before ls k line less is = append_assoc before (take k ls) (line ∷ []) ∙ ap (λ xs. before ++ xs) (ap (λ l. take k ls ++ l ∷ []) is ∙ sym (take_more ls k line less))
 
--- the same by places
+-- one line more, by its place among lines
 pub goes_more : (size : Size) (from : Bench) (before ls : List Line) (k : ℕ) (said : List Answer) (old new : LiveBench) (line : Line) (a : Answer) → k < length ls → line ≡ get_or ls k line
     → RunSoFar size from (before ++ take k ls) said old → LineRan size line a old new → RunSoFar size from (before ++ take (k + 1) ls) (said ++ other_answer (is_other line) a) new
 goes_more size from before ls k said old new line a less is so_far ran =

@@ -1,25 +1,13 @@
 -- Schedules that several threads run, and what is written of them in their order.
-use Rattle.std.specs.Prelude.{◌≡◌, ◌≤◌, ◌+◌, ℕ, List, [], ◌∷◌, Option, All, length, slice_index_or}
+use Rattle.std.specs.Prelude.{◌≡◌, ◌+◌, ℕ, List, [], ◌∷◌, Option, slice_index_or}
 use Rattle.std.specs.Io.KnownBytes.{Appends}
 use Rattle.disk.specs.Facts.{counted}
-use Rattle.board_model.specs.Shapes.{Size, IsSize}
-use Rattle.script_lang.specs.Lines.{FitsLine, IsLineInRange}
 use Rattle.script_lang.specs.Scripts.{Script}
-use Rattle.script_lang.specs.declared.line.Line.{Line}
 use Rattle.report_lines.specs.declared.printed.Answer.{Answer}
-use Rattle.bench_orders.specs.Orders.{other_count}
 use Rattle.bench_schedules.specs.Numbers.{place_of_other}
 use Rattle.bench_schedules.specs.Schedules.{Ran, RunText, Source, differing}
 use Rattle.bench_schedules.specs.declared.benches.DrawnRun.{DrawnRun}
 use Rattle.bench_schedules.specs.declared.benches.DrawnReport.{DrawnReport}
-
--- Schedules of these lines can be run beside the script's own run.
-pub record AreDrawable (size : Size) (those : List Line) (own : List Answer) : Type 0 where
-  pub sized : IsSize size
-  pub few : length those ≤ 65535
-  pub ranges : All (IsLineInRange size) those
-  pub fits : All FitsLine those
-  pub count : length own ≡ other_count those
 
 -- The schedule of that number was run.
 pub record IsDrawn (said : Script) (start : List (List ℕ)) (from : Source) (own : List Answer) (k : ℕ) (drawn : DrawnRun) : Type 0 where

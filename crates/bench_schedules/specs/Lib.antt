@@ -14,4 +14,5 @@ pub mod Aheads
 pub mod Boards
 pub mod Numbers
 pub mod Schedules
+pub mod Drawable
 pub mod Drawn

@@ -8,16 +8,16 @@ ghost use Rattle.board_model.specs.declared.refusal.Refusal.TheVariants.{Memory,
 ghost use Rattle.script_lang.specs.Lines.{FitsLine, IsLineInRange};
 ghost use Rattle.script_lang.specs.Scripts.{script_of, Script as Said};
 ghost use Rattle.script_lang.specs.Views.{view};
-ghost use Rattle.bench_orders.specs.Orders.{other_count};
+ghost use Rattle.bench_schedules.specs.Drawable.{AreDrawable};
 ghost use Rattle.bench_schedules.specs.Numbers.{number_of_other, place_of_other};
 ghost use Rattle.bench_schedules.specs.Schedules.{Ran, RanOwn, RunText, Shown, Wrote, WroteSchedules, differing, has_tight, own_count, own_tight, tight_text};
 ghost use Rattle.std.specs.Prelude.{List, ◌∷◌, []};
 
 use crate::numbers::{line_numbers, number_at, number_of_other};
-use crate::own_runs::{OwnRun, run_own};
+use crate::own_runs::{OwnRun, drawn_schedule, run_own};
 use crate::runs::{Difference, run_until};
 use crate::written::{write_count, write_difference, write_tight};
-use bench_orders::{fits, generator, orders_keep_lines, schedule, shape_in_range, write_script};
+use bench_orders::{fits, orders_keep_lines, shape_in_range, write_script};
 use bench_report::{Answer, Setting};
 use board::Payloads;
 use board_model::Refusal;
@@ -67,24 +67,14 @@ fn run_schedule<C: Crew>(
     own: &OwnRun,
     k: u64,
 ) -> Result<Option<Difference>, Refusal>
-    requires size { IsSize runner.now.setting.shape.now }
-    requires few { length runner.now.lines.now ≤ 65535 }
-    requires ranges { All (IsLineInRange runner.now.setting.shape.now) runner.now.lines.now }
-    requires fits { All FitsLine runner.now.lines.now }
-    requires count { length own.now.answers.items ≡ other_count runner.now.lines.now }
+    requires drawable { AreDrawable runner.now.setting.shape.now runner.now.lines.now own.now.answers.items }
     ensures ran { IfOk result (λ differs.
         Ran (record { size = runner.now.setting.shape.now; lines = runner.now.lines.now }) runner.now.payloads.now
         (record { seed = runner.now.seed; fronts = own.now.stretches.fronts.items }) own.now.answers.items k differs) }
     ensures refused { IfErr result (λ e. e ≡ Memory) }
 {
     orders_keep_lines();
-    let mut rng = generator(runner.seed, k);
-    let lines = schedule(
-        runner.setting.alloc,
-        &mut rng,
-        runner.lines,
-        &own.stretches.fronts,
-    )?;
+    let lines = drawn_schedule(runner.setting.alloc, runner.lines, own, runner.seed, k)?;
     run_until(&runner.setting, runner.payloads, &lines, &own.answers)
 }
 
@@ -127,7 +117,7 @@ struct DrawnRuns<'a, 'b, 'c, C> {
 
 impl<'a, 'b, 'c, C: Crew + Sync> Task for DrawnRuns<'a, 'b, 'c, C> {
     ghost use Rattle.std.specs.Thread.{IsSync};
-    ghost use Rattle.bench_schedules.specs.Drawn.{AreDrawable, IsDrawn};
+    ghost use Rattle.bench_schedules.specs.Drawn.{IsDrawn};
 
     type Row = DrawnRun;
 
@@ -180,11 +170,7 @@ fn run_schedules<R: Threads + Sync, P: Progress, C: Crew + Sync, W: Write>(
     within: Window,
     out: &mut W,
 ) -> Result<u64, Refusal>
-    requires size { IsSize runner.now.setting.shape.now }
-    requires few { length runner.now.lines.now ≤ 65535 }
-    requires ranges { All (IsLineInRange runner.now.setting.shape.now) runner.now.lines.now }
-    requires fits { All FitsLine runner.now.lines.now }
-    requires count { length own.now.answers.items ≡ other_count runner.now.lines.now }
+    requires drawable { AreDrawable runner.now.setting.shape.now runner.now.lines.now own.now.answers.items }
     requires most { within.to ≤ 1000000 }
     ensures wrote { IfOk result (λ differ. Wrote (record { size = runner.now.setting.shape.now; lines = runner.now.lines.now })
         runner.now.payloads.now (record { seed = runner.now.seed; fronts = own.now.stretches.fronts.items })
@@ -260,8 +246,34 @@ fn write_all_tight<W: Write>(numbers: &[u64], tight: &[usize], out: &mut W) -> R
     Ok(())
 }
 
-/// Runs the script as it stands, and then schedules of it, by that plan. Writes which of its stretches name few turns, which
-/// schedules differ, and how many. Answers how many were run, and how many differ.
+/// Runs schedules of the script beside its own run, by that plan. Writes which of its stretches name few turns, which schedules differ,
+/// and how many. Answers how many were run, and how many differ.
+fn compare_own<R: Threads + Sync, P: Progress, C: Crew + Sync, W: Write>(
+    jobs: &Jobs<'_, R, P>,
+    runner: &DrawnRunner<'_, C>,
+    own: &OwnRun,
+    plan: SchedulePlan,
+    out: &mut W,
+) -> Result<Compared, Refusal>
+    requires drawable { AreDrawable runner.now.setting.shape.now runner.now.lines.now own.now.answers.items }
+    requires own { RanOwn runner.now.setting.shape.now runner.now.payloads.now runner.now.lines.now own.now.answers.items }
+    requires most { plan.count ≤ 1000000 }
+    ensures wrote { IfOk result (λ count. (count.runs ≡ own_count plan.part plan.count) × WroteSchedules (record { size = runner.now.setting.shape.now; lines = runner.now.lines.now })
+        runner.now.payloads.now runner.now.seed
+        (λ place. slice_index_or runner.now.numbers.now (1 + place_of_other place runner.now.lines.now) 0)
+        plan.part plan.count (W.contents out.old) (W.contents out.new) count.differ) }
+    ensures err { IfErr result (λ e. (e ≡ Memory) ⊎ (e ≡ Output)) }
+{
+    write_own_tight(runner.numbers, &own.stretches.tight, plan.part, out)?;
+    let within = Window::of_part(plan.part, plan.count);
+    let differ = run_schedules(jobs, runner, own, within, out)?;
+    let Window { from, to } = within;
+    let runs = to - from;
+    write_count(out, plan.part, runs, differ)?;
+    Ok(Compared { runs, differ })
+}
+
+/// Runs the script as it stands, and then schedules of it, as `compare_own` does.
 fn compare_all<R: Threads + Sync, P: Progress, C: Crew + Sync, W: Write>(
     jobs: &Jobs<'_, R, P>,
     runner: &DrawnRunner<'_, C>,
@@ -280,13 +292,7 @@ fn compare_all<R: Threads + Sync, P: Progress, C: Crew + Sync, W: Write>(
     ensures err { IfErr result (λ e. (e ≡ Memory) ⊎ (e ≡ Output)) }
 {
     let own = run_own(&runner.setting, runner.payloads, runner.lines)?;
-    write_own_tight(runner.numbers, &own.stretches.tight, plan.part, out)?;
-    let within = Window::of_part(plan.part, plan.count);
-    let differ = run_schedules(jobs, runner, &own, within, out)?;
-    let Window { from, to } = within;
-    let runs = to - from;
-    write_count(out, plan.part, runs, differ)?;
-    Ok(Compared { runs, differ })
+    compare_own(jobs, runner, &own, plan, out)
 }
 
 /// Compares schedules of a script that was read with its own run.
@@ -325,8 +331,30 @@ fn compare_script<'a, R: Threads + Sync, P: Progress, W: Write>(
     compare_all(jobs, &runner, plan, out)
 }
 
-/// Writes schedule k of a script that was read. The script is run first: its own run tells in which part of each stretch the
-/// order of turns matters, and the schedule is drawn from that.
+/// Writes schedule k of these lines. They are run first: their own run tells in which part of each stretch the order of turns matters,
+/// and the schedule is drawn from that.
+fn show_lines<C: Crew, W: Write>(
+    setting: &Setting<'_, C>,
+    lines: &[Line],
+    payloads: &Payloads,
+    seed: u64,
+    k: u64,
+    out: &mut W,
+) -> Result<(), Refusal>
+    requires few { length lines.now ≤ 65535 }
+    requires ranges { All (IsLineInRange setting.now.shape.now) lines.now }
+    ensures shown { OnOk result (Shown (record { size = setting.now.shape.now; lines = lines.now }) seed k (W.contents out.old) (W.contents out.new)) }
+    ensures err { IfErr result (λ e. (e ≡ Memory) ⊎ (e ≡ Output)) }
+{
+    scripts_read_as_written();
+    shape_in_range(setting.shape);
+    fits(lines);
+    let own = run_own(setting, payloads, lines)?;
+    let drawn = drawn_schedule(setting.alloc, lines, &own, seed, k)?;
+    write_script(out, setting.shape, &drawn)
+}
+
+/// Writes schedule k of a script that was read.
 fn show_script<R: Threads + Sync, W: Write>(
     alloc: Global,
     script: &Script,
@@ -340,21 +368,13 @@ fn show_script<R: Threads + Sync, W: Write>(
     ensures shown { OnOk result (Shown (view script.now) seed k (W.contents out.old) (W.contents out.new)) }
     ensures err { IfErr result (λ e. (e ≡ Memory) ⊎ (e ≡ Output)) }
 {
-    orders_keep_lines();
-    scripts_read_as_written();
-    let lines = script.lines.as_slice();
-    shape_in_range(&script.shape);
-    fits(lines);
     let crew = Sequential::<R>::new([0, 1, 2, 3])?;
     let setting = Setting {
         alloc,
         crew: &crew,
         shape: &script.shape,
     };
-    let own = run_own(&setting, payloads, lines)?;
-    let mut rng = generator(seed, k);
-    let drawn = schedule(alloc, &mut rng, lines, &own.stretches.fronts)?;
-    write_script(out, &script.shape, &drawn)
+    show_lines(&setting, script.lines.as_slice(), payloads, seed, k, out)
 }
 
 /// The schedule bench (docs/SCRIPT.md, "Schedules"). It runs a script as it stands, with these payloads in the slots, and

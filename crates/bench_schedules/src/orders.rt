@@ -1,12 +1,13 @@
 //! All orders of a script with few preemptions.
 
-ghost use Rattle.std.specs.Prelude.{◌≡◌, ◌⊎◌, ◌+◌, ◌≤◌, ◌<◌, length, All, IfErr, IfOk};
+ghost use Rattle.std.specs.Prelude.{◌≡◌, ◌⊎◌, ◌+◌, ◌≤◌, ◌<◌, List, length, All, IfErr, IfOk};
 ghost use Rattle.board_model.specs.declared.refusal.Refusal.TheVariants.{Memory, Output};
 ghost use Rattle.script_lang.specs.Lines.{IsLineInRange};
 ghost use Rattle.bench_orders.specs.Orders.{other_count};
 ghost use Rattle.bench_schedules.specs.Aheads.{basis_of};
 ghost use Rattle.bench_schedules.specs.SoFar.{IsMade, RanAll, RanDepths};
 ghost use Rattle.bench_schedules.specs.Stepped.{RanByTurns};
+ghost use Rattle.bench_schedules.specs.declared.points.Preemption.{Preemption as Once};
 
 use crate::counts::run_by_turns;
 use crate::next_runs::NextRuns;
@@ -118,6 +119,26 @@ fn try_orders<R: Threads + Sync, P: Progress, C: Crew + Sync, W: Write>(
         now = try_orders(jobs, runner, &next, more - 1, now, out)?;
     }
     Ok(now)
+}
+
+/// Runs orders as `try_depths` does, and answers how many were run, and how many differ.
+pub fn count_depths<R: Threads + Sync, P: Progress, C: Crew + Sync, W: Write>(
+    jobs: &Jobs<'_, R, P>,
+    runner: &OrderRunner<'_, C>,
+    out: &mut W,
+) -> Result<Preempted, Refusal>
+    requires few { (length runner.now.lines.now ≤ 65535) × (runner.now.most ≤ 3) }
+    requires ranges { All (IsLineInRange runner.now.setting.shape.now) runner.now.lines.now }
+    requires count { length runner.now.own.now ≡ other_count runner.now.lines.now }
+    ensures tried { IfOk result (λ done. (kept : List Once) × RanDepths (basis_of runner.now) runner.now.enough runner.now.most
+        (W.contents out.old) (W.contents out.new) done.orders done.differ kept) }
+    ensures err { IfErr result (λ e. (e ≡ Memory) ⊎ (e ≡ Output)) }
+{
+    let search = try_depths(jobs, runner, out)?;
+    Ok(Preempted {
+        orders: search.orders,
+        differ: search.differ,
+    })
 }
 
 /// Runs all orders with at least one preemption, and at most as many as they may have: first those with one, then those with two.

@@ -1,20 +1,22 @@
 //! The script's own run, with which those of its schedules are compared.
 
-ghost use Rattle.std.specs.Prelude.{◌≡◌, length, All, IfErr, IfOk};
+ghost use Rattle.std.specs.Prelude.{◌≡◌, ◌≤◌, length, All, IfErr, IfOk};
 ghost use Rattle.std.specs.Option.{option_to_list};
 ghost use Rattle.board_model.specs.declared.refusal.Refusal.TheVariants.{Memory};
 ghost use Rattle.script_lang.specs.Lines.{IsLineInRange};
-ghost use Rattle.bench_orders.specs.Orders.{is_other, other_count};
-ghost use Rattle.bench_schedules.specs.Schedules.{RanOwn, other_answer};
+ghost use Rattle.bench_orders.specs.Orders.{IsOrderFor, is_other, other_count};
+ghost use Rattle.bench_schedules.specs.Schedules.{IsNumbered, RanOwn, other_answer};
 
 use crate::line_runs::{end_run, is_other, run_line};
 use crate::stretches::Stretches;
 use bench_live::LiveBench;
+use bench_orders::{generator, schedule};
 use bench_report::{Answer, Setting};
 use board::Payloads;
 use board_model::Refusal;
 use crew::Crew;
 use script_lang::Line;
+use std::alloc::{AllocError, Global};
 
 /// What is known after the script's own run.
 #[derive(Drop)]
@@ -58,4 +60,21 @@ pub fn run_own<C: Crew>(
     end_run(live, setting.shape)?;
     stretches.close()?;
     Ok(OwnRun { answers, stretches })
+}
+
+/// Draws schedule k of a seed from the script's own run.
+pub fn drawn_schedule(
+    alloc: Global,
+    lines: &[Line],
+    own: &OwnRun,
+    seed: u64,
+    k: u64,
+) -> Result<Vec<Line>, AllocError>
+    requires { length lines.now ≤ 65535 }
+    ensures drawn { IfOk result (λ new. IsNumbered (record { seed = seed; fronts = own.now.stretches.fronts.items }) k lines.now new.items) }
+    ensures order { IfOk result (λ new. IsOrderFor lines.now new.items) }
+    ensures few { IfOk result (λ new. length new.items ≤ 65535) }
+{
+    let mut rng = generator(seed, k);
+    schedule(alloc, &mut rng, lines, &own.stretches.fronts)
 }

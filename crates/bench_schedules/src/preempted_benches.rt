@@ -9,9 +9,9 @@ ghost use Rattle.script_lang.specs.Views.{view};
 ghost use Rattle.bench_schedules.specs.Numbers.{numbers_of};
 ghost use Rattle.bench_schedules.specs.Preemptions.{WrotePreemptions};
 
-use crate::nodes::{OrderRunner, OrderSearch};
+use crate::nodes::OrderRunner;
 use crate::numbers::line_numbers;
-use crate::orders::{Preempted, try_depths};
+use crate::orders::{Preempted, count_depths};
 use crate::own_runs::run_own;
 use crate::preempted_lines::write_count;
 use bench_report::Setting;
@@ -66,9 +66,9 @@ fn try_lines<'a, R: Threads + Sync, P: Progress, C: Crew + Sync, W: Write>(
         most: within.most,
         enough: enough_of(within.first),
     };
-    let OrderSearch { orders, differ, .. } = try_depths(jobs, &runner, out)?;
-    write_count(out, within.most, orders, differ)?;
-    Ok(Preempted { orders, differ })
+    let done = count_depths(jobs, &runner, out)?;
+    write_count(out, within.most, done.orders, done.differ)?;
+    Ok(done)
 }
 
 /// Runs a script that was read as it stands, and then all orders of it with few preemptions.

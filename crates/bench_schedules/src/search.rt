@@ -1,6 +1,6 @@
 //! The runs of a search: which candidates are kept.
 
-ghost use Rattle.std.specs.Prelude.{◌≡◌, ◌≤◌, length, true, All, IfErr, IfOk, OnOk};
+ghost use Rattle.std.specs.Prelude.{◌≡◌, ◌≤◌, length, true, All, IfErr, IfOk, IfSome, OnOk};
 ghost use Rattle.board_model.specs.declared.refusal.Refusal.TheVariants.{Memory};
 ghost use Rattle.script_lang.specs.Lines.{IsLineInRange};
 ghost use Rattle.bench_orders.specs.Orders.{IsOrderFor, other_count};
@@ -66,6 +66,23 @@ fn differs_there<C: Crew>(search: &Search<'_, C>, lines: &[Line]) -> Result<bool
     }
 }
 
+/// The lines of the schedule that these slices lead, where its run still first differs there. Refused `Memory` alone.
+fn led_there<C: Crew>(
+    search: &Search<'_, C>,
+    slices: &[Slice],
+) -> Result<Option<Vec<Line>>, Refusal>
+    requires searchable { IsSearchable search.now.setting.shape.now search.now.lines.now search.now.own.now }
+    ensures found { IfOk result (λ found. IfSome found (λ lines. IsFound search.now.setting.shape.now search.now.payloads.now
+        search.now.lines.now search.now.own.now search.now.place lines.items)) }
+    ensures refused { IfErr result (λ e. e ≡ Memory) }
+{
+    let lines = led(search.setting.alloc, search.lines, slices)?;
+    if !differs_there(search, &lines)? {
+        return Ok(None);
+    }
+    Ok(Some(lines))
+}
+
 /// Tries the schedule that these slices lead, and keeps it where its run still first differs there. Answers whether it is
 /// kept. After the last run nothing more is tried. Refused `Memory` alone.
 pub fn try_slices<C: Crew>(
@@ -83,11 +100,10 @@ pub fn try_slices<C: Crew>(
     if MOST_RUNS <= kept.runs {
         return Ok(false);
     }
-    let lines = led(search.setting.alloc, search.lines, &slices)?;
     kept.runs = kept.runs.saturating_add(1);
-    if !differs_there(search, &lines)? {
+    let Some(lines) = led_there(search, &slices)? else {
         return Ok(false);
-    }
+    };
     kept.slices = slices;
     kept.lines = lines;
     Ok(true)

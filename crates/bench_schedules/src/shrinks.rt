@@ -10,12 +10,12 @@ ghost use Rattle.bench_orders.specs.Orders.{IsOrderFor};
 ghost use Rattle.bench_schedules.specs.Schedules.{RanLike};
 ghost use Rattle.bench_schedules.specs.Shrunk.{IsFound, IsSearchable, IsShortened, Shrunk};
 
-use crate::own_runs::run_own;
+use crate::own_runs::{drawn_schedule, run_own};
 use crate::passes::search_all;
 use crate::runs::{Difference, run_until};
 use crate::search::{FoundSchedule, Search};
 use crate::slices::slices_of;
-use bench_orders::{fits, generator, orders_keep_lines, schedule, shape_in_range, write_script};
+use bench_orders::{fits, orders_keep_lines, shape_in_range, write_script};
 use bench_report::{Answer, Setting};
 use board::Payloads;
 use board_model::Refusal;
@@ -115,6 +115,30 @@ fn shortened<'a, C: Crew>(
     shortened_from(setting, payloads, lines, own, drawn, differs)
 }
 
+/// Writes schedule k of these lines, shrunk.
+fn shrink_lines<C: Crew, W: Write>(
+    setting: Setting<'_, C>,
+    lines: &[Line],
+    payloads: &Payloads,
+    seed: u64,
+    k: u64,
+    out: &mut W,
+) -> Result<(), Refusal>
+    requires few { length lines.now ≤ 65535 }
+    requires ranges { All (IsLineInRange setting.shape.now) lines.now }
+    ensures shrunk { OnOk result (Shrunk (record { size = setting.entry.shape.now; lines = lines.now }) payloads.now seed k (W.contents out.old) (W.contents out.new)) }
+    ensures err { IfErr result (λ e. (e ≡ Memory) ⊎ (e ≡ Output)) }
+{
+    scripts_read_as_written();
+    let shape = setting.shape;
+    shape_in_range(shape);
+    fits(lines);
+    let own = run_own(&setting, payloads, lines)?;
+    let drawn = drawn_schedule(setting.alloc, lines, &own, seed, k)?;
+    let new = shortened(setting, payloads, lines, &own.answers, drawn)?;
+    write_script(out, shape, &new)
+}
+
 /// Writes schedule k of a script that was read, shrunk.
 fn shrink_script<R: Threads + Sync, W: Write>(
     alloc: Global,
@@ -129,21 +153,13 @@ fn shrink_script<R: Threads + Sync, W: Write>(
     ensures shrunk { OnOk result (Shrunk (view script.now) payloads.now seed k (W.contents out.old) (W.contents out.new)) }
     ensures err { IfErr result (λ e. (e ≡ Memory) ⊎ (e ≡ Output)) }
 {
-    scripts_read_as_written();
-    let lines = script.lines.as_slice();
-    shape_in_range(&script.shape);
-    fits(lines);
     let crew = Sequential::<R>::new([0, 1, 2, 3])?;
     let setting = Setting {
         alloc,
         crew: &crew,
         shape: &script.shape,
     };
-    let own = run_own(&setting, payloads, lines)?;
-    let mut rng = generator(seed, k);
-    let drawn = schedule(alloc, &mut rng, lines, &own.stretches.fronts)?;
-    let new = shortened(setting, payloads, lines, &own.answers, drawn)?;
-    write_script(out, &script.shape, &new)
+    shrink_lines(setting, script.lines.as_slice(), payloads, seed, k, out)
 }
 
 /// Writes schedule k of a script as a script, as [`crate::show`] does, but shrunk: with few of the turns that were

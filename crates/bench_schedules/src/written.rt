@@ -20,7 +20,10 @@ pub fn write_tight<W: Write>(out: &mut W, number: u64) -> Result<(), Refusal>
     ensures ok { OnOk result (Appends (W.contents out.old) (W.contents out.new) (tight_text (number ∷ []))) }
     ensures err { IfErr result (λ e. (e ≡ Memory) ⊎ (e ≡ Output)) }
 {
-    writeln!(out, "line {number} tight").map_err(|error| unwritten(error))
+    match writeln!(out, "line {number} tight") {
+        Ok(()) => Ok(()),
+        Err(error) => Err(unwritten(error)),
+    }
 }
 
 /// Writes the line of schedule k: the number of the script's line, what the schedule's run told there, and what the script's
@@ -32,7 +35,10 @@ fn write_apart<W: Write>(out: &mut W, k: u64, number: u64, apart: &ToldApart) ->
     ensures err { IfErr result (λ e. (e ≡ Memory) ⊎ (e ≡ Output)) }
 {
     let ToldApart { own, other } = *apart;
-    writeln!(out, "schedule {k} line {number} {other} own {own}").map_err(|error| unwritten(error))
+    match writeln!(out, "schedule {k} line {number} {other} own {own}") {
+        Ok(()) => Ok(()),
+        Err(error) => Err(unwritten(error)),
+    }
 }
 
 /// Writes the line of schedule k, whose run differs at the script's line of that number.
@@ -68,5 +74,8 @@ pub fn write_count<W: Write>(
     ensures err { IfErr result (λ e. (e ≡ Memory) ⊎ (e ≡ Output)) }
 {
     let begin = PartText(part);
-    writeln!(out, "{begin}schedules {runs} differ {differ}").map_err(|error| unwritten(error))
+    match writeln!(out, "{begin}schedules {runs} differ {differ}") {
+        Ok(()) => Ok(()),
+        Err(error) => Err(unwritten(error)),
+    }
 }

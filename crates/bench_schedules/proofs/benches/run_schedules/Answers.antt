@@ -7,7 +7,7 @@ use Rattle.bench_schedules.proofs.benches.run_schedules.Goals as goal
 
 pub hand_on_all-requires-clause-has : goal.hand_on_all-requires-clause-has
 hand_on_all-requires-clause-has g c κs within = λ i less. (
-  record { sized = c.requires.size; few = c.requires.few; ranges = c.requires.ranges; fits = c.requires.fits; count = c.requires.count },
+  c.requires.drawable,
   record { shared = c.type_bounds.sync-C-Handle.shared },
 )
 

@@ -10,8 +10,9 @@ returns-clause-wrote g c =
     let size = c.args.setting.shape.now in
     let within = c.args.within in
     let old = g.W.Write.contents c.args.out.now in
-    let last = g.W.Write.contents c.try_depths.new.out in
-    let done = c.in_ok-orders.field-0 in
-    let Q : List Answer → Type 0 = λ own. RanDepths (basis size c.args.payloads.now c.args.lines.now own c.args.numbers.now within.most) c.enough_of.result within.most old last c.in_ok-orders.field-0.orders c.in_ok-orders.field-0.differ c.in_ok-orders.field-0.kept.items in
+    let last = g.W.Write.contents c.count_depths.new.out in
+    let done = c.in_ok-done.done in
+    let tried = c.in_ok-done.ensures.tried in
+    let Q : List Answer → Type 0 = λ own. RanDepths (basis size c.args.payloads.now c.args.lines.now own c.args.numbers.now within.most) c.enough_of.result within.most old last done.orders done.differ tried.0 in
     wrote_all size c.args.payloads.now c.args.lines.now c.in_ok-own.own.answers.items c.args.numbers.now within.most within.first c.enough_of.result old last
-    (g.W.Write.contents c.write_count.new.out) done.orders done.differ done.kept.items c.enough_of.ensures c.in_ok-own.ensures.ran (subst Q c.deref.ensures.value c.in_ok-orders.ensures.tried) c.in_ok-write_count.ensures.ok
+    (g.W.Write.contents c.write_count.new.out) done.orders done.differ tried.0 c.enough_of.ensures c.in_ok-own.ensures.ran (subst Q c.deref.ensures.value tried.1) c.in_ok-write_count.ensures.ok
