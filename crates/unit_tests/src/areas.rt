@@ -9,20 +9,19 @@ use disk::ArmedFault;
 use savers::LaneCounts;
 use std::alloc::Global;
 use std::process::Abort;
-use std::test::*;
 use std::thread;
 
 /// How many places of each lane are in use, once a board's memory is written by turns in that order.
-fn counts_by<R: thread::Threads + Sync>(
-    _rt: &R,
+fn counts_by<R: Abort + thread::Threads + Sync>(
+    rt: &R,
     alloc: Global,
     order: [usize; 4],
     pages: u64,
     lanes: u64,
 ) -> Result<LaneCounts, Refusal> {
-    let turns: Sequential<R> = Sequential::new(order)?;
-    let (counts, _calls) = saved(alloc, &turns, &Shape::new(1, pages, lanes)?, NEVER)?;
-    counts
+    let turns: Sequential<R> = Sequential::new(order).expect(rt, "an order");
+    let shape = Shape::new(1, pages, lanes).expect(rt, "a shape");
+    saved(rt, alloc, &turns, &shape, NEVER).0
 }
 
 /// Lanes by turns: each lane in its order is filled while pages are left.
@@ -46,13 +45,14 @@ fn lanes_are_filled_in_their_turn(rt: HostRuntime) {
 }
 
 /// What a write of five pages through four lanes answers under that fault, and how many calls it makes of each lane.
-fn calls_under<R: thread::Threads + Sync>(
-    _rt: &R,
+fn calls_under<R: Abort + thread::Threads + Sync>(
+    rt: &R,
     alloc: Global,
     fault: ArmedFault,
-) -> Result<(Result<LaneCounts, Refusal>, [u64; 4]), Refusal> {
-    let turns: Sequential<R> = Sequential::new([0, 1, 2, 3])?;
-    saved(alloc, &turns, &Shape::new(1, 5, 4)?, fault)
+) -> (Result<LaneCounts, Refusal>, [u64; 4]) {
+    let turns: Sequential<R> = Sequential::new([0, 1, 2, 3]).expect(rt, "an order");
+    let shape = Shape::new(1, 5, 4).expect(rt, "a shape");
+    saved(rt, alloc, &turns, &shape, fault)
 }
 
 /// A lane's call that fails, and how many calls are made of each lane. Each place takes two.
@@ -68,7 +68,7 @@ static FAILURES: [(ArmedFault, [u64; 4]); 4] = [
 fn a_lane_ends_at_its_failure_and_the_others_go_on(rt: HostRuntime) {
     for &(fault, calls) in &FAILURES {
         let answer = calls_under(&rt, rt.alloc(), fault);
-        same(&rt, answer, Ok((Err(Refusal::Device), calls)));
+        same(&rt, answer, (Err(Refusal::Device), calls));
     }
 }
 
@@ -82,36 +82,31 @@ fn places(counts: LaneCounts) -> u64 {
 }
 
 /// No number of pages from that one on, 64 in all, is refused memory that there is.
-fn are_written<R: Abort + thread::Threads + Sync>(
-    rt: &R,
-    alloc: Global,
-    first: u64,
-) -> Result<(), Refusal>
+fn are_written<R: Abort + thread::Threads + Sync>(rt: &R, alloc: Global, first: u64)
     requires { first ≤ 256 }
 {
     for pages in first..first + 64 {
-        let counts = counts_by(rt, alloc, [1, 3, 0, 2], pages, pages % 4 + 1)?;
-        same(rt, places(counts), pages);
+        let counts = counts_by(rt, alloc, [1, 3, 0, 2], pages, pages % 4 + 1);
+        same(rt, places(counts.expect(rt, "a write")), pages);
     }
-    Ok(())
 }
 
 #[test]
 fn each_number_of_pages_to_64(rt: HostRuntime) {
-    same(&rt, are_written(&rt, rt.alloc(), 1), Ok(()));
+    are_written(&rt, rt.alloc(), 1);
 }
 
 #[test]
 fn each_number_of_pages_to_128(rt: HostRuntime) {
-    same(&rt, are_written(&rt, rt.alloc(), 65), Ok(()));
+    are_written(&rt, rt.alloc(), 65);
 }
 
 #[test]
 fn each_number_of_pages_to_192(rt: HostRuntime) {
-    same(&rt, are_written(&rt, rt.alloc(), 129), Ok(()));
+    are_written(&rt, rt.alloc(), 129);
 }
 
 #[test]
 fn each_number_of_pages_to_256(rt: HostRuntime) {
-    same(&rt, are_written(&rt, rt.alloc(), 193), Ok(()));
+    are_written(&rt, rt.alloc(), 193);
 }

@@ -1,18 +1,23 @@
 //! The caches that the tests begin with, and what a power cut leaves of them.
-ghost use Rattle.std.specs.Prelude.{◌≡◌, IfOk};
+ghost use Rattle.std.specs.Prelude.{◌≡◌};
 
-use board_model::Refusal;
 use cached_disk::CachedDisk;
 use disk::Disk;
 use simdisk::{Fill, SimDisk};
 use std::alloc::Global;
+use std::process::Abort;
 
 /// A cache over a disk of so many sectors, all of them zeros.
-pub fn blank(alloc: Global, sectors: usize) -> Result<CachedDisk<SimDisk>, Refusal>
-    ensures { IfOk result (λ disk. (⟦<CachedDisk<SimDisk> as Disk>⟧.facts disk).lent.lanes ≡ 0) }
+pub fn blank(rt: &impl Abort, alloc: Global, sectors: usize) -> CachedDisk<SimDisk>
+    ensures { (⟦<CachedDisk<SimDisk> as Disk>⟧.facts result).lent.lanes ≡ 0 }
 {
-    let device = SimDisk::blank(alloc, sectors)?;
-    Ok(CachedDisk::new(alloc, device)?)
+    let Ok(device) = SimDisk::blank(alloc, sectors) else {
+        rt.panic("no memory")
+    };
+    let Ok(disk) = CachedDisk::new(alloc, device) else {
+        rt.panic("no memory")
+    };
+    disk
 }
 
 /// The device that a power cut leaves of a cache: each of its writes that no sync followed reads as 9 throughout.

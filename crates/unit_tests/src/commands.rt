@@ -7,7 +7,6 @@ use disk::Sector;
 use file_disk::{FileDisk, FileFate, MemoryFile};
 use std::alloc::Global;
 use std::process::Abort;
-use std::test::*;
 use store::Store;
 
 /// A command: the slot that it sets, and what it answers where its process lives.
@@ -62,26 +61,27 @@ fn are_answered(
 }
 
 /// The slot that the next process finds.
-fn slot_left(alloc: Global, store: Store<FileDisk<MemoryFile>>) -> Result<u32, Refusal> {
-    slot_of(alloc, found(alloc, store)?)
+fn slot_left(
+    rt: &impl Abort,
+    alloc: Global,
+    store: Store<FileDisk<MemoryFile>>,
+) -> Result<u32, Refusal> {
+    slot_of(alloc, found(rt, alloc, store))
 }
 
 /// Commands over that file are answered as the row says, and the next process finds its slot.
-fn comes_to(rt: &impl Abort, alloc: Global, file: &[Sector], row: &Row) -> Result<(), Refusal> {
+fn comes_to(rt: &impl Abort, alloc: Global, file: &[Sector], row: &Row) {
     let (left, fate, commands, stands) = *row;
-    let mut store = opened(alloc, file, left, fate)?;
+    let mut store = opened(rt, alloc, file, left, fate);
     are_answered(rt, &mut store, commands);
-    same(rt, slot_left(alloc, store), Ok(stands));
-    Ok(())
+    same(rt, slot_left(rt, alloc, store), Ok(stands));
 }
 
 #[test]
-fn a_command_over_a_file_that_fails_or_whose_process_is_killed(
-    rt: HostRuntime,
-) -> Result<(), Fail> {
-    let file = formatted(rt.alloc(), Shape::new(1, 1, 1)?)?;
+fn a_command_over_a_file_that_fails_or_whose_process_is_killed(rt: HostRuntime) {
+    let shape = Shape::new(1, 1, 1).expect(&rt, "a shape");
+    let file = formatted(&rt, rt.alloc(), shape);
     for row in &ROWS {
-        same(&rt, comes_to(&rt, rt.alloc(), &file, row), Ok(()));
+        comes_to(&rt, rt.alloc(), &file, row);
     }
-    Ok(())
 }

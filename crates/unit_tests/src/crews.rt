@@ -3,12 +3,11 @@ ghost use Rattle.std.specs.Prelude.{◌≤◌, length};
 
 use crate::fixtures::same;
 use crate::sites::{NEVER, saved};
-use board_model::{Refusal, Shape};
+use board_model::Shape;
 use crew::{Crew, Plan, Sequential, Threads};
 use std::alloc::Global;
 use std::process::Abort;
 use std::sync::atomic::{AtomicBool, AtomicU64, Ordering};
-use std::test::Fail;
 use std::thread;
 use std::time::{Clock, Duration};
 
@@ -72,9 +71,9 @@ fn turns_of<C: Crew>(crew: &C) -> [u64; 4] {
 }
 
 /// The turns of a crew in that order.
-fn turns_in<R: thread::Threads + Sync>(_rt: &R, order: [usize; 4]) -> Result<[u64; 4], Refusal> {
-    let crew: Sequential<R> = Sequential::new(order)?;
-    Ok(turns_of(&crew))
+fn turns_in<R: Abort + thread::Threads + Sync>(rt: &R, order: [usize; 4]) -> [u64; 4] {
+    let crew: Sequential<R> = Sequential::new(order).expect(rt, "an order");
+    turns_of(&crew)
 }
 
 /// Orders, and the turn of each job.
@@ -88,7 +87,7 @@ static TURNS: [([usize; 4], [u64; 4]); 4] = [
 #[test]
 fn turns_go_in_the_order_given(rt: HostRuntime) {
     for &(order, turns) in &TURNS {
-        same(&rt, turns_in(&rt, order), Ok(turns));
+        same(&rt, turns_in(&rt, order), turns);
     }
 }
 
@@ -136,17 +135,17 @@ impl<C: Crew> Crew for Counting<C> {
 }
 
 /// What a write of an area in two lanes asks of its crew.
-fn asked<C: Crew + Drop>(alloc: Global, crew: C) -> Result<(u64, u64, u64), Refusal> {
+fn asked<C: Crew + Drop>(rt: &impl Abort, alloc: Global, crew: C) -> (u64, u64, u64) {
     let crew = Counting::new(crew);
-    let (written, _calls) = saved(alloc, &crew, &Shape::new(1, 2, 2)?, NEVER)?;
-    let _counts = written?;
-    Ok(crew.counts())
+    let shape = Shape::new(1, 2, 2).expect(rt, "a shape");
+    let (written, _calls) = saved(rt, alloc, &crew, &shape, NEVER);
+    let _counts = written.expect(rt, "a write");
+    crew.counts()
 }
 
 #[test]
-fn one_list_of_two_jobs(rt: HostRuntime) -> Result<(), Fail> {
-    let turns: Sequential<HostRuntime> = Sequential::new([3, 2, 1, 0])?;
-    same(&rt, asked(rt.alloc(), turns), Ok((1, 2, 0)));
-    same(&rt, asked(rt.alloc(), Threads::new(&rt)), Ok((1, 2, 1)));
-    Ok(())
+fn one_list_of_two_jobs(rt: HostRuntime) {
+    let turns: Sequential<HostRuntime> = Sequential::new([3, 2, 1, 0]).expect(&rt, "an order");
+    same(&rt, asked(&rt, rt.alloc(), turns), (1, 2, 0));
+    same(&rt, asked(&rt, rt.alloc(), Threads::new(&rt)), (1, 2, 1));
 }

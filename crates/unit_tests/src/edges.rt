@@ -1,6 +1,6 @@
 //! The program of data/edges.s as GNU as assembles it, by tools/hart-programs.
 
-pub const PROGRAM: [u64; 761] = [
+pub static PROGRAM: [u64; 761] = [
     0x6304041300001417,
     0x6009091300001917,
     0x608a0a1300001a17,
@@ -768,7 +768,7 @@ pub const PROGRAM: [u64; 761] = [
 pub const RESULTS: u64 = 0x0000000080001630;
 
 /// What the program wrote under qemu-riscv64.
-pub const EXPECTED: [u64; 51] = [
+pub static EXPECTED: [u64; 51] = [
     0x5ce9ac36baf6f293,
     0xfba9cd8208b0c63c,
     0x93404987f2241911,

@@ -1,58 +1,69 @@
 //! The disks over files in memory, and the stores, that the tests begin with.
-ghost use Rattle.std.specs.Prelude.{◌≡◌, IfOk};
+ghost use Rattle.std.specs.Prelude.{◌≡◌};
 
 use crate::fixtures::open;
-use board_model::{Refusal, Shape};
+use board_model::Shape;
 use disk::{Disk, Sector};
 use file_disk::{FileDisk, FileFate, MemoryFile};
 use simdisk::SimDisk;
 use std::alloc::Global;
+use std::process::Abort;
 use store::{Store, format};
 
 /// A disk in memory of these sectors.
-fn disk_of(alloc: Global, sectors: &[Sector]) -> Result<SimDisk, Refusal>
-    ensures { IfOk result (λ disk. (⟦<SimDisk as Disk>⟧.facts disk).lent.lanes ≡ 0) }
+fn disk_of(rt: &impl Abort, alloc: Global, sectors: &[Sector]) -> SimDisk
+    ensures { (⟦<SimDisk as Disk>⟧.facts result).lent.lanes ≡ 0 }
 {
-    SimDisk::new(alloc, sectors.as_flattened())
+    let Ok(disk) = SimDisk::new(alloc, sectors.as_flattened()) else {
+        rt.panic("no memory")
+    };
+    disk
 }
 
 /// The disk of a file of these sectors, to which that happens after so many calls.
 fn over_file(
+    rt: &impl Abort,
     alloc: Global,
     sectors: &[Sector],
     left: u64,
     fate: FileFate,
-) -> Result<FileDisk<MemoryFile>, Refusal>
-    ensures { IfOk result (λ disk. (⟦<FileDisk<MemoryFile> as Disk>⟧.facts disk).lent.lanes ≡ 0) }
+) -> FileDisk<MemoryFile>
+    ensures { (⟦<FileDisk<MemoryFile> as Disk>⟧.facts result).lent.lanes ≡ 0 }
 {
-    let memory = disk_of(alloc, sectors)?;
-    let file = MemoryFile::of(alloc, memory.content(), left, fate)?;
-    Ok(FileDisk::new(alloc, memory, file)?)
+    let memory = disk_of(rt, alloc, sectors);
+    let file = MemoryFile::of(alloc, memory.content(), left, fate).expect(rt, "memory");
+    let Ok(disk) = FileDisk::new(alloc, memory, file) else {
+        rt.panic("no memory")
+    };
+    disk
 }
 
 /// The file of a disk that was formatted for that board.
-pub fn formatted(alloc: Global, shape: Shape) -> Result<Vec<Sector>, Refusal> {
-    let mut disk = SimDisk::blank(alloc, shape.sectors())?;
-    format(&mut disk, &shape)?;
-    Ok(Vec::from_slice(alloc, disk.content())?)
+pub fn formatted(rt: &impl Abort, alloc: Global, shape: Shape) -> Vec<Sector> {
+    let Ok(mut disk) = SimDisk::blank(alloc, shape.sectors()) else {
+        rt.panic("no memory")
+    };
+    format(&mut disk, &shape).expect(rt, "a format");
+    Vec::from_slice(alloc, disk.content()).expect(rt, "memory")
 }
 
 /// The store of a file to which that happens so many calls after its open.
 pub fn opened(
+    rt: &impl Abort,
     alloc: Global,
     sectors: &[Sector],
     left: u64,
     fate: FileFate,
-) -> Result<Store<FileDisk<MemoryFile>>, Refusal> {
+) -> Store<FileDisk<MemoryFile>> {
     // An open makes one call of the file, its sync.
-    let disk = over_file(alloc, sectors, left.saturating_add(1), fate)?;
-    open(alloc, disk)
+    let disk = over_file(rt, alloc, sectors, left.saturating_add(1), fate);
+    open(alloc, disk).expect(rt, "an open")
 }
 
 /// A disk of the file of a store, as the next process finds it.
-pub fn found(alloc: Global, store: Store<FileDisk<MemoryFile>>) -> Result<SimDisk, Refusal>
-    ensures { IfOk result (λ disk. (⟦<SimDisk as Disk>⟧.facts disk).lent.lanes ≡ 0) }
+pub fn found(rt: &impl Abort, alloc: Global, store: Store<FileDisk<MemoryFile>>) -> SimDisk
+    ensures { (⟦<SimDisk as Disk>⟧.facts result).lent.lanes ≡ 0 }
 {
     let sectors = store.into_disk().into_file().found();
-    disk_of(alloc, &sectors)
+    disk_of(rt, alloc, &sectors)
 }

@@ -58,28 +58,31 @@ fn cleared(ram: &mut Ram, page: u64) {
     }
 }
 
+static EIGHT_AND_ONE: [Row; 4] = [
+    (&[], 0, &[]),
+    (EIGHT, 0, EIGHT),
+    (&[0], 0, EIGHT),
+    (&[8], 0, NEXT),
+];
+
+/// What is asked for once a store went to page 3.
+static BEHIND_A_STORE: [Row; 5] = [
+    (&[], 0, &[1, 2, 4, 5, 6, 7, 8]),
+    (&[9], 0, &[1, 2, 4, 5, 6, 7, 8, 9]),
+    (&[0], 0, &[0, 2, 4, 5, 6, 7, 8, 9]),
+    (&[1], 0, &[0, 1, 4, 5, 6, 7, 8, 9]),
+    (&[3], 0, &[0, 1, 3, 5, 6, 7, 8, 9]),
+];
+
 /// Eight pages are kept, and a ninth takes the place of the one that was taken in first, however lately that was
 /// asked for. A store drops its page, and so does a page that is filled; the pages beside it stay. A page that is
 /// then taken in goes after those that were there before it, wherever it stands.
 #[test]
 fn nine_pages_keep_eight(rt: HostRuntime) {
     let mut ram = memory(&rt, rt.alloc(), 10);
-    let rows: [Row; 4] = [
-        (&[], 0, &[]),
-        (EIGHT, 0, EIGHT),
-        (&[0], 0, EIGHT),
-        (&[8], 0, NEXT),
-    ];
-    keeps(&rt, &mut ram, &rows);
+    keeps(&rt, &mut ram, &EIGHT_AND_ONE);
     same(&rt, ram.store(BASE + 0x3ff8, Width::Byte, 0), Ok(()));
-    let rows: [Row; 5] = [
-        (&[], 0, &[1, 2, 4, 5, 6, 7, 8]),
-        (&[9], 0, &[1, 2, 4, 5, 6, 7, 8, 9]),
-        (&[0], 0, &[0, 2, 4, 5, 6, 7, 8, 9]),
-        (&[1], 0, &[0, 1, 4, 5, 6, 7, 8, 9]),
-        (&[3], 0, &[0, 1, 3, 5, 6, 7, 8, 9]),
-    ];
-    keeps(&rt, &mut ram, &rows);
+    keeps(&rt, &mut ram, &BEHIND_A_STORE);
 }
 
 /// A load, a store that is refused and an address without an instruction keep and drop nothing; a page that is

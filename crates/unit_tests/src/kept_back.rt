@@ -1,16 +1,14 @@
 //! Which sectors the device of a cache has, and when.
-ghost use Rattle.std.specs.Prelude.{◌≡◌, IfOk};
+ghost use Rattle.std.specs.Prelude.{◌≡◌};
 
 use crate::caches::{blank, cut};
 use crate::fixtures::same;
 use crate::last_bytes::{last_bytes, write_byte};
-use board_model::Refusal;
 use cached_disk::CachedDisk;
 use disk::{ArmedFault, Disk, Fault};
 use simdisk::{Fill, SimDisk};
 use std::alloc::Global;
 use std::process::Abort;
-use std::test::*;
 
 /// Writes so many sectors, the k-th full of k + 1, with no sync.
 fn write_each(rt: &impl Abort, disk: &mut CachedDisk<SimDisk>, count: u8)
@@ -24,12 +22,12 @@ fn write_each(rt: &impl Abort, disk: &mut CachedDisk<SimDisk>, count: u8)
 }
 
 /// A cache of 12 sectors over zeros, after so many of these writes.
-fn written(rt: &impl Abort, alloc: Global, count: u8) -> Result<CachedDisk<SimDisk>, Refusal>
-    ensures { IfOk result (λ disk. (⟦<CachedDisk<SimDisk> as Disk>⟧.facts disk).lent.lanes ≡ 0) }
+fn written(rt: &impl Abort, alloc: Global, count: u8) -> CachedDisk<SimDisk>
+    ensures { (⟦<CachedDisk<SimDisk> as Disk>⟧.facts result).lent.lanes ≡ 0 }
 {
-    let mut disk = blank(alloc, 12)?;
+    let mut disk = blank(rt, alloc, 12);
     write_each(rt, &mut disk, count);
-    Ok(disk)
+    disk
 }
 
 /// What the device reads as that a power cut leaves.
@@ -46,12 +44,11 @@ const ELEVEN: [u8; 11] = [1, 2, 3, 4, 5, 6, 7, 8, 9, 10, 11];
 
 /// Eight sectors wait: the device was not called, and a power cut leaves what stood before them.
 #[test]
-fn eight_sectors_wait_for_their_device(rt: HostRuntime) -> Result<(), Fail> {
-    let device = written(&rt, rt.alloc(), 8)?.into_device();
+fn eight_sectors_wait_for_their_device(rt: HostRuntime) {
+    let device = written(&rt, rt.alloc(), 8).into_device();
     same(&rt, device.calls(), 0);
     let mut device = device.after_cut(Fill::Byte(9));
     same(&rt, last_bytes(&rt, &mut device), Ok([0; 11]));
-    Ok(())
 }
 
 /// What hands so many sectors on that wait: from eight on the write of another, and of fewer a sync.
@@ -74,38 +71,34 @@ fn are_kept(
     call: u64,
     handed: Result<(), Fault>,
     kept: [u8; 11],
-) -> Result<(), Refusal> {
-    let mut disk = written(rt, alloc, count)?;
+) {
+    let mut disk = written(rt, alloc, count);
     disk.arm(ArmedFault::FailAt(call));
     same(rt, hand_on(rt, &mut disk, count), handed);
     same(rt, last_bytes(rt, &mut disk), Ok(kept));
     same(rt, disk.sync(), Ok(()));
     same(rt, disk.failures(), u64::from(handed.is_err()));
     same(rt, left(rt, disk), Ok(kept));
-    Ok(())
 }
 
 /// A ninth sector finds no room: all of them go to the device, and a sync keeps them there.
 #[test]
-fn what_finds_no_room_is_handed_on_and_kept(rt: HostRuntime) -> Result<(), Fail> {
-    are_kept(&rt, rt.alloc(), 11, 0, Ok(()), ELEVEN)?;
-    Ok(())
+fn what_finds_no_room_is_handed_on_and_kept(rt: HostRuntime) {
+    are_kept(&rt, rt.alloc(), 11, 0, Ok(()), ELEVEN);
 }
 
 /// Eight sectors go to the device for a ninth, each by a call that fails once. All eight wait on.
 #[test]
-fn what_the_device_fails_to_take_waits_on(rt: HostRuntime) -> Result<(), Fail> {
+fn what_the_device_fails_to_take_waits_on(rt: HostRuntime) {
     for call in 1..9 {
-        are_kept(&rt, rt.alloc(), 8, call, Err(Fault), EIGHT)?;
+        are_kept(&rt, rt.alloc(), 8, call, Err(Fault), EIGHT);
     }
-    Ok(())
 }
 
 /// The device's write and then its sync fail in the sync of one sector.
 #[test]
-fn a_sync_that_failed_is_made_good_by_the_next(rt: HostRuntime) -> Result<(), Fail> {
+fn a_sync_that_failed_is_made_good_by_the_next(rt: HostRuntime) {
     for call in 1..3 {
-        are_kept(&rt, rt.alloc(), 1, call, Err(Fault), ONE)?;
+        are_kept(&rt, rt.alloc(), 1, call, Err(Fault), ONE);
     }
-    Ok(())
 }

@@ -5,8 +5,8 @@ use crate::fixtures::same;
 use crate::last_bytes::{last_bytes, write_byte};
 use disk::{Disk, write_synced};
 use simdisk::{Fill, SimDisk};
+use std::alloc::Global;
 use std::process::Abort;
-use std::test::Fail;
 
 /// Writes one sector so many times, with no sync between.
 fn write_often(rt: &impl Abort, disk: &mut SimDisk, writes: u32)
@@ -18,21 +18,29 @@ fn write_often(rt: &impl Abort, disk: &mut SimDisk, writes: u32)
     }
 }
 
-#[test]
-fn each_of_many_writes_is_made(rt: HostRuntime) -> Result<(), Fail> {
-    let mut disk = SimDisk::blank(rt.alloc(), 12)?;
-    write_often(&rt, &mut disk, 10_000);
+/// A disk of 12 sectors of which one was written so many times, and then the next one, with a sync.
+fn written(rt: &impl Abort, alloc: Global, writes: u32) -> SimDisk
+    ensures { (⟦<SimDisk as Disk>⟧.facts result).lent.lanes ≡ 0 }
+{
+    let Ok(mut disk) = SimDisk::blank(alloc, 12) else {
+        rt.panic("no memory")
+    };
+    write_often(rt, &mut disk, writes);
     assert!(rt; disk.sectors() == 12);
-    same(&rt, write_synced(&mut disk, 2, &[6; 512]), Ok(()));
+    let Ok(()) = write_synced(&mut disk, 2, &[6; 512]) else {
+        rt.panic("it is not written")
+    };
+    disk
+}
+
+#[test]
+fn each_of_many_writes_is_made(rt: HostRuntime) {
+    let mut disk = written(&rt, rt.alloc(), 10_000);
     let counts = (disk.calls(), disk.failures(), disk.refused());
     same(&rt, counts, (10_002, 0, 0));
     // A poke finds memory after as many calls.
-    disk.poke(3, 511, &[7])?;
+    disk.poke(3, 511, &[7]).expect(&rt, "memory");
     let mut disk = disk.after_cut(Fill::Old);
-    same(
-        &rt,
-        last_bytes(&rt, &mut disk),
-        Ok([0, 5, 6, 7, 0, 0, 0, 0, 0, 0, 0]),
-    );
-    Ok(())
+    let bytes = last_bytes(&rt, &mut disk);
+    same(&rt, bytes, Ok([0, 5, 6, 7, 0, 0, 0, 0, 0, 0, 0]));
 }

@@ -5,7 +5,7 @@ use std::alloc::Global;
 use std::process::Abort;
 
 /// The rows of docs/REFUSALS.md.
-const ROWS: [(Refusal, u32, &str); 20] = [
+static ROWS: [(Refusal, u32, &str); 20] = [
     (Refusal::NotFormatted, 1, "the disk is not formatted"),
     (
         Refusal::AlreadyFormatted,

@@ -6,7 +6,7 @@ use std::alloc::Global;
 use std::process::Abort;
 
 /// Payloads, each with its packet.
-const FRAMED: [(&[u8], &[u8]); 9] = [
+static FRAMED: [(&[u8], &[u8]); 9] = [
     (b"?", b"$?#3f"),
     (b"g", b"$g#67"),
     (b"QStartNoAckMode", b"$QStartNoAckMode#b0"),
@@ -44,7 +44,7 @@ fn heard(rt: &impl Abort, alloc: Global, bytes: &[u8]) -> (usize, Vec<u8>) {
 }
 
 /// Streams, with how many packets each has and the last of them: signs and noise beside packets, wrong sums, escapes.
-const STREAMS: [(&[u8], usize, &[u8]); 3] = [
+static STREAMS: [(&[u8], usize, &[u8]); 3] = [
     (b"+$?#3f+noise\x03$g#67$m80000000,4#55", 3, b"m80000000,4"),
     (b"$g#68$broken$#0g", 0, b""),
     (b"$a}\x03}\x04}]}\n\x03#c6", 1, b"a#$}*\x03"),

@@ -219,7 +219,7 @@ board 2 4 3\nformat\npc 1\n\n\n|\
 #\r\nboard 2 4 3\nformat\npc 0x0001\n#\r\n";
 
 /// Lines behind a board line, and whole scripts.
-const ROWS: [Row; 11] = [
+static ROWS: [Row; 11] = [
     (BOARD, b"", 0, PAST_A_RANGE, Err(Refusal::BadScript(2))),
     (BOARD, b"", 0, WORD_COUNTS, Err(Refusal::BadScript(2))),
     (BOARD, b"", 0, SPELLINGS, Err(Refusal::BadScript(2))),

@@ -8,7 +8,7 @@ const BOARD: &[u8] = b"board 1 1 1\n";
 // A board line and the start of a comment.
 const COMMENT: &[u8] = b"board 1 1 1\n#";
 
-const ROWS: [Row; 12] = [
+static ROWS: [Row; 12] = [
     // a comment of 4,096 bytes, and one of a byte more
     (COMMENT, b"x", 4095, b"", Ok((1, 1, 1, 0))),
     (COMMENT, b"x", 4095, b"\nformat\n", Ok((1, 1, 1, 1))),

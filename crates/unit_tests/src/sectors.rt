@@ -61,7 +61,7 @@ fn a_record(rt: &impl Abort, version: Version, has_image: bool, has_trial: bool)
 
 /// Such records, each with its bytes: version, slot, reason and whether it has an image; the next serial; of the image its serial,
 /// hart and area, address, opaque value and counts; and the trial. Without one the versions differ in byte 0 alone.
-const RECORDS: [(Version, bool, bool, &[u8]); 5] = [
+static RECORDS: [(Version, bool, bool, &[u8]); 5] = [
     (
         Version::Two,
         true,

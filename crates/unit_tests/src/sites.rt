@@ -1,5 +1,5 @@
 //! A write of a board's memory to a disk for it, of which a test reads the answer and the calls alone.
-ghost use Rattle.std.specs.Prelude.{◌≡◌, ◌≤◌, length, IfOk};
+ghost use Rattle.std.specs.Prelude.{◌≡◌, ◌≤◌, length};
 ghost use Rattle.board_model.specs.Shapes.{ram_bytes_of, sectors_of};
 
 use board_model::{Refusal, Shape};
@@ -11,32 +11,43 @@ use ram::Ram;
 use savers::{LaneCounts, Snapshot};
 use simdisk::SimDisk;
 use std::alloc::Global;
+use std::process::Abort;
 
 /// A disk of zeros for a board of that shape.
-fn disk_for(alloc: Global, shape: &Shape) -> Result<SimDisk, Refusal>
-    ensures none_out { IfOk result (λ disk. (⟦<SimDisk as Disk>⟧.facts disk).lent.lanes ≡ 0) }
-    ensures enough { IfOk result (λ disk. sectors_of shape.now ≤ length (⟦<SimDisk as Disk>⟧.facts disk).content) }
+fn disk_for(rt: &impl Abort, alloc: Global, shape: &Shape) -> SimDisk
+    ensures none_out { (⟦<SimDisk as Disk>⟧.facts result).lent.lanes ≡ 0 }
+    ensures enough { sectors_of shape.now ≤ length (⟦<SimDisk as Disk>⟧.facts result).content }
 {
-    let disk = SimDisk::blank(alloc, shape.sectors())?;
-    if disk.sectors() < shape.sectors() {
-        return Err(Refusal::BadShape);
+    let Ok(disk) = SimDisk::blank(alloc, shape.sectors()) else {
+        rt.panic("no memory")
+    };
+    assert!(rt; shape.sectors() <= disk.sectors());
+    disk
+}
+
+/// Pages of which page k is filled with the byte k after the first.
+fn page_bytes(rt: &impl Abort, alloc: Global, pages: u32, first: u8) -> Vec<u8> {
+    let mut bytes = Vec::new(alloc);
+    let mut byte = first;
+    for _ in 0..pages {
+        bytes
+            .extend_from_slice(&[byte; 4096])
+            .expect(rt, "no memory");
+        byte = byte.wrapping_add(1);
     }
-    Ok(disk)
+    bytes
 }
 
 /// A memory in which page k is filled with the byte k after the first.
-pub fn memory(alloc: Global, shape: &Shape, first: u8) -> Result<Ram, Refusal>
-    ensures { IfOk result (λ ram. length ram ≡ ram_bytes_of shape.now) }
+pub fn memory(rt: &impl Abort, alloc: Global, shape: &Shape, first: u8) -> Ram
+    ensures { length result ≡ ram_bytes_of shape.now }
 {
-    let mut bytes = Vec::new(alloc);
-    let mut byte = first;
-    for _ in 0..shape.pages() {
-        bytes.extend_from_slice(&[byte; 4096])?;
-        byte = byte.wrapping_add(1);
-    }
-    let mut ram = Ram::new(alloc, *shape)?;
+    let bytes = page_bytes(rt, alloc, shape.pages(), first);
+    let Ok(mut ram) = Ram::new(alloc, *shape) else {
+        rt.panic("no memory")
+    };
     boot_within(&mut ram, &bytes);
-    Ok(ram)
+    ram
 }
 
 /// The bytes at the memory's begin, where they fit.
@@ -64,13 +75,14 @@ pub const NEVER: ArmedFault = ArmedFault::FailLane(0, 0);
 /// What a write of a board's memory into the first area answers, how many places of each lane are in use, and how many calls it
 /// made of each lane. The disk has that fault.
 pub fn saved<C: Crew>(
+    rt: &impl Abort,
     alloc: Global,
     crew: &C,
     shape: &Shape,
     fault: ArmedFault,
-) -> Result<(Result<LaneCounts, Refusal>, [u64; 4]), Refusal> {
-    let ram = memory(alloc, shape, 9)?;
-    let mut disk = disk_for(alloc, shape)?;
+) -> (Result<LaneCounts, Refusal>, [u64; 4]) {
+    let ram = memory(rt, alloc, shape, 9);
+    let mut disk = disk_for(rt, alloc, shape);
     disk.arm(fault);
     let snapshot = Snapshot {
         shape,
@@ -78,5 +90,5 @@ pub fn saved<C: Crew>(
         serial: 7,
     };
     let counts = write_area(alloc, &mut disk, crew, Side::first(), &snapshot);
-    Ok((counts, lane_calls(&disk)))
+    (counts, lane_calls(&disk))
 }

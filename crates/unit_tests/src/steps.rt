@@ -60,7 +60,7 @@ fn edge_values_as_under_qemu(rt: HostRuntime) {
 
 /// The cause and stval of each trap of data/traps.s in order; the saved pc is always as expected there, and
 /// in the handler interrupts are off and SPIE is set.
-const TRAPS: [(u64, u64); 22] = [
+static TRAPS: [(u64, u64); 22] = [
     (4, BASE + 1),
     (4, BASE + 1),
     (4, BASE + 2),
@@ -86,7 +86,7 @@ const TRAPS: [(u64, u64); 22] = [
 ];
 
 /// What it keeps after those: its jumps, and then the control and status registers.
-const REST: [u64; 47] = [
+static REST: [u64; 47] = [
     0,
     2,
     0,

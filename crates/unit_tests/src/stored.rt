@@ -1,5 +1,5 @@
 //! The store over disks that hand on to another: one of one's own (docs/PORTING.md), one with a log, and one with a cache.
-ghost use Rattle.std.specs.Prelude.{◌≡◌, IfOk};
+ghost use Rattle.std.specs.Prelude.{◌≡◌};
 
 use crate::caches::{blank, cut};
 use crate::fixtures::{open, same, set_slot, slot_of};
@@ -9,54 +9,61 @@ use disk::{ArmedFault, Disk};
 use logged_disk::LoggedDisk;
 use simdisk::{Fill, SimDisk};
 use std::alloc::Global;
-use std::test::*;
+use std::process::Abort;
 use store::{Store, format};
 
 /// The store of a disk of 26 sectors, which is formatted for the smallest board.
-fn formatted<D: Disk + Drop>(alloc: Global, disk: D) -> Result<Store<D>, Refusal>
+fn formatted<D: Disk + Drop>(rt: &impl Abort, alloc: Global, disk: D) -> Store<D>
     requires { (D.facts disk).lent.lanes ≡ 0 }
 {
     let mut disk = disk;
-    format(&mut disk, &Shape::new(1, 1, 1)?)?;
-    open(alloc, disk)
+    let shape = Shape::new(1, 1, 1).expect(rt, "a shape");
+    let Ok(()) = format(&mut disk, &shape) else {
+        rt.panic("it is not formatted")
+    };
+    open(alloc, disk).expect(rt, "an open")
 }
 
 /// What the commands that set slot 2 and then slot 3 were answered, and how many failures the disk then counts.
 type Answers = (Result<u32, Refusal>, Result<u32, Refusal>, u64);
 
 /// What they are answered by a store over this disk, which fails once, at that of their calls; and the disk that is left.
-fn two_commands<D: Disk + Drop>(alloc: Global, disk: D, call: u64) -> Result<(Answers, D), Refusal>
+fn two_commands<D: Disk + Drop>(rt: &impl Abort, alloc: Global, disk: D, call: u64) -> (Answers, D)
     requires { (D.facts disk).lent.lanes ≡ 0 }
-    ensures { IfOk result (λ left. (D.facts left.1).lent.lanes ≡ 0) }
+    ensures { (D.facts result.1).lent.lanes ≡ 0 }
 {
-    let mut store = formatted(alloc, disk)?;
+    let mut store = formatted(rt, alloc, disk);
     store.arm(ArmedFault::FailAt(call));
     let first = set_slot(&mut store, 2);
     let second = set_slot(&mut store, 3);
     let disk = store.into_disk();
     let failures = disk.failures();
-    Ok(((first, second, failures), disk))
+    ((first, second, failures), disk)
 }
 
 /// What two commands are answered over a cache, and the slot that stands in its device once power is cut.
-fn cached(alloc: Global, call: u64) -> Result<(Answers, u32), Refusal> {
-    let (answers, disk) = two_commands(alloc, blank(alloc, 26)?, call)?;
-    Ok((answers, slot_of(alloc, cut(disk))?))
+fn cached(rt: &impl Abort, alloc: Global, call: u64) -> (Answers, Result<u32, Refusal>) {
+    let (answers, disk) = two_commands(rt, alloc, blank(rt, alloc, 26), call);
+    (answers, slot_of(alloc, cut(disk)))
 }
 
 /// What two commands are answered over a disk that keeps nothing back, and the slot that stands in its device.
-fn logged(alloc: Global, call: u64) -> Result<(Answers, u32), Refusal> {
-    let disk = LoggedDisk::new(SimDisk::blank(alloc, 26)?);
-    let (answers, disk) = two_commands(alloc, disk, call)?;
-    let device = disk.into_device().after_cut(Fill::Byte(9));
-    Ok((answers, slot_of(alloc, device)?))
+fn logged(rt: &impl Abort, alloc: Global, call: u64) -> (Answers, Result<u32, Refusal>) {
+    let Ok(device) = SimDisk::blank(alloc, 26) else {
+        rt.panic("no memory")
+    };
+    let (answers, disk) = two_commands(rt, alloc, LoggedDisk::new(device), call);
+    let left = disk.into_device().after_cut(Fill::Byte(9));
+    (answers, slot_of(alloc, left))
 }
 
 /// What two commands are answered over a disk of one's own, and the slot that one more open finds.
-fn own(alloc: Global, call: u64) -> Result<(Answers, u32), Refusal> {
-    let disk = Mine::new(SimDisk::blank(alloc, 26)?);
-    let (answers, disk) = two_commands(alloc, disk, call)?;
-    Ok((answers, slot_of(alloc, disk)?))
+fn own(rt: &impl Abort, alloc: Global, call: u64) -> (Answers, Result<u32, Refusal>) {
+    let Ok(device) = SimDisk::blank(alloc, 26) else {
+        rt.panic("no memory")
+    };
+    let (answers, disk) = two_commands(rt, alloc, Mine::new(device), call);
+    (answers, slot_of(alloc, disk))
 }
 
 /// The command that failed is refused, the same store goes on, and the failure is counted.
@@ -69,8 +76,8 @@ static CALLS: [(u64, Answers); 3] = [(0, (Ok(1), Ok(2), 0)), (1, FAILED), (2, FA
 #[test]
 fn a_failure_of_the_device_is_refused_and_nothing_is_lost(rt: HostRuntime) {
     for &(call, answers) in &CALLS {
-        same(&rt, cached(rt.alloc(), call), Ok((answers, 3)));
-        same(&rt, logged(rt.alloc(), call), Ok((answers, 3)));
-        same(&rt, own(rt.alloc(), call), Ok((answers, 3)));
+        same(&rt, cached(&rt, rt.alloc(), call), (answers, Ok(3)));
+        same(&rt, logged(&rt, rt.alloc(), call), (answers, Ok(3)));
+        same(&rt, own(&rt, rt.alloc(), call), (answers, Ok(3)));
     }
 }

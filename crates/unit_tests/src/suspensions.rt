@@ -1,5 +1,5 @@
 //! A suspension over a file: the lanes of its image come into the file too.
-ghost use Rattle.std.specs.Prelude.{◌≡◌, IfOk};
+ghost use Rattle.std.specs.Prelude.{◌≡◌};
 
 use crate::files::{formatted, found, opened};
 use crate::fixtures::{open, same};
@@ -13,7 +13,6 @@ use simdisk::SimDisk;
 use std::alloc::Global;
 use std::ops::Range;
 use std::process::Abort;
-use std::test::*;
 use std::thread::Threads;
 use store::{Resumption, Saving};
 
@@ -26,11 +25,11 @@ struct Sleeper {
 }
 
 /// The sleeper of one hart, and so many pages and lanes.
-fn sleeper_of(alloc: Global, pages: u64, lanes: u64) -> Result<Sleeper, Refusal> {
-    let shape = Shape::new(1, pages, lanes)?;
-    let file = formatted(alloc, shape)?;
-    let ram = memory(alloc, &shape, 1)?;
-    Ok(Sleeper { shape, file, ram })
+fn sleeper_of(rt: &impl Abort, alloc: Global, pages: u64, lanes: u64) -> Sleeper {
+    let shape = Shape::new(1, pages, lanes).expect(rt, "a shape");
+    let file = formatted(rt, alloc, shape);
+    let ram = memory(rt, alloc, &shape, 1);
+    Sleeper { shape, file, ram }
 }
 
 /// Where it goes on: hart 0, at its third instruction.
@@ -43,41 +42,47 @@ fn resumption() -> Option<Resumption> {
 }
 
 /// The disk that the next process finds after a suspension of which a killed process made so many calls.
-fn suspended<R: Threads + Sync>(
-    _rt: &R,
+fn suspended<R: Abort + Threads + Sync>(
+    rt: &R,
     alloc: Global,
     sleeper: &Sleeper,
     left: u64,
-) -> Result<SimDisk, Refusal>
-    ensures { IfOk result (λ disk. (⟦<SimDisk as Disk>⟧.facts disk).lent.lanes ≡ 0) }
+) -> SimDisk
+    ensures { (⟦<SimDisk as Disk>⟧.facts result).lent.lanes ≡ 0 }
 {
-    let at = resumption().ok_or(Refusal::BadShape)?;
-    let crew = Sequential::<R>::new([0, 1, 2, 3])?;
-    let mut store = opened(alloc, &sleeper.file, left, FileFate::Killed)?;
+    let at = resumption().expect(rt, "a place");
+    let crew = Sequential::<R>::new([0, 1, 2, 3]).expect(rt, "an order");
+    let mut store = opened(rt, alloc, &sleeper.file, left, FileFate::Killed);
     let saving = Saving { alloc, crew: &crew };
-    let _told = store.suspend(saving, &sleeper.ram, at)?;
-    found(alloc, store)
+    let suspended = store.suspend(saving, &sleeper.ram, at);
+    assert!(rt; suspended.is_ok());
+    found(rt, alloc, store)
 }
 
 /// Whether the image that stands is the sleeper's memory, byte for byte.
-fn is_whole(alloc: Global, disk: SimDisk, sleeper: &Sleeper) -> Result<bool, Refusal>
+fn is_whole(
+    rt: &impl Abort,
+    alloc: Global,
+    disk: SimDisk,
+    sleeper: &Sleeper,
+) -> Result<bool, Refusal>
     requires { (⟦<SimDisk as Disk>⟧.facts disk).lent.lanes ≡ 0 }
 {
-    let mut loaded = Ram::new(alloc, sleeper.shape)?;
-    let mut store = open(alloc, disk)?;
+    let mut loaded = Ram::new(alloc, sleeper.shape).expect(rt, "memory");
+    let mut store = open(alloc, disk).expect(rt, "an open");
     store.load_image(&mut loaded)?;
     Ok(loaded.bytes() == sleeper.ram.bytes())
 }
 
 /// What the next process finds of the image.
-fn image_left<R: Threads + Sync>(
+fn image_left<R: Abort + Threads + Sync>(
     rt: &R,
     alloc: Global,
     sleeper: &Sleeper,
     left: u64,
 ) -> Result<bool, Refusal> {
-    let disk = suspended(rt, alloc, sleeper, left)?;
-    is_whole(alloc, disk, sleeper)
+    let disk = suspended(rt, alloc, sleeper, left);
+    is_whole(rt, alloc, disk, sleeper)
 }
 
 /// After each of these numbers of calls the next process finds that of a board of so many pages and lanes.
@@ -88,21 +93,19 @@ fn leave<R: Abort + Threads + Sync>(
     lanes: u64,
     calls: Range<u64>,
     image: Result<bool, Refusal>,
-) -> Result<(), Refusal> {
-    let sleeper = sleeper_of(alloc, pages, lanes)?;
+) {
+    let sleeper = sleeper_of(rt, alloc, pages, lanes);
     for left in calls {
         same(rt, image_left(rt, alloc, &sleeper, left), image);
     }
-    Ok(())
 }
 
 /// A board of five pages and four lanes: an area of 72 sectors, which one sync puts into the file; then the record and
 /// the gate, each with its sync. Up to the gate's write no image is found, and from then on the whole one. Of the largest
 /// board each of the 2,304 sectors that its image has comes into the file.
 #[test]
-fn a_killed_suspension_leaves_no_image_or_a_whole_one(rt: HostRuntime) -> Result<(), Fail> {
-    leave(&rt, rt.alloc(), 5, 4, 0..76, Err(Refusal::NoImage))?;
-    leave(&rt, rt.alloc(), 5, 4, 76..79, Ok(true))?;
-    leave(&rt, rt.alloc(), 256, 1, 10_000..10_001, Ok(true))?;
-    Ok(())
+fn a_killed_suspension_leaves_no_image_or_a_whole_one(rt: HostRuntime) {
+    leave(&rt, rt.alloc(), 5, 4, 0..76, Err(Refusal::NoImage));
+    leave(&rt, rt.alloc(), 5, 4, 76..79, Ok(true));
+    leave(&rt, rt.alloc(), 256, 1, 10_000..10_001, Ok(true));
 }

@@ -1,13 +1,16 @@
 //! The hart table and the pending interrupts under threads.
+ghost use Rattle.std.specs.Prelude.{◌≡◌};
 
 use crate::crowd::{all_harts, take_all};
 use crate::fixtures::same;
 use crate::race::{ready_racers, rounds};
-use crate::two_tables::first_use;
+use crate::two_tables::{Seen, first_use};
 use board_model::{Addr, HartId, Shape};
 use hsm::{HartTable, SeatTable, State};
 use ipi::PendingTable;
+use std::alloc::Global;
 use std::process::Abort;
+use std::thread::Threads;
 
 #[test]
 fn one_start_in_each_round(rt: HostRuntime) {
@@ -31,20 +34,27 @@ fn eight_harts_raise_and_take(rt: HostRuntime) {
     same(&rt, sums.raised, sums.taken.wrapping_add(left));
 }
 
+/// The first use of the tables of a board of two harts.
+fn used<R: Abort + Threads + Sync>(rt: &R, alloc: Global, zero: HartId) -> Seen
+    requires { zero ≡ 0 }
+{
+    let Ok(shape) = Shape::new(2, 1, 1) else {
+        rt.panic("not a shape")
+    };
+    let Ok((harts, whole)) = HartTable::new(alloc, shape, zero) else {
+        rt.panic("no memory")
+    };
+    let Ok((pending, pairs)) = PendingTable::new(alloc, shape) else {
+        rt.panic("no memory")
+    };
+    first_use(rt, &harts, whole, &pending, pairs)
+}
+
 #[test]
 fn a_first_use(rt: HostRuntime) {
     let zero = HartId::new(0).unwrap();
     let address = Addr::new(0x8000_0000).unwrap();
-    let Ok(shape) = Shape::new(2, 1, 1) else {
-        rt.panic("not a shape")
-    };
-    let Ok((harts, whole)) = HartTable::new(rt.alloc(), shape, zero) else {
-        rt.panic("no memory")
-    };
-    let Ok((pending, pairs)) = PendingTable::new(rt.alloc(), shape) else {
-        rt.panic("no memory")
-    };
-    let (state, (entry, senders)) = first_use(&rt, &harts, whole, &pending, pairs);
+    let (state, (entry, senders)) = used(&rt, rt.alloc(), zero);
     assert!(&rt; state != State::Stopped);
     same(&rt, entry, Some((address, 7)));
     assert!(&rt; senders.contains(zero));

@@ -1,6 +1,6 @@
 //! The program of data/traps.s as GNU as assembles it, by tools/hart-programs.
 
-pub const PROGRAM: [u64; 249] = [
+pub static PROGRAM: [u64; 249] = [
     0x3884041300000417,
     0x01f494930010049b,
     0x0204d49302049493,

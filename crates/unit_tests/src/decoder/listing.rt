@@ -1,6 +1,6 @@
 //! Words that GNU as made of the instructions of data/words.s, by tools/decoder-words.
 
-pub const LISTING: [(u32, &str); 84] = [
+pub static LISTING: [(u32, &str); 84] = [
     (0x80000537, "lui x10,0x80000"),
     (0xffffffb7, "lui x31,0xfffff"),
     (0x00000037, "lui x0,0x0"),

@@ -25,7 +25,7 @@ fn asking(rt: &impl Abort, extension: u64, function: u64) -> Hart {
 }
 
 /// Which call the registers ask for, by the numbers of the extension and of the function in it.
-const CALLS: [(u64, u64, Call); 27] = [
+static CALLS: [(u64, u64, Call); 27] = [
     (0x10, 0, Call::SpecVersion),
     (0x10, 1, Call::ImplementationId),
     (0x10, 2, Call::ImplementationVersion),
@@ -89,7 +89,7 @@ const CALLS: [(u64, u64, Call); 27] = [
 
 #[test]
 fn calls_have_the_numbers_of_the_standard(rt: HostRuntime) {
-    for (extension, function, call) in CALLS {
+    for &(extension, function, call) in &CALLS {
         same(&rt, Call::of(&asking(&rt, extension, function)), call);
     }
 }
@@ -107,7 +107,7 @@ fn answered(rt: &impl Abort, answer: SbiRet) -> (u64, u64, u64, u64) {
 }
 
 /// Answers, each with what a0 and a1 hold then: an error is negative in a0, and its value is 0.
-const ANSWERS: [(SbiRet, i64, u64); 11] = [
+static ANSWERS: [(SbiRet, i64, u64); 11] = [
     (Ok(0), 0, 0),
     (Ok(7), 0, 7),
     (Ok(u64::MAX), 0, u64::MAX),
@@ -123,7 +123,7 @@ const ANSWERS: [(SbiRet, i64, u64); 11] = [
 
 #[test]
 fn an_answer_goes_to_a0_and_a1(rt: HostRuntime) {
-    for (answer, a0, a1) in ANSWERS {
+    for &(answer, a0, a1) in &ANSWERS {
         let found = answered(&rt, answer);
         same(&rt, found, (a0.cast_unsigned(), a1, A2, 0x8000_1004));
     }
