@@ -60,7 +60,7 @@ impl Payloads {
         self.slots[slot.index()].as_slice()
     }
 
-    /// The same payloads, in memory of their own.
+    /// A copy of the payloads, in memory of its own. Refused `AllocError` where memory is.
     pub fn copy(&self) -> Result<Payloads, AllocError>
         ensures { IfOk result (λ copy. copy ≡ self.now) }
     {

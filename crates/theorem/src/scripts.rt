@@ -37,7 +37,7 @@ pub fn a_script<C: Crew, W: Write>(
     run_left_with(alloc, script, crew, payloads, out)
 }
 
-/// The same of a script in any spelling, by the relation that says what its bytes say.
+/// What comes of a script, in any spelling, is what its laws allow: the relation that reads a script says what its bytes say.
 pub fn a_script_in_any_spelling<C: Crew, W: Write>(
     alloc: Global,
     script: &[u8],
