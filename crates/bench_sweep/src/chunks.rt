@@ -19,18 +19,51 @@ use board_model::Refusal;
 use crew::Crew;
 use jobs::{Chunk, Task, Window};
 
-/// The most calls of a chunk.
+/// The most calls of a chunk, and how many make it long beside what it costs to begin one.
 const MOST_CALLS: u64 = 64;
 
-/// How many calls each chunk of so many has, for so many threads: each has 32 chunks or more to make, where there are as many calls. So
-/// what is written, and how far the run is, is told often, and still few of them begin within the same line.
+const MANY_CALLS: u64 = 16;
+
+/// How many calls a chunk of so many may have, for so many threads: there are 32 chunks or more, 8 or more for each thread, and 32 or more
+/// for each where a chunk has many calls, if there are as many calls. So what is written, and how far the run is, is told often, and still
+/// few chunks begin within the same line.
+fn most_of(calls: u64, threads: u64) -> u64
+    requires { 0 < threads }
+    ensures some { 0 < result }
+    ensures most { result ≤ 64 }
+{
+    let few = calls / threads.saturating_mul(8).max(32);
+    let many = calls / threads.saturating_mul(32);
+    few.min(MANY_CALLS).max(many).clamp(1, MOST_CALLS)
+}
+
+/// How long threads take for so many calls where each chunk has so many: a call is one, and so is what it costs to begin a chunk. It is as
+/// long as the thread takes that makes the most of them.
+fn time_of(calls: u64, threads: u64, each: u64) -> u64
+    requires threads { 0 < threads }
+    requires each { 0 < each }
+{
+    let chunks = calls.div_ceil(each).div_ceil(threads);
+    let made = chunks.saturating_mul(each).min(calls);
+    made.saturating_add(chunks)
+}
+
+/// How many calls each chunk of so many has, for so many threads: as many as it may have, or down to half of them where the threads are
+/// done sooner then, since they end together.
 pub fn chunk_size(calls: u64, threads: usize) -> u64
     requires { 0 < threads }
     ensures some { 0 < result }
     ensures most { result ≤ 64 }
 {
-    let chunks = (threads as u64).saturating_mul(32);
-    (calls / chunks).clamp(1, MOST_CALLS)
+    let threads = threads as u64;
+    let most = most_of(calls, threads);
+    let mut best = most;
+    for each in most / 2 + 1..most {
+        if time_of(calls, threads, each) < time_of(calls, threads, best) {
+            best = each;
+        }
+    }
+    best
 }
 
 /// Runs on up to so many lines, and keeps how many calls the caller has made then from the site on. Refused `Memory` alone.

@@ -31,7 +31,8 @@ pub struct Moment {
 }
 
 impl Going {
-    /// The same run once more, with a board and a disk of its own. This one stays as it is. Refused `Memory` where memory is.
+    /// A run that has come as far as this one, with a board and a disk of its own. This one stays as it is. Refused `Memory` where
+    /// memory is.
     pub fn copy(&mut self, alloc: Global) -> Result<Going, Refusal>
         ensures stays { (size : Size) (b : Bench) → RunsCalm size b self.old.power self.old.payloads self.old.ledger
             → RunsCalm size b self.new.power self.new.payloads self.new.ledger }

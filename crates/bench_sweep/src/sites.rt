@@ -90,7 +90,8 @@ impl Site {
         })
     }
 
-    /// The same, where a power-on over what the cut leaves found that state, which settles the command in doubt.
+    /// A site to run from, as `left` makes it, where a power-on over what the cut leaves found that state: it settles the command in
+    /// doubt.
     pub fn settled(&self, alloc: Global, fill: Fill, found: &Durable) -> Result<Site, Refusal>
         requires { (size : Size) × (s : DurableState)
             × StandsFor (left_by_fill fill (synced (sim_log_of self.now.off.disk)) (sim_log_of self.now.off.disk).written) size s
@@ -106,7 +107,7 @@ impl Site {
         Ok(left)
     }
 
-    /// The same of a site of whose disk all is durable.
+    /// A site as this one is, with a disk of its own. What was not synced is left as it was at the last sync: all of the disk is durable.
     pub fn copy(&self, alloc: Global) -> Result<Site, Refusal>
         ensures runs { IfOk result (λ copy. (size : Size) (b : Bench) → RunsAt size b self.now
             → LeftAt size (unpowered b) copy) }
@@ -223,7 +224,7 @@ pub fn say_still_line<C: Crew>(
     }
 }
 
-/// The same of a line of which nobody asks what it said.
+/// Runs a line that moves no hart and powers no board on, and the ledger follows it. Nobody asks what it said.
 fn run_still_line<C: Crew>(
     setting: &Setting<'_, C>,
     line: &Line,

@@ -232,12 +232,13 @@ fn sweep_stretch<R: Threads + Sync, P: Progress, C: Crew + Sync, W: Write>(
 }
 
 /// Goes over the points of that caller that lie within the window, and answers how many calls it made. Each run goes on from the
-/// line in which its call lies.
+/// line in which its call lies. It ends with the life in which the last of `all` calls was made.
 fn sweep_caller<R: Threads + Sync, P: Progress, C: Crew + Sync, W: Write>(
     jobs: &Jobs<'_, R, P>,
     runner: &Runner<'_, C>,
     begin: &Site,
     caller: Caller,
+    all: u64,
     within: Window,
     report: &mut SweepReport<'_, W>,
 ) -> Result<u64, Refusal>
@@ -254,7 +255,7 @@ fn sweep_caller<R: Threads + Sync, P: Progress, C: Crew + Sync, W: Write>(
     let mut from = 0;
     let mut made = 0u64;
     let mut left = within;
-    while from < runner.lines.len() {
+    while from < runner.lines.len() && made < all {
         let rest = Runner {
             setting: runner.setting,
             bench: runner.bench,
@@ -342,7 +343,7 @@ fn sweep_all_callers<R: Threads + Sync, P: Progress, C: Crew + Sync, W: Write>(
     jobs.begin(within.to - within.from);
     for caller in CALLERS {
         let calls = calls_between(caller, site, end)?;
-        let made = sweep_caller(jobs, runner, site, caller, within, report)?;
+        let made = sweep_caller(jobs, runner, site, caller, calls, within, report)?;
         if made != calls {
             return Err(Refusal::Memory);
         }
@@ -588,7 +589,7 @@ pub fn run_bench<R: Threads + Sync, P: Progress, W: Write>(
     Ok(done.sweep)
 }
 
-/// The same bench, with an operator's recovery: lines that follow a power-off, for the board of the script, whose slots
+/// A bench as `run_bench` has it, with an operator's recovery: lines that follow a power-off, for the board of the script, whose slots
 /// boot what they boot at the cut. They run behind the script's own end, with power cut there, and over what each run left;
 /// what the looks among them say (`mem`, `reg`, `csr`, `pc`, `pending` and `inspect`) is compared. Behind the line of a run
 /// of which a look says something else a line tells the first, and the line of the counts ends with how many runs those are. A

@@ -4,7 +4,7 @@ use Rattle.jobs.specs.Handed.{TakesAll}
 use Rattle.bench_sweep.specs.Reports.{TakesPoint}
 use Rattle.bench_sweep.specs.declared.judging.PointRows.{PointRows}
 use Rattle.bench_sweep.proofs.Along.{taken_more}
-use Rattle.bench_sweep.proofs.sweeps.ReportSinkChunkPointRows.take.Goals as goal
+use Rattle.bench_sweep.proofs.sweeps.SweepReportSinkChunkPointRows.take.Goals as goal
 
 pub loop-point-init : goal.loop-point-init
 loop-point-init g c = refl

@@ -1,7 +1,7 @@
 use Rattle.std.proofs.Common.{take}
 use Rattle.jobs.specs.Handed.{TakesAll}
 use Rattle.bench_sweep.specs.Reports.{TakesPoint}
-use Rattle.bench_sweep.proofs.sweeps.ReportSinkChunkPointRows.take.Given as goal
+use Rattle.bench_sweep.proofs.sweeps.SweepReportSinkChunkPointRows.take.Given as goal
 
 -- the points so far are taken
 abbrev pub invariant-loop-point : goal.invariant-loop-point
