@@ -3,7 +3,7 @@
 ghost use Rattle.std.specs.Prelude.{◌≡◌, ◌<◌, [], codes, map, IfOk, OnOk};
 ghost use Rattle.debug_session.specs.Ats.{IsAt};
 ghost use Rattle.debug_session.specs.Sessions.{plan_of, size_of, stops_of, timeline_of};
-ghost use Rattle.debug_packets.specs.Kept.{IsTalk};
+ghost use Rattle.debug_packets.specs.Kept.{IsTalk, StaysOpen};
 ghost use Rattle.debug_packets.specs.Moved.{IsTold, MovedBy, ResumedBy, SteppedOnce, WentAlone, WentBack, WentFarBack, WentOn};
 ghost use Rattle.debug_packets.specs.Talks.{runs_in};
 ghost use Rattle.gdb_protocol.specs.Fields.{behind_prefix};
@@ -245,7 +245,17 @@ impl<'a, C: Crew> Talk<'a, C> {
     {
         self.last = stop;
         self.hart = stop.hart;
-        self.selected = stop.hart;
-        stop_text(self.alloc(), stop, self.takes_swbreak)
+        self.select_shown();
+        Ok(stop_text(self.alloc(), stop, self.takes_swbreak)?)
+    }
+
+    /// The hart that is shown is selected from now on.
+    fn select_shown(&mut self)
+        ensures same { self.new.session ≡ self.old.session }
+        ensures talk { StaysOpen self.old self.new }
+        ensures hart { self.new.hart ≡ self.old.hart }
+        ensures selected { self.new.selected ≡ self.old.hart }
+    {
+        self.selected = self.hart;
     }
 }

@@ -1,6 +1,6 @@
 //! What is answered to a packet.
 
-ghost use Rattle.std.specs.Prelude.{◌≡◌, true, false, [], None, map, IfOk, OnOk};
+ghost use Rattle.std.specs.Prelude.{◌≡◌, ◌<◌, true, false, [], None, map, IfOk, OnOk};
 ghost use Rattle.debug_session.specs.Ats.{IsAt};
 ghost use Rattle.debug_session.specs.Sessions.{bench_of, plan_of, points_of, size_of, stops_of, timeline_of, watches_of};
 ghost use Rattle.debug_packets.specs.Replies.{IsReply, Replied, Shown, hart_shown};
@@ -14,7 +14,7 @@ ghost use Rattle.gdb_protocol.specs.declared.requests.GdbRequest.TheVariants as 
 
 use crate::replies::payload;
 use crate::talk::Talk;
-use board_model::Refusal;
+use board_model::{HartId, Refusal, Shape};
 use crew::Crew;
 use debug_session::{HaltReason, Session, Stop};
 use gdb_protocol::{GdbLook, GdbRequest, Move, request_of};
@@ -23,6 +23,16 @@ use std::sync::atomic::AtomicBool;
 
 /// The payloads of packets to be sent, in their order.
 pub type PacketPayloads = Vec<Vec<u8>>;
+
+/// Hart 0, which each board has.
+fn first_hart(shape: &Shape) -> HartId
+    ensures first { result ≡ 0 }
+    ensures there { result < shape.now.harts }
+{
+    let harts = shape.harts();
+    prove!(0 < harts);
+    shape.hart(0).unwrap()
+}
 
 impl<'a, C: Crew> Talk<'a, C> {
     /// A talk about a session, whose hart 0 is shown.
@@ -36,8 +46,7 @@ impl<'a, C: Crew> Talk<'a, C> {
         ensures ongoing { is_over_in result ≡ false }
         ensures sent { sent_in result ≡ [] }
     {
-        // Each board has one.
-        let hart = session.setting().shape.hart(0).unwrap();
+        let hart = first_hart(session.setting().shape);
         let alloc = session.setting().alloc;
         let last = Stop {
             hart,

@@ -1,11 +1,11 @@
 //! The lines that `monitor` hands on.
 
-ghost use Rattle.std.specs.Prelude.{◌≡◌, ◌≤◌, ◌<◌, ◌++◌, [], Some, codes, map, string_bytes, IfOk, IfSome, OnOk};
+ghost use Rattle.std.specs.Prelude.{◌≡◌, ◌≤◌, ◌<◌, ◌++◌, [], codes, map, string_bytes, IfOk, IfSome, OnOk};
 ghost use Rattle.std.specs.Option.{option_map};
 ghost use Rattle.debug_session.specs.Ats.{IsAt};
 ghost use Rattle.debug_session.specs.Sessions.{begins_of, history_of, plan_of, size_of, stops_of, timeline_of};
 ghost use Rattle.debug_packets.specs.Kept.{StaysOpen};
-ghost use Rattle.debug_packets.specs.Moved.{GotoOr, HexSaid, LineRan, MonitoredBy, TextSaid, WentForth, WentOver, ended_text, goto_in, hexed, just_one, line_in, script_text};
+ghost use Rattle.debug_packets.specs.Moved.{GotoOr, LineRan, MonitoredBy, TextSaid, WentForth, WentOver, ended_text, goto_in, hexed, just_one, line_in, script_text};
 ghost use Rattle.debug_packets.specs.Texts.{when_text};
 ghost use Rattle.report_lines.specs.Texts.{report_text};
 ghost use Rattle.debug_session.specs.Turns.{turns_made};
@@ -289,30 +289,7 @@ impl<'a, C: Crew> Talk<'a, C> {
         let Some(line) = unhex(self.alloc(), word)? else {
             return self.said(b"E01");
         };
-        self.monitor_line(&line, interrupt, out)
-    }
-
-    /// Runs what the text of a line asks for; what is said goes to the console, and then comes `OK`.
-    fn monitor_line(
-        &mut self,
-        line: &[u8],
-        interrupt: &AtomicBool,
-        out: &mut PacketPayloads,
-    ) -> Result<Vec<u8>, Refusal>
-        requires at { IsAt (size_of self.old.session) (timeline_of self.old.session) }
-        requires none { out.old.items ≡ [] }
-        ensures at { OnOk result (IsAt (size_of self.new.session) (timeline_of self.new.session)) }
-        ensures size { size_of self.new.session ≡ size_of self.old.session }
-        ensures moved { IfOk result (λ v. HexSaid (Some line.now) (size_of self.old.session)
-            (stops_of self.old.session) self.old.selected
-            (timeline_of self.old.session) (timeline_of self.new.session) (map (λ v. v.items) out.new.items) v.items) }
-        ensures plan { plan_of self.new.session ≡ plan_of self.old.session }
-        ensures stops { stops_of self.new.session ≡ stops_of self.old.session }
-        ensures hart { self.new.hart ≡ self.old.hart }
-        ensures selected { self.new.selected ≡ self.old.selected }
-        ensures talk { StaysOpen self.old self.new }
-    {
-        let text = monitored(&mut self.session, self.selected, line, interrupt)?;
+        let text = monitored(&mut self.session, self.selected, &line, interrupt)?;
         tell(self.alloc(), text.as_bytes(), out)?;
         self.said(b"OK")
     }
