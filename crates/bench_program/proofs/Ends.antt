@@ -15,7 +15,7 @@ use Rattle.command_line.specs.declared.NoWork.TheVariants as whys
 use Rattle.bench_program.specs.Faults.{without_work}
 use Rattle.bench_program.specs.Usage.{sbibench, NamesNoWork}
 use Rattle.bench_program.specs.declared.fault.BenchFault.{BenchFault}
-use Rattle.bench_program.specs.declared.fault.BenchFault.TheVariants.{Usage, Refused}
+use Rattle.bench_program.specs.declared.fault.BenchFault.TheVariants.{Usage, Refused, Wrong}
 
 -- a buffer of some size that holds nothing has just the bytes behind it
 pub of_those_behind : (Of : List ℕ → Type 0) (known : Option (List ℕ)) (held : List ℕ) (size : ℕ) → held ≡ [] → size ≡ 262144
@@ -28,11 +28,6 @@ pub of_what_is_behind : {R A : Type 0} (Of : List ℕ → Type 0) (remaining : R
     → reader_inner r ≡ input → reader_buffer r ≡ [] → reader_capacity r ≡ 262144 → IfSome (reader_remaining remaining r) Of → IfSome (remaining input) Of
 of_what_is_behind Of remaining input r i h s of =
     rw (← i) (of_those_behind Of (remaining (reader_inner r)) (reader_buffer r) (reader_capacity r) h s of)
-
--- what two clauses say of a result
-pub on_ok_both : {T E P Q R : Type 0} (r : Result T E) → (P → Q → R) → OnOk r P → OnOk r Q → OnOk r R
-on_ok_both (Ok x) f p q = f p q
-on_ok_both (Err e) f p q = tt
 
 -- words that the parser refuses name no work, as the kind of its error says
 pub not_taken : {T : Type 0} (r : Result T Error) (app : App) (crews : ValueParser) (words : List (List ℕ)) → app ≡ sbibench crews
@@ -67,3 +62,9 @@ line_fault kind done A C B e (inr (inr none)) = rw e (by (no_work kind) none)
     by whys.Shown is = tt
     by whys.Usage is = inr (inl (refl, inl is))
     by whys.Memory is = inr (inr refl)
+
+-- nor does it tell that something is wrong
+pub never_wrong : (why : NoWork) (done : Result (Unit {0}) BenchFault) (A : Type 0) → done ≡ without_work why → done ≡ Err Wrong → A
+never_wrong whys.Shown done A is wrong = absurd (let no : ⊥ = cc in no)
+never_wrong whys.Usage done A is wrong = absurd (let no : ⊥ = cc in no)
+never_wrong whys.Memory done A is wrong = absurd (let no : ⊥ = cc in no)

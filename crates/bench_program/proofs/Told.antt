@@ -1,9 +1,9 @@
 -- Which faults a work may have.
 use Rattle.std.proofs.Common.{◌≡◌, ◌∙◌, ◌⊎◌, inl, inr, ℕ, Bool, true, false, List, [], ap, Option, None, Some, Err, IsSome, get_or, refl, sym, subst}
 use Rattle.board_model.specs.declared.refusal.Refusal.{Refusal}
-use Rattle.board_model.specs.declared.refusal.Refusal.TheVariants.{BadShape, Memory, NotPlain, Output}
+use Rattle.board_model.specs.declared.refusal.Refusal.TheVariants.{BadShape, Memory, Output}
 use Rattle.script_lang.specs.Scripts.{script_of}
-use Rattle.bench_program.specs.Written.{IsNotTaken, IsFaultIn, IsFaultOf, IsFileOf, IsNoRow, IsRefusedWith, IsUnread, IsFault}
+use Rattle.bench_program.specs.Written.{IsFaultIn, IsFaultOf, IsFileOf, IsNoBench, IsNoRow, IsRefusedWith, IsUnread, IsFault}
 use Rattle.command_line.specs.declared.NoWork.{NoWork}
 use Rattle.command_line.specs.declared.NoWork.TheVariants as whys
 use Rattle.board_files.proofs.PayloadFaults.{file_fault}
@@ -17,12 +17,10 @@ use Rattle.bench_program.specs.declared.fault.BenchFault.{BenchFault}
 use Rattle.bench_program.specs.declared.fault.BenchFault.TheVariants.{Input, Refused}
 use Rattle.bench_program.specs.declared.usage.BenchOptions.{BenchOptions}
 use Rattle.bench_sweep.specs.Shown.{NoneBehindOf, NoRowOf}
-use Rattle.bench_sweep.specs.declared.plan.SweepPlan.{SweepPlan}
 use Rattle.bench_sweep.specs.declared.recovery.RecoveryFile.{RecoveryFile}
 use Rattle.bench_sweep.specs.declared.shown.WantedRow.{WantedRow}
 use Rattle.bench_program.specs.declared.usage.Work.{Work}
-use Rattle.bench_program.specs.declared.usage.Work.TheVariants.{Recover, ShowRecovered, ShowRow}
-use Rattle.bench_sweep.specs.Swept.{NoBenchRuns, NoRecoveryRuns}
+use Rattle.bench_program.specs.declared.usage.Work.TheVariants.{ShowRecovered, ShowRow}
 
 -- a refused work, whose reader may be gone
 pub told : (work : Work) (payloads : List (List ℕ)) (recovery script : List ℕ) (gone : Bool) (e : Refusal) (fault : BenchFault) → fault ≡ fault_by gone e
@@ -32,13 +30,6 @@ told work payloads recovery script gone e fault is why = let P : BenchFault → 
     by : (b : Bool) → IsFaultIn work payloads recovery script b (fault_by b e)
     by true = refl
     by false = (refl, why)
-
--- a report has no fault of a bench
-pub no_bench : (payloads : List (List ℕ)) (script : List ℕ) (e : Refusal) (work : Work) → (e ≡ Memory) ⊎ (e ≡ Output) ⊎ (script_of script ≡ Err e)
-    → (e ≡ Memory) ⊎ (e ≡ Output) ⊎ (script_of script ≡ Err e) ⊎ IsNotTaken work payloads script e
-no_bench payloads script e work (inl x) = inl x
-no_bench payloads script e work (inr (inl x)) = inr (inl x)
-no_bench payloads script e work (inr (inr x)) = inr (inr (inl x))
 
 -- a payload file was not read
 pub unread_named : (options : BenchOptions) (why : ProgramFault) (fault : BenchFault) → fault ≡ unread_by why → (why ≡ causes.File) ⊎ (why ≡ causes.Refused Memory)
@@ -59,49 +50,21 @@ pub unread_script : (options : BenchOptions) {A : Type 0} (option : Option A) (v
     → (IsSome option → IsSome options.script) → option ≡ Some value → IsUnread options fault ⊎ (fault ≡ Refused Memory)
 unread_script options {A} option value why kind fault e is same some = unread_by_cause options why fault e (file_fault why kind is) (same (is_some option value some))
 
--- a bench with a recovery was refused
-pub no_recovery : (plan : SweepPlan) (payloads : List (List ℕ)) (script recovery : List ℕ) (e : Refusal) → (e ≡ Memory) ⊎ (e ≡ Output) ⊎ (script_of script ≡ Err e) ⊎ ((e ≡ NotPlain) × NoBenchRuns script) ⊎ NoRecoveryRuns script recovery e
-    → IsRefusedWith (Recover plan) payloads recovery script e
-no_recovery plan payloads script recovery e (inl x) = inl (inl x)
-no_recovery plan payloads script recovery e (inr (inl x)) = inl (inr (inl x))
-no_recovery plan payloads script recovery e (inr (inr (inl x))) = inl (inr (inr (inl x)))
-no_recovery plan payloads script recovery e (inr (inr (inr (inl x)))) = inl (inr (inr (inr x)))
-no_recovery plan payloads script recovery e (inr (inr (inr (inr x)))) = inr x
-
--- a run of a bench was not shown
-pub no_row : (row : WantedRow) (payloads : List (List ℕ)) (script : List ℕ) (e : Refusal)
-    → (e ≡ Memory) ⊎ (e ≡ Output) ⊎ (script_of script ≡ Err e) ⊎ ((e ≡ NotPlain) × NoBenchRuns script) ⊎ ((e ≡ BadShape) × NoRowOf row.bench row.number payloads script None)
-    → IsRefusedWith (ShowRow row) payloads [] script e
-no_row row payloads script e (inl x) = inl x
-no_row row payloads script e (inr (inl x)) = inr (inl x)
-no_row row payloads script e (inr (inr (inl x))) = inr (inr (inl x))
-no_row row payloads script e (inr (inr (inr (inl x)))) = inr (inr (inr (inl x)))
-no_row row payloads script e (inr (inr (inr (inr x)))) = inr (inr (inr (inr x)))
-
-pub no_recovered_row : (row : WantedRow) (payloads : List (List ℕ)) (script recovery : List ℕ) (e : Refusal)
-    → (e ≡ Memory) ⊎ (e ≡ Output) ⊎ (script_of script ≡ Err e) ⊎ ((e ≡ NotPlain) × NoBenchRuns script) ⊎ IsNoRow row payloads recovery script e
-    → IsRefusedWith (ShowRecovered row) payloads recovery script e
-no_recovered_row row payloads script recovery e (inl x) = inl (inl x)
-no_recovered_row row payloads script recovery e (inr (inl x)) = inl (inr (inl x))
-no_recovered_row row payloads script recovery e (inr (inr (inl x))) = inl (inr (inr (inl x)))
-no_recovered_row row payloads script recovery e (inr (inr (inr (inl x)))) = inl (inr (inr (inr x)))
-no_recovered_row row payloads script recovery e (inr (inr (inr (inr x)))) = inr x
-
 -- no file, and so none that is at fault
-pub none_without : (row : WantedRow) (payloads : List (List ℕ)) (script : List ℕ) (e : Refusal)
-    → (e ≡ Memory) ⊎ (e ≡ Output) ⊎ (script_of script ≡ Err e) ⊎ ((e ≡ NotPlain) × NoBenchRuns script) ⊎ NoneBehindOf script None e ⊎ ((e ≡ BadShape) × NoRowOf row.bench row.number payloads script None)
-    → (e ≡ Memory) ⊎ (e ≡ Output) ⊎ (script_of script ≡ Err e) ⊎ ((e ≡ NotPlain) × NoBenchRuns script) ⊎ ((e ≡ BadShape) × NoRowOf row.bench row.number payloads script None)
-none_without row payloads script e (inl x) = inl x
-none_without row payloads script e (inr (inl x)) = inr (inl x)
-none_without row payloads script e (inr (inr (inl x))) = inr (inr (inl x))
-none_without row payloads script e (inr (inr (inr (inl x)))) = inr (inr (inr (inl x)))
-none_without row payloads script e (inr (inr (inr (inr (inl x))))) = absurd x.2
-none_without row payloads script e (inr (inr (inr (inr (inr x))))) = inr (inr (inr (inr x)))
+pub none_without : (row : WantedRow) (payloads : List (List ℕ)) (recovery script : List ℕ) (e : Refusal)
+    → (e ≡ Memory) ⊎ (e ≡ Output) ⊎ (script_of script ≡ Err e) ⊎ IsNoBench script e ⊎ NoneBehindOf script None e ⊎ ((e ≡ BadShape) × NoRowOf row.bench row.number payloads script None)
+    → IsRefusedWith (ShowRow row) payloads recovery script e
+none_without row payloads recovery script e (inl x) = inl x
+none_without row payloads recovery script e (inr (inl x)) = inr (inl x)
+none_without row payloads recovery script e (inr (inr (inl x))) = inr (inr (inl x))
+none_without row payloads recovery script e (inr (inr (inr (inl x)))) = inr (inr (inr (inl x)))
+none_without row payloads recovery script e (inr (inr (inr (inr (inl x))))) = absurd x.2
+none_without row payloads recovery script e (inr (inr (inr (inr (inr x))))) = inr (inr (inr (inr x)))
 
 -- of a file of those bytes
 pub none_of_file : (row : WantedRow) (payloads : List (List ℕ)) (script recovery : List ℕ) (file : RecoveryFile) (e : Refusal) → IsFileOf recovery file
-    → (e ≡ Memory) ⊎ (e ≡ Output) ⊎ (script_of script ≡ Err e) ⊎ ((e ≡ NotPlain) × NoBenchRuns script) ⊎ NoneBehindOf script (Some file) e ⊎ ((e ≡ BadShape) × NoRowOf row.bench row.number payloads script (Some file))
-    → (e ≡ Memory) ⊎ (e ≡ Output) ⊎ (script_of script ≡ Err e) ⊎ ((e ≡ NotPlain) × NoBenchRuns script) ⊎ IsNoRow row payloads recovery script e
+    → (e ≡ Memory) ⊎ (e ≡ Output) ⊎ (script_of script ≡ Err e) ⊎ IsNoBench script e ⊎ NoneBehindOf script (Some file) e ⊎ ((e ≡ BadShape) × NoRowOf row.bench row.number payloads script (Some file))
+    → IsRefusedWith (ShowRecovered row) payloads recovery script e
 none_of_file row payloads script recovery file e of (inl x) = inl x
 none_of_file row payloads script recovery file e of (inr (inl x)) = inr (inl x)
 none_of_file row payloads script recovery file e of (inr (inr (inl x))) = inr (inr (inl x))

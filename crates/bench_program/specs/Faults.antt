@@ -1,9 +1,9 @@
 -- The text and the status of each fault with which the program ends. Source: docs/SCRIPT.md.
-use Rattle.std.specs.Prelude.{ℕ, Bool, true, false, List, [], ◌++◌, Result, Ok, Err}
+use Rattle.std.specs.Prelude.{◌≡◌, ◌⊎◌, ◌<◌, ℕ, Bool, true, false, List, [], ◌++◌, Result, Ok, Err}
 use Rattle.std.specs.Fmt.{decimal}
 use Rattle.board_model.specs.Views.{number_of_refusal}
 use Rattle.board_model.specs.declared.refusal.Refusal.{Refusal}
-use Rattle.board_model.specs.declared.refusal.Refusal.TheVariants.{BadScript, Memory}
+use Rattle.board_model.specs.declared.refusal.Refusal.TheVariants.{BadScript, Memory, Output}
 use Rattle.bench_program.specs.declared.fault.BenchFault.{BenchFault}
 use Rattle.bench_program.specs.declared.fault.BenchFault.TheVariants.{Usage, Input, File, Refused, Closed, Wrong}
 use Rattle.command_line.specs.declared.NoWork.{NoWork}
@@ -36,6 +36,13 @@ unread_by of.Usage = Usage
 abbrev pub fault_by : Bool → Refusal → BenchFault
 fault_by true e = Closed
 fault_by false e = Refused e
+
+-- how a work ended that was not done, where so many of its runs tell that something is wrong, or where it was refused: it told that, or
+-- that refusal, or that its output failed
+abbrev pub IsEndOf : Result ℕ Refusal → Bool → BenchFault → Type 0
+IsEndOf made gone fault =
+    ((fault ≡ Wrong) × (differ : ℕ) × (0 < differ) × (made ≡ Ok differ))
+    ⊎ ((e : Refusal) × (fault ≡ fault_by gone e) × ((made ≡ Err e) ⊎ (e ≡ Output)))
 
 -- the status with which the program ends
 abbrev pub status_after : {A : Type 0} → Result A BenchFault → ℕ

@@ -302,13 +302,19 @@ IsBounded (Preempt within) = within.most ≤ 3
 IsBounded (ShowOrder wanted) = (wanted.most ≤ 3) × (1 ≤ wanted.number)
 IsBounded work = ⊤
 
--- what the words of a command line name, as the command's parser reads them: one work
-abbrev pub IsNamedBy : List (List ℕ) → BenchOptions → Type 0
-IsNamedBy words options = (crews : ValueParser) × (f : Found) × (flags : Flags f)
-    × AreParsed (sbibench crews) words f
-    × (work_asked f flags ≡ Some options.work) × (flags.tap ≡ options.tap)
+-- the options of what the parser found: they name one work
+abbrev pub AreOptions : Found → BenchOptions → Type 0
+AreOptions f options = (flags : Flags f) × (work_asked f flags ≡ Some options.work) × (flags.tap ≡ options.tap)
     × (payload_files options ≡ payload_paths f) × (script_file options ≡ path_named (first_value f (codes "SCRIPT")))
     × (recovery_file options ≡ path_named (first_value f (codes "recover")))
+
+-- what the parser found names no one work: two, or an option without the one that it goes with, or out of its range
+abbrev pub AreApart : Found → Type 0
+AreApart f = (flags : Flags f) × (work_asked f flags ≡ None)
+
+-- what the words of a command line name, as the command's parser reads them: one work
+abbrev pub IsNamedBy : List (List ℕ) → BenchOptions → Type 0
+IsNamedBy words options = (crews : ValueParser) × (f : Found) × AreParsed (sbibench crews) words f × AreOptions f options
 
 -- The words name no work, for that reason: the command's parser refuses them, by an error that shows what they ask to be shown
 -- or says a fault.
@@ -316,7 +322,6 @@ abbrev pub NamesNoWork : List (List ℕ) → NoWork → Type 0
 NamesNoWork words why =
     (crews : ValueParser) × (kind : ErrorKind) × IsAmong kind (fault_of (sbibench crews) words) × (why ≡ no_work kind)
 
--- or they name no one work: two, or an option without the one that it goes with, or out of its range
+-- or they name no one work
 abbrev pub NamesConflict : List (List ℕ) → Type 0
-NamesConflict words = (crews : ValueParser) × (f : Found) × (flags : Flags f)
-    × AreParsed (sbibench crews) words f × (work_asked f flags ≡ None)
+NamesConflict words = (crews : ValueParser) × (f : Found) × AreParsed (sbibench crews) words f × AreApart f

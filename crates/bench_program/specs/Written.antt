@@ -1,8 +1,10 @@
 -- What the program writes, by the work that its words ask for. Source: docs/SCRIPT.md, "The program".
-use Rattle.std.specs.Prelude.{◌≡◌, ◌⊎◌, ◌<◌, ⊤, ℕ, Bool, true, false, List, [], Option, None, Some, Ok, Err, IfSome, IsSome, get_or, take}
+use Rattle.std.specs.Prelude.{◌≡◌, ◌⊎◌, ◌==◌, ⊤, ℕ, Bool, true, false, List, [], Option, None, Some, Ok, Err, IfSome, IsSome, get_or, take}
 use Rattle.board_model.specs.declared.refusal.Refusal.{Refusal}
 use Rattle.board_model.specs.declared.refusal.Refusal.TheVariants.{BadShape, Memory, Output, NotPlain}
+use Rattle.std.specs.Io.Buffered.{writer_buffer, writer_contents}
 use Rattle.std.specs.Io.KnownBytes.{Appends}
+use Rattle.std.specs.declared.io.buffered.BufWriter.{BufWriter}
 use Rattle.script_lang.specs.Scripts.{script_of, Script as Said}
 use Rattle.bench_report.specs.Bench.{Bench}
 use Rattle.bench_report.specs.Prefix.{KeepsPrefixLaw}
@@ -24,6 +26,8 @@ use Rattle.bench_schedules.specs.Schedules.{Shown, WroteSchedules}
 use Rattle.bench_schedules.specs.Shrunk.{Shrunk}
 use Rattle.bench_sweep.specs.declared.judges.Sweep.{Sweep as Counts}
 use Rattle.bench_program.specs.Taps.{tap_text}
+use Rattle.command_line.specs.Pipes.{pipe_contents}
+use Rattle.command_line.specs.declared.pipe.Pipe.{Pipe}
 use Rattle.command_line.specs.declared.NoWork.TheVariants as whys
 use Rattle.board_files.specs.Named.{AreFilesOf}
 use Rattle.bench_program.specs.Usage.{payload_files, recovery_file, script_file, IsNamedBy, NamesNoWork, NamesConflict}
@@ -80,56 +84,44 @@ abbrev pub IsRowShown : WantedRow → List (List ℕ) → List ℕ → List ℕ 
 IsRowShown row payloads recovery script old now = (file : RecoveryFile) × IsFileOf recovery file
     × IsRowOf row.bench row.number payloads script (Some file) old now
 
--- what was written is what the work makes of the script: its report, the lines of a bench, of which none is wrong, or one of its runs, or
--- the lines of schedules, of which none differs, or one of them, or one that was shrunk, or of its orders with few preemptions, of which
--- none differs, or one that does
-abbrev pub IsWritten : Work → List (List ℕ) → List ℕ → Option (List ℕ) → Option (List ℕ) → Type 0
-IsWritten (Report savers) payloads script old now = IsReported payloads script old now
-IsWritten (Judge plan) payloads script old now = (counts : Counts) × IsBenchOf plan payloads script old now counts
-IsWritten (Recover plan) payloads script old now = ⊥
-IsWritten (ShowRow row) payloads script old now = IsRowOf row.bench row.number payloads script None old now
-IsWritten (ShowRecovered row) payloads script old now = ⊥
-IsWritten (Compare plan) payloads script old now = IsCompared plan payloads script old now 0
-IsWritten (Show drawn) payloads script old now = IsShown drawn script old now
-IsWritten (Shrink drawn) payloads script old now = IsShrunk drawn payloads script old now
-IsWritten (Preempt within) payloads script old now = IsPreempted within payloads script old now 0
-IsWritten (ShowOrder wanted) payloads script old now = IsOrderShown wanted payloads script old now
-
--- the same of a work that has a recovery: of none of its runs a look differs
-abbrev pub IsMade : Work → List (List ℕ) → List ℕ → List ℕ → Option (List ℕ) → Option (List ℕ) → Type 0
-IsMade (Recover plan) payloads recovery script old now = IsRecovered plan payloads recovery script old now 0
-IsMade (ShowRecovered row) payloads recovery script old now = IsRowShown row payloads recovery script old now
-IsMade work payloads recovery script old now = IsWritten work payloads script old now
-
--- what was written is what the work makes of the script, and tells that something is wrong: some schedules or orders differ
-abbrev pub TellsWrong : Work → List (List ℕ) → List ℕ → Option (List ℕ) → Option (List ℕ) → Type 0
-TellsWrong (Compare plan) payloads script old now = (differ : ℕ) × (0 < differ) × IsCompared plan payloads script old now differ
-TellsWrong (Preempt within) payloads script old now = (differ : ℕ) × (0 < differ) × IsPreempted within payloads script old now differ
-TellsWrong work payloads script old now = ⊥
-
--- or the looks of some recoveries
-abbrev pub TellsApart : Work → List (List ℕ) → List ℕ → List ℕ → Option (List ℕ) → Option (List ℕ) → Type 0
-TellsApart (Recover plan) payloads recovery script old now =
-    (differ : ℕ) × (0 < differ) × IsRecovered plan payloads recovery script old now differ
-TellsApart work payloads recovery script old now = TellsWrong work payloads script old now
+-- What was written is what the work makes of the script, and so many of its runs tell that something is wrong. It is the report; the lines
+-- of a bench, or of schedules, or of orders with few preemptions, of which so many differ; or one of these as a script. None of the runs
+-- of a bench is wrong, and one with a recovery differs where a look of that says something else.
+abbrev pub IsMade : Work → List (List ℕ) → List ℕ → List ℕ → ℕ → Option (List ℕ) → Option (List ℕ) → Type 0
+IsMade (Report savers) payloads recovery script differ old now = (differ ≡ 0) × IsReported payloads script old now
+IsMade (Judge plan) payloads recovery script differ old now =
+    (differ ≡ 0) × (counts : Counts) × IsBenchOf plan payloads script old now counts
+IsMade (Recover plan) payloads recovery script differ old now = IsRecovered plan payloads recovery script old now differ
+IsMade (ShowRow row) payloads recovery script differ old now =
+    (differ ≡ 0) × IsRowOf row.bench row.number payloads script None old now
+IsMade (ShowRecovered row) payloads recovery script differ old now = (differ ≡ 0) × IsRowShown row payloads recovery script old now
+IsMade (Compare plan) payloads recovery script differ old now = IsCompared plan payloads script old now differ
+IsMade (Show drawn) payloads recovery script differ old now = (differ ≡ 0) × IsShown drawn script old now
+IsMade (Shrink drawn) payloads recovery script differ old now = (differ ≡ 0) × IsShrunk drawn payloads script old now
+IsMade (Preempt within) payloads recovery script differ old now = IsPreempted within payloads script old now differ
+IsMade (ShowOrder wanted) payloads recovery script differ old now = (differ ≡ 0) × IsOrderShown wanted payloads script old now
 
 -- what is read of a source of these bytes: all of them, but for what is more than any script has
 abbrev pub IsReadOf : List ℕ → List ℕ → Type 0
 IsReadOf script bytes = script ≡ take 268500993 bytes
 
--- That was written; or, with `--tap`, what the protocol has of a text that else would be written, where all is well or not.
-abbrev pub IsPut : Bool → Bool → (Option (List ℕ) → Option (List ℕ) → Type 0) → Option (List ℕ) → Option (List ℕ) → Type 0
-IsPut false well That old now = That old now
-IsPut true well That old now = (text : List ℕ) × That (Some []) (Some text) × Appends old now (tap_text well text)
+-- That was written, where so many runs tell that something is wrong; or, with `--tap`, what the protocol has of a text that else would be
+-- written, where all is well or not.
+abbrev pub IsPut : Bool → (ℕ → Option (List ℕ) → Option (List ℕ) → Type 0) → ℕ → Option (List ℕ) → Option (List ℕ) → Type 0
+IsPut false That differ old now = That differ old now
+IsPut true That differ old now =
+    (text : List ℕ) × That differ (Some []) (Some text) × Appends old now (tap_text (differ == 0) text)
 
--- the work was done over a source of which these bytes are known
-abbrev pub IsWorked : BenchOptions → List (List ℕ) → List ℕ → Option (List ℕ) → Option (List ℕ) → Option (List ℕ) → Type 0
-IsWorked options payloads recovery source old now = (script : List ℕ) × IfSome source (λ bytes. script_of script ≡ script_of bytes)
-    × IfSome source (IsReadOf script) × IsPut options.tap true (IsMade options.work payloads recovery script) old now
+-- what a writer has written now is that, and nothing of it is held back
+abbrev pub IsHandedOn : {W A : Type 0} → (W → Option (List ℕ)) → (Option (List ℕ) → Option (List ℕ) → Type 0) → BufWriter (Pipe W) A
+    → BufWriter (Pipe W) A → Type 0
+IsHandedOn contents That old now =
+    That (writer_contents (pipe_contents contents) old) (writer_contents (pipe_contents contents) now) × (writer_buffer now ≡ [])
 
-abbrev pub IsWrongOver : BenchOptions → List (List ℕ) → List ℕ → Option (List ℕ) → Option (List ℕ) → Option (List ℕ) → Type 0
-IsWrongOver options payloads recovery source old now = (script : List ℕ) × IfSome source (λ bytes. script_of script ≡ script_of bytes)
-    × IfSome source (IsReadOf script) × IsPut options.tap false (TellsApart options.work payloads recovery script) old now
+-- the work was done over a source of which these bytes are known, and so many of its runs tell that something is wrong
+abbrev pub IsWorked : BenchOptions → List (List ℕ) → List ℕ → Option (List ℕ) → ℕ → Option (List ℕ) → Option (List ℕ) → Type 0
+IsWorked options payloads recovery source differ old now = (script : List ℕ) × IfSome source (λ bytes. script_of script ≡ script_of bytes)
+    × IfSome source (IsReadOf script) × IsPut options.tap (IsMade options.work payloads recovery script) differ old now
 
 -- the bytes that the script is read from: those of the file that is named, or else the input's
 abbrev pub source_at : Option (List ℕ) → (List ℕ → Option (List ℕ)) → Option (List ℕ) → Option (List ℕ)
@@ -146,61 +138,52 @@ IsRecoveryOf bytes_at None recovery = recovery ≡ []
 IsRecoveryOf bytes_at (Some path) recovery = IfSome (bytes_at path) (IsReadOf recovery)
 
 -- The options were done over it and over files of which these bytes are known: each slot begins with the file that is
--- named for it, and the recovery is the one that is named.
-abbrev pub AreDone : BenchOptions → (List ℕ → Option (List ℕ)) → Option (List ℕ) → Option (List ℕ) → Option (List ℕ) → Type 0
-AreDone options bytes_at input old now = (payloads : List (List ℕ)) × AreFilesOf bytes_at (payload_files options) payloads
+-- named for it, and the recovery is the one that is named. So many runs tell that something is wrong.
+abbrev pub AreDone : BenchOptions → (List ℕ → Option (List ℕ)) → Option (List ℕ) → ℕ → Option (List ℕ) → Option (List ℕ) → Type 0
+AreDone options bytes_at input differ old now = (payloads : List (List ℕ)) × AreFilesOf bytes_at (payload_files options) payloads
     × (recovery : List ℕ) × IsRecoveryOf bytes_at (recovery_file options) recovery
-    × IsWorked options payloads recovery (source_of options bytes_at input) old now
-
-abbrev pub AreWrong : BenchOptions → (List ℕ → Option (List ℕ)) → Option (List ℕ) → Option (List ℕ) → Option (List ℕ) → Type 0
-AreWrong options bytes_at input old now = (payloads : List (List ℕ)) × AreFilesOf bytes_at (payload_files options) payloads
-    × (recovery : List ℕ) × IsRecoveryOf bytes_at (recovery_file options) recovery
-    × IsWrongOver options payloads recovery (source_of options bytes_at input) old now
+    × IsWorked options payloads recovery (source_of options bytes_at input) differ old now
 
 -- the work that the words name was done over both
-abbrev pub IsDone : List (List ℕ) → (List ℕ → Option (List ℕ)) → Option (List ℕ) → Option (List ℕ) → Option (List ℕ) → Type 0
-IsDone words bytes_at input old now =
-    (options : BenchOptions) × IsNamedBy words options × AreDone options bytes_at input old now
-
--- and it told that something is wrong
-abbrev pub IsWrong : List (List ℕ) → (List ℕ → Option (List ℕ)) → Option (List ℕ) → Option (List ℕ) → Option (List ℕ) → Type 0
-IsWrong words bytes_at input old now =
-    (options : BenchOptions) × IsNamedBy words options × AreWrong options bytes_at input old now
+abbrev pub IsDone : List (List ℕ) → (List ℕ → Option (List ℕ)) → Option (List ℕ) → ℕ → Option (List ℕ) → Option (List ℕ) → Type 0
+IsDone words bytes_at input differ old now =
+    (options : BenchOptions) × IsNamedBy words options × AreDone options bytes_at input differ old now
 
 -- ---- faults
--- The work is a bench or shows a run of one, and no bench runs the script: a line of it is not plain, or none formats a disk. Or it shows
--- a run or an order, and there is none of that number to show.
-abbrev pub IsNotTaken : Work → List (List ℕ) → List ℕ → Refusal → Type 0
-IsNotTaken (Report savers) payloads script e = ⊥
-IsNotTaken (Judge plan) payloads script e = (e ≡ NotPlain) × NoBenchRuns script
-IsNotTaken (Recover plan) payloads script e = (e ≡ NotPlain) × NoBenchRuns script
-IsNotTaken (ShowRow row) payloads script e =
-    ((e ≡ NotPlain) × NoBenchRuns script) ⊎ ((e ≡ BadShape) × NoRowOf row.bench row.number payloads script None)
-IsNotTaken (ShowRecovered row) payloads script e = (e ≡ NotPlain) × NoBenchRuns script
-IsNotTaken (Compare plan) payloads script e = ⊥
-IsNotTaken (Show drawn) payloads script e = ⊥
-IsNotTaken (Shrink drawn) payloads script e = ⊥
-IsNotTaken (Preempt within) payloads script e = ⊥
-IsNotTaken (ShowOrder wanted) payloads script e = (e ≡ BadShape) × (said : Said) × (script_of script ≡ Ok said)
-    × HasNoOrder said payloads (numbers_of script) wanted.most wanted.number
-
--- a work over that script, which begins with these payloads, is refused so: memory was refused, the output failed, the script has the
--- fault, or the work is none of this script
-abbrev pub IsRefusedAs : Work → List (List ℕ) → List ℕ → Refusal → Type 0
-IsRefusedAs work payloads script e = (e ≡ Memory) ⊎ (e ≡ Output) ⊎ (script_of script ≡ Err e) ⊎ IsNotTaken work payloads script e
-
 -- no bench runs that recovery, or there is no run of that number to show with it
 abbrev pub IsNoRow : WantedRow → List (List ℕ) → List ℕ → List ℕ → Refusal → Type 0
 IsNoRow row payloads recovery script e = (file : RecoveryFile) × IsFileOf recovery file
     × (NoneBehindOf script (Some file) e ⊎ ((e ≡ BadShape) × NoRowOf row.bench row.number payloads script (Some file)))
 
--- the same of a work that has a recovery: or no bench runs that
+-- memory was refused, the output failed, or the script has that fault
+abbrev pub IsAnyRefusal : List ℕ → Refusal → Type 0
+IsAnyRefusal script e = (e ≡ Memory) ⊎ (e ≡ Output) ⊎ (script_of script ≡ Err e)
+
+-- no bench runs the script: a line of it is not plain, or none formats a disk
+abbrev pub IsNoBench : List ℕ → Refusal → Type 0
+IsNoBench script e = (e ≡ NotPlain) × NoBenchRuns script
+
+-- A work over that script, which begins with these payloads, with that recovery where it has one, is refused so: by what may befall any; or
+-- it is a bench or shows a run of one, and no bench runs the script, or the recovery; or it shows a run or an order, and there is none of
+-- that number to show.
 abbrev pub IsRefusedWith : Work → List (List ℕ) → List ℕ → List ℕ → Refusal → Type 0
+IsRefusedWith (Report savers) payloads recovery script e = IsAnyRefusal script e
+IsRefusedWith (Judge plan) payloads recovery script e = (e ≡ Memory) ⊎ (e ≡ Output) ⊎ (script_of script ≡ Err e) ⊎ IsNoBench script e
 IsRefusedWith (Recover plan) payloads recovery script e =
-    IsRefusedAs (Recover plan) payloads script e ⊎ NoRecoveryRuns script recovery e
+    (e ≡ Memory) ⊎ (e ≡ Output) ⊎ (script_of script ≡ Err e) ⊎ IsNoBench script e ⊎ NoRecoveryRuns script recovery e
+IsRefusedWith (ShowRow row) payloads recovery script e =
+    (e ≡ Memory) ⊎ (e ≡ Output) ⊎ (script_of script ≡ Err e) ⊎ IsNoBench script e
+    ⊎ ((e ≡ BadShape) × NoRowOf row.bench row.number payloads script None)
 IsRefusedWith (ShowRecovered row) payloads recovery script e =
-    IsRefusedAs (ShowRecovered row) payloads script e ⊎ IsNoRow row payloads recovery script e
-IsRefusedWith work payloads recovery script e = IsRefusedAs work payloads script e
+    (e ≡ Memory) ⊎ (e ≡ Output) ⊎ (script_of script ≡ Err e) ⊎ IsNoBench script e ⊎ IsNoRow row payloads recovery script e
+IsRefusedWith (Compare plan) payloads recovery script e = IsAnyRefusal script e
+IsRefusedWith (Show drawn) payloads recovery script e = IsAnyRefusal script e
+IsRefusedWith (Shrink drawn) payloads recovery script e = IsAnyRefusal script e
+IsRefusedWith (Preempt within) payloads recovery script e = IsAnyRefusal script e
+IsRefusedWith (ShowOrder wanted) payloads recovery script e =
+    (e ≡ Memory) ⊎ (e ≡ Output) ⊎ (script_of script ≡ Err e)
+    ⊎ ((e ≡ BadShape) × (said : Said) × (script_of script ≡ Ok said)
+    × HasNoOrder said payloads (numbers_of script) wanted.most wanted.number)
 
 -- a work may tell that something is wrong: the benches of power cuts and failures never do without a recovery
 abbrev pub MayTellWrong : Work → Type 0

@@ -2,7 +2,6 @@
 
 ghost use Rattle.std.specs.Prelude.{◌≡◌, ◌⊎◌, ◌+◌, ◌==◌, ◌≤◌, ◌<◌, ◌^◌, ◌++◌, ◌∷◌, [], map, length, codes, IfOk, IfErr, OnOk};
 ghost use Rattle.std.specs.List.{slice_split};
-ghost use Rattle.std.specs.Io.Buffered.{writer_buffer, writer_contents};
 ghost use Rattle.std.specs.Io.KnownBytes.{Appends};
 ghost use Rattle.board_model.specs.declared.refusal.Refusal.TheVariants.{Memory, Output};
 ghost use Rattle.bench_program.specs.Taps.{counts_text, failed_count, failed_lines, failed_text, last_behind, last_of_two, tap_lines, tap_text, tells_apart, well_word};
@@ -10,7 +9,7 @@ ghost use Rattle.bench_program.specs.Taps.{counts_text, failed_count, failed_lin
 use board_model::Refusal;
 use report_lines::unwritten;
 use std::alloc::{AllocError, Global};
-use std::io::{BufWriter, Write};
+use std::io::Write;
 
 /// What stands in a line of a bench before what the script's own run said.
 const OWN: &[u8] = b" own ";
@@ -135,31 +134,15 @@ fn write_lines<W: Write>(out: &mut W, well: bool, lines: &[&[u8]]) -> Result<(),
 /// the line of the counts, by whether all is well.
 ///
 /// Refused `Memory` where memory was refused, to the writer too; `Output` where the writer failed else. Any part may be written then.
-fn write_tap<W: Write>(alloc: Global, text: &[u8], well: bool, out: &mut W) -> Result<(), Refusal>
+pub fn write_tap<W: Write>(
+    alloc: Global,
+    text: &[u8],
+    well: bool,
+    out: &mut W,
+) -> Result<(), Refusal>
     ensures ok { OnOk result (Appends (W.contents out.old) (W.contents out.new) (tap_text well text.now)) }
     ensures err { IfErr result (λ e. (e ≡ Memory) ⊎ (e ≡ Output)) }
 {
     let lines = parts(alloc, text)?;
     write_lines(out, well, &lines)
-}
-
-/// Writes the tests of a bench's text to the end, as `write_tap` does.
-///
-/// Refused as that is, and `Output` also where what the writer held back could not be written.
-pub fn put_tap<W: Write + Drop>(
-    alloc: Global,
-    text: &[u8],
-    well: bool,
-    out: &mut BufWriter<W>,
-) -> Result<(), Refusal>
-    ensures tests { OnOk result (Appends (writer_contents W.contents out.old) (writer_contents W.contents out.new) (tap_text well text.now)) }
-    // Nothing of it is held back.
-    ensures flushed { OnOk result (writer_buffer out.new ≡ []) }
-    ensures err { IfErr result (λ e. (e ≡ Memory) ⊎ (e ≡ Output)) }
-{
-    write_tap(alloc, text, well, out)?;
-    match out.flush() {
-        Ok(()) => Ok(()),
-        Err(_) => Err(Refusal::Output),
-    }
 }

@@ -8,7 +8,7 @@ ghost use Rattle.clap.specs.declared.builder.value_parser.ValueParser.{ValuePars
 ghost use Rattle.command_line.specs.Kinds.{no_work};
 ghost use Rattle.command_line.specs.Parses.{AreParsed};
 ghost use Rattle.bench_sweep.specs.Swept.{whole};
-ghost use Rattle.bench_program.specs.Usage.{bench_or_row, number_up_to, count_rule, crew_rule, jobs_rule, part_between, part_named, parted, work_of_flags, schedules_named, preempt_or_show, preemptions_named, without_options, savers_of, sbibench, script_rule, seed_of, Flags, IsBounded, compare_or_show, quietly, tested, without_benches, with_manners, with_part, with_preemptions, with_quiet, with_schedules, with_recovery, with_tap, work_asked, work_by, work_without, IsFlag, IsNamedBy, NamesConflict, NamesNoWork};
+ghost use Rattle.bench_program.specs.Usage.{bench_or_row, number_up_to, count_rule, crew_rule, jobs_rule, part_between, part_named, parted, work_of_flags, schedules_named, preempt_or_show, preemptions_named, without_options, savers_of, sbibench, script_rule, seed_of, Flags, IsBounded, compare_or_show, quietly, tested, without_benches, with_manners, with_part, with_preemptions, with_quiet, with_schedules, with_recovery, with_tap, work_asked, work_by, work_without, AreApart, AreOptions, IsFlag, IsNamedBy, NamesConflict, NamesNoWork};
 
 use bench_schedules::{OrderBounds, SchedulePlan, Wanted};
 use bench_sweep::{BenchKind, SweepPlan, WantedRow};
@@ -16,7 +16,9 @@ use board_model::refusal_lines;
 use clap::builder::ValueParser;
 use clap::error::ErrorKind;
 use clap::{Arg, ArgAction, ArgMatches, Command, Error};
-use command_line::{flag, option, parse, path, path_given, payload_paths, program, with_payloads};
+use command_line::{
+    flag, option, parse, path, path_given, payload_paths, program, release, with_payloads,
+};
 use jobs::Part;
 use script_lang::number;
 use std::alloc::{AllocError, Global};
@@ -165,11 +167,11 @@ pub enum Work {
     Report(Savers),
     /// A bench over the script, whose lanes are written one after another.
     Judge(SweepPlan),
-    /// The same bench, with an operator's recovery behind each run.
+    /// A bench over the script with an operator's recovery behind each run.
     Recover(SweepPlan),
     /// One run of a bench, written as a script that ends with a power-on.
     ShowRow(WantedRow),
-    /// The same, with an operator's recovery in the place of the power-on.
+    /// One run of a bench, written as a script that ends with an operator's recovery.
     ShowRecovered(WantedRow),
     /// Schedules of the script, from number 1 on, each compared with the script's own run.
     Compare(SchedulePlan),
@@ -808,8 +810,8 @@ fn one_work<'a>(alloc: Global, matches: &ArgMatches<'a>, tap: bool) -> Result<Wo
     ensures named { IfOk result (λ work. (flags : Flags (found_of matches.now))
         × (work_asked (found_of matches.now) flags ≡ Some work) × (flags.tap ≡ tap)) }
     ensures most { IfOk result (λ work. IsBounded work) }
-    ensures conflict { IfErr result (λ e. (kind_of e ≡ ErrorKind.OutOfMemory) ⊎ ((kind_of e ≡ ErrorKind.ArgumentConflict)
-        × (flags : Flags (found_of matches.now)) × (work_asked (found_of matches.now) flags ≡ None))) }
+    ensures conflict { IfErr result (λ e. (kind_of e ≡ ErrorKind.OutOfMemory)
+        ⊎ ((kind_of e ≡ ErrorKind.ArgumentConflict) × AreApart (found_of matches.now))) }
 {
     match work_asked(matches, tap) {
         Some(work) => Ok(work),
@@ -818,6 +820,32 @@ fn one_work<'a>(alloc: Global, matches: &ArgMatches<'a>, tap: bool) -> Result<Wo
             Err(again.error(ErrorKind::ArgumentConflict, conflict(matches))?)
         }
     }
+}
+
+/// The options of a command line that was parsed. Words that name no one work are a fault.
+fn options_in(alloc: Global, matches: &ArgMatches<'_>) -> Result<BenchOptions, Error>
+    ensures named { IfOk result (AreOptions (found_of matches.now)) }
+    ensures most { IfOk result (λ options. IsBounded options.work) }
+    ensures conflict { IfErr result (λ e. (kind_of e ≡ ErrorKind.OutOfMemory)
+        ⊎ ((kind_of e ≡ ErrorKind.ArgumentConflict) × AreApart (found_of matches.now))) }
+{
+    let tap = tap_asked(matches);
+    let work = match one_work(alloc, matches, tap) {
+        Ok(work) => work,
+        Err(error) => return Err(error),
+    };
+    let jobs = jobs_asked(matches);
+    let script = path_given(alloc, matches, SCRIPT)?;
+    let recovery = path_given(alloc, matches, RECOVER)?;
+    let payloads = payload_paths(alloc, matches)?;
+    Ok(BenchOptions {
+        work,
+        tap,
+        jobs,
+        script,
+        recovery,
+        payloads,
+    })
 }
 
 /// What the words of a command line ask for, the program's name first. Words that name no one work are a
@@ -832,21 +860,7 @@ pub fn options_of<'a, S: AsStr>(alloc: Global, words: &'a [S]) -> Result<BenchOp
         ⊎ NamesNoWork (map S.text words.now) (no_work (kind_of e))) }
 {
     let matches = parsed(alloc, words)?;
-    let tap = tap_asked(&matches);
-    let work = match one_work(alloc, &matches, tap) {
-        Ok(work) => work,
-        Err(error) => return Err(error),
-    };
-    let jobs = jobs_asked(&matches);
-    let script = path_given(alloc, &matches, SCRIPT)?;
-    let recovery = path_given(alloc, &matches, RECOVER)?;
-    let payloads = payload_paths(alloc, &matches)?;
-    Ok(BenchOptions {
-        work,
-        tap,
-        jobs,
-        script,
-        recovery,
-        payloads,
-    })
+    let options = options_in(alloc, &matches);
+    release(matches);
+    options
 }

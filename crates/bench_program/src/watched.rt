@@ -89,7 +89,7 @@ impl<'b, 'a, F: Write, C: Clock> Progress for &'b Watched<'a, F, C> {
     }
 }
 
-/// The same run, of which nothing is written before its end: what it makes is kept in memory.
+/// A run that is told how far it is, and of which nothing is written before its end: what it makes is kept in memory.
 #[derive(Clone, Copy, Drop)]
 pub struct Unpaused<P>(pub P);
 

@@ -5,13 +5,17 @@
 #![tactic(auto)]
 
 mod files;
+mod held;
 mod memory;
 mod payload_files;
 mod payloads;
 mod reads;
+mod system;
+mod written;
 
 pub use files::{BoardFiles, DiskFile, DiskFiles, HeldFile, unreached};
 pub use memory::{Failing, MemoryDisk};
 pub use payload_files::PayloadFiles;
 pub use payloads::read_payloads;
 pub use reads::{disk_in, seen_in, shape_in};
+pub use system::SystemFiles;

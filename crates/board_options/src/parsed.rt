@@ -18,7 +18,7 @@ use board_model::{BootMode, Shape};
 use clap::error::ErrorKind;
 use clap::parser::ValueSource;
 use clap::{ArgMatches, Error};
-use command_line::{out_of_range, parse, path_given, payload_paths};
+use command_line::{out_of_range, parse, path_given, payload_paths, release};
 use script_lang::{mode, number as number_in};
 use std::alloc::{AllocError, Global};
 use std::convert::AsStr;
@@ -146,7 +146,9 @@ pub fn read_options<'a, S: AsStr>(alloc: Global, words: &'a [S]) -> Result<Optio
         ⊎ ((kind_of e ≡ ErrorKind.ValueValidation) × AreNoOptions (map S.text words.now))) }
 {
     let matches = parsed(alloc, words)?;
-    match options_of(alloc, &matches)? {
+    let found = options_of(alloc, &matches);
+    release(matches);
+    match found? {
         Some(options) => Ok(options),
         None => {
             let fault = out_of_range(command(alloc)?)?;

@@ -49,7 +49,7 @@ impl FileFault {
         }
     }
 
-    /// The same fault, by which commands were lost that had been acknowledged.
+    /// This fault, and whether commands were lost by it that had been acknowledged.
     pub fn losing(self, is_loss: bool) -> FileFault
         ensures { result.fault ≡ self.fault }
     {

@@ -6,7 +6,7 @@ ghost use Rattle.command_line.specs.Parses.{AreParsed};
 ghost use Rattle.disk_program.specs.Usage.{IsNamedBy, NamesNoPath, asked_of, path_rule, sbidisk};
 
 use clap::{Arg, ArgAction, ArgMatches, Command, Error};
-use command_line::{flag, parse, program};
+use command_line::{flag, parse, program, release};
 use std::alloc::{AllocError, Global};
 use std::convert::AsStr;
 
@@ -117,9 +117,11 @@ pub fn work_of<'a, S: AsStr>(alloc: Global, words: &'a [S]) -> Result<Option<Dis
     ensures refused { IfErr result (HasKind (fault_of sbidisk (map S.text words.entry.now))) }
 {
     let matches = parsed(alloc, words)?;
-    let Some(path) = matches.get_str(PATH) else {
-        return Ok(None);
-    };
+    let path = matches.get_str(PATH);
     let is_memory = matches.get_flag(MEMORY);
-    Ok(Some(asked_of(path, is_memory)))
+    release(matches);
+    match path {
+        Some(path) => Ok(Some(asked_of(path, is_memory))),
+        None => Ok(None),
+    }
 }

@@ -2,10 +2,7 @@
 //! that could not be read; 2 for a fault of the command line.
 #![tactic(auto)]
 
-mod disk_file;
-mod examines;
-
-use crate::examines::examine;
+use disk_program::examine;
 use std::process::ExitCode;
 
 fn main(rt: HostRuntime) -> ExitCode {

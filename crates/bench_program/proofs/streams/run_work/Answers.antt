@@ -1,23 +1,68 @@
-use Rattle.std.proofs.Common.{sym}
-use Rattle.std.proofs.lemmas.Result.{on_ok_weaker, IfErr-weaker}
+use Rattle.std.proofs.Common.{◌≡◌, Bool, [], IfOk, subst, sym}
+use Rattle.std.specs.Io.Buffered.{writer_buffer, writer_contents, writer_inner}
+use Rattle.command_line.specs.Pipes.{is_closed_pipe, pipe_contents}
+use Rattle.std.specs.Io.KnownBytes.{Keeps}
+use Rattle.bench_program.specs.Written.{IsHandedOn, IsMade, IsPut}
+use Rattle.bench_program.proofs.Judged.{did, faults, told_wrong}
 use Rattle.bench_program.proofs.streams.run_work.Goals as goal
 
--- the recovery is the file's text
-pub returns-in-Recover-clause-worked : goal.returns-in-Recover-clause-worked
-returns-in-Recover-clause-worked g c =
-    rw c.in-Recover.is (on_ok_weaker c.judge_recovered.result (λ did. rw (sym c.deref.ensures.value) did) c.judge_recovered.ensures.written)
+pub returns-then-options-clause-wrong : goal.returns-then-options-clause-wrong
+returns-then-options-clause-wrong g c = λ is.
+    let options = c.args.options.now in
+    let recovery = c.args.texts.recovery.now in
+    let script = c.args.texts.script.now in
+    let old = writer_contents (pipe_contents g.O.Write.contents) c.args.out.now in
+    let now = writer_contents (pipe_contents g.O.Write.contents) c.make_tests-made.new.out in
+    let after = writer_contents (pipe_contents g.O.Write.contents) c.ended.new.out in
+    let F : Type 0 = writer_buffer c.ended.new.out ≡ [] in
+    let P : Bool → Type 0 = λ tap. IfOk c.make_tests-made.result (λ n. IsPut tap (IsMade options.work c.args.payloads recovery script) n old now) in
+    told_wrong options.tap options.work c.args.payloads recovery script old now after c.make_tests-made.result c.ended.result
+    (subst P (sym c.if-options.true) c.make_tests-made.ensures.made) F (c.ended.ensures.wrong is)
 
-pub returns-in-Recover-clause-wrong : goal.returns-in-Recover-clause-wrong
-returns-in-Recover-clause-wrong g c = rw c.in-Recover.is (λ is. rw (sym c.deref.ensures.value) (c.judge_recovered.ensures.wrong is))
+pub returns-clause-worked : goal.returns-clause-worked
+returns-clause-worked g c =
+    let options = c.args.options.now in
+    let recovery = c.args.texts.recovery.now in
+    let script = c.args.texts.script.now in
+    let old = writer_contents (pipe_contents g.O.Write.contents) c.args.out.now in
+    let now = writer_contents (pipe_contents g.O.Write.contents) c.make-made.new.out in
+    let after = writer_contents (pipe_contents g.O.Write.contents) c.ended-2.new.out in
+    let F : Type 0 = writer_buffer c.ended-2.new.out ≡ [] in
+    let P : Bool → Type 0 = λ tap. IfOk c.make-made.result (λ n. IsPut tap (IsMade options.work c.args.payloads recovery script) n old now) in
+    did options.tap options.work c.args.payloads recovery script old now after c.make-made.result c.ended-2.result
+    (subst P (sym c.if-options.false) c.make-made.ensures.made) F c.ended-2.ensures.well
 
-pub returns-in-Recover-clause-faults : goal.returns-in-Recover-clause-faults
-returns-in-Recover-clause-faults g c =
-    rw c.in-Recover.is (IfErr-weaker c.judge_recovered.result _ _ (λ fault is. rw (sym c.deref.ensures.value) is) c.judge_recovered.ensures.faults)
+pub returns-clause-wrong : goal.returns-clause-wrong
+returns-clause-wrong g c = λ is.
+    let options = c.args.options.now in
+    let recovery = c.args.texts.recovery.now in
+    let script = c.args.texts.script.now in
+    let old = writer_contents (pipe_contents g.O.Write.contents) c.args.out.now in
+    let now = writer_contents (pipe_contents g.O.Write.contents) c.make-made.new.out in
+    let after = writer_contents (pipe_contents g.O.Write.contents) c.ended-2.new.out in
+    let F : Type 0 = writer_buffer c.ended-2.new.out ≡ [] in
+    let P : Bool → Type 0 = λ tap. IfOk c.make-made.result (λ n. IsPut tap (IsMade options.work c.args.payloads recovery script) n old now) in
+    told_wrong options.tap options.work c.args.payloads recovery script old now after c.make-made.result c.ended-2.result
+    (subst P (sym c.if-options.false) c.make-made.ensures.made) F (c.ended-2.ensures.wrong is)
 
-pub returns-in-ShowRecovered-clause-worked : goal.returns-in-ShowRecovered-clause-worked
-returns-in-ShowRecovered-clause-worked g c =
-    rw c.in-ShowRecovered.is (on_ok_weaker c.show_recovered.result (λ did. rw (sym c.deref-in-ShowRecovered.ensures.value) did) c.show_recovered.ensures.written)
+pub returns-then-options-clause-faults : goal.returns-then-options-clause-faults
+returns-then-options-clause-faults g c =
+    let options = c.args.options.now in
+    let recovery = c.args.texts.recovery.now in
+    let script = c.args.texts.script.now in
+    let old = writer_contents (pipe_contents g.O.Write.contents) c.args.out.now in
+    let now = writer_contents (pipe_contents g.O.Write.contents) c.make_tests-made.new.out in
+    let P : Bool → Type 0 = λ tap. IfOk c.make_tests-made.result (λ n. IsPut tap (IsMade options.work c.args.payloads recovery script) n old now) in
+    faults options.tap options.work c.args.payloads recovery script old now old c.make_tests-made.result c.ended.result
+    (subst P (sym c.if-options.true) c.make_tests-made.ensures.made) (is_closed_pipe (writer_inner c.ended.new.out)) c.make_tests-made.ensures.refused c.ended.ensures.faults
 
-pub returns-in-ShowRecovered-clause-faults : goal.returns-in-ShowRecovered-clause-faults
-returns-in-ShowRecovered-clause-faults g c =
-    rw c.in-ShowRecovered.is (IfErr-weaker c.show_recovered.result _ _ (λ fault is. rw (sym c.deref-in-ShowRecovered.ensures.value) is) c.show_recovered.ensures.faults)
+pub returns-clause-faults : goal.returns-clause-faults
+returns-clause-faults g c =
+    let options = c.args.options.now in
+    let recovery = c.args.texts.recovery.now in
+    let script = c.args.texts.script.now in
+    let old = writer_contents (pipe_contents g.O.Write.contents) c.args.out.now in
+    let now = writer_contents (pipe_contents g.O.Write.contents) c.make-made.new.out in
+    let P : Bool → Type 0 = λ tap. IfOk c.make-made.result (λ n. IsPut tap (IsMade options.work c.args.payloads recovery script) n old now) in
+    faults options.tap options.work c.args.payloads recovery script old now old c.make-made.result c.ended-2.result
+    (subst P (sym c.if-options.false) c.make-made.ensures.made) (is_closed_pipe (writer_inner c.ended-2.new.out)) c.make-made.ensures.refused c.ended-2.ensures.faults

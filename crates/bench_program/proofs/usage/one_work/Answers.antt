@@ -9,4 +9,4 @@ returns-in-Some-clause-named c =
 pub returns-in_ok-error-in-None-clause-conflict : goal.returns-in_ok-error-in-None-clause-conflict
 returns-in_ok-error-in-None-clause-conflict c =
     let asked = c.work_asked.ensures.value in
-    inr (c.in_ok-error-in-None.ensures.kind, asked.0, sym asked.2 ∙ c.in-None.is)
+    inr (c.in_ok-error-in-None.ensures.kind, (asked.0, sym asked.2 ∙ c.in-None.is))

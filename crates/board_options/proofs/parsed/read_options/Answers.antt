@@ -7,6 +7,6 @@ returns-in-Some-clause-reads g c =
     let reads = rw c.in-Some.is at c.in_ok-options.ensures.reads in
     (found_of c.in_ok-matches.matches, c.in_ok-matches.ensures.matches, reads)
 
-pub returns-clause-refused : goal.returns-clause-refused
-returns-clause-refused g c =
+pub returns-in_ok-fault-in-None-clause-refused : goal.returns-in_ok-fault-in-None-clause-refused
+returns-in_ok-fault-in-None-clause-refused g c =
     inr (inr (c.in_ok-fault-in-None.ensures, (found_of c.in_ok-matches.matches, c.in_ok-matches.ensures.matches, c.in_ok-options.ensures.none c.in-None.is)))

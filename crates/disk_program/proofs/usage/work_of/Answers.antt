@@ -3,12 +3,12 @@ use Rattle.clap.specs.Words.{found_of}
 use Rattle.disk_program.proofs.Words.{names_by, names_none}
 use Rattle.disk_program.proofs.usage.work_of.Goals as goal
 
-pub returns-in_default-clause-none : goal.returns-in_default-clause-none
-returns-in_default-clause-none g c =
-    λ none. names_none (map g.S.AsStr.text c.args.words.now) (found_of c.in_ok-matches.matches) c.get_str.result c.in_ok-matches.ensures.parsed c.in_default.is c.get_str.ensures
+pub returns-in-None-clause-none : goal.returns-in-None-clause-none
+returns-in-None-clause-none g c =
+    λ none. names_none (map g.S.AsStr.text c.args.words.now) (found_of c.in_ok-matches.matches) c.get_str-path.result c.in_ok-matches.ensures.parsed c.in-None.is c.get_str-path.ensures
 
-pub returns-clause-named : goal.returns-clause-named
-returns-clause-named g c =
+pub returns-in-Some-clause-named : goal.returns-in-Some-clause-named
+returns-in-Some-clause-named g c =
     let words = map g.S.AsStr.text c.args.words.now in
     let flag = c.get_flag-is_memory.ensures in
-    rw c.asked_of.ensures (names_by words (found_of c.in_ok-matches.matches) c.in-Some.path c.get_str.result c.get_flag-is_memory.result c.in_ok-matches.ensures.parsed c.in-Some.is c.get_str.ensures flag.none flag.value flag.other)
+    rw c.asked_of.ensures (names_by words (found_of c.in_ok-matches.matches) c.in-Some.path c.get_str-path.result c.get_flag-is_memory.result c.in_ok-matches.ensures.parsed c.in-Some.is c.get_str-path.ensures flag.none flag.value flag.other)

@@ -3,10 +3,11 @@
 ghost use Rattle.std.specs.Prelude.{◌≤◌};
 ghost use Rattle.std.specs.Process.{exit_status};
 
-use crate::disk_file::SystemFiles;
+use crate::examines::examine_on;
+use crate::usage::USAGE;
+use board_files::SystemFiles;
 use board_model::Refusal;
 use command_line::{FileFault, Pipe, end_with, without_work, words};
-use disk_program::{USAGE, examine_on};
 use std::io::{self, BufWriter};
 use std::process::ExitCode;
 

@@ -1,0 +1,105 @@
+//! The files of the system, of whose bytes nothing is known.
+
+ghost use Rattle.std.specs.Prelude.{None};
+
+use crate::files::{BoardFiles, DiskFile, DiskFiles, HeldFile, unreached};
+use crate::held::hold;
+use crate::payload_files::PayloadFiles;
+use crate::written::{kept_file, write_disk};
+use board_model::Refusal;
+use command_line::{FileFault, open_regular};
+use disk::Sector;
+use std::fs::{File, OpenOptions};
+use std::io;
+use std::os::unix::fs::FileExt;
+
+/// The files of the system.
+#[derive(Clone, Copy)]
+pub struct SystemFiles<'a>(pub &'a HostRuntime);
+
+/// A file of the system that is open, and where it is.
+#[derive(Drop)]
+pub struct SystemFile<'a> {
+    /// Whose file it is.
+    pub rt: &'a HostRuntime,
+    /// The path of the file. Of one that a session has, symbolic links were followed to it.
+    pub path: String,
+    /// Open for reading, and where a session has it for writing too: that is so for as long as this value is there.
+    pub file: File,
+}
+
+impl<'a> DiskFile for SystemFile<'a> {
+    ghost bytes = { λ file. None };
+
+    fn length(&self) -> Result<u64, FileFault> {
+        match self.file.metadata() {
+            Ok(found) => Ok(found.len()),
+            Err(e) => Err(unreached(self.rt.alloc(), &self.path, e)),
+        }
+    }
+
+    fn read(&self, into: &mut [u8]) -> Result<(), FileFault> {
+        match self.file.read_exact_at(into, 0) {
+            Ok(()) => Ok(()),
+            Err(e) => Err(unreached(self.rt.alloc(), &self.path, e)),
+        }
+    }
+}
+
+impl<'a> HeldFile for SystemFile<'a> {
+    fn write(&mut self, sectors: &[Sector], is_new: bool) -> Result<(), FileFault> {
+        write_disk(self, sectors, is_new)
+    }
+}
+
+impl<'a> PayloadFiles for SystemFiles<'a> {
+    type Opened = File;
+
+    ghost bytes_at = { λ files path. None };
+
+    fn open(&self, path: &str) -> io::Result<File> {
+        PayloadFiles::open(self.0, path)
+    }
+}
+
+impl<'a> BoardFiles for SystemFiles<'a> {
+    type Held = SystemFile<'a>;
+
+    type Kept = File;
+
+    ghost disk_at = { λ files path. None };
+
+    fn hold(&self, path: &str, is_new: bool, is_synced: bool) -> Result<SystemFile<'a>, FileFault> {
+        hold(self.0, path, is_new, is_synced)
+    }
+
+    fn keep(
+        &self,
+        held: SystemFile<'a>,
+        sectors: &[Sector],
+        is_new: bool,
+    ) -> Result<File, FileFault> {
+        kept_file(held, sectors.len(), is_new)
+    }
+}
+
+impl<'a> DiskFiles for SystemFiles<'a> {
+    type Opened = SystemFile<'a>;
+
+    ghost disk_at = { λ files path. None };
+
+    /// What is no regular file, as a folder, a device or a pipe, is a fault.
+    fn open(&self, path: &str) -> Result<SystemFile<'a>, FileFault> {
+        let rt = self.0;
+        let mut how = OpenOptions::new();
+        how.read(true);
+        let file = match open_regular(rt, &how, path) {
+            Ok(file) => file,
+            Err(e) => return Err(unreached(rt.alloc(), path, e)),
+        };
+        match path.to_string(rt.alloc()) {
+            Ok(path) => Ok(SystemFile { rt, path, file }),
+            Err(_) => Err(FileFault::refused(Refusal::Memory)),
+        }
+    }
+}
