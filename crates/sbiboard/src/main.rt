@@ -3,12 +3,7 @@
 //! the command line.
 #![tactic(auto)]
 
-mod held;
-mod operates;
-mod system;
-mod written;
-
-use crate::operates::operate;
+use board_program::operate;
 use std::process::ExitCode;
 
 fn main(rt: HostRuntime) -> ExitCode {

@@ -1,72 +1,11 @@
-//! The files of the system, and its terminal.
+//! The terminal of the system, on which a person may be told what to type.
 
 ghost use Rattle.std.specs.Prelude.{None};
 
-use crate::held::{Held, hold};
-use crate::written::{kept_file, write_disk};
-use board_files::{BoardFiles, DiskFile, HeldFile, PayloadFiles, unreached};
+use crate::answers::Answers;
 use board_model::Refusal;
 use board_options::Hints;
-use board_program::Answers;
-use command_line::FileFault;
-use disk::Sector;
-use std::fs::File;
 use std::io::{self, BufWriter, Printer, Write};
-use std::os::unix::fs::FileExt;
-
-/// The files of the system, of whose bytes nothing is known.
-#[derive(Clone, Copy)]
-pub struct SystemFiles<'a>(pub &'a HostRuntime);
-
-impl<'a> PayloadFiles for SystemFiles<'a> {
-    type Opened = File;
-
-    ghost bytes_at = { λ files path. None };
-
-    fn open(&self, path: &str) -> io::Result<File> {
-        PayloadFiles::open(self.0, path)
-    }
-}
-
-impl<'a> BoardFiles for SystemFiles<'a> {
-    type Held = Held<'a>;
-
-    type Kept = File;
-
-    ghost disk_at = { λ files path. None };
-
-    fn hold(&self, path: &str, is_new: bool, is_synced: bool) -> Result<Held<'a>, FileFault> {
-        hold(self.0, path, is_new, is_synced)
-    }
-
-    fn keep(&self, held: Held<'a>, sectors: &[Sector], is_new: bool) -> Result<File, FileFault> {
-        kept_file(held, sectors.len(), is_new)
-    }
-}
-
-impl<'a> DiskFile for Held<'a> {
-    ghost bytes = { λ held. None };
-
-    fn length(&self) -> Result<u64, FileFault> {
-        match self.file.metadata() {
-            Ok(found) => Ok(found.len()),
-            Err(e) => Err(unreached(self.rt.alloc(), &self.path, e)),
-        }
-    }
-
-    fn read(&self, into: &mut [u8]) -> Result<(), FileFault> {
-        match self.file.read_exact_at(into, 0) {
-            Ok(()) => Ok(()),
-            Err(e) => Err(unreached(self.rt.alloc(), &self.path, e)),
-        }
-    }
-}
-
-impl<'a> HeldFile for Held<'a> {
-    fn write(&mut self, sectors: &[Sector], is_new: bool) -> Result<(), FileFault> {
-        write_disk(self, sectors, is_new)
-    }
-}
 
 /// Standard output, with hints on standard error once the console of a session has begun.
 #[derive(Drop)]

@@ -3,9 +3,10 @@
 ghost use Rattle.std.specs.Prelude.{◌≤◌};
 ghost use Rattle.std.specs.Process.{exit_status};
 
-use crate::system::{Screen, SystemFiles};
+use crate::operates::operate_on;
+use crate::screen::Screen;
+use board_files::SystemFiles;
 use board_options::{EndHint, USAGE};
-use board_program::operate_on;
 use board_session::Streams;
 use command_line::{FileFault, end_with, without_work, words};
 use std::process::ExitCode;
