@@ -3,15 +3,15 @@
 #![tactic(auto)]
 
 mod answers;
-mod board;
 mod disks;
 mod hart_lines;
 mod notices;
 mod operates;
 mod runs;
 mod screen;
+mod system;
 
 pub use answers::Answers;
-pub use board::operate;
 pub use operates::{Operated, operate_on};
 pub use runs::FileLeft;
+pub use system::operate;
