@@ -23,12 +23,12 @@ no_true : false ≡ true → ⊥
 no_true e = let never : ⊥ = cc in never
 
 -- the first line is no row of turns
-begins_other : List Line → Bool
+abbrev begins_other : List Line → Bool
 begins_other [] = false
 begins_other (x ∷ xs) = is_other x
 
 -- the lines behind the first
-behind_first : List Line → List Line
+abbrev behind_first : List Line → List Line
 behind_first [] = []
 behind_first (x ∷ xs) = xs
 
