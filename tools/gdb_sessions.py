@@ -28,12 +28,11 @@ CONDITIONS = [
     ("break add if hart == 2", "", "Breakpoint 1 at 0x80000034"),
     ("continue", "until:80000034:a:2", r'Thread 3 "hart 2" hit Breakpoint 1, add \(hart=hart@entry=2, amount=3'),
     ("print cells[2].sum", "", r"= 0\b"),
-    # GDB first steps the hart back that stands at the breakpoint. GDB for RISC-V then names thread 1, since it reads the instruction at a
-    # breakpoint that it sets; this one reads none, and goes on with thread 3
-    ("thread 1", "Hg1", "Switching to thread 1"),
-    ("reverse-stepi", "Hc3 bs Hc0 bs", ""),
+    # GDB first steps the hart back that stands at the breakpoint, and then the one that is selected
+    ("thread 1", "T1 Hg1", "Switching to thread 1"),
+    ("reverse-stepi", "Hc3 bs T1 Hc0 bs", "^0x"),
     ("delete", "", ""),
-    ("thread 1", "Hg1", "Switching to thread 1"),
+    ("thread 1", "T1 Hg1", "Switching to thread 1"),
     ("reverse-stepi", "Hc0 bs", "^0x"),
     ("stepi", "vCont;s:1", "^0x"),
     ("stepi 5", "vCont;s:1 vCont;s:1 vCont;s:1 vCont;s:1 vCont;s:1", ""),
@@ -73,10 +72,10 @@ WATCHES = [
     ("reverse-continue", "bc", r"watchpoint 5: cells\[3\].sum\s+Value = 4\b"),
 ]
 WORDS_OF_MONITOR = [
-    ("thread 2", "Hg2", "Switching to thread 2"),
+    ("thread 2", "T2 Hg2", "Switching to thread 2"),
     ("stepi", "vCont;s:2", "hart 1 has nothing to do: it is STOPPED"),
     ("stepi", "vCont;s:2", "hart 1 has nothing to do: it is STOPPED"),
-    ("thread 1", "Hg1", "Switching to thread 1"),
+    ("thread 1", "T1 Hg1", "Switching to thread 1"),
     ("monitor turn 0 60", "monitor:turn 0 60", "turn 0 60 next"),
     ("monitor when", "monitor:when", "life 1, line 4, turn 60, hart 0"),
     ("monitor goto 10", "monitor:goto 10", "turn 10, hart 0"),
@@ -106,13 +105,13 @@ WORDS_OF_MONITOR = [
     ("reverse-continue", "Hc0 bc", "No more reverse-execution history"),
     ("monitor goto 90", "monitor:goto 90", "turn 90, hart"),
 ]
-# looks at other threads lie between: GDB has their registers, and names no thread before it goes back
+# looks at other threads lie between: GDB has their registers, and shows none before it goes back
 LOOKS = [
     ("stepi 4", "step step step step", "^0x"),
     ("info threads", "", r'\* 1 +Thread 1 "hart 0"'),
     ("reverse-stepi", "Hc0 bs", "^0x0*8000000c"),
     ("info threads", "", r'\* 1 +Thread 1 "hart 0"'),
-    ("thread 1", "Hg1", "Switching to thread 1"),
+    ("thread 1", "T1 Hg1", "Switching to thread 1"),
     ("reverse-stepi", "bs", "^0x0*80000008"),
     ("thread apply 1 2 3 print $pc", "", r"Thread 3 .*\n\$\d+ = "),
     ("reverse-stepi", "bs", "^0x0*80000004"),
@@ -207,7 +206,7 @@ def words_of_gdb(elf, target, commands, settings=()):
     first = ["set width 0", "set pagination off", f"source {DATA}/sbigdb.gdb", *settings]
     joined = " ".join(shlex.quote(word) for word in [f"{HERE}/gdb-adapter", *target])
     lines = [*first, "target remote | " + joined, *commands]
-    return ["gdb", "-nx", "-batch", *([elf] if elf else []), *(word for line in lines for word in ("-ex", line))]
+    return ["gdb", "-nx", "-batch", "-d", DATA, *([elf] if elf else []), *(word for line in lines for word in ("-ex", line))]
 
 
 def probe(number):

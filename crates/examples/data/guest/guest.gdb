@@ -5,6 +5,25 @@ set remotetimeout 600
 define hookpost-monitor
   maintenance flush register-cache
 end
+# GDB does not say which thread goes back. The one is taken that it asked about last, which is this one's even behind a look at others.
+define hook-reverse-stepi
+  eval "thread apply %d -q echo", $_thread
+end
+define hook-reverse-step
+  eval "thread apply %d -q echo", $_thread
+end
+define hook-reverse-next
+  eval "thread apply %d -q echo", $_thread
+end
+define hook-reverse-nexti
+  eval "thread apply %d -q echo", $_thread
+end
+define hook-reverse-finish
+  eval "thread apply %d -q echo", $_thread
+end
+define hook-reverse-continue
+  eval "thread apply %d -q echo", $_thread
+end
 # GDB's checkpoints are copies of a process of its own machine.
 define hook-checkpoint
   echo sbigdb has no checkpoints: monitor when says a number, and monitor goto goes there\n
