@@ -5,7 +5,8 @@ set remotetimeout 600
 define hookpost-monitor
   maintenance flush register-cache
 end
-# GDB does not say which thread goes back. The one is taken that it asked about last, which is this one's even behind a look at others.
+# GDB names no thread when it goes back, and sbigdb takes the one that GDB stopped at or asked about last. So GDB asks about the thread
+# that is selected, without a word: behind `thread apply` that is another.
 define hook-reverse-stepi
   eval "thread apply %d -q echo", $_thread
 end
