@@ -1,8 +1,8 @@
 -- What all commands of the operator's console have in common.
-use Rattle.std.proofs.Common.{◌≡◌, ◌≢◌, ℕ, List, ◌++◌, get_or, false, true, refl, ap, arith, rules}
+use Rattle.std.proofs.Common.{◌≡◌, false, true, refl, rules}
 use Rattle.board_model.specs.Durable.{ends_life, CarriesWhole}
 use Rattle.board_model.specs.Shapes.{Size}
-use Rattle.board_model.specs.ConsoleCommands.{console_change, word_of}
+use Rattle.board_model.specs.ConsoleCommands.{console_change}
 use Rattle.board_model.specs.contracts.console_command.ConsoleCommandPartialEq.TheImpl as equality
 use Rattle.board_model.specs.declared.console_command.ConsoleCommand.{ConsoleCommand}
 use Rattle.board_model.specs.declared.console_command.ConsoleCommand.TheVariants.{Slot, Discard, Tries, Good}
@@ -28,10 +28,3 @@ equal-console Discard Discard same = refl
 equal-console (Tries s n) (Tries t m) same = search (rules, same)
 equal-console Good Good same = refl
 equal-console a b same = absurd (let no : ⊥ = cc in no)
-
--- no answer of a command begins as the line `found` does
-pub word_of-no_found : (command : ConsoleCommand) (more : List ℕ) → get_or (word_of command ++ more) 0 0 ≢ 102
-word_of-no_found (Slot n) more e = omega (arith, e)
-word_of-no_found Discard more e = omega (arith, e)
-word_of-no_found (Tries n boots) more e = omega (arith, e)
-word_of-no_found Good more e = omega (arith, e)

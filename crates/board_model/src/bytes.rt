@@ -49,7 +49,7 @@ impl Bytes {
         &self.items
     }
 
-    /// The same bytes again.
+    /// Bytes of their own, equal to these.
     pub fn copy(&self, alloc: Global) -> Result<Bytes, AllocError>
         ensures { IfOk result (λ copy. copy ≡ self.now) }
     {

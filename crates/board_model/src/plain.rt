@@ -120,7 +120,7 @@ impl Plain {
         })
     }
 
-    /// The same state again.
+    /// A state of its own, equal to this one, with the memory of its image.
     pub fn copy(&self, alloc: Global) -> Result<Plain, AllocError>
         ensures { IfOk result (λ copy. copy ≡ self.now) }
     {
@@ -156,23 +156,20 @@ impl Plain {
         }
     }
 
-    /// A durable state with that memory, where it has an image.
-    pub fn of(alloc: Global, durable: &Durable, memory: &[u8]) -> Result<Plain, AllocError>
-        ensures { IfOk result (λ plain. IsPlainOf durable.now memory.now plain) }
+    /// A durable state with that memory, where it has an image. Else the memory goes.
+    pub fn of(durable: &Durable, memory: Bytes) -> Plain
+        ensures { IsPlainOf durable.now memory result }
     {
         let image = match durable.image {
             None => None,
-            Some(head) => {
-                let memory = Bytes::new(Vec::from_slice(alloc, memory)?);
-                Some(PlainImage { head, memory })
-            }
+            Some(head) => Some(PlainImage { head, memory }),
         };
-        Ok(Plain {
+        Plain {
             slot: durable.slot,
             reason: durable.reason,
             next: durable.next,
             trial: durable.trial,
             image,
-        })
+        }
     }
 }

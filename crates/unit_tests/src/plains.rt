@@ -1,6 +1,6 @@
 //! The state of the largest board with its image: memory is ample, so none is refused.
 use crate::fixtures::same;
-use board_model::{Addr, Command, Entry, HartId, Plain};
+use board_model::{Addr, Bytes, Command, Entry, HartId, Plain};
 use std::alloc::Global;
 use std::process::Abort;
 
@@ -20,7 +20,8 @@ fn bytes_kept(rt: &impl Abort, alloc: Global, memory: &[u8]) -> usize {
     let again = asleep.expect(rt, "asleep").copy(alloc).expect(rt, "again");
     let moved = again.after(alloc, Entry::Command(Command::Slot(2)), &[]);
     let moved = moved.expect(rt, "moved");
-    let made = Plain::of(alloc, &moved.durable(), memory).expect(rt, "made");
+    let memory = Bytes::new(Vec::from_slice(alloc, memory).expect(rt, "memory"));
+    let made = Plain::of(&moved.durable(), memory);
     same(rt, made == moved, true);
     made.image.map_or(0, |image| image.memory.len())
 }

@@ -7,7 +7,7 @@ use board_model::{Entry, MAX_COMMANDS, Refusal};
 use disk::CopyDisk;
 use std::alloc::{AllocError, Global};
 
-/// The same entries, with room for as many as a journal may have.
+/// A copy of these entries, with room for as many as a journal may have.
 fn copy_entries(alloc: Global, entries: &[Entry]) -> Result<Vec<Entry>, AllocError>
     requires { length entries.now ≤ 4096 }
     ensures items { IfOk result (λ copies. copies.items ≡ entries.now) }
