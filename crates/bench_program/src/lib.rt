@@ -30,7 +30,6 @@ use board_model::{MAX_LINE_BYTES, MAX_SCRIPT_LINES, Refusal};
 pub use command_line::Pipe;
 use command_line::{keep_heap, read_at_most, words};
 use std::alloc::Global;
-use std::convert::AsStr;
 use std::io::{self, BufWriter, ErrorKind, IsTerminal, Read};
 use std::process::ExitCode;
 use std::thread::Threads;
@@ -59,40 +58,9 @@ pub fn read_script<R: Read + Drop>(alloc: Global, input: R) -> Result<Vec<u8>, B
     }
 }
 
-/// How many bytes of output are gathered before they are written. On a terminal none are.
-fn at_once(rt: &HostRuntime) -> usize {
-    if rt.stdout().is_terminal() {
-        0
-    } else {
-        WRITTEN_AT_ONCE
-    }
-}
-
-/// Does what the words ask for on the process's own streams.
-fn run_words<R: Threads + Sync, S: AsStr>(rt: &HostRuntime, threads: &R, words: &[S]) -> u8
-    ensures { (done : Result (Unit {0}) BenchFault) × (result ≡ status_after done) }
-{
-    keep_heap(rt.alloc());
-    let mut faults = rt.stderr();
-    let is_shared = rt.stdout().is_terminal();
-    match BufWriter::with_capacity(rt.alloc(), at_once(rt), Pipe::new(io::writer(rt))) {
-        Ok(mut out) => {
-            run_on(
-                rt.alloc(),
-                threads,
-                rt,
-                words,
-                rt.reader(),
-                &mut out,
-                Telling {
-                    faults: &mut faults,
-                    clock: rt,
-                    is_shared,
-                },
-            )
-        }
-        Err(_) => end(&Err(BenchFault::Refused(Refusal::Memory)), &mut faults),
-    }
+/// How many bytes of output are gathered before they are written. To a terminal none are.
+fn at_once(is_terminal: bool) -> usize {
+    if is_terminal { 0 } else { WRITTEN_AT_ONCE }
 }
 
 /// The whole program: reads a script from a file or from standard input and writes its report to standard output
@@ -102,9 +70,32 @@ pub fn bench<R: Threads + Sync>(rt: &HostRuntime, threads: &R) -> ExitCode
     // The status is the one of what was done.
     ensures status { (done : Result (Unit {0}) BenchFault) × (exit_status result ≡ status_after done) }
 {
-    let status = match words(rt, USAGE) {
-        Ok(words) => run_words(rt, threads, words.as_slice()),
-        Err(why) => end(&without_work(why), &mut rt.stderr()),
+    let mut faults = rt.stderr();
+    let words = match words(rt, USAGE) {
+        Ok(words) => words,
+        Err(why) => return ExitCode::from(end(&without_work(why), &mut faults)),
+    };
+    keep_heap(rt.alloc());
+    let is_shared = rt.stdout().is_terminal();
+    let pipe = Pipe::new(io::writer(rt));
+    let status = match BufWriter::with_capacity(rt.alloc(), at_once(is_shared), pipe) {
+        Ok(mut out) => {
+            let telling = Telling {
+                faults: &mut faults,
+                clock: rt,
+                is_shared,
+            };
+            run_on(
+                rt.alloc(),
+                threads,
+                rt,
+                words.as_slice(),
+                rt.reader(),
+                &mut out,
+                telling,
+            )
+        }
+        Err(_) => end(&Err(BenchFault::Refused(Refusal::Memory)), &mut faults),
     };
     ExitCode::from(status)
 }
