@@ -28,7 +28,7 @@ pub use crate::usage::{BenchOptions, DrawnSchedule, Savers, Work, options_of};
 pub use crate::watched::Telling;
 use board_model::{MAX_LINE_BYTES, MAX_SCRIPT_LINES, Refusal};
 pub use command_line::Pipe;
-use command_line::{keep_heap, read_at_most, words};
+use command_line::{NoWork, keep_heap, read_at_most, words};
 use std::alloc::Global;
 use std::io::{self, BufWriter, ErrorKind, IsTerminal, Read};
 use std::process::ExitCode;
@@ -75,27 +75,22 @@ pub fn bench<R: Threads + Sync>(rt: &HostRuntime, threads: &R) -> ExitCode
         Ok(words) => words,
         Err(why) => return ExitCode::from(end(&without_work(why), &mut faults)),
     };
-    keep_heap(rt.alloc());
+    let alloc = rt.alloc();
+    keep_heap(alloc);
     let is_shared = rt.stdout().is_terminal();
     let pipe = Pipe::new(io::writer(rt));
-    let status = match BufWriter::with_capacity(rt.alloc(), at_once(is_shared), pipe) {
+    match BufWriter::with_capacity(alloc, at_once(is_shared), pipe) {
         Ok(mut out) => {
+            let words = words.as_slice();
             let telling = Telling {
                 faults: &mut faults,
                 clock: rt,
                 is_shared,
             };
-            run_on(
-                rt.alloc(),
-                threads,
-                rt,
-                words.as_slice(),
-                rt.reader(),
-                &mut out,
-                telling,
-            )
+            let input = rt.reader();
+            let status = run_on(alloc, threads, rt, words, input, &mut out, telling);
+            ExitCode::from(status)
         }
-        Err(_) => end(&Err(BenchFault::Refused(Refusal::Memory)), &mut faults),
-    };
-    ExitCode::from(status)
+        Err(_) => ExitCode::from(end(&without_work(NoWork::Memory), &mut faults)),
+    }
 }
