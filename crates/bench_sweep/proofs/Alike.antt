@@ -1,7 +1,8 @@
 -- A cut that leaves the same by each fill.
-use Rattle.std.proofs.Common.{◌≡◌, ◌∙◌, ℕ, Some, sym, subst}
+use Rattle.std.proofs.Common.{◌≡◌, ◌∙◌, ◌∷◌, ◌++◌, [], ℕ, List, All, Some, refl, sym, subst}
+use Rattle.std.proofs.lemmas.List.Elements.{All-head}
 use Rattle.board_model.specs.Shapes.{Size}
-use Rattle.disk.specs.Facts.{Content}
+use Rattle.disk.specs.Facts.{Content, counted}
 use Rattle.disk.specs.WriteLog.{synced}
 use Rattle.simdisk.specs.declared.SimDisk.{SimDisk}
 use Rattle.simdisk.specs.declared.fill.Fill.{Fill}
@@ -10,15 +11,30 @@ use Rattle.bench_report.specs.Examined.{OpensOf}
 use Rattle.bench_report.specs.Views.{sim_log_of}
 use Rattle.bench_sweep.specs.Points.{cut_fill}
 use Rattle.bench_sweep.specs.Recovers.{Compared}
-use Rattle.bench_sweep.specs.Reports.{IsLeftBy, ToldOver, cut_content}
+use Rattle.bench_sweep.specs.Reports.{again, IsLeftBy, Keeps, ToldOver, cut_content}
+use Rattle.bench_sweep.specs.Swept.{cell}
+use Rattle.bench_sweep.specs.declared.judging.PointRows.{PointRows}
 use Rattle.bench_sweep.specs.declared.points.Caller.{Caller}
 use Rattle.bench_sweep.specs.declared.rows.Row.{Row}
 
 -- what was found behind one of them is found behind another
 pub left_alike : (size : Size) (end : Bench) (disk : SimDisk) (rest : Compared) (row : Row) (caller : Caller) (number : ℕ) (fill : Fill) → ((other : Fill) → cut_content disk other ≡ synced (sim_log_of disk)) → IsLeftBy size end disk rest row
-    → IsLeftBy size end disk rest (record { caller = caller; number = number; fill = Some fill; left = row.left; recovered = row.recovered })
+    → IsLeftBy size end disk rest (again row caller number fill)
 left_alike size end disk rest row caller number fill same left =
     let here : cut_content disk (cut_fill row.fill) ≡ cut_content disk fill = same (cut_fill row.fill) ∙ sym (same fill) in
     let O : Content → Type 0 = λ content. OpensOf content row.left in
     let T : Content → Type 0 = λ content. ToldOver rest.own size content rest row.recovered in
     record { is = left.is; opens = subst O here left.opens; over = subst T here left.over }
+
+-- so the row of the first may be kept once more
+pub kept_again : (Is : Row → Type 0) (old new : PointRows) (once : List Row) (caller : Caller) (number : ℕ) (fill : Fill) (first : Row) (rest : List Row) → once ≡ first ∷ rest → new.rows.items ≡ old.rows.items ++ again first caller number fill ∷ []
+    → new.sweep.runs ≡ counted old.sweep.runs 1 → new.sweep.wrong ≡ old.sweep.wrong → All Is once → ((row : Row) → Is row → Is (again row caller number fill)) → Keeps Is old new (cell caller number (Some fill))
+kept_again Is old new once caller number fill first rest are rows runs right each other =
+    record {
+      row = again first caller number fill;
+      is = other first (All-head Is _ rest (subst (λ (xs : List Row). All Is xs) are each));
+      cell = refl;
+      rows = rows;
+      runs = runs;
+      right = right;
+    }

@@ -1,5 +1,5 @@
 -- An image that stands is loaded, unless the disk's record was refused memory.
-use Rattle.std.proofs.Common.{◌≡◌, ◌⊎◌, ℕ, true, false, inl, inr, List, [], Option, None, Some, Result, Ok, Err, IfOk, refl, sym, ◌∙◌, ap, subst, length}
+use Rattle.std.proofs.Common.{◌≡◌, ◌⊎◌, ℕ, true, false, inl, inr, List, Option, None, Some, Result, Ok, Err, IfOk, refl, sym, ◌∙◌, ap, subst, length}
 use Rattle.std.specs.Prelude.{is_some}
 use Rattle.board_model.specs.Durable.{DurableState, Image, IsWhole}
 use Rattle.board_model.specs.Plains.{HasMemory, state_in, IsPlainOf}

@@ -1,6 +1,6 @@
 -- What a line's answer tells of the commands kept, by what the line may make of the bench.
 use Rattle.std.proofs.Common.{◌≡◌, ◌≢◌, ℕ, inl, inr, false, List, [], ◌∷◌, Option, None, Some, Result, Ok, Err, refl, sym, ◌∙◌, ap, subst, arith}
-use Rattle.board_model.specs.Durable.{DurableState, Change, Discard, refusal_of}
+use Rattle.board_model.specs.Durable.{DurableState, Change, refusal_of}
 use Rattle.board_model.specs.Kept.{MayKeep, found_of}
 use Rattle.board_model.specs.Shapes.{Size}
 use Rattle.board_model.specs.Views.{durable_of}

@@ -1,5 +1,5 @@
 -- What a bench has written and counted so far. Source: docs/SCRIPT.md, "The benches".
-use Rattle.std.specs.Prelude.{◌≡◌, ◌≤◌, ◌<◌, ◌+◌, ◌^◌, ◌++◌, ◌∷◌, [], ℕ, List, Option, None, All, length, map, take, drop}
+use Rattle.std.specs.Prelude.{◌≡◌, ◌≤◌, ◌<◌, ◌+◌, ◌^◌, ◌++◌, ◌∷◌, [], ℕ, List, Option, None, Some, All, length, map, take, drop}
 use Rattle.std.specs.Io.KnownBytes.{Appends}
 use Rattle.std.specs.List.{AllZip}
 use Rattle.disk.specs.Facts.{Content, counted}
@@ -69,6 +69,10 @@ pub record IsLeftBy (size : Size) (end : Bench) (disk : SimDisk) (rest : Compare
   pub is : IsLeft size end rest row
   pub opens : OpensOf (cut_content disk (cut_fill row.fill)) row.left
   pub over : ToldOver rest.own size (cut_content disk (cut_fill row.fill)) rest row.recovered
+
+-- a row that says what that one says, for a cut with another fill
+abbrev pub again : Row → Caller → ℕ → Fill → Row
+again row caller number fill = record row { caller = caller; number = number; fill = Some fill }
 
 -- a row whose run begins at that bench, where its caller had made so many calls
 abbrev pub RunsRow : Size → BenchKind → ℕ → Bench → List Line → Compared → Row → Type 0

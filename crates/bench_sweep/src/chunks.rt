@@ -68,12 +68,7 @@ pub fn chunk_size(calls: u64, threads: usize) -> u64
 }
 
 /// Keeps how many calls the caller has made at that moment from the site on. Refused `Memory` alone.
-fn mark(
-    moment: &Moment,
-    site: &Site,
-    caller: Caller,
-    marks: &mut Vec<u64>,
-) -> Result<(), Refusal>
+fn mark(moment: &Moment, site: &Site, caller: Caller, marks: &mut Vec<u64>) -> Result<(), Refusal>
     ensures refused { IfErr result (λ e. e ≡ Memory) }
 {
     let made = moment.going.calls_since(site, caller)?;

@@ -13,7 +13,7 @@ ghost use Rattle.bench_report.specs.Bench.{Bench};
 ghost use Rattle.bench_report.specs.Happens.{off};
 ghost use Rattle.bench_sweep.specs.Runs.{Runs, RunsAt, RunsCalm, Sits, SitsCalm};
 ghost use Rattle.bench_sweep.specs.Swept.{AreSwept, cell, runs_of};
-ghost use Rattle.bench_sweep.specs.Reports.{cut_content, Keeps, Judged, IsLeftBy, RunsRow, ToldOver};
+ghost use Rattle.bench_sweep.specs.Reports.{again, cut_content, Keeps, Judged, IsLeftBy, RunsRow, ToldOver};
 ghost use Rattle.bench_sweep.specs.Recovers.{compared};
 ghost use Rattle.bench_sweep.specs.Made.{IsRecovered};
 ghost use Rattle.bench_sweep.specs.Took.{disk_at};
@@ -158,17 +158,11 @@ fn judge_last<C: Crew>(
 }
 
 /// Keeps the first of these rows for another fill, which leaves the same, and counts its run. Refused `Memory` alone.
-fn repeat(
-    once: &PointRows,
-    point: Point,
-    fill: Fill,
-    made: &mut PointRows,
-) -> Result<(), Refusal>
-    ensures kept { OnOk result ((Is : RowOf → Type 0)
-        → All Is once.now.rows.items
-        → ((row : RowOf) → Is row
-        → Is (record { caller = point.caller; number = point.number; fill = Some fill; left = row.left; recovered = row.recovered }))
-        → Keeps Is made.old made.new (cell point.caller point.number (Some fill))) }
+fn repeat(once: &PointRows, point: Point, fill: Fill, made: &mut PointRows) -> Result<(), Refusal>
+    ensures kept { OnOk result ((first : RowOf) × (rest : List RowOf) × (once.now.rows.items ≡ first ∷ rest)
+        × (made.new.rows.items ≡ made.old.rows.items ++ again first point.caller point.number fill ∷ [])) }
+    ensures runs { OnOk result (made.new.sweep.runs ≡ counted made.old.sweep.runs 1) }
+    ensures right { made.new.sweep.wrong ≡ made.old.sweep.wrong }
     ensures refused { IfErr result (λ e. e ≡ Memory) }
 {
     let Some(first) = once.rows.first() else {

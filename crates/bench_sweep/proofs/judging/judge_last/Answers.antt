@@ -1,4 +1,4 @@
-use Rattle.std.proofs.Common.{◌≡◌, refl, subst, arith, length}
+use Rattle.std.proofs.Common.{◌≡◌, None, refl, subst, arith, length}
 use Rattle.std.proofs.lemmas.Bool.Decides.{nat_tests}
 use Rattle.board_model.specs.Plains.{state_in}
 use Rattle.board_model.specs.Views.{durable_of}

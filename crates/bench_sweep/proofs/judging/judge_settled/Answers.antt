@@ -3,8 +3,9 @@ use Rattle.simdisk.specs.declared.fill.Fill.{Fill}
 use Rattle.simdisk.specs.declared.fill.Fill.TheVariants.{Byte, Alternating, Old, New}
 use Rattle.bench_sweep.specs.Recovers.{compared}
 use Rattle.bench_sweep.specs.Reports.{IsLeftBy}
+use Rattle.bench_sweep.specs.declared.rows.Row.{Row}
 use Rattle.bench_sweep.specs.Swept.{cell}
-use Rattle.bench_sweep.proofs.Alike.{left_alike}
+use Rattle.bench_sweep.proofs.Alike.{kept_again, left_alike}
 use Rattle.bench_sweep.proofs.Rowed.{judged_none, judged_more, judged_as}
 use Rattle.bench_sweep.proofs.Written.{map_more}
 use Rattle.bench_sweep.proofs.judging.judge_settled.Goals as goal
@@ -18,7 +19,9 @@ loop-fill-preserved g c = λ b r.
     let disk = c.args.site.off.disk in
     let rest = compared c.args.runner.now.recovery in
     let judged = judged_more _ _ _ [] _ (judged_none (IsLeftBy size b disk rest) _ c.none-once.ensures.rows c.none-once.ensures.runs c.none-once.ensures.right) (c.in_ok-judge_last.ensures.kept b r) in
-    let kept = c.in_ok-repeat.ensures.kept (IsLeftBy size b disk rest) judged.each (λ row is. left_alike size b disk rest row c.args.point.caller c.args.point.number _ c.requires.same is) in
+    let Is : Row → Type 0 = IsLeftBy size b disk rest in
+    let first = c.in_ok-repeat.ensures.kept in
+    let kept = kept_again Is _ _ _ _ _ _ first.0 first.1 first.2 first.3 c.in_ok-repeat.ensures.runs c.repeat.ensures.right judged.each (λ row is. left_alike size b disk rest row _ _ _ c.requires.same is) in
     judged_as _ _ _ _ (sym (map_more (λ (fill : Fill). cell c.args.point.caller c.args.point.number (Some fill)) _ c.loop-fill.fill-index _ (Byte 0) c.loop-fill-test.true refl))
     (judged_more _ _ _ _ _ (c.loop-fill.invariant b r) kept)
 

@@ -10,5 +10,5 @@ use Rattle.bench_sweep.proofs.judging.judge_settled.Given as goal
 -- the runs of the fills so far are judged
 abbrev pub invariant-loop-fill : goal.invariant-loop-fill
 invariant-loop-fill g l =
-    (b : Bench) → RunsAt l.runner.setting.shape.now b l.site
-    → Judged (IsLeftBy l.runner.setting.shape.now b l.site.off.disk (compared l.runner.recovery)) l.made (map (λ (fill : Fill). cell l.point.caller l.point.number (Some fill)) (take l.fill-index l.fill-items))
+    (b : Bench) → RunsAt l.runner.setting.shape.now b l.fn.site
+    → Judged (IsLeftBy l.runner.setting.shape.now b l.fn.site.off.disk (compared l.runner.recovery)) l.made (map (λ (fill : Fill). cell l.point.caller l.point.number (Some fill)) (take l.fill-index l.fill-items))

@@ -1,7 +1,6 @@
 use Rattle.std.proofs.Common.{rules, true, false, refl, sym, ◌∙◌, ◌+◌, ℕ, subst, take, arith, ◌≡◌}
 use Rattle.bench_report.specs.Bench.{Bench}
 use Rattle.script_lang.specs.declared.line.Line.{Line}
-use Rattle.script_lang.specs.declared.line.Line.TheVariants as lines
 use Rattle.bench_sweep.specs.Lines.{LineMoves}
 use Rattle.bench_sweep.specs.declared.site.Going.{Going}
 use Rattle.bench_sweep.specs.Runs.{RunsCalm, RanTo}

@@ -1,4 +1,4 @@
-use Rattle.std.proofs.Common.{◌-◌, arith, sym}
+use Rattle.std.proofs.Common.{arith, sym}
 use Rattle.bench_report.specs.Happens.{unpowered}
 use Rattle.bench_sweep.specs.Recovers.{compared}
 use Rattle.bench_sweep.proofs.Left.{off_sits}

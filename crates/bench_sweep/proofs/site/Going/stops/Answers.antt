@@ -1,4 +1,4 @@
-use Rattle.std.proofs.Common.{true, false, sym, ◌∙◌}
+use Rattle.std.proofs.Common.{sym, ◌∙◌}
 use Rattle.bench_sweep.proofs.Ran.{struck_stops}
 use Rattle.bench_sweep.proofs.site.Going.stops.Goals as goal
 
