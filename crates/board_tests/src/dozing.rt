@@ -1,7 +1,7 @@
 //! Boards that sleep in their RAM, on threads (docs/THREADS.md, "A doze").
 
 use crate::fixtures::{BoardTrial, NEVER, ended, same};
-use crate::many::Counting;
+use crate::many::CountingGate;
 use board_model::{Command, HartId, RAM_BASE, Reason};
 use disk::ArmedFault;
 use hart_threads::{Gate, Why};

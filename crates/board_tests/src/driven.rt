@@ -3,7 +3,7 @@
 ghost use Rattle.store.specs.Leaves.{IsIdle};
 
 use crate::fixtures::{BoardTrial, driven, same};
-use crate::many::Counting;
+use crate::many::CountingGate;
 use board_model::Shape;
 use disk::Disk;
 use ram::Ram;
