@@ -1,6 +1,6 @@
 -- What the next turn of a hart reads: the bytes that its load instruction loads. Source: RISC-V Unprivileged ISA 20191213, sections
 -- 2.6 and 5.3; docs/BOARD.md, "A turn of a hart".
-use Rattle.std.specs.Prelude.{◌≡◌, ℕ, ◌-◌, ◌+◌, ◌%◌, Bool, true, false, List, Option, Some, None, ◌==◌, ◌&&◌, not, nat_le, nat_lt, length, if◌then◌else◌}
+use Rattle.std.specs.Prelude.{◌≡◌, ℕ, ◌+◌, ◌%◌, Bool, true, false, List, Option, Some, None, ◌==◌, ◌&&◌, not, nat_le, nat_lt, length, if◌then◌else◌}
 use Rattle.std.specs.Bool.{MatchBool}
 use Rattle.hart.specs.Means.{load_bytes, sum, word_at}
 use Rattle.hart.specs.State.{ArchState, reg}

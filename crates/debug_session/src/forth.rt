@@ -1,10 +1,9 @@
 //! Running forward: turns of one hart, and of harts in turn.
 
-ghost use Rattle.std.specs.Prelude.{◌≡◌, ◌⊎◌, ◌≤◌, ◌<◌, ◌+◌, ℕ, Bool, true, false, slice_index_or, map, None, Some, IfOk, IfErr, IfSome, OnOk};
+ghost use Rattle.std.specs.Prelude.{◌≡◌, ◌≤◌, ◌<◌, ◌+◌, ℕ, true, false, slice_index_or, None, Some, IfOk, IfErr, IfSome, OnOk};
 ghost use Rattle.board_model.specs.declared.refusal.Refusal.TheVariants.{Memory};
 ghost use Rattle.bench_live.specs.declared.rows.TurnRow.{TurnRow};
-ghost use Rattle.bench_live.specs.Rows.{IsWithin, is_off, made_in};
-ghost use Rattle.debug_session.specs.Ats.{IsAt, MadeTurns};
+ghost use Rattle.debug_session.specs.Ats.{IsAt};
 ghost use Rattle.debug_session.specs.Steps.{IsStep, Went, halt_step};
 ghost use Rattle.debug_session.specs.Withins.{MadeOne, StepsWithin, is_in};
 ghost use Rattle.debug_session.specs.Firsts.{Stretched, ToHalt, halt_after, halt_seen, halts_all, seen_in, touched_since, TellsTouched};

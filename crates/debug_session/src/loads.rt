@@ -3,7 +3,7 @@
 ghost use Rattle.std.specs.Prelude.{◌≡◌, ◌<◌, length, Some, IfSome};
 ghost use Rattle.bench_report.specs.Views.{machine_in};
 ghost use Rattle.debug_session.specs.Lives.{machine_of, machine_on};
-ghost use Rattle.debug_session.specs.Loads.{Fetches, LoadsAt, LoadsNext, is_interrupted, is_set, is_started, is_stepping, is_there, load_in, made_load};
+ghost use Rattle.debug_session.specs.Loads.{Fetches, LoadsAt, LoadsNext, is_interrupted, is_set, is_stepping, is_there, load_in, made_load};
 ghost use Rattle.hart.specs.Means.{load_bytes, sum};
 ghost use Rattle.hart.specs.Values.{residue};
 ghost use Rattle.machine.specs.Machine.{hart_at};

@@ -1,7 +1,6 @@
 //! Where a debugged board halts: at addresses, and where bytes change or are read.
 
-ghost use Rattle.std.specs.Prelude.{◌≡◌, ◌+◌, [], true, false, ◌==◌, ◌++◌, map, nat_lt, IfErr, IfOk, OnErr, OnOk};
-ghost use Rattle.std.specs.List.{list_any};
+ghost use Rattle.std.specs.Prelude.{◌≡◌, ◌+◌, [], true, false, ◌==◌, nat_lt, IfErr, IfOk, OnErr, OnOk};
 ghost use Rattle.debug_session.specs.Points.{with_point, with_watch, without_point, without_watch};
 ghost use Rattle.debug_session.specs.Firsts.{is_kept, is_read, is_unread, minds_changes, minds_reads, seen_all, seen_by, seen_in, touched_since};
 ghost use Rattle.debug_session.specs.Others.{first_other, other_of};

@@ -1,9 +1,9 @@
 //! The bench with its history.
 
-ghost use Rattle.std.specs.Prelude.{◌≡◌, ◌⊎◌, ◌≤◌, ◌<◌, ◌++◌, ◌∷◌, [], ℕ, true, false, take, replicate, IfOk, OnOk, IfErr, MatchResult, ⊤};
+ghost use Rattle.std.specs.Prelude.{◌≡◌, ◌⊎◌, ◌≤◌, ◌<◌, ◌++◌, ◌∷◌, [], true, false, take, IfOk, OnOk, IfErr, MatchResult, ⊤};
 ghost use Rattle.std.specs.Bool.{MatchBool};
 ghost use Rattle.board_model.specs.declared.refusal.Refusal.TheVariants.{Memory};
-ghost use Rattle.bench_live.specs.Pasts.{IsBack, NoRow, moments, some_turns};
+ghost use Rattle.bench_live.specs.Pasts.{IsBack, NoRow, some_turns};
 ghost use Rattle.bench_report.specs.Bench.{Bench};
 ghost use Rattle.bench_report.specs.Steps.{Moves};
 ghost use Rattle.bench_live.specs.Notes.{AreInRange};

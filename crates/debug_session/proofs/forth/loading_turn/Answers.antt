@@ -1,4 +1,4 @@
-use Rattle.std.proofs.Common.{◌≡◌, ◌∙◌, List, ℕ, subst, sym}
+use Rattle.std.proofs.Common.{◌∙◌, List, ℕ, subst, sym}
 use Rattle.debug_session.specs.Lives.{machine_of}
 use Rattle.debug_session.specs.Firsts.{Stretched, seen_in}
 use Rattle.debug_session.proofs.Firsts.{tells_on, untouched, watched_halts}
