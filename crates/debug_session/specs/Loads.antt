@@ -56,6 +56,10 @@ LoadsAt m h found =
     MatchBool (is_stepping m h)
     ((i : Option Instr) × Fetches m.memory (hart_at m h).pc i × (found ≡ made_load m.memory (load_in i (hart_at m h)))) (found ≡ None)
 
+-- the word at the pc is that of no load
+abbrev pub LoadsNone : Machine → ℕ → Type 0
+LoadsNone m h = (i : Option Instr) → Fetches m.memory (hart_at m h).pc i → load_in i (hart_at m h) ≡ None
+
 -- none where the board is off, or lacks the hart
 abbrev pub LoadsNext : Option Machine → ℕ → Option Load → Type 0
 LoadsNext None h found = found ≡ None

@@ -8,8 +8,8 @@ ghost use Rattle.bench_report.specs.Bench.{Bench};
 ghost use Rattle.bench_report.specs.Steps.{Moves};
 ghost use Rattle.bench_live.specs.Notes.{AreInRange};
 ghost use Rattle.debug_session.specs.Ats.{IsAt, IsBefore, IsLeft, IsPlace, MadeTurns, Ran};
+ghost use Rattle.debug_session.specs.Firsts.{ReadsAs, seen_in};
 ghost use Rattle.debug_session.specs.Lives.{HasHalted, machine_of};
-ghost use Rattle.debug_session.specs.Loads.{LoadsNext};
 ghost use Rattle.bench_live.specs.Rows.{IsWithin, made_in, row_answer};
 ghost use Rattle.script_lang.specs.Lines.{IsLineInRange};
 ghost use Rattle.script_lang.specs.declared.line.Line.TheVariants as lines;
@@ -17,6 +17,7 @@ ghost use Rattle.script_lang.specs.declared.line.Line.TheVariants as lines;
 use crate::debugged::DebuggedBench;
 use crate::loads::Load;
 use crate::replays::replayed;
+use crate::stops::SeenBytes;
 use bench_live::{LineHistory, TurnRow, note};
 use bench_report::{Answer, Setting};
 use board::Payloads;
@@ -79,12 +80,12 @@ impl Timeline {
         &self.bench
     }
 
-    /// What the next turn of a hart reads, as `DebuggedBench::next_load` shows it.
-    pub fn next_load(&mut self, hart: HartId) -> Option<Load>
+    /// What the next turn of a hart reads of what is minded, as `DebuggedBench::load_among` shows it.
+    pub(crate) fn load_among(&mut self, hart: HartId, before: &[SeenBytes]) -> Option<Load>
         ensures same { self.new ≡ self.old }
-        ensures loads { LoadsNext (machine_of self.old.bench) hart result }
+        ensures reads { ReadsAs (machine_of self.old.bench) hart (seen_in before.now) result }
     {
-        self.bench.next_load(hart)
+        self.bench.load_among(hart, before)
     }
 
     /// Up to so many turns of a hart, which become part of the history: what came of them. Refused `Memory` alone,

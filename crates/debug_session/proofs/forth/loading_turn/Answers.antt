@@ -11,7 +11,7 @@ returns-clause-first g c =
     let part = c.in_ok-part.part in
     let told = c.touched_behind-touched.ensures in
     let P : List ℕ → Type 0 = λ points. Stretched c.args.setting.now.shape.now c.args.hart 1 points part.made part.rests part.halt c.args.timeline.now c.stretch.new.timeline in
-    watched_halts c.args.setting.now.shape.now stops c.args.hart part.made part.rests part.halt c.halt_seen-halt.result c.args.load.now c.touched_behind-touched.result (seen_in c.args.before.now.items) c.args.timeline.now c.stretch.new.timeline c.requires.loads (subst P c.points.ensures c.in_ok-part.ensures.made) c.halt_seen-halt.ensures told.none c.requires.tells told.told
+    watched_halts c.args.setting.now.shape.now stops c.args.hart part.made part.rests part.halt c.halt_seen-halt.result c.args.load.now c.touched_behind-touched.result (seen_in c.args.before.now.items) c.args.timeline.now c.stretch.new.timeline c.requires.reads (subst P c.points.ensures c.in_ok-part.ensures.made) c.halt_seen-halt.ensures told.none c.requires.tells told.told
 
 pub returns-clause-made : goal.returns-clause-made
 returns-clause-made g c =
