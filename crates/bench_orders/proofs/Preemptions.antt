@@ -1,79 +1,13 @@
 -- A row that is parted, and what the lines are then.
 use Rattle.std.proofs.Common.{◌≡◌, ◌∙◌, ℕ, zero, suc, ◌+◌, ◌-◌, ◌<◌, ◌≤◌, ◌==◌, Bool, true, false, not, nat_lt, List, [], ◌∷◌, ◌++◌, length, take, drop, get_or, All, if◌then◌else◌, refl, sym, ap, arith, append_assoc}
-use Rattle.std.proofs.lemmas.List.{drop_more, take_more}
 use Rattle.std.proofs.lemmas.Bool.Decides.{nat_tests}
 use Rattle.std.proofs.lemmas.List.Elements.{All-cons, All-nil, All-head, All-tail}
 use Rattle.script_lang.specs.Lines.{FitsLine, IsLineInRange}
 use Rattle.script_lang.specs.declared.line.Line.{Line}
 use Rattle.script_lang.specs.declared.line.Line.TheVariants as lines
 use Rattle.bench_orders.specs.Orders.{more_turns, seen_by, IsOrderFor}
-use Rattle.bench_orders.specs.Preempted.{is_of_another, kept_turns, others_first, part_row, parted, put_off}
+use Rattle.bench_orders.specs.Preempted.{is_of_another, kept_turns, part_row, parted, put_off}
 use Rattle.bench_orders.proofs.SeenRows.{more_twice, no_more}
-
--- ---- turns that are put off
-put_next : (h n : ℕ) (line : Line) (more : List Line) → is_of_another h line ≡ true → put_off h n (line ∷ more) ≡ line ∷ put_off h n more
-put_next h n line more other = rw other refl
-
-put_here : (h n : ℕ) (line : Line) (more : List Line) → is_of_another h line ≡ false → put_off h n (line ∷ more) ≡ lines.Turn h n ∷ line ∷ more
-put_here h n line more own = rw own refl
-
-moved : (xs : List Line) (x : Line) (ys : List Line) → xs ++ x ∷ ys ≡ (xs ++ x ∷ []) ++ ys
-moved [] x ys = refl
-moved (z ∷ xs) x ys = ap (λ w. z ∷ w) (moved xs x ys)
-
-here_is : (ls : List Line) (i : ℕ) (line : Line) → i < length ls → line ≡ get_or ls i line → drop i ls ≡ line ∷ drop (i + 1) ls
-here_is ls i line less is = drop_more ls i line less ∙ ap (λ l. l ∷ drop (i + 1) ls) (sym is)
-
-pub others_more : (h n : ℕ) (ls : List Line) (i : ℕ) (line : Line) → i < length ls → line ≡ get_or ls i line → is_of_another h line ≡ true
-    → put_off h n ls ≡ take i ls ++ put_off h n (drop i ls) → put_off h n ls ≡ take (i + 1) ls ++ put_off h n (drop (i + 1) ls)
-others_more h n ls i line less is other so_far =
-    so_far
-    ∙ ap (λ d. take i ls ++ put_off h n d) (here_is ls i line less is)
-    ∙ ap (λ d. take i ls ++ d) (put_next h n line (drop (i + 1) ls) other)
-    ∙ moved (take i ls) line (put_off h n (drop (i + 1) ls))
-    ∙ ap (λ t. t ++ put_off h n (drop (i + 1) ls)) (ap (λ l. take i ls ++ l ∷ []) is ∙ sym (take_more ls i line less))
-
-pub others_end : (h n : ℕ) (ls : List Line) (i : ℕ) (line : Line) → i < length ls → line ≡ get_or ls i line → is_of_another h line ≡ false
-    → put_off h n ls ≡ take i ls ++ put_off h n (drop i ls) → put_off h n ls ≡ take i ls ++ lines.Turn h n ∷ drop i ls
-others_end h n ls i line less is own so_far =
-    so_far
-    ∙ ap (λ d. take i ls ++ put_off h n d) (here_is ls i line less is)
-    ∙ ap (λ d. take i ls ++ d) (put_here h n line (drop (i + 1) ls) own ∙ ap (λ d. lines.Turn h n ∷ d) (sym (here_is ls i line less is)))
-
-nothing_left : (ls : List Line) (i : ℕ) → length ls ≤ i → drop i ls ≡ []
-nothing_left [] zero past = refl
-nothing_left [] (suc i) past = refl
-nothing_left (l ∷ ls) zero past = absurd (let never : ⊥ = omega (arith, past) in never)
-nothing_left (l ∷ ls) (suc i) past = nothing_left ls i (omega (arith, past))
-
-pub others_all : (h n : ℕ) (ls : List Line) (i : ℕ) → length ls ≤ i
-    → put_off h n ls ≡ take i ls ++ put_off h n (drop i ls) → put_off h n ls ≡ take i ls ++ lines.Turn h n ∷ drop i ls
-others_all h n ls i past so_far =
-    let none = nothing_left ls i past in
-    so_far ∙ ap (λ d. take i ls ++ put_off h n d) none ∙ ap (λ d. take i ls ++ lines.Turn h n ∷ d) (sym none)
-
-first_next : (h : ℕ) (line : Line) (more : List Line) → is_of_another h line ≡ true → others_first h (line ∷ more) ≡ others_first h more + 1
-first_next h line more other = rw other (let e : suc (others_first h more) ≡ others_first h more + 1 = omega arith in e)
-
-first_here : (h : ℕ) (line : Line) (more : List Line) → is_of_another h line ≡ false → others_first h (line ∷ more) ≡ 0
-first_here h line more own = rw own refl
-
-pub first_more : (h : ℕ) (ls : List Line) (i : ℕ) (line : Line) → i < length ls → line ≡ get_or ls i line → is_of_another h line ≡ true
-    → others_first h ls ≡ i + others_first h (drop i ls) → others_first h ls ≡ (i + 1) + others_first h (drop (i + 1) ls)
-first_more h ls i line less is other so_far =
-    let here = ap (others_first h) (here_is ls i line less is) ∙ first_next h line (drop (i + 1) ls) other in
-    omega (arith, so_far, here)
-
-pub first_end : (h : ℕ) (ls : List Line) (i : ℕ) (line : Line) → i < length ls → line ≡ get_or ls i line → is_of_another h line ≡ false
-    → others_first h ls ≡ i + others_first h (drop i ls) → i ≡ others_first h ls
-first_end h ls i line less is own so_far =
-    let here = ap (others_first h) (here_is ls i line less is) ∙ first_here h line (drop (i + 1) ls) own in
-    omega (arith, so_far, here)
-
-pub first_all : (h : ℕ) (ls : List Line) (i : ℕ) → length ls ≤ i → others_first h ls ≡ i + others_first h (drop i ls) → i ≡ others_first h ls
-first_all h ls i past so_far =
-    let none : others_first h (drop i ls) ≡ 0 = ap (others_first h) (nothing_left ls i past) in
-    omega (arith, so_far, none)
 
 -- ---- how many lines there are
 put_length : (h n : ℕ) (ls : List Line) → length (put_off h n ls) ≡ length ls + 1

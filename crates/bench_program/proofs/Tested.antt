@@ -1,5 +1,5 @@
 -- Lines of a bench, one after another, as tests.
-use Rattle.std.proofs.Common.{◌≡◌, ◌∙◌, ℕ, ◌+◌, ◌-◌, ◌<◌, ◌≤◌, Bool, true, false, nat_eq, Bor, List, [], ◌∷◌, ◌++◌, Option, Some, length, map, take, drop, get_or, append_assoc, length-drop, if◌then◌else◌, codes, refl, sym, ap, subst, arith}
+use Rattle.std.proofs.Common.{◌≡◌, ◌∙◌, ℕ, ◌+◌, ◌-◌, ◌<◌, ◌≤◌, Bool, true, false, nat_eq, Bor, List, [], ◌∷◌, ◌++◌, Option, length, map, take, drop, get_or, append_assoc, length-drop, if◌then◌else◌, codes, refl, sym, ap, subst, arith}
 use Rattle.std.proofs.lemmas.List.{append-nil, drop_more, take_all}
 use Rattle.std.specs.Io.KnownBytes.{Appends}
 use Rattle.std.specs.List.{starts_with}
@@ -80,11 +80,3 @@ module _ (lines : List (Bor (List ℕ))) (i : ℕ) (d : Bor (List ℕ)) (told ne
             ∙ ap (λ x. text ++ x) (sym (ap (failed_lines told) first ∙ failed_more told (get_or lines i d).now rest))
             ∙ so_far,
       )
-
--- ---- a text that was kept in memory
--- what was written into an empty memory, of which nothing is held back
-pub put_of : (That : Option (List ℕ) → Option (List ℕ) → Type 0) (a x b y : List ℕ) → a ≡ [] → x ≡ [] → y ≡ [] → That (Some (a ++ x)) (Some (b ++ y)) → That (Some []) (Some b)
-put_of That a x b y none held left is =
-    let P : List ℕ → Type 0 = λ z. That (Some z) (Some (b ++ y)) in
-    let Q : List ℕ → Type 0 = λ z. That (Some []) (Some z) in
-    subst Q (ap (λ z. b ++ z) left ∙ append-nil b) (subst P (ap (λ z. z ++ x) none ∙ held) is)

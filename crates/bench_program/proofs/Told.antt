@@ -1,9 +1,9 @@
 -- Which faults a work may have.
-use Rattle.std.proofs.Common.{◌≡◌, ◌∙◌, ◌⊎◌, inl, inr, ℕ, Bool, true, false, List, [], ap, Option, None, Some, Err, IsSome, get_or, refl, sym, subst}
+use Rattle.std.proofs.Common.{◌≡◌, ◌∙◌, ◌⊎◌, inl, inr, ℕ, Bool, true, false, List, ap, Option, None, Some, Err, IsSome, get_or, refl, sym, subst}
 use Rattle.board_model.specs.declared.refusal.Refusal.{Refusal}
 use Rattle.board_model.specs.declared.refusal.Refusal.TheVariants.{BadShape, Memory, Output}
 use Rattle.script_lang.specs.Scripts.{script_of}
-use Rattle.bench_program.specs.Written.{IsFaultIn, IsFaultOf, IsFileOf, IsNoBench, IsNoRow, IsRefusedWith, IsUnread, IsFault}
+use Rattle.bench_program.specs.Written.{IsFaultIn, IsFaultOf, IsFileOf, IsNoBench, IsRefusedWith, IsUnread, IsFault}
 use Rattle.command_line.specs.declared.NoWork.{NoWork}
 use Rattle.command_line.specs.declared.NoWork.TheVariants as whys
 use Rattle.board_files.proofs.PayloadFaults.{file_fault}
@@ -11,16 +11,16 @@ use Rattle.std.specs.declared.io.ErrorKind.{ErrorKind}
 use Rattle.command_line.specs.Faults.{fault_of_kind}
 use Rattle.command_line.specs.declared.fault.ProgramFault.{ProgramFault}
 use Rattle.command_line.specs.declared.fault.ProgramFault.TheVariants as causes
-use Rattle.bench_program.specs.Faults.{fault_by, unread_by, without_work}
+use Rattle.bench_program.specs.Faults.{fault_by, unread_by}
 use Rattle.bench_program.specs.Usage.{IsNamedBy}
 use Rattle.bench_program.specs.declared.fault.BenchFault.{BenchFault}
-use Rattle.bench_program.specs.declared.fault.BenchFault.TheVariants.{Input, Refused}
+use Rattle.bench_program.specs.declared.fault.BenchFault.TheVariants.{Refused}
 use Rattle.bench_program.specs.declared.usage.BenchOptions.{BenchOptions}
 use Rattle.bench_sweep.specs.Shown.{NoneBehindOf, NoRowOf}
 use Rattle.bench_sweep.specs.declared.recovery.RecoveryFile.{RecoveryFile}
 use Rattle.bench_sweep.specs.declared.shown.WantedRow.{WantedRow}
 use Rattle.bench_program.specs.declared.usage.Work.{Work}
-use Rattle.bench_program.specs.declared.usage.Work.TheVariants.{ShowRecovered, ShowRow}
+use Rattle.bench_program.specs.declared.usage.Work.TheVariants.{ShowRecovered}
 
 -- a refused work, whose reader may be gone
 pub told : (work : Work) (payloads : List (List ℕ)) (recovery script : List ℕ) (gone : Bool) (e : Refusal) (fault : BenchFault) → fault ≡ fault_by gone e
@@ -49,17 +49,6 @@ is_some {A} option value is = subst (λ (o : Option A). IsSome o) (sym is) refl
 pub unread_script : (options : BenchOptions) {A : Type 0} (option : Option A) (value : A) (why : ProgramFault) (kind : ErrorKind) (fault : BenchFault) → fault ≡ unread_by why → why ≡ fault_of_kind kind
     → (IsSome option → IsSome options.script) → option ≡ Some value → IsUnread options fault ⊎ (fault ≡ Refused Memory)
 unread_script options {A} option value why kind fault e is same some = unread_by_cause options why fault e (file_fault why kind is) (same (is_some option value some))
-
--- no file, and so none that is at fault
-pub none_without : (row : WantedRow) (payloads : List (List ℕ)) (recovery script : List ℕ) (e : Refusal)
-    → (e ≡ Memory) ⊎ (e ≡ Output) ⊎ (script_of script ≡ Err e) ⊎ IsNoBench script e ⊎ NoneBehindOf script None e ⊎ ((e ≡ BadShape) × NoRowOf row.bench row.number payloads script None)
-    → IsRefusedWith (ShowRow row) payloads recovery script e
-none_without row payloads recovery script e (inl x) = inl x
-none_without row payloads recovery script e (inr (inl x)) = inr (inl x)
-none_without row payloads recovery script e (inr (inr (inl x))) = inr (inr (inl x))
-none_without row payloads recovery script e (inr (inr (inr (inl x)))) = inr (inr (inr (inl x)))
-none_without row payloads recovery script e (inr (inr (inr (inr (inl x))))) = absurd x.2
-none_without row payloads recovery script e (inr (inr (inr (inr (inr x))))) = inr (inr (inr (inr x)))
 
 -- of a file of those bytes
 pub none_of_file : (row : WantedRow) (payloads : List (List ℕ)) (script recovery : List ℕ) (file : RecoveryFile) (e : Refusal) → IsFileOf recovery file

@@ -8,7 +8,7 @@ use Rattle.report_lines.specs.declared.printed.Printed.TheVariants as printed
 use Rattle.bench_report.specs.Bench.{BenchLife}
 use Rattle.bench_report.specs.Prefix.{Nothing, LineImplies, is_format_ok}
 use Rattle.bench_report.specs.Deeds.{Aside, CutPower, CallWake, WritePast, Beside, IsByFirmwareAlone}
-use Rattle.bench_report.specs.Asides.{Effect, Stays, CutsPower, SetsDoze, WritesPast, wakes, aside}
+use Rattle.bench_report.specs.Asides.{Effect, CutsPower, SetsDoze, WritesPast, wakes, aside}
 
 -- it leaves the disk to the firmware
 abbrev pub OfFirmware : Effect → Type 0

@@ -19,7 +19,7 @@ use Rattle.bench_report.specs.Views.{facts, fault_state}
 use Rattle.bench_report.specs.Bench.{DiskState, Blank, Unknown, Formatted, Bench}
 use Rattle.bench_report.specs.Happens.{says, failed, out_of_memory}
 use Rattle.bench_report.specs.Examined.{ReadsOf, MayRead, HasImage, InspectsOn, AnswersOf}
-use Rattle.bench_report.specs.Agree.{DiskIs, DeviceIs, OffIs, StepsTo}
+use Rattle.bench_report.specs.Agree.{DiskIs, DeviceIs, OffIs}
 use Rattle.bench_report.proofs.Devices.{fails_by_fault, stays, stays_as}
 use Rattle.bench_report.proofs.Sides.{starved_sides}
 use Rattle.bench_report.proofs.Ended.{left_on}

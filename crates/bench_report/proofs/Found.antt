@@ -48,7 +48,7 @@ use Rattle.bench_report.specs.Turns.{refused, AnswersError, HartCommand, Resets,
 use Rattle.bench_report.specs.PowerOns.{life_begun, IsBooted, BootsFrom, Begins, Boots, Opens, IsOpenRefusal}
 use Rattle.bench_report.specs.Steps.{console_reported, CallReported, GuestCall, OnStep, ConsoleStep, TurnStep, CallStep, DeedStep, Run}
 use Rattle.bench_report.specs.Reports.{AreByFirmware, IsReportWith}
-use Rattle.bench_report.specs.Prefix.{AskedLine, Boot, Command, Guest, Nothing, Keeps, Hides, TellsLine, may_hide, asked_of, asked_by, line_asks, LineImplies, ShowsAt, is_format_ok}
+use Rattle.bench_report.specs.Prefix.{AskedLine, Boot, Command, Guest, Nothing, Keeps, Hides, TellsLine, may_hide, asked_of, asked_by, LineImplies, ShowsAt, is_format_ok}
 use Rattle.bench_report.specs.AllFound.{LineMakes, ShownMakes, AreAllFound, FindAll, FindsAll}
 use Rattle.bench_report.proofs.Issues.{is_up, takes_more, GoesOn, IsSound}
 use Rattle.board.proofs.Few.{few_commands}

@@ -1,6 +1,6 @@
 -- Lines that speak of memory and harts, or keep a payload, by what the code's board did.
 use Rattle.board_model.specs.declared.call_words.CallWords.{CallWords}
-use Rattle.std.proofs.Common.{◌≡◌, inl, slice_set, ℕ, List, length, Bool, true, false, Option, None, Some, Result, Ok, MatchResult, refl, sym, ◌∙◌, ap, subst}
+use Rattle.std.proofs.Common.{◌≡◌, inl, slice_set, ℕ, List, length, Option, None, Some, Result, Ok, MatchResult, refl, sym, ◌∙◌, ap, subst}
 use Rattle.board_model.specs.declared.boot_mode.BootMode.{BootMode}
 use Rattle.board_model.specs.Shapes.{Size}
 use Rattle.board_model.specs.declared.refusal.Refusal.{Refusal}
@@ -9,7 +9,7 @@ use Rattle.script_lang.specs.declared.line.Line.{Line}
 use Rattle.script_lang.specs.declared.line.Line.TheVariants as lines
 use Rattle.machine.specs.Machine.{Machine, hart_at}
 use Rattle.machine.specs.Turns.{MakesOneCall, calling}
-use Rattle.susp.specs.Dozes.{doze_of, can_wake, after_wake}
+use Rattle.susp.specs.Dozes.{doze_of}
 use Rattle.sbi.specs.declared.words.Word.{Word}
 use Rattle.sbi.specs.declared.words.Word.TheVariants as words
 use Rattle.board.specs.Turns as boards
@@ -23,7 +23,7 @@ use Rattle.bench_report.specs.declared.power.Power.TheVariants.{Off, On}
 use Rattle.report_lines.specs.declared.printed.Answer.{Answer}
 use Rattle.bench_report.specs.Views.{SimStore, SimBoard, store_in, machine_in, store_facts, store_fault_state}
 use Rattle.bench_report.specs.Bench.{BenchLife, Bench}
-use Rattle.bench_report.specs.Happens.{says, shows, on_with, has_machine}
+use Rattle.bench_report.specs.Happens.{shows, on_with, has_machine}
 use Rattle.report_lines.specs.declared.printed.Printed.TheVariants as printed
 use Rattle.bench_report.specs.PowerOns.{FormatsOn, PowersOn}
 use Rattle.bench_report.specs.Examined.{InspectsOn, InspectStep}
@@ -34,8 +34,8 @@ use Rattle.bench_report.proofs.Came.{CountsRefused, Stands, has_other, comes, tu
 use Rattle.bench_report.proofs.FailureFree.{comes_free}
 use Rattle.bench_report.specs.Turns.{ComesTo}
 use Rattle.bench_report.specs.Agree.{StoreIs, BoardIs, CountsNone, DeviceIs, HadEnough, OffIs, OnIs, BoardAfter, Agrees, IsBench, Matches, StaysOn, StepsEnough, StepsTo}
-use Rattle.bench_report.specs.Asides.{AsideStep, affected, wakes}
-use Rattle.bench_report.specs.Deeds.{SetSlot, CallWake}
+use Rattle.bench_report.specs.Asides.{AsideStep}
+use Rattle.bench_report.specs.Deeds.{SetSlot}
 
 -- a board that is off
 pub off_formats : (size : Size) (b : Bench) (a : Answer) (after : Power) → b.power ≡ None → StepsTo size b after (FormatsOn b.disk_state b a) → StepsTo size b after (FormatStep b.power b a)

@@ -1,5 +1,5 @@
 -- The numbers of the table of commands, and of the modes of a boot.
-use Rattle.std.proofs.Common.{◌≡◌, ◌≢◌, ◌⊎◌, ◌==◌, ◌||◌, ℕ, inl, inr, Option, None, Some, ◌∙◌, refl, sym, ap, arith, Bool, true, false, nat_lt, is_some, if◌then◌else◌}
+use Rattle.std.proofs.Common.{◌≡◌, ◌≢◌, ◌⊎◌, ℕ, inl, inr, Option, None, Some, ◌∙◌, refl, sym, ap, arith, Bool, true, false, is_some, if◌then◌else◌}
 use Rattle.board_model.specs.Durable.{DurableState, Change, refusal_of, is_table_number}
 use Rattle.board_model.proofs.Table.{of_table}
 use Rattle.board_model.specs.Views.{number_of_refusal}

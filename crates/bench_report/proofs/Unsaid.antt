@@ -24,7 +24,7 @@ use Rattle.sbi_abi.specs.declared.ret.SbiError.{SbiError}
 use Rattle.sbi_abi.specs.declared.ret.SbiError.TheVariants.{Failed, NotSupported, Denied}
 use Rattle.sbi.specs.declared.resets.ResetType.{ResetType}
 use Rattle.sbi.specs.Resets.{reset_of}
-use Rattle.bench_report.specs.Taken.{TakesAll, TakesSome}
+use Rattle.bench_report.specs.Taken.{TakesSome}
 use Rattle.bench_report.specs.Bench.{BenchLife, Bench}
 use Rattle.bench_report.specs.Prefix.{IsOfHarts, IsEndBy, EndsLife, Keeps, Hides, TellsTurns}
 use Rattle.bench_report.proofs.Refused.{WasRefused, issued_machine, suspended_machine, shown_answer}

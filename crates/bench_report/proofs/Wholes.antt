@@ -1,9 +1,9 @@
 -- Each image that stands has the memory of its board, through whole runs: a suspension carries that memory,
 -- and no other command makes an image. So no power-on is refused 13.
 use Rattle.board_model.specs.declared.call_words.CallWords.{CallWords}
-use Rattle.std.proofs.Common.{◌≡◌, ◌≢◌, ◌+◌, ℕ, zero, suc, inl, inr, List, [], ◌∷◌, ◌++◌, Option, None, Some, Result, Ok, Err, refl, sym, ◌∙◌, ap, subst, arith, IfSome, length}
+use Rattle.std.proofs.Common.{◌≡◌, ◌≢◌, ◌+◌, ℕ, zero, suc, inl, inr, List, [], ◌∷◌, ◌++◌, Option, None, Some, Result, Ok, Err, refl, sym, ◌∙◌, ap, subst, arith}
 use Rattle.std.specs.Bool.{⊤}
-use Rattle.board_model.specs.Durable.{DurableState, Image, Change, Reset, Suspend, formatted, refusal_of, after, IsWhole, CarriesWhole}
+use Rattle.board_model.specs.Durable.{DurableState, Change, Reset, Suspend, formatted, refusal_of, IsWhole, CarriesWhole}
 use Rattle.board_model.proofs.Steps.{whole_after}
 use Rattle.board_model.specs.Kept.{Kept, found_of, MayKeep, TakesIn}
 use Rattle.board_model.specs.Shapes.{Size, ram_bytes_of}

@@ -280,15 +280,6 @@ pub fn console(command: ConsoleCommand, power: &mut Power) -> Answer
     }
 }
 
-fn console_line(command: ConsoleCommand, power: Power) -> (Power, Answer)
-    ensures { (size : Size) (b : Bench) → Agrees size b power
-        → StepsTo size b result.0 (ConsoleStep command b.power b result.1) }
-{
-    let mut power = power;
-    let answer = console(command, &mut power);
-    (power, answer)
-}
-
 fn wake_line(power: Power) -> (Power, Answer)
     ensures { (size : Size) (b : Bench) → Agrees size b power
         → StepsTo size b result.0 (AsideStep CallWake b.power b result.1) }
@@ -490,7 +481,11 @@ pub fn line_alone<C: Crew>(
     match line {
         Line::Format => answered(format_line(shape, power)),
         Line::On(mode) => answered(on_line(alloc, *mode, power, payloads)),
-        Line::Command(command) => answered(console_line(*command, power)),
+        Line::Command(command) => {
+            let mut power = power;
+            let answer = console(*command, &mut power);
+            (power, Ok(answer))
+        }
         Line::Cut(fill) => (cut(power, *fill), Ok(says(Printed::Cut))),
         Line::Payload(slot, bytes) => {
             match payload_line(alloc, *slot, bytes, &power, payloads) {

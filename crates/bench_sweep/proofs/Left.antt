@@ -220,14 +220,12 @@ line_runs size line b old new slots now answer was ledger plain none unasked r e
       runs = record { agrees = matches.0; same = matches.1; follows = record { formatted = told.1 ∙ r.follows.formatted; kept = follows size b.kept x.kept r.follows.kept told.0; enough = line_grows size line b answer x (inr none) enough step ∙ r.follows.enough } };
     }
 
-pub answered_says : (size : Size) (line : Line) (b : Bench) (old new : Power) (slots now : List (List ℕ)) (answer : Result Answer Refusal) (a : Answer) (was ledger : RunLedger) → answer ≡ Ok a → IsPlainLine line → moves_harts line ≡ false → powers_on line ≡ false
+pub answered_says : (size : Size) (line : Line) (b : Bench) (old new : Power) (slots now : List (List ℕ)) (answer : Result Answer Refusal) (said : Printed) (was ledger : RunLedger) → IsPlainLine line → moves_harts line ≡ false → powers_on line ≡ false
     → RunsCalm size b old slots was → MatchResult answer (λ a. (x : Bench) × Step size line b a x × Matches size x new now) (λ e. (e ≡ Memory) × Matches size b new now)
-    → MatchResult answer (λ a. ShowsEnoughMemory a.line × ((z : Size) (k n : Kept) → TellsWhole z was k → LineTold line a k n → TellsWhole z ledger n)) (λ e. ⊥) → LineSays size line b a.line new now ledger
-answered_says size line b old new slots now answer a was ledger is plain none unasked r did told =
-    let M : Result Answer Refusal → Type 0 = λ x. MatchResult x (λ a. (y : Bench) × Step size line b a y × Matches size y new now) (λ e. (e ≡ Memory) × Matches size b new now) in
-    let T : Result Answer Refusal → Type 0 = λ x. MatchResult x (λ a. ShowsEnoughMemory a.line × ((z : Size) (k n : Kept) → TellsWhole z was k → LineTold line a k n → TellsWhole z ledger n)) (λ e. ⊥) in
-    let t : T (Ok a) = subst T is told in
-    line_runs size line b old new slots now a was ledger plain none unasked r t.0 (subst M is did) t.1
+    → MatchResult answer (λ a. (a.line ≡ said) × ShowsEnoughMemory a.line × ((z : Size) (k n : Kept) → TellsWhole z was k → LineTold line a k n → TellsWhole z ledger n)) (λ e. ⊥) → LineSays size line b said new now ledger
+answered_says size line b old new slots now (Ok a) said was ledger plain none unasked r did (same, enough, told) =
+    subst (λ (x : Printed). LineSays size line b x new now ledger) same (line_runs size line b old new slots now a was ledger plain none unasked r enough did told)
+answered_says size line b old new slots now (Err e) said was ledger plain none unasked r did told = absurd told
 
 -- a line that powers no board on resumes nothing
 still_resumes : (asked : AskedLine) (a : Answer) → is_boot asked ≡ false → asked_resumes asked a ≡ []

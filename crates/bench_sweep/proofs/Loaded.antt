@@ -31,19 +31,16 @@ abbrev pub MadeOf : Option Plain → Durable → List ℕ → Type 0
 MadeOf plain found memory = (p : Plain) × (plain ≡ Some p) × IsPlainOf found memory p
 
 -- where it has no image
-pub found_bare : (r : Result (Option Plain) Refusal) (found : Durable) (store : SimStore) → is_some found.image ≡ false → IfOk r (λ plain. MadeOf plain found []) → IfOk r (λ plain. FoundSo plain found store)
-found_bare (Err e) found store bare made = tt
-found_bare (Ok plain) found store bare (p, is, made) = λ size s same image f. (p, is, plain_is s found [] p same made (has_none s.image [] (ap (λ (d : Durable). d.image) (sym same) ∙ none found.image bare)))
+pub found_bare : (plain : Option Plain) (found : Durable) (store : SimStore) (memory : List ℕ) → is_some found.image ≡ false → MadeOf plain found memory → FoundSo plain found store
+found_bare plain found store memory bare (p, is, made) = λ size s same image f. (p, is, plain_is s found memory p same made (has_none s.image memory (ap (λ (d : Durable). d.image) (sym same) ∙ none found.image bare)))
   where
     none : (o : Option ImageHead) → is_some o ≡ false → o ≡ None
     none None e = refl
     none (Some x) e = cc
 
 -- where its image was loaded
-pub found_loaded : (r : Result (Option Plain) Refusal) (found : Durable) (store board : SimStore) (memory bytes : List ℕ) → store ≡ board → IsLoaded (store_now store) memory → bytes ≡ memory → IfOk r (λ plain. MadeOf plain found bytes)
-    → IfOk r (λ plain. FoundSo plain found board)
-found_loaded (Err e) found store board memory bytes here loaded same made = tt
-found_loaded (Ok plain) found store board memory bytes here loaded same (p, is, made) = λ size s found_is image f.
+pub found_loaded : (plain : Option Plain) (found : Durable) (store board : SimStore) (memory bytes : List ℕ) → store ≡ board → IsLoaded (store_now store) memory → bytes ≡ memory → MadeOf plain found bytes → FoundSo plain found board
+found_loaded plain found store board memory bytes here loaded same (p, is, made) = λ size s found_is image f.
     let L : List ℕ → Type 0 = λ m. IsLoaded (store_now store) m in
     let S : SimStore → Type 0 = λ x. HasMemory bytes (store_now x).image in
     let H : Option Image → Type 0 = λ o. HasMemory bytes o in

@@ -1,10 +1,11 @@
 //! The runs at a chunk of neighbouring calls: one thread makes them, each from the line in which its call lies.
 
-ghost use Rattle.std.specs.Prelude.{◌≡◌, ◌≤◌, ◌<◌, ◌+◌, ◌^◌, length, IfOk, IfErr};
+ghost use Rattle.std.specs.Prelude.{◌≡◌, ◌≤◌, ◌<◌, ◌+◌, ◌-◌, ◌^◌, [], length, IfOk, IfErr, OnOk};
 ghost use Rattle.board_model.specs.declared.refusal.Refusal.TheVariants.{Memory};
 ghost use Rattle.bench_report.specs.Bench.{Bench};
 ghost use Rattle.bench_sweep.specs.Recovers.{compared};
-ghost use Rattle.bench_sweep.specs.Reports.{Judged, RunsAlong};
+ghost use Rattle.jobs.specs.Handed.{AreRows};
+ghost use Rattle.bench_sweep.specs.Reports.{IsOfCall, Judged, RunsAlong};
 ghost use Rattle.bench_sweep.specs.Along.{CameTold};
 ghost use Rattle.bench_sweep.specs.Runs.{Sits};
 ghost use Rattle.bench_sweep.specs.Swept.{AreSwept, runs_of};
@@ -66,6 +67,20 @@ pub fn chunk_size(calls: u64, threads: usize) -> u64
     best
 }
 
+/// Keeps how many calls the caller has made at that moment from the site on. Refused `Memory` alone.
+fn mark(
+    moment: &Moment,
+    site: &Site,
+    caller: Caller,
+    marks: &mut Vec<u64>,
+) -> Result<(), Refusal>
+    ensures refused { IfErr result (λ e. e ≡ Memory) }
+{
+    let made = moment.going.calls_since(site, caller)?;
+    marks.push(made)?;
+    Ok(())
+}
+
 /// Runs on up to so many lines, and keeps how many calls the caller has made then from the site on. Refused `Memory` alone.
 fn mark_next<C: Crew>(
     runner: &Runner<'_, C>,
@@ -85,7 +100,7 @@ fn mark_next<C: Crew>(
     ensures refused { IfErr result (λ e. e ≡ Memory) }
 {
     let moment = moment.run_to(&runner.setting, runner.lines, to)?;
-    marks.push(moment.going.calls_since(site, caller)?)?;
+    mark(&moment, site, caller, marks)?;
     Ok(moment)
 }
 
@@ -210,6 +225,29 @@ impl<'a, 'b, C: Crew> RunsAtCalls<'a, 'b, C> {
         let made = self.rows_at(&mut moment, done)?;
         Ok((moment, made))
     }
+
+    /// Makes the runs at the calls of that window, one after another. Refused `Memory` alone: then those made stay.
+    fn rows_of(&self, window: Window, rows: &mut Vec<PointRows>) -> Result<(), Refusal>
+        requires few { self.now.count ≤ length self.now.runner.now.lines.now }
+        requires lines { AreSwept self.now.runner.now.setting.shape.now self.now.runner.now.lines.now }
+        requires recovery { AreSwept self.now.runner.now.setting.shape.now self.now.runner.now.recovery.lines.now }
+        requires room { self.now.before + window.to < 2 ^ 64 }
+        requires sits { Sits self.now.runner.now.setting.shape.now self.now.site.now }
+        requires none { rows.old.items ≡ [] }
+        ensures rows { OnOk result ((length rows.new.items ≡ window.to - window.from)
+            × AreRows (IsOfCall self.now.runner.now.setting.shape.now self.now.runner.now.bench self.now.caller self.now.before
+            self.now.runner.now.lines.now (compared self.now.runner.now.recovery) self.now.site.now) window.from rows.new.items) }
+        ensures refused { IfErr result (λ e. e ≡ Memory) }
+    {
+        let Window { from, to } = window;
+        let mut moment = Moment::at(self.runner.setting.alloc, self.site)?;
+        for done in from..to {
+            let (next, made) = self.next_rows(moment, done)?;
+            moment = next;
+            rows.push(made)?;
+        }
+        Ok(())
+    }
 }
 
 impl<'a, 'b, C: Crew + Sync> Task for RunsAtCalls<'a, 'b, C> {
@@ -231,19 +269,9 @@ impl<'a, 'b, C: Crew + Sync> Task for RunsAtCalls<'a, 'b, C> {
     /// Makes the runs at the calls of that chunk: the lines run on from the site as they are, and each call is armed on a copy of
     /// the board as it stands before the line in which the call lies.
     fn row(&self, number: u64) -> Result<Chunk<PointRows>, Refusal> {
-        let Window { from, to } = self.within.chunk(self.each, number);
-        let alloc = self.runner.setting.alloc;
-        let mut moment = Moment::at(alloc, self.site)?;
-        let mut rows = Vec::new(alloc);
-        for done in from..to {
-            let Ok((next, made)) = self.next_rows(moment, done) else {
-                return Ok(Chunk { rows, whole: false });
-            };
-            moment = next;
-            if rows.push(made).is_err() {
-                return Ok(Chunk { rows, whole: false });
-            }
-        }
-        Ok(Chunk { rows, whole: true })
+        let window = self.within.chunk(self.each, number);
+        let mut rows = Vec::new(self.runner.setting.alloc);
+        let whole = self.rows_of(window, &mut rows).is_ok();
+        Ok(Chunk { rows, whole })
     }
 }

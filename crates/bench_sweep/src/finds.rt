@@ -23,7 +23,7 @@ use crate::judges::Sweep;
 use crate::ledgers::RunLedger;
 use bench_report::{Answer, OffDisk, Power, Printed, power_on};
 use board::{Board, Parts, Payloads};
-use board_model::{BootMode, Durable, Plain, Refusal, Shape};
+use board_model::{BootMode, Bytes, Durable, Plain, Refusal, Shape};
 use ram::Ram;
 use simdisk::SimDisk;
 use std::alloc::Global;
@@ -48,24 +48,23 @@ fn unloaded(disk: SimDisk) -> Result<Option<Plain>, Refusal>
 }
 
 /// The state found, with that memory where it has an image.
-fn plain_of(alloc: Global, found: &Durable, memory: &[u8]) -> Result<Option<Plain>, Refusal>
-    ensures told { IfOk result (λ plain. (p : State) × (plain ≡ Some p) × IsPlainOf found.now memory.now p) }
-    ensures refused { IfErr result (λ e. e ≡ Memory) }
+fn plain_of(found: &Durable, memory: Vec<u8>) -> Option<Plain>
+    ensures { (p : State) × (result ≡ Some p) × IsPlainOf found.now memory.items p }
 {
-    let plain = Plain::of(alloc, found, memory)?;
-    Ok(Some(plain))
+    let plain = Plain::of(found, Bytes::new(memory));
+    Some(plain)
 }
 
-/// The store of that board.
-fn store_of(board: Board<SimDisk>) -> Store<SimDisk>
-    ensures { result ≡ store_in board }
+/// The store of that board, and its memory.
+fn store_and_ram(board: Board<SimDisk>) -> (Store<SimDisk>, Ram)
+    ensures { result.0 ≡ store_in board }
 {
-    let Parts { store, .. } = board.into_parts();
-    store
+    let Parts { store, bus, .. } = board.into_parts();
+    (store, bus.ram)
 }
 
-/// The state that the open of that board found, with the memory of its image, which is loaded into a memory of its
-/// own: none where the load was refused, and `Memory` where memory was.
+/// The state that the open of that board found, with the memory of its image, which is loaded into the board's own: none where
+/// the load was refused, and `Memory` where the disk's record found none.
 fn loaded(alloc: Global, found: &Durable, board: Board<SimDisk>) -> Result<Option<Plain>, Refusal>
     ensures told { IfOk result (λ plain. (size : Size) (s : DurableState) → found.now ≡ durable_of s
         → s.image ≡ (store_now (store_in board)).image → FindsState size (store_in board)
@@ -74,12 +73,15 @@ fn loaded(alloc: Global, found: &Durable, board: Board<SimDisk>) -> Result<Optio
 {
     whole_images_load::<SimDisk>();
     if found.image.is_none() {
-        return plain_of(alloc, found, &[]);
+        return Ok(plain_of(found, Vec::new(alloc)));
     }
-    let mut ram = Ram::new(alloc, board.shape())?;
-    let mut store = store_of(board);
+    let (mut store, mut ram) = store_and_ram(board);
+    // A board has as much memory as its disk's shape says.
+    if ram.pages() != store.shape().pages() {
+        return Err(Refusal::Memory);
+    }
     match store.load_image(&mut ram) {
-        Ok(()) => plain_of(alloc, found, ram.bytes()),
+        Ok(()) => Ok(plain_of(found, ram.into_bytes())),
         Err(_) => unloaded(store.into_disk()),
     }
 }

@@ -106,6 +106,48 @@ fn call_once<C: Crew>(
     }
 }
 
+/// What a line of turns did: none where the board has not the hart.
+fn turn_in_place<C: Crew>(
+    alloc: Global,
+    crew: &C,
+    board: &mut Board<SimDisk>,
+    hart: HartId,
+    count: u32,
+    ledger: &mut RunLedger,
+) -> Result<Option<Word>, Refusal>
+    requires some { 1 ≤ count }
+    ensures goes { IfOk result (λ said. (size : Size) (b : Bench) → OnIs size b board.old → Follows size b ledger.old
+        → LineGoes size b (DoesLine size (lines.Turn hart count) b) said board.new ledger.new) }
+    ensures resumed { ledger.new.resumed ≡ ledger.old.resumed }
+    ensures memory { IfErr result (λ e. e ≡ Memory) }
+{
+    if !board.machine().has(hart) {
+        return Ok(None);
+    }
+    let word = turn_many(alloc, crew, board, hart, count, ledger)?;
+    Ok(Some(word))
+}
+
+/// What a line of a call did: none where the board has not the hart, or it makes no call.
+fn call_in_place<C: Crew>(
+    alloc: Global,
+    crew: &C,
+    board: &mut Board<SimDisk>,
+    hart: HartId,
+    words: CallWords,
+    ledger: &mut RunLedger,
+) -> Result<Option<Word>, Refusal>
+    ensures goes { IfOk result (λ said. (size : Size) (b : Bench) → OnIs size b board.old → Follows size b ledger.old
+        → LineGoes size b (DoesLine size (lines.Call hart words) b) said board.new ledger.new) }
+    ensures resumed { ledger.new.resumed ≡ ledger.old.resumed }
+    ensures memory { IfErr result (λ e. e ≡ Memory) }
+{
+    if !board.machine().has(hart) {
+        return Ok(None);
+    }
+    call_once(alloc, crew, board, hart, words, ledger)
+}
+
 /// What a line of harts did: none where the board has not the hart, or it makes no call.
 fn run_in_place<C: Crew>(
     alloc: Global,
@@ -123,21 +165,8 @@ fn run_in_place<C: Crew>(
     ensures memory { IfErr result (λ e. e ≡ Memory) }
 {
     match line {
-        Line::Turn(hart, count) => {
-            if board.machine().has(*hart) {
-                let word = turn_many(alloc, crew, board, *hart, *count, ledger)?;
-                Ok(Some(word))
-            } else {
-                Ok(None)
-            }
-        }
-        Line::Call(hart, words) => {
-            if board.machine().has(*hart) {
-                call_once(alloc, crew, board, *hart, *words, ledger)
-            } else {
-                Ok(None)
-            }
-        }
+        Line::Turn(hart, count) => turn_in_place(alloc, crew, board, *hart, *count, ledger),
+        Line::Call(hart, words) => call_in_place(alloc, crew, board, *hart, *words, ledger),
         _ => Ok(None),
     }
 }

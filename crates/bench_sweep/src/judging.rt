@@ -26,8 +26,8 @@ use crate::recovery::Differs;
 use crate::rows::Row;
 use crate::runner::Runner;
 use crate::site::{Going, Site};
-use crate::sites::{Went, cut_by, run_lines};
-use bench_report::Answer;
+use crate::sites::{Went, cut_by, cut_off, run_lines};
+use bench_report::{Answer, Setting};
 use board_model::Refusal;
 use crew::Crew;
 use simdisk::Fill;
@@ -125,38 +125,54 @@ fn judge_run<C: Crew>(
     Ok(())
 }
 
-/// The run that was judged first, where a cut leaves the same by each fill: nothing was written since the last sync.
-fn alike(site: &Site, made: &PointRows) -> Option<Row>
-    ensures same { IfSome result (λ first. (fill : FillOf) → cut_content site.now.off.disk fill ≡ synced (sim_log_of site.now.off.disk)) }
-    ensures first { IfSome result (λ first. (rest : List RowOf) × (made.now.rows.items ≡ first ∷ rest)) }
+/// Judges as [`judge_run`] does, at a site that nothing else is made of: where no recovery runs behind it, its own disk is cut, and
+/// no copy of that is made.
+fn judge_last<C: Crew>(
+    runner: &Runner<'_, C>,
+    site: Site,
+    point: Point,
+    fill: Option<Fill>,
+    made: &mut PointRows,
+) -> Result<(), Refusal>
+    requires lines { AreSwept runner.now.setting.shape.now runner.now.recovery.lines.now }
+    requires sits { Sits runner.now.setting.shape.now site }
+    ensures kept { OnOk result ((b : Bench)
+        → RunsAt runner.now.setting.shape.now b site
+        → Keeps (IsLeftBy runner.now.setting.shape.now b site.off.disk (compared runner.now.recovery)) made.old made.new (cell point.caller point.number fill)) }
+    ensures refused { IfErr result (λ e. e ≡ Memory) }
 {
-    if !site.off.disk.is_settled() {
-        return None;
+    if !runner.recovery.own.is_empty() {
+        return judge_run(runner, &site, point, fill, made);
     }
-    made.rows.first().copied()
+    let Setting { alloc, shape, .. } = runner.setting;
+    let off = cut_off(site.off, cut_fill(fill));
+    let left = count_run(alloc, shape, off, &site.ledger, &mut made.sweep)?;
+    made.rows.push(Row {
+        caller: point.caller,
+        number: point.number,
+        fill,
+        left,
+        recovered: None,
+    })?;
+    Ok(())
 }
 
-/// Judges what a run that a cut ended leaves by that fill. Where that is what it leaves by each fill, it is judged once: the
-/// run that was judged first is kept once more.
-fn judge_fill<C: Crew>(
-    runner: &Runner<'_, C>,
-    site: &Site,
+/// Keeps the first of these rows for another fill, which leaves the same, and counts its run. Refused `Memory` alone.
+fn repeat(
+    once: &PointRows,
     point: Point,
     fill: Fill,
     made: &mut PointRows,
 ) -> Result<(), Refusal>
-    requires lines { AreSwept runner.now.setting.shape.now runner.now.recovery.lines.now }
-    requires sits { Sits runner.now.setting.shape.now site.now }
-    requires judged { (b : Bench)
-        → RunsAt runner.now.setting.shape.now b site.now
-        → All (IsLeftBy runner.now.setting.shape.now b site.now.off.disk (compared runner.now.recovery)) made.old.rows.items }
-    ensures kept { OnOk result ((b : Bench)
-        → RunsAt runner.now.setting.shape.now b site.now
-        → Keeps (IsLeftBy runner.now.setting.shape.now b site.now.off.disk (compared runner.now.recovery)) made.old made.new (cell point.caller point.number (Some fill))) }
+    ensures kept { OnOk result ((Is : RowOf → Type 0)
+        → All Is once.now.rows.items
+        → ((row : RowOf) → Is row
+        → Is (record { caller = point.caller; number = point.number; fill = Some fill; left = row.left; recovered = row.recovered }))
+        → Keeps Is made.old made.new (cell point.caller point.number (Some fill))) }
     ensures refused { IfErr result (λ e. e ≡ Memory) }
 {
-    let Some(first) = alike(site, made) else {
-        return judge_run(runner, site, point, Some(fill), made);
+    let Some(first) = once.rows.first() else {
+        return Err(Refusal::Memory);
     };
     made.rows.push(Row {
         caller: point.caller,
@@ -169,22 +185,48 @@ fn judge_fill<C: Crew>(
     Ok(())
 }
 
-/// Judges what a run that a cut ended leaves by each fill.
-fn judge_each_fill<C: Crew>(
+/// Judges what a run that a cut ended leaves, where that is the same by each fill: once, and its row is kept for each.
+fn judge_settled<C: Crew>(
     runner: &Runner<'_, C>,
-    site: &Site,
+    site: Site,
     point: Point,
 ) -> Result<PointRows, Refusal>
     requires lines { AreSwept runner.now.setting.shape.now runner.now.recovery.lines.now }
-    requires sits { Sits runner.now.setting.shape.now site.now }
+    requires sits { Sits runner.now.setting.shape.now site }
+    requires same { (fill : FillOf) → cut_content site.off.disk fill ≡ synced (sim_log_of site.off.disk) }
     ensures judged { IfOk result (λ made. (b : Bench)
-        → RunsAt runner.now.setting.shape.now b site.now
-        → Judged (IsLeftBy runner.now.setting.shape.now b site.now.off.disk (compared runner.now.recovery)) made (runs_of BenchKind.Cuts point.caller point.number)) }
+        → RunsAt runner.now.setting.shape.now b site
+        → Judged (IsLeftBy runner.now.setting.shape.now b site.off.disk (compared runner.now.recovery)) made (runs_of BenchKind.Cuts point.caller point.number)) }
     ensures refused { IfErr result (λ e. e ≡ Memory) }
 {
+    let mut once = PointRows::none(runner.setting.alloc);
+    judge_last(runner, site, point, None, &mut once)?;
     let mut made = PointRows::none(runner.setting.alloc);
     for fill in FILLS {
-        judge_fill(runner, site, point, fill, &mut made)?;
+        repeat(&once, point, fill, &mut made)?;
+    }
+    Ok(made)
+}
+
+/// Judges what a run that a cut ended leaves by each fill. Where nothing was written since the last sync, each leaves the same.
+fn judge_each_fill<C: Crew>(
+    runner: &Runner<'_, C>,
+    site: Site,
+    point: Point,
+) -> Result<PointRows, Refusal>
+    requires lines { AreSwept runner.now.setting.shape.now runner.now.recovery.lines.now }
+    requires sits { Sits runner.now.setting.shape.now site }
+    ensures judged { IfOk result (λ made. (b : Bench)
+        → RunsAt runner.now.setting.shape.now b site
+        → Judged (IsLeftBy runner.now.setting.shape.now b site.off.disk (compared runner.now.recovery)) made (runs_of BenchKind.Cuts point.caller point.number)) }
+    ensures refused { IfErr result (λ e. e ≡ Memory) }
+{
+    if site.off.disk.is_settled() {
+        return judge_settled(runner, site, point);
+    }
+    let mut made = PointRows::none(runner.setting.alloc);
+    for fill in FILLS {
+        judge_run(runner, &site, point, Some(fill), &mut made)?;
     }
     Ok(made)
 }
@@ -209,7 +251,7 @@ fn run_to_cut<C: Crew>(
     let went = run_lines(&runner.setting, runner.lines, false, armed)?;
     // The plain run made the call. Only one that was refused memory can have missed it.
     let left = turn_off(went.going, true)?;
-    judge_each_fill(runner, &left, point)
+    judge_each_fill(runner, left, point)
 }
 
 /// Runs the lines on to their end with a failure armed at that call, cuts power, and judges what is left.
@@ -231,7 +273,7 @@ fn run_past_failure<C: Crew>(
     let went = run_lines(&runner.setting, runner.lines, false, armed)?;
     let left = turn_off_failed(went, runner.lines.len())?;
     let mut made = PointRows::none(runner.setting.alloc);
-    judge_run(runner, &left, point, None, &mut made)?;
+    judge_last(runner, left, point, None, &mut made)?;
     Ok(made)
 }
 

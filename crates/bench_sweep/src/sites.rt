@@ -56,6 +56,18 @@ pub fn cut_by(off: &OffDisk, fill: Fill) -> Result<OffDisk, Refusal>
     Ok(OffDisk { disk })
 }
 
+/// The disk that a power cut leaves of that one, as [`cut_by`] says, in its place: no copy of it is made.
+pub fn cut_off(off: OffDisk, fill: Fill) -> OffDisk
+    ensures left { (size : Size) (b : Bench) → OffIs size b off.disk → OffIs size (unpowered b) result.disk }
+    ensures exact { (facts result.disk).content
+        ≡ left_by_fill fill (synced (sim_log_of off.disk)) (sim_log_of off.disk).written }
+{
+    kept_disks::<SimDisk>();
+    OffDisk {
+        disk: off.disk.after_cut(fill),
+    }
+}
+
 /// Whether the board is off.
 pub fn is_off(power: &Power) -> bool
     ensures { result ≡ true → StopsOff power.now }
@@ -217,11 +229,8 @@ pub fn say_still_line<C: Crew>(
     ensures refused { IfErr result (λ e. e ≡ Memory) }
 {
     let (power, answer) = line_alone(setting, line, power, payloads);
-    record_answered(ledger, setting.alloc, line, answer)?;
-    match &answer {
-        Ok(said) => Ok((power, said.line)),
-        Err(refusal) => Err(*refusal),
-    }
+    let said = record_answered(ledger, setting.alloc, line, answer)?;
+    Ok((power, said))
 }
 
 /// Runs a line that moves no hart and powers no board on, and the ledger follows it. Nobody asks what it said.

@@ -1,4 +1,3 @@
 pub mod PayloadFaults
 pub mod FaultKinds
 pub mod FileSectors
-pub mod FileBytes

@@ -6,7 +6,6 @@
 
 mod files;
 mod held;
-mod memory;
 mod payload_files;
 mod payloads;
 mod reads;
@@ -14,7 +13,6 @@ mod system;
 mod written;
 
 pub use files::{BoardFiles, DiskFile, DiskFiles, HeldFile, unreached};
-pub use memory::{Failing, MemoryDisk};
 pub use payload_files::PayloadFiles;
 pub use payloads::read_payloads;
 pub use reads::{disk_in, seen_in, shape_in};

@@ -1,6 +1,6 @@
 //! Boards that sleep in their RAM, on threads (docs/THREADS.md, "A doze").
 
-use crate::fixtures::{NEVER, Trial, ended, same};
+use crate::fixtures::{BoardTrial, NEVER, ended, same};
 use crate::many::Counting;
 use board_model::{Command, HartId, RAM_BASE, Reason};
 use disk::ArmedFault;
@@ -87,11 +87,11 @@ const LOOKS: u64 = IDLE - 8;
 #[test]
 fn a_board_that_sleeps_in_its_ram_is_woken_by_its_console(rt: HostRuntime) {
     let gate = UntilWoken::new();
-    let trial = Trial {
+    let trial = BoardTrial {
         payload: &SLEEPER,
         input: b"wake\nwake\nslot 2\nquit\n",
         until: Some(&gate),
-        ..Trial::of(ENDLESS)
+        ..BoardTrial::of(ENDLESS)
     };
     let (end, said) = ended(&rt, rt.alloc(), &gate, trial);
     let told = b"wake ok\nwake refused 18\nslot ok 1\nquit\n";
@@ -122,13 +122,13 @@ fn a_board_dozes_whatever_its_store_would_refuse(rt: HostRuntime) {
         (&[Command::Slot(1)], ArmedFault::FailAt(3)),
     ];
     for (commands, fault) in stores {
-        let trial = Trial {
+        let trial = BoardTrial {
             payload: &DOZER,
             commands,
             fault,
-            ..Trial::of(10)
+            ..BoardTrial::of(10)
         };
-        let (end, _said) = ended(&rt, rt.alloc(), &Counting::new(None), trial);
+        let (end, _said) = ended(&rt, rt.alloc(), &CountingGate::new(None), trial);
         same(&rt, (end.made, end.why, end.pc), (10, Why::Turns, ASKS));
         same(&rt, (end.receipt, end.dozed), (None, 3));
     }

@@ -2,7 +2,7 @@
 
 ghost use Rattle.store.specs.Leaves.{IsIdle};
 
-use crate::fixtures::{Trial, driven, same};
+use crate::fixtures::{BoardTrial, driven, same};
 use crate::many::Counting;
 use board_model::Shape;
 use disk::Disk;
@@ -48,12 +48,12 @@ fn found_on(rt: &impl Abort, alloc: Global, disk: SimDisk, shape: Shape, code: &
 #[test]
 fn a_guest_suspends_its_board(rt: HostRuntime) {
     let shape = Shape::new(2, 20, 2).expect(&rt, "a shape");
-    let trial = Trial {
+    let trial = BoardTrial {
         size: (2, 20, 2),
         payload: &SLEEPER,
-        ..Trial::of(9)
+        ..BoardTrial::of(9)
     };
-    let ran = driven(&rt, rt.alloc(), &Counting::new(None), trial);
+    let ran = driven(&rt, rt.alloc(), &CountingGate::new(None), trial);
     let found = found_on(&rt, rt.alloc(), ran.disk, shape, &SLEEPER);
     same(&rt, found, (0, Some(0), 1, true));
 }

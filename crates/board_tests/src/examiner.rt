@@ -1,9 +1,9 @@
 //! The examiner over files and streams in memory (docs/CONSOLE.md, "The program `sbidisk`").
 
+use crate::memory_disk::Failing;
 use crate::memory_files::Broken;
 use crate::runs::{PLAIN, Program, Run, all_come};
 use crate::trials::SLEEPS;
-use board_files::Failing;
 use std::test::*;
 
 /// A look at what stands in the file, which nothing stops.

@@ -91,7 +91,7 @@ pub const NEVER: ArmedFault = ArmedFault::FailAt(1_000_000);
 
 /// A board's run on threads.
 #[derive(Clone, Copy, Drop)]
-pub struct Trial<'a> {
+pub struct BoardTrial<'a> {
     /// The harts, pages and lanes of the board, and what it boots.
     pub size: (u64, u64, u64),
     pub payload: &'a [u8],
@@ -105,10 +105,10 @@ pub struct Trial<'a> {
     pub until: Option<&'a UntilWoken>,
 }
 
-impl<'a> Trial<'a> {
+impl<'a> BoardTrial<'a> {
     /// So many turns of one hart that boots nothing, with no command, and a console that returns at once.
-    pub fn of(turns: u64) -> Trial<'a> {
-        Trial {
+    pub fn of(turns: u64) -> BoardTrial<'a> {
+        BoardTrial {
             size: (1, 1, 1),
             payload: &[],
             turns,
@@ -177,7 +177,7 @@ fn talk<J: Journal, R: Wait + Clock>(
     store: &Mutex<SharedStore<SimDisk, J>>,
     part: Part<J>,
     heard: Heard<J>,
-    trial: Trial<'_>,
+    trial: BoardTrial<'_>,
 ) -> (Vec<u8>, Heard<J>) {
     let mut out = Vec::new(alloc);
     let (mut input, mut heard) = (trial.input, heard);
@@ -197,7 +197,7 @@ pub fn driven<R: Threads + Wait + Clock + Abort + Sync>(
     rt: &R,
     alloc: Global,
     gate: &(dyn Gate + Sync),
-    trial: Trial<'_>,
+    trial: BoardTrial<'_>,
 ) -> Ran
     ensures { IsIdle (⟦<SimDisk as Disk>⟧.facts result.disk) }
 {
@@ -228,7 +228,7 @@ pub fn ended<R: Threads + Wait + Clock + Abort + Sync>(
     rt: &R,
     alloc: Global,
     gate: &(dyn Gate + Sync),
-    trial: Trial<'_>,
+    trial: BoardTrial<'_>,
 ) -> (End, Vec<u8>) {
     let ran = driven(rt, alloc, gate, trial);
     (ran.end.expect(rt, "a loop"), ran.said)
@@ -239,7 +239,7 @@ fn driven_as<J: Threaded + Send + Sync, R: Threads + Wait + Clock + Abort + Sync
     rt: &R,
     alloc: Global,
     gate: &(dyn Gate + Sync),
-    trial: Trial<'_>,
+    trial: BoardTrial<'_>,
     parts: Parts<SimDisk>,
     books: (NewBook, NewBook),
     halting: (OnceLock<AfterConsole>, Halt),

@@ -21,6 +21,7 @@ mod looped;
 mod many;
 #[cfg(test)]
 mod meeting;
+mod memory_disk;
 #[cfg(test)]
 mod memory_files;
 #[cfg(test)]

@@ -1,7 +1,7 @@
 //! One loop, by how it ends.
 
-use crate::fixtures::{Trial, ended, same};
-use crate::many::{Counting, Short};
+use crate::fixtures::{BoardTrial, ended, same};
+use crate::many::{CountingGate, Short};
 use hart_threads::Why;
 
 /// A shutdown by `system_reset`: a0, a1 and a6 are set to 0, a7 to 0x53525354 by LUI and ADDI, then ECALL,
@@ -24,11 +24,11 @@ const LOOPS: [(Short, u64, Stopped); 3] = [
 #[test]
 fn a_loop_ends_as_it_is_told(rt: HostRuntime) {
     for (short, turns, wanted) in LOOPS {
-        let trial = Trial {
+        let trial = BoardTrial {
             payload: &STOPPER,
-            ..Trial::of(turns)
+            ..BoardTrial::of(turns)
         };
-        let (end, _said) = ended(&rt, rt.alloc(), &Counting::new(short), trial);
+        let (end, _said) = ended(&rt, rt.alloc(), &CountingGate::new(short), trial);
         same(&rt, (end.made, end.why, end.pc, end.receipt), wanted);
     }
 }

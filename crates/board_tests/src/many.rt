@@ -1,6 +1,6 @@
 //! Boards of three harts and of eight: each hart makes its turns, and the life of all ends with one's.
 
-use crate::fixtures::{Trial, ended, same};
+use crate::fixtures::{BoardTrial, ended, same};
 use crate::looped::STOPPER;
 use board_model::HartId;
 use hart_threads::Gate;
@@ -15,14 +15,14 @@ pub type Short = Option<(usize, u64)>;
 
 /// It lets every turn begin, but of one hart so many alone, and counts the turns of each hart.
 #[derive(Drop)]
-pub struct Counting {
+pub struct CountingGate {
     short: Short,
     made: [AtomicU64; 8],
 }
 
-impl Counting {
-    pub fn new(short: Short) -> Counting {
-        Counting {
+impl CountingGate {
+    pub fn new(short: Short) -> CountingGate {
+        CountingGate {
             short,
             made: [
                 AtomicU64::new(0),
@@ -43,7 +43,7 @@ impl Counting {
     }
 }
 
-impl Gate for Counting {
+impl Gate for CountingGate {
     ghost answers = { λ gate hart turn answer. Unit {0} };
 
     ghost hears = { λ gate hart turn. Unit {0} };
@@ -59,7 +59,7 @@ impl Gate for Counting {
 }
 
 /// Hart k made that many turns, for each k.
-fn made_by_each(rt: &impl Abort, gate: &Counting, turns: &[u64]) {
+fn made_by_each(rt: &impl Abort, gate: &CountingGate, turns: &[u64]) {
     for (hart, wanted) in turns.iter().enumerate() {
         same(rt, gate.made_by(hart), *wanted);
     }
@@ -67,9 +67,9 @@ fn made_by_each(rt: &impl Abort, gate: &Counting, turns: &[u64]) {
 
 /// A board of so many harts that boots that, what its gate ends, how many turns a hart makes at most, and how many the first harts
 /// make.
-type Row = (u64, &'static [u8], Short, u64, &'static [u64]);
+type CountedRow = (u64, &'static [u8], Short, u64, &'static [u64]);
 
-const ROWS: [Row; 3] = [
+const ROWS: [CountedRow; 3] = [
     // each of eight harts makes its turns, but one that the gate ends
     (8, &[], Some((3, 5)), 20, &[20, 20, 20, 5, 20, 20, 20, 20]),
     // the gate is asked past a million turns
@@ -81,11 +81,11 @@ const ROWS: [Row; 3] = [
 #[test]
 fn each_hart_makes_its_turns(rt: HostRuntime) {
     for (harts, payload, short, turns, made) in ROWS {
-        let gate = Counting::new(short);
-        let trial = Trial {
+        let gate = CountingGate::new(short);
+        let trial = BoardTrial {
             size: (harts, 1, 1),
             payload,
-            ..Trial::of(turns)
+            ..BoardTrial::of(turns)
         };
         ended(&rt, rt.alloc(), &gate, trial);
         made_by_each(&rt, &gate, made);

@@ -1,6 +1,6 @@
 //! Two harts' turns overlap: at their gate each waits for the other, before and after every turn.
 
-use crate::fixtures::{Trial, ended, same};
+use crate::fixtures::{BoardTrial, ended, same};
 use board_model::HartId;
 use hart_threads::Gate;
 use std::sync::atomic::{AtomicBool, AtomicU64, Ordering};
@@ -62,9 +62,9 @@ impl<'a, R: Clock> Gate for Meeting<'a, R> {
 #[test]
 fn two_harts_meet_before_and_after_every_turn(rt: HostRuntime) {
     let gate = Meeting::new(&rt);
-    let trial = Trial {
+    let trial = BoardTrial {
         size: (2, 1, 1),
-        ..Trial::of(100)
+        ..BoardTrial::of(100)
     };
     ended(&rt, rt.alloc(), &gate, trial);
     assert!(&rt; !gate.missed.load(Ordering::SeqCst));

@@ -3,7 +3,8 @@
 ghost use Rattle.std.specs.Prelude.{◌≡◌, None, Some, IfErr, IfOk};
 ghost use Rattle.board_files.specs.Faults.{IsFileFault};
 
-use board_files::{BoardFiles, DiskFile, DiskFiles, Failing, MemoryDisk, PayloadFiles, unreached};
+use crate::memory_disk::{Failing, MemoryDisk};
+use board_files::{BoardFiles, DiskFile, DiskFiles, PayloadFiles, unreached};
 use board_model::Refusal;
 use board_program::Answers;
 use command_line::FileFault;

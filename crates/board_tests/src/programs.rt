@@ -1,10 +1,10 @@
 //! Runs of `sbiboard` over files: what a session answers, what its disk's file holds after it, and what is refused.
 
 use crate::fixtures::same;
+use crate::memory_disk::Failing;
 use crate::memory_files::Broken;
 use crate::runs::{OLD, PLAIN, Run, all_come, all_left, has_status};
 use crate::trials::SLEEPS;
-use board_files::Failing;
 use std::test::*;
 
 static ANSWERED: [Run; 2] = [

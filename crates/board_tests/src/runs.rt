@@ -2,8 +2,8 @@
 //! given, and what has to come of them (docs/CONSOLE.md, "Statuses and faults").
 
 use crate::fixtures::same;
+use crate::memory_disk::MemoryDisk;
 use crate::memory_files::{Broken, FaultOutput, MemoryFiles, Page};
-use board_files::MemoryDisk;
 use board_program::{FileLeft, Operated, operate_on};
 use board_session::Streams;
 use command_line::Pipe;

@@ -4,7 +4,7 @@ ghost use Rattle.std.specs.Prelude.{IfSome};
 ghost use Rattle.store.specs.Leaves.{IsIdle};
 
 use crate::fixtures::same;
-use crate::told::{START, Short, in_turn};
+use crate::told::{START, ShortOutput, in_turn};
 use bench_report::{StoppedRun, run_left};
 use board::{Board, Payloads};
 use board_model::{BootMode, Refusal, Shape};
@@ -31,7 +31,7 @@ fn powered(alloc: Global, disk: SimDisk, mode: BootMode) -> PoweredOn
 
 /// How a run ended: how many lines its report has, or why it stopped; and, of a disk that it gave back, the slot
 /// that a power-on finds.
-type RunEnd = (Result<u64, Refusal>, Option<PoweredOn>);
+type StoppedEnd = (Result<u64, Refusal>, Option<PoweredOn>);
 
 /// How a run ends whose writer takes so many bytes.
 fn ended<R: Threads + Sync>(
@@ -39,9 +39,9 @@ fn ended<R: Threads + Sync>(
     alloc: Global,
     script: &[u8],
     room: usize,
-) -> Result<RunEnd, Fail> {
+) -> Result<StoppedEnd, Fail> {
     let crew = in_turn(rt)?;
-    let mut out = Short { room };
+    let mut out = ShortOutput { room };
     match run_left(alloc, script, &crew, &mut out) {
         Ok((report, disk)) => Ok((Ok(report.lines), Some(powered(alloc, disk, BootMode::Keep)))),
         Err(stopped) => {

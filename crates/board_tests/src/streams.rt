@@ -110,7 +110,7 @@ impl Write for Flushed {
 
 /// A session over a blank disk: its words, the room of its output, how it ends, why its console leaves, what it answers, and how
 /// many of the answers are flushed alone.
-struct Ending {
+struct SessionEnding {
     words: &'static [&'static str],
     room: usize,
     ran: Result<(), Refusal>,
@@ -134,7 +134,7 @@ const THREE: [&str; 10] = [
 ];
 
 /// A session that `quit` ends, and all its harts.
-const QUIT: Ending = Ending {
+const QUIT: SessionEnding = SessionEnding {
     words: &THREE,
     room: 1000,
     ran: Ok(()),
@@ -157,7 +157,7 @@ fn rest_of<R: Abort + Threads + Wait + Sync, I: Read + Drop>(
     rt: &R,
     alloc: Global,
     input: I,
-    ending: &Ending,
+    ending: &SessionEnding,
 ) -> Result<I, Fail> {
     let (given, disk) = begun(alloc, ending.words)?;
     let streams = Streams {
@@ -173,7 +173,7 @@ fn rest_of<R: Abort + Threads + Wait + Sync, I: Read + Drop>(
     Ok(input)
 }
 
-static FALTERS: Ending = Ending {
+static FALTERS: SessionEnding = SessionEnding {
     words: &NEW,
     left: Some(Left::InputFailed),
     told: b"slot ok 1\nstate slot 1 reason 0 image none next 0\n",
@@ -194,10 +194,10 @@ fn an_interrupted_read_goes_on_and_a_failed_one_ends_the_input(
 
 /// The lines of a session, how it ends, and what is left of the lines: each answer is seen at once; one that is not written ends
 /// the session and all harts; and over a disk that is not formatted none is read.
-static LINES: [(&[u8], Ending, &[u8]); 3] = [
+static LINES: [(&[u8], SessionEnding, &[u8]); 3] = [
     (
         b"slot 1\nhello\nquit\n",
-        Ending {
+        SessionEnding {
             words: &NEW,
             told: b"slot ok 1\n?\nquit\n",
             seen: 3,
@@ -207,7 +207,7 @@ static LINES: [(&[u8], Ending, &[u8]); 3] = [
     ),
     (
         b"slot 1\nslot 2\n",
-        Ending {
+        SessionEnding {
             room: 0,
             ran: Err(Refusal::Output),
             left: Some(Left::Unwritten),
@@ -219,7 +219,7 @@ static LINES: [(&[u8], Ending, &[u8]); 3] = [
     ),
     (
         b"state\n",
-        Ending {
+        SessionEnding {
             words: &OLD,
             ran: Err(Refusal::NotFormatted),
             left: None,
@@ -239,7 +239,7 @@ fn answers_are_seen_at_once_or_end_the_session(rt: HostRuntime) -> Result<(), Fa
     Ok(())
 }
 
-static QUITS: Ending = QUIT;
+static QUITS: SessionEnding = QUIT;
 
 #[test]
 fn quit_ends_all_harts(rt: HostRuntime) -> Result<(), Fail> {

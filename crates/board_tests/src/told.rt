@@ -19,12 +19,12 @@ pub fn in_turn<R: Threads + Sync>(_rt: &R) -> Result<Sequential<R>, Fail> {
 
 /// A writer that takes so many bytes, and then fails.
 #[derive(Drop)]
-pub struct Short {
+pub struct ShortOutput {
     /// How many bytes it still takes.
     pub room: usize,
 }
 
-impl Write for Short {
+impl Write for ShortOutput {
     fn write(&mut self, buf: &[u8]) -> io::Result<usize> {
         if self.room == 0 {
             return Err(io::Error::from(ErrorKind::StorageFull));

@@ -30,9 +30,9 @@ impl fmt::Display for HeadText {
 
 /// The line of an image, which has so many pages, or nothing where there is none.
 #[derive(Drop)]
-struct ImageText(Option<ImageHead>, u32);
+struct StandingImageText(Option<ImageHead>, u32);
 
-impl fmt::Display for ImageText {
+impl fmt::Display for StandingImageText {
     ghost output = { λ i. Some (image_text i.1 i.0) };
 
     fn fmt<W: fmt::Write>(&self, f: &mut fmt::Formatter<W>) -> fmt::Result {
@@ -59,7 +59,7 @@ impl fmt::Display for FoundText {
             None => Ok(()),
             Some(found) => {
                 let state = StateText(found.state);
-                let image = ImageText(found.state.image, found.pages);
+                let image = StandingImageText(found.state.image, found.pages);
                 write!(f, "found {state}\n{image}")
             }
         }

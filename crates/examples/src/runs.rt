@@ -43,7 +43,7 @@ pub enum RunFault {
 
 /// The streams of a run.
 #[derive(Clone, Copy, Drop)]
-struct Streams {
+struct GivenStreams {
     input_fails: bool,
     output: Room,
     faults: Room,
@@ -64,7 +64,7 @@ const CLOSED: Room = Room {
 };
 
 /// Streams of which none fails.
-const WHOLE: Streams = Streams {
+const WHOLE: GivenStreams = GivenStreams {
     input_fails: false,
     output: ALL,
     faults: ALL,
@@ -72,10 +72,10 @@ const WHOLE: Streams = Streams {
 
 /// What a file says of a run, and what has to come of it.
 #[derive(Drop)]
-struct Run<'a> {
+struct CommandRun<'a> {
     words: &'a str,
     status: u8,
-    streams: Streams,
+    streams: GivenStreams,
     input: &'a str,
     /// Whether only the end of the output is told.
     is_end: bool,
@@ -84,24 +84,24 @@ struct Run<'a> {
 }
 
 /// The streams by their name in a file.
-fn streams_of(text: &str) -> Option<Streams> {
+fn streams_of(text: &str) -> Option<GivenStreams> {
     if text == "whole" {
         return Some(WHOLE);
     }
     if text == "input fails" {
-        return Some(Streams {
+        return Some(GivenStreams {
             input_fails: true,
             ..WHOLE
         });
     }
     if text == "error closed" {
-        return Some(Streams {
+        return Some(GivenStreams {
             faults: CLOSED,
             ..WHOLE
         });
     }
     if text == "error a terminal" {
-        return Some(Streams {
+        return Some(GivenStreams {
             faults: Room {
                 is_terminal: true,
                 ..ALL
@@ -109,7 +109,7 @@ fn streams_of(text: &str) -> Option<Streams> {
             ..WHOLE
         });
     }
-    Some(Streams {
+    Some(GivenStreams {
         output: output_of(text)?,
         ..WHOLE
     })
@@ -152,10 +152,10 @@ fn texts_of(text: &str) -> Option<(&str, &str, &str, &str)> {
 }
 
 /// The run that a file asks for: its lines, and then its texts.
-fn run_of(text: &str) -> Option<Run<'_>> {
+fn run_of(text: &str) -> Option<CommandRun<'_>> {
     let (words, status, streams, text) = lines_of(text)?;
     let (input, end, output, faults) = texts_of(text)?;
-    Some(Run {
+    Some(CommandRun {
         words,
         status: status.strip_prefix("status ")?.parse().ok()?,
         streams: streams_of(streams)?,
@@ -167,7 +167,7 @@ fn run_of(text: &str) -> Option<Run<'_>> {
 }
 
 /// Compares what the run wrote, or the end of it.
-fn compare_output(run: &Run<'_>, written: &[u8]) -> Result<(), RunFault> {
+fn compare_output(run: &CommandRun<'_>, written: &[u8]) -> Result<(), RunFault> {
     let told = run.output.as_bytes();
     if run.is_end && written.ends_with(told) {
         return Ok(());
@@ -180,9 +180,9 @@ fn compare_output(run: &Run<'_>, written: &[u8]) -> Result<(), RunFault> {
 
 /// A clock that stands still, by which no run is a long one.
 #[derive(Clone, Copy, Drop)]
-struct Stopped;
+struct StoppedClock;
 
-impl Clock for Stopped {
+impl Clock for StoppedClock {
     fn monotonic(&self) -> io::Result<Duration> {
         Ok(Duration::ZERO)
     }
@@ -197,7 +197,7 @@ fn compare_held<R: Threads + Sync>(
     alloc: Global,
     threads: &R,
     files: &Folder<'_>,
-    run: &Run<'_>,
+    run: &CommandRun<'_>,
     held_back: usize,
 ) -> Result<(), RunFault> {
     let words: Vec<&str> = match run.words.split(' ').collect(alloc) {
@@ -219,7 +219,7 @@ fn compare_held<R: Threads + Sync>(
         &mut out,
         Telling {
             faults: &mut faults,
-            clock: &Stopped,
+            clock: &StoppedClock,
             is_shared: false,
         },
     );

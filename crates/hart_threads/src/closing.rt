@@ -27,13 +27,13 @@ pub enum AfterConsole {
 
 /// The receipt of the command with which a hart ended the life. Only one that was told makes it.
 #[derive(Drop)]
-pub struct Last<J: Journal> {
+pub struct LastReceipt<J: Journal> {
     number: u32,
     entry: Entry,
     of: PhantomData<J>,
 }
 
-impl<J: Journal> Model for Last<J> {
+impl<J: Journal> Model for LastReceipt<J> {
     ghost Value = { ℕ × Entry };
 
     ghost view = { λ l. (l.number, l.entry) };
@@ -41,13 +41,13 @@ impl<J: Journal> Model for Last<J> {
     ghost invariant = { λ l. EndsLife J.found l.number l.entry };
 }
 
-impl<J: Journal> Last<J> {
-    fn of(told: &CommandReceipt<J>) -> Last<J>
+impl<J: Journal> LastReceipt<J> {
+    fn of(told: &CommandReceipt<J>) -> LastReceipt<J>
         requires { is_end told.now.1 ≡ true }
         ensures { result ≡ told.now }
     {
         told.stands();
-        Last {
+        LastReceipt {
             number: told.number(),
             entry: told.entry(),
             of: PhantomData,
@@ -107,7 +107,7 @@ pub struct Parted<'a, J: Threaded> {
 #[derive(Drop)]
 pub enum Shut<'a, J: Threaded> {
     /// A hart ended the life.
-    Life(&'a Last<J>),
+    Life(&'a LastReceipt<J>),
     /// The console has left, and halted the harts.
     Console(Halted<'a, J>),
 }
@@ -169,7 +169,7 @@ impl<'l, D: Disk + Drop, J: Threaded> Unhalted<'l, D, J> {
 /// stays. What the loops look at is the halt, which is set once one of the two was said.
 #[derive(Drop)]
 pub struct Closing<J: Threaded> {
-    life: OnceLock<Last<J>>,
+    life: OnceLock<LastReceipt<J>>,
     console: OnceLock<AfterConsole>,
     halt: Halt,
     pub ghost named: { console.id ≡ J.parting },
@@ -261,7 +261,7 @@ impl<J: Threaded> Closing<J> {
         requires { ends_life told.now ≡ true }
     {
         if let Some(told) = told {
-            let _first = self.life.try_set(Last::of(told));
+            let _first = self.life.try_set(LastReceipt::of(told));
         }
         self.close()
     }

@@ -22,12 +22,12 @@ use turns::resume;
 /// How often a hart in whose doze its board was looked at the bus, and how often it found that the board was woken. Only
 /// a look at a bus counts here.
 #[derive(Drop)]
-pub struct Looks {
+pub struct DozeLooks {
     made: u64,
     woken: u64,
 }
 
-impl Model for Looks {
+impl Model for DozeLooks {
     ghost Value = { Looked };
 
     ghost view = { λ l. record { made = l.made; woken = l.woken } };
@@ -35,12 +35,12 @@ impl Model for Looks {
     ghost invariant = { λ l. l.woken ≤ l.made };
 }
 
-impl Looks {
+impl DozeLooks {
     /// None yet.
-    pub(crate) fn none() -> Looks
+    pub(crate) fn none() -> DozeLooks
         ensures { result ≡ no_looks }
     {
-        Looks { made: 0, woken: 0 }
+        DozeLooks { made: 0, woken: 0 }
     }
 
     /// How many looks there were: as many as turns that the hart made in a doze.
@@ -102,7 +102,7 @@ pub(crate) fn doze_turn<J: Journal>(
     seats: Seats,
     tables: &Tables,
     doze: Doze,
-    looks: &mut Looks,
+    looks: &mut DozeLooks,
 ) -> (Seats, Word, Option<Doze>)
     requires seats { AreSeatsOfBoth tables.now seats }
     requires hart { hart.old.id < harts_of_both tables.now }

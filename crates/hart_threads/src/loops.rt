@@ -11,7 +11,7 @@ ghost use Rattle.hart_threads.specs.Seated.{IsSeated, StandsAfter};
 ghost use Rattle.hart_threads.specs.Threads.{seated, loop_goes_on, ends_life, LoopOnce};
 
 use crate::closing::{HaltPolls, Shut};
-use crate::dozes::Looks;
+use crate::dozes::DozeLooks;
 use crate::gates::Gate;
 use crate::shared::{HartLocal, LoopBoard};
 use crate::threaded::Threaded;
@@ -45,7 +45,7 @@ pub struct Ended<'a, J: Threaded> {
     /// What it has beside its registers. Its part of the receipts was told that of `told`, and no other.
     pub local: HartLocal<J>,
     /// Its looks at the bus in a doze.
-    pub looks: Looks,
+    pub looks: DozeLooks,
     /// How often it asked what ends all loops, and nothing did: once for each turn.
     pub asked: HaltPolls<J>,
     /// How many turns it made.
@@ -79,7 +79,7 @@ fn goes_on(word: Word) -> bool
 struct HartRun<J: Threaded> {
     hart: Hart,
     local: HartLocal<J>,
-    looks: Looks,
+    looks: DozeLooks,
     asked: HaltPolls<J>,
 }
 
@@ -164,7 +164,7 @@ pub fn hart_loop<'c, R: Wait, G: Gate, D: Disk + Drop, J: Threaded, C: Crew>(
     let mut run = HartRun {
         hart,
         local,
-        looks: Looks::none(),
+        looks: DozeLooks::none(),
         asked: HaltPolls::none(board.closing),
     };
     let mut locks = locks;

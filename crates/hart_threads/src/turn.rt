@@ -12,7 +12,7 @@ ghost use Rattle.hart_threads.specs.Seated.{IsSeated, StandsAfterTurn};
 ghost use Rattle.hart_threads.specs.Threads.{seated, ComesOnce, OwnOnce, DozeOnce, TurnOnce};
 
 use crate::closing::Unhalted;
-use crate::dozes::{Looks, doze_turn};
+use crate::dozes::{DozeLooks, doze_turn};
 use crate::gates::Gate;
 use crate::once::{LockedBus, call_locked};
 use crate::shared::{HartLocal, LoopBoard, TurnEnd};
@@ -178,7 +178,7 @@ fn dozing_turn<R: Wait, D: Disk + Drop, J: Threaded>(
     tables: &Tables,
     locks: &mut Locks<'_, D, J>,
     hart: &mut Hart,
-    looks: &mut Looks,
+    looks: &mut DozeLooks,
     local: HartLocal<J>,
     doze: Doze,
 ) -> TurnEnd<J>
@@ -224,7 +224,7 @@ pub(crate) fn whole_turn<'a, R: Wait, D: Disk + Drop, J: Threaded, C: Crew>(
     rt: &R,
     board: LoopBoard<'_, '_, J, C>,
     hart: &mut Hart,
-    looks: &mut Looks,
+    looks: &mut DozeLooks,
     local: HartLocal<J>,
     allowed: Allowed<'a, D, J>,
 ) -> (TurnEnd<J>, TurnMade<'a, D, J>)

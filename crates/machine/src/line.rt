@@ -1,7 +1,9 @@
 //! The lines, and their texts.
 
 ghost use Rattle.std.specs.Prelude.{◌≡◌, ◌++◌, ◌≤◌, Some, take};
-ghost use Rattle.machine.specs.Texts.{did_text, reset_text, end_text, word_text, hex_text, bytes_text, machine_line_text};
+ghost use Rattle.std.specs.Fmt.{WritesOnOk};
+ghost use Rattle.machine.specs.declared.line.MachineLine.TheVariants as lines;
+ghost use Rattle.machine.specs.Texts.{did_text, end_text, word_text, hex_text, bytes_text, machine_line_text};
 
 use board_model::{HartId, Slot};
 use sbi::{Did, LifeEnd, ResetType, Word};
@@ -45,74 +47,40 @@ pub enum MachineLine {
     Off,
 }
 
-#[derive(Drop)]
-struct DidName(Did);
-
-impl fmt::Display for DidName {
-    ghost output = { λ d. Some (did_text d.0) };
-
-    fn fmt<W: fmt::Write>(&self, f: &mut fmt::Formatter<W>) -> fmt::Result {
-        match self.0 {
-            Did::Idle => write!(f, "idle"),
-            Did::Entered => write!(f, "entered"),
-            Did::Woke => write!(f, "woke"),
-            Did::Resumed => write!(f, "resumed"),
-            Did::Next => write!(f, "next"),
-            Did::Suspended => write!(f, "suspended"),
-            Did::Stopped => write!(f, "stopped"),
-            Did::Dozing => write!(f, "dozing"),
-        }
+/// What a hart did.
+fn did_name(did: Did) -> &'static str
+    ensures { result.now ≡ did_text did }
+{
+    match did {
+        Did::Idle => "idle",
+        Did::Entered => "entered",
+        Did::Woke => "woke",
+        Did::Resumed => "resumed",
+        Did::Next => "next",
+        Did::Suspended => "suspended",
+        Did::Stopped => "stopped",
+        Did::Dozing => "dozing",
     }
 }
 
-#[derive(Drop)]
-struct ResetName(ResetType);
-
-impl fmt::Display for ResetName {
-    ghost output = { λ k. Some (reset_text k.0) };
-
-    fn fmt<W: fmt::Write>(&self, f: &mut fmt::Formatter<W>) -> fmt::Result {
-        match self.0 {
-            ResetType::Shutdown => write!(f, "shutdown"),
-            ResetType::ColdReboot => write!(f, "reboot"),
-        }
+/// How the life ended.
+fn end_name(end: LifeEnd) -> &'static str
+    ensures { result.now ≡ end_text end }
+{
+    match end {
+        LifeEnd::Asleep => "asleep",
+        LifeEnd::Reset(ResetType::Shutdown) => "shutdown",
+        LifeEnd::Reset(ResetType::ColdReboot) => "reboot",
     }
 }
 
-#[derive(Drop)]
-struct EndName(LifeEnd);
-
-impl fmt::Display for EndName {
-    ghost output = { λ e. Some (end_text e.0) };
-
-    fn fmt<W: fmt::Write>(&self, f: &mut fmt::Formatter<W>) -> fmt::Result {
-        match self.0 {
-            LifeEnd::Asleep => write!(f, "asleep"),
-            LifeEnd::Reset(kind) => {
-                let text = ResetName(kind);
-                write!(f, "{text}")
-            }
-        }
-    }
-}
-
-#[derive(Drop)]
-struct WordText(Word);
-
-impl fmt::Display for WordText {
-    ghost output = { λ w. Some (word_text w.0) };
-
-    fn fmt<W: fmt::Write>(&self, f: &mut fmt::Formatter<W>) -> fmt::Result {
-        match self.0 {
-            Word::Goes(did) => {
-                let text = DidName(did);
-                write!(f, "{text}")
-            }
-            Word::Over(end) => {
-                let text = EndName(end);
-                write!(f, "{text}")
-            }
-        }
+/// The word of a turn or of a call.
+fn word_name(word: Word) -> &'static str
+    ensures { result.now ≡ word_text word }
+{
+    match word {
+        Word::Goes(did) => did_name(did),
+        Word::Over(end) => end_name(end),
     }
 }
 
@@ -196,36 +164,116 @@ impl MemBytes {
     }
 }
 
+/// `turn H K WORD`
+fn write_turn<W: fmt::Write>(
+    f: &mut fmt::Formatter<W>,
+    hart: HartId,
+    count: u32,
+    word: Word,
+) -> fmt::Result
+    ensures { WritesOnOk W.write_str_gives f.old result (machine_line_text (lines.Turn hart count word)) f.new }
+{
+    write!(f, "turn {} {count} {}", hart.number(), word_name(word))
+}
+
+/// `call H error E value V`
+fn write_answered<W: fmt::Write>(
+    f: &mut fmt::Formatter<W>,
+    hart: HartId,
+    error: u64,
+    value: u64,
+) -> fmt::Result
+    ensures { WritesOnOk W.write_str_gives f.old result (machine_line_text (lines.Answered hart error value)) f.new }
+{
+    let error = error.cast_signed();
+    let text = Value(value);
+    write!(f, "call {} error {error} value 0x{text}", hart.number())
+}
+
+/// `call H WORD`
+fn write_called<W: fmt::Write>(f: &mut fmt::Formatter<W>, hart: HartId, word: Word) -> fmt::Result
+    ensures { WritesOnOk W.write_str_gives f.old result (machine_line_text (lines.Called hart word)) f.new }
+{
+    write!(f, "call {} {}", hart.number(), word_name(word))
+}
+
+/// `call H not started`
+fn write_not_started<W: fmt::Write>(f: &mut fmt::Formatter<W>, hart: HartId) -> fmt::Result
+    ensures { WritesOnOk W.write_str_gives f.old result (machine_line_text (lines.NotStarted hart)) f.new }
+{
+    write!(f, "call {} not started", hart.number())
+}
+
+/// `reg H R V`
+fn write_reg<W: fmt::Write>(
+    f: &mut fmt::Formatter<W>,
+    hart: HartId,
+    register: u32,
+    value: u64,
+) -> fmt::Result
+    ensures { WritesOnOk W.write_str_gives f.old result (machine_line_text (lines.Reg hart register value)) f.new }
+{
+    write!(f, "reg {} {register} 0x{}", hart.number(), Value(value))
+}
+
+/// `pc H V`
+fn write_pc<W: fmt::Write>(f: &mut fmt::Formatter<W>, hart: HartId, value: u64) -> fmt::Result
+    ensures { WritesOnOk W.write_str_gives f.old result (machine_line_text (lines.Pc hart value)) f.new }
+{
+    write!(f, "pc {} 0x{}", hart.number(), Value(value))
+}
+
+/// `csr H C V`
+fn write_csr<W: fmt::Write>(
+    f: &mut fmt::Formatter<W>,
+    hart: HartId,
+    csr: u32,
+    value: u64,
+) -> fmt::Result
+    ensures { WritesOnOk W.write_str_gives f.old result (machine_line_text (lines.Csr hart csr value)) f.new }
+{
+    let name = CsrName(csr);
+    write!(f, "csr {} 0x{name} 0x{}", hart.number(), Value(value))
+}
+
+/// `pending 0xMM`
+fn write_pending<W: fmt::Write>(f: &mut fmt::Formatter<W>, harts: u32) -> fmt::Result
+    ensures { WritesOnOk W.write_str_gives f.old result (machine_line_text (lines.Pending harts)) f.new }
+{
+    write!(f, "pending 0x{}", Set(harts))
+}
+
+/// `mem HEX`
+fn write_mem<W: fmt::Write>(f: &mut fmt::Formatter<W>, bytes: &MemBytes) -> fmt::Result
+    ensures { WritesOnOk W.write_str_gives f.old result (machine_line_text (lines.Mem bytes.now)) f.new }
+{
+    write!(f, "mem {}", Hex(bytes.shown()))
+}
+
+/// `payload S N`
+fn write_payload<W: fmt::Write>(f: &mut fmt::Formatter<W>, slot: Slot, count: usize) -> fmt::Result
+    ensures { WritesOnOk W.write_str_gives f.old result (machine_line_text (lines.Payload slot count)) f.new }
+{
+    write!(f, "payload {} {count}", slot.number())
+}
+
 impl fmt::Display for MachineLine {
     ghost output = { λ line. Some (machine_line_text line) };
 
     fn fmt<W: fmt::Write>(&self, f: &mut fmt::Formatter<W>) -> fmt::Result {
         match *self {
-            MachineLine::Turn(hart, count, word) => {
-                write!(f, "turn {} {count} {}", hart.number(), WordText(word))
-            }
-            MachineLine::Answered(hart, error, value) => {
-                let error = error.cast_signed();
-                let text = Value(value);
-                write!(f, "call {} error {error} value 0x{text}", hart.number())
-            }
-            MachineLine::Called(hart, word) => {
-                write!(f, "call {} {}", hart.number(), WordText(word))
-            }
-            MachineLine::NotStarted(hart) => write!(f, "call {} not started", hart.number()),
-            MachineLine::Reg(hart, register, value) => {
-                write!(f, "reg {} {register} 0x{}", hart.number(), Value(value))
-            }
-            MachineLine::Pc(hart, value) => { write!(f, "pc {} 0x{}", hart.number(), Value(value)) }
-            MachineLine::Csr(hart, csr, value) => {
-                let name = CsrName(csr);
-                write!(f, "csr {} 0x{name} 0x{}", hart.number(), Value(value))
-            }
-            MachineLine::Pending(harts) => write!(f, "pending 0x{}", Set(harts)),
-            MachineLine::Mem(bytes) => write!(f, "mem {}", Hex(bytes.shown())),
-            MachineLine::Payload(slot, count) => { write!(f, "payload {} {count}", slot.number()) }
-            MachineLine::Busy => write!(f, "busy"),
-            MachineLine::Off => write!(f, "off"),
+            MachineLine::Turn(hart, count, word) => write_turn(f, hart, count, word),
+            MachineLine::Answered(hart, error, value) => write_answered(f, hart, error, value),
+            MachineLine::Called(hart, word) => write_called(f, hart, word),
+            MachineLine::NotStarted(hart) => write_not_started(f, hart),
+            MachineLine::Reg(hart, register, value) => write_reg(f, hart, register, value),
+            MachineLine::Pc(hart, value) => write_pc(f, hart, value),
+            MachineLine::Csr(hart, csr, value) => write_csr(f, hart, csr, value),
+            MachineLine::Pending(harts) => write_pending(f, harts),
+            MachineLine::Mem(bytes) => write_mem(f, &bytes),
+            MachineLine::Payload(slot, count) => write_payload(f, slot, count),
+            MachineLine::Busy => f.write_str("busy"),
+            MachineLine::Off => f.write_str("off"),
         }
     }
 }

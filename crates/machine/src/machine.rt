@@ -1,6 +1,6 @@
 //! The memory, the harts, and both tables with the one seat of all harts.
 
-ghost use Rattle.std.specs.Prelude.{◌≡◌, ◌⊎◌, ◌≤◌, ◌<◌, ◌+◌, ◌*◌, ℕ, length, IfOk, IfErr, IsOk, IsErrOf, OnOk, OnErr, true, Ok, Err, Some, None, IsTrue, ◌↔◌};
+ghost use Rattle.std.specs.Prelude.{◌≡◌, ◌⊎◌, ◌≤◌, ◌<◌, ◌+◌, ◌-◌, ◌*◌, ◌++◌, ℕ, length, replicate, IfOk, IfErr, IsOk, IsErrOf, OnOk, OnErr, true, Ok, Err, Some, None, IsTrue, ◌↔◌};
 ghost use Rattle.board_model.specs.Durable.{Image};
 ghost use Rattle.board_model.specs.Shapes.{ram_bytes_of};
 ghost use Rattle.board_model.specs.declared.refusal.Refusal.TheVariants.{Memory, NotDozing};
@@ -77,6 +77,17 @@ fn stopped_harts(alloc: Global, shape: &Shape) -> Result<Vec<Hart>, Refusal>
     Ok(harts)
 }
 
+/// Puts the payload first in a memory of zeros, that of a board of that shape. Without a payload nothing is written.
+fn put_payload(shape: &Shape, ram: &mut Ram, payload: &[u8])
+    requires zeros { ram.old ≡ replicate (ram_bytes_of shape.now) 0 }
+    requires fits { length payload.now ≤ ram_bytes_of shape.now }
+    ensures { ram.new ≡ payload.now ++ replicate (ram_bytes_of shape.now - length payload.now) 0 }
+{
+    if !payload.is_empty() {
+        ram.boot(payload);
+    }
+}
+
 impl Machine {
     /// A board of that shape before a boot, whose hart `first` is to begin: RAM is zeros, every other hart is
     /// STOPPED, and no interrupt is pending. Refused 11 where there is no room for it.
@@ -112,7 +123,7 @@ impl Machine {
         requires fits { length payload.now ≤ ram_bytes_of shape.now }
         ensures { self.new ≡ machine_begun payload.now reason shape.now }
     {
-        self.bus.ram.boot(payload);
+        put_payload(shape, &mut self.bus.ram, payload);
         if let Some(first) = shape.hart(0) {
             self.harts[0] = Hart::fresh(first, RAM_BASE, u64::from(reason.number()));
         }

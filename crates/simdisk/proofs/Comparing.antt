@@ -27,8 +27,11 @@ leaves_alike stood stood' now c ps rs none was is a =
     let same : (k : ℕ) → Untouched (ranges (pieces ps)) k = λ k. untouched_none ps k none in
     record { as_long = a.as_long ∙ sym was.as_long ∙ is.as_long; same = λ k u. a.same k (same k) ∙ sym (was.same k (same k)) ∙ is.same k u }
 
+-- what a read gives stood at the last sync
+pub stood_settled : (stood now : Content) (ps : List Patch) → All is_empty ps → AgreesOutside stood (ranges (pieces ps)) now → now ≡ stood
+stood_settled stood now ps none a = agrees_all stood now (record { as_long = a.as_long; same = λ k u. a.same k (untouched_none ps k none) })
+
 -- and by each fill a crash leaves what stood
 pub left_settled : (fill : Fill) (stood : Content) (ps : List Patch) → All is_empty ps → AreWithin (length stood) (ranges (pieces ps)) → left_by_fill fill stood (pieces ps) ≡ stood
 left_settled fill stood ps none fits =
-    let a = left_agrees fill stood (pieces ps) fits in
-    agrees_all stood (left_by_fill fill stood (pieces ps)) (record { as_long = a.as_long; same = λ k u. a.same k (untouched_none ps k none) })
+    stood_settled stood (left_by_fill fill stood (pieces ps)) ps none (left_agrees fill stood (pieces ps) fits)

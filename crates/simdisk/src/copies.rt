@@ -11,11 +11,11 @@ use crate::logged::Logged;
 use crate::patch::{Patch, copy_of};
 use crate::remembered::Remembered;
 use crate::sim::SimDisk;
-use disk::{CopyDisk, Disk, Log};
+use disk::{CopyDisk, Disk, Log, Sector};
 use std::alloc::{AllocError, Global};
 
 impl Remembered {
-    /// The same once more.
+    /// What this remembers, kept apart from it.
     fn again(&self) -> Remembered
         ensures { (result.kept.log ≡ self.now.kept.log) × (result.kept.armings ≡ self.now.kept.armings) }
     {
@@ -26,7 +26,7 @@ impl Remembered {
 }
 
 impl Patch {
-    /// The same sectors, written where these were.
+    /// A copy of the patch, at the place of this one.
     fn again(&self) -> Patch
         ensures { piece result ≡ piece self.now }
     {
@@ -38,7 +38,7 @@ impl Patch {
     }
 }
 
-/// The same patches once more.
+/// A copy of each of these patches, in their order.
 fn patches_again(alloc: Global, patches: &[Patch]) -> Result<Vec<Patch>, AllocError>
     ensures { IfOk result (λ copy. pieces copy.items ≡ pieces patches.now) }
 {
@@ -57,18 +57,33 @@ pub(crate) fn are_empty(patches: &[Patch]) -> bool
 }
 
 impl History {
+    ghost use Rattle.disk.specs.WriteLog.{ranges, synced, AgreesOutside};
     ghost use Rattle.simdisk.specs.History.{log_of, Stands};
-    ghost use Rattle.simdisk.specs.Latest.{HasPlace};
+    ghost use Rattle.simdisk.specs.Latest.{latest_of, HasPlace};
 
-    /// The history of a disk of its own with the same writes and syncs, and of so many sectors.
-    fn copy(&self, alloc: Global, count: usize) -> Result<History, AllocError>
-        requires place { HasPlace count self.now.stood }
+    /// What stood at the last sync, for a disk of its own of that content. It is kept apart only where something was written since.
+    fn stood_copy(&self, alloc: Global, content: &[Sector]) -> Result<Latest, AllocError>
+        requires agrees { AgreesOutside (synced (log_of self.now)) (ranges (pieces self.now.written.items)) content.now }
+        requires stands { Stands content.now self.now }
+        ensures is { IfOk result (λ copy. latest_of copy content.now ≡ synced (log_of self.now)) }
+        ensures place { IfOk result (λ copy. HasPlace (length content.now) copy) }
+    {
+        if are_empty(&self.written) {
+            return Latest::begun(alloc, content.len());
+        }
+        self.stood.copy(alloc, content.len())
+    }
+
+    /// The history of a disk of its own of that content, with the same writes and syncs.
+    fn copy(&self, alloc: Global, content: &[Sector]) -> Result<History, AllocError>
+        requires agrees { AgreesOutside (synced (log_of self.now)) (ranges (pieces self.now.written.items)) content.now }
+        requires stands { Stands content.now self.now }
         ensures log { IfOk result (λ copy. log_of copy ≡ log_of self.now) }
         ensures pieces { IfOk result (λ copy. pieces copy.written.items ≡ pieces self.now.written.items) }
-        ensures stands { IfOk result (λ copy. (c : Content) → length c ≡ count → Stands c self.now → Stands c copy) }
+        ensures stands { IfOk result (λ copy. Stands content.now copy) }
     {
         Ok(History {
-            stood: self.stood.copy(alloc, count)?,
+            stood: self.stood_copy(alloc, content)?,
             written: patches_again(alloc, &self.written)?,
             past: self.past.again(),
         })
@@ -115,7 +130,7 @@ impl CopyDisk for SimDisk {
     {
         let alloc = self.alloc;
         let content = copy_of(alloc, &self.content)?;
-        let history = self.history.copy(alloc, self.content.len())?;
+        let history = self.history.copy(alloc, &self.content)?;
         let latest = self.latest.copy(alloc, self.content.len())?;
         let lane_calls = self.lane_calls;
         Ok(SimDisk {

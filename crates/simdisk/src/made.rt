@@ -97,10 +97,10 @@ impl SimDisk {
     {
         let mut content = self.content;
         let mut latest = self.latest;
-        let last = latest.over(&content);
-        let history = self.history.left(self.alloc, fill, &content, last);
+        let mut history = self.history;
+        history.cut(fill, &mut content, &latest);
+        let history = history.begun_anew(self.alloc, &content);
         latest.as_read = true;
-        content.copy_from_slice(&history.stood.sectors);
         let lane_calls = self.lane_calls;
         SimDisk {
             alloc: self.alloc,

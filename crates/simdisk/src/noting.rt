@@ -4,6 +4,7 @@ ghost use Rattle.disk.specs.Facts.{Content, Handed, Torn};
 ghost use Rattle.simdisk.specs.Views.{IsLatest, left_by_fill, pieces};
 ghost use Rattle.disk.specs.WriteLog.{new_log, more_written, more_synced, lent_piece, newest, replay, synced, ranges, AgreesOutside, AreWithin};
 
+use crate::copies::are_empty;
 use crate::faults::Faults;
 use crate::fill::Fill;
 use crate::history::History;
@@ -35,6 +36,7 @@ fn leave(content: &mut Vec<Sector>, written: &[Patch], fill: Fill, last: &[Secto
 
 impl History {
     ghost use Rattle.simdisk.specs.History.{log_of, Stands};
+    ghost use Rattle.simdisk.specs.Latest.{latest_of, HasPlace};
     ghost use Rattle.simdisk.specs.Views.{lent_of};
     ghost use Rattle.simdisk.specs.Lanes.{lane_view, lane_state};
     ghost use Rattle.simdisk.specs.LaneStates.{AreLent};
@@ -191,32 +193,37 @@ impl History {
         Ok(left)
     }
 
-    /// The log of the disk that a crash leaves by that fill of one of that content, where those sectors would stand
-    /// had each write gone through. What the crash leaves is kept apart in it.
-    pub(crate) fn left(
-        self,
-        alloc: Global,
-        fill: Fill,
-        content: &[Sector],
-        last: &[Sector],
-    ) -> History
-        requires last { last.now ≡ newest (log_of self) }
-        requires stands { Stands content.now self }
-        ensures log { log_of result
-            ≡ new_log (left_by_fill fill (synced (log_of self)) (pieces self.written.items)) }
-        ensures content { result.stood.sectors.items
-            ≡ left_by_fill fill (synced (log_of self)) (pieces self.written.items) }
-        ensures as_long { length result.stood.sectors.items ≡ length content.now }
-        ensures stands { (c : Content) → length c ≡ length content.now → Stands c result }
+    /// Makes of that content what a crash by that fill leaves of its disk, on which that was written last. Where nothing was
+    /// written since the last sync it stays, and nothing is copied.
+    pub(crate) fn cut(&mut self, fill: Fill, content: &mut Vec<Sector>, latest: &Latest)
+        requires newest { newest (log_of self.old) ≡ latest_of latest.now content.old.items }
+        requires agrees { AgreesOutside (synced (log_of self.old)) (ranges (pieces self.old.written.items)) content.old.items }
+        requires stands { Stands content.old.items self.old }
+        ensures left { content.new.items ≡ left_by_fill fill (synced (log_of self.old)) (pieces self.old.written.items) }
+        ensures place { HasPlace (length content.new.items) self.new.stood }
+        ensures as_long { length content.new.items ≡ length content.old.items }
+    {
+        if are_empty(&self.written) {
+            return;
+        }
+        self.stood.part(content);
+        let last = latest.over(content);
+        leave(&mut self.stood.sectors, &self.written, fill, last);
+        content.copy_from_slice(&self.stood.sectors);
+    }
+
+    /// The log of a disk that begins with these sectors, in the room of this one.
+    pub(crate) fn begun_anew(self, alloc: Global, sectors: &[Sector]) -> History
+        requires place { HasPlace (length sectors.now) self.stood }
+        ensures log { log_of result ≡ new_log sectors.now }
+        ensures stands { Stands sectors.now result }
     {
         let mut stood = self.stood;
-        stood.part(content);
-        leave(&mut stood.sectors, &self.written, fill, last);
-        let past = Remembered::of(&stood.sectors);
+        stood.as_read = true;
         History {
             stood,
             written: Vec::new(alloc),
-            past,
+            past: Remembered::of(sectors),
         }
     }
 }

@@ -88,7 +88,7 @@ impl Patch {
     }
 }
 
-/// The same sectors again.
+/// A copy of these sectors.
 pub(crate) fn copy_of(alloc: Global, sectors: &[Sector]) -> Result<Vec<Sector>, AllocError>
     ensures { IfOk result (λ copy. copy.items ≡ sectors.now) }
 {

@@ -92,7 +92,7 @@ impl Remembered {
         self.kept = Log::with_parts(&(&self.kept, fault));
     }
 
-    /// The same faults.
+    /// The faults that this remembers, and nothing else of it.
     pub(crate) fn same_armings(&self) -> Remembered
         ensures { result.kept.armings ≡ self.now.kept.armings }
     {

@@ -14,14 +14,14 @@ type Told = (u32, Option<Result<u32, Refusal>>);
 
 /// Commands over a file: after how many calls of the file what happens to it, the commands, and the slot that the next process
 /// finds.
-type Row = (u64, FileFate, &'static [Told], u32);
+type FateRow = (u64, FileFate, &'static [Told], u32);
 
 /// The four calls of the disk are four of the file: the record's sector and its sync, the gate's sector and its sync. Before
 /// the gate is written the state is the old one; a failure of its write or its sync leaves the command in doubt, and the next
 /// process finds what the file then holds, which is the old state where a failed sync loses what was written. A process that
 /// is killed leaves the state before the command until the gate was written, and then the one after it. What a failed sync left
 /// out of the file, or lost, is written by the next one.
-static ROWS: [Row; 14] = [
+static ROWS: [FateRow; 14] = [
     (4, FileFate::Killed, &[(2, Some(Ok(1)))], 2),
     (4, FileFate::Fails, &[(3, Some(Ok(1)))], 3),
     (0, FileFate::Fails, &[(2, Some(Err(Refusal::Device)))], 0),
@@ -70,7 +70,7 @@ fn slot_left(
 }
 
 /// Commands over that file are answered as the row says, and the next process finds its slot.
-fn comes_to(rt: &impl Abort, alloc: Global, file: &[Sector], row: &Row) {
+fn comes_to(rt: &impl Abort, alloc: Global, file: &[Sector], row: &FateRow) {
     let (left, fate, commands, stands) = *row;
     let mut store = opened(rt, alloc, file, left, fate);
     are_answered(rt, &mut store, commands);

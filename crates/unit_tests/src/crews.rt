@@ -94,16 +94,16 @@ fn turns_go_in_the_order_given(rt: HostRuntime) {
 /// Goes to work as the crew in it, and counts the lists of jobs, the jobs, and the lists that went to
 /// threads.
 #[derive(Drop)]
-struct Counting<C> {
+struct CountingCrew<C> {
     crew: C,
     lists: AtomicU64,
     jobs: AtomicU64,
     on_threads: AtomicU64,
 }
 
-impl<C> Counting<C> {
-    fn new(crew: C) -> Counting<C> {
-        Counting {
+impl<C> CountingCrew<C> {
+    fn new(crew: C) -> CountingCrew<C> {
+        CountingCrew {
             crew,
             lists: AtomicU64::new(0),
             jobs: AtomicU64::new(0),
@@ -120,7 +120,7 @@ impl<C> Counting<C> {
     }
 }
 
-impl<C: Crew> Crew for Counting<C> {
+impl<C: Crew> Crew for CountingCrew<C> {
     type Handle = C::Handle;
 
     fn plan(&self, jobs: usize) -> Plan<'_, C::Handle> {
@@ -136,7 +136,7 @@ impl<C: Crew> Crew for Counting<C> {
 
 /// What a write of an area in two lanes asks of its crew.
 fn asked<C: Crew + Drop>(rt: &impl Abort, alloc: Global, crew: C) -> (u64, u64, u64) {
-    let crew = Counting::new(crew);
+    let crew = CountingCrew::new(crew);
     let shape = Shape::new(1, 2, 2).expect(rt, "a shape");
     let (written, _calls) = saved(rt, alloc, &crew, &shape, NEVER);
     let _counts = written.expect(rt, "a write");

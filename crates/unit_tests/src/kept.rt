@@ -39,10 +39,10 @@ fn asked(rt: &impl Abort, ram: &mut Ram, pages: &[u64], word: u64) {
 }
 
 /// Pages of which a word is asked for, that word, and the pages that are kept then.
-type Row = (&'static [u64], u64, &'static [u64]);
+type KeptRow = (&'static [u64], u64, &'static [u64]);
 
 /// After each row just its pages are kept.
-fn keeps(rt: &impl Abort, ram: &mut Ram, rows: &[Row]) {
+fn keeps(rt: &impl Abort, ram: &mut Ram, rows: &[KeptRow]) {
     for (pages, word, kept) in rows {
         asked(rt, ram, pages, *word);
         only_kept(rt, ram, kept);
@@ -58,7 +58,7 @@ fn cleared(ram: &mut Ram, page: u64) {
     }
 }
 
-static EIGHT_AND_ONE: [Row; 4] = [
+static EIGHT_AND_ONE: [KeptRow; 4] = [
     (&[], 0, &[]),
     (EIGHT, 0, EIGHT),
     (&[0], 0, EIGHT),
@@ -66,7 +66,7 @@ static EIGHT_AND_ONE: [Row; 4] = [
 ];
 
 /// What is asked for once a store went to page 3.
-static BEHIND_A_STORE: [Row; 5] = [
+static BEHIND_A_STORE: [KeptRow; 5] = [
     (&[], 0, &[1, 2, 4, 5, 6, 7, 8]),
     (&[9], 0, &[1, 2, 4, 5, 6, 7, 8, 9]),
     (&[0], 0, &[0, 2, 4, 5, 6, 7, 8, 9]),
@@ -107,7 +107,7 @@ fn what_is_written_is_dropped(rt: HostRuntime) {
 
 /// The pages of a memory, and what is asked of it. The last word of a page keeps it. A further word of a page that is kept leaves
 /// the page its place: it is still the one that was taken in first. Of a memory of fewer pages each is kept.
-static MEMORIES: [(u64, &[Row]); 3] = [
+static MEMORIES: [(u64, &[KeptRow]); 3] = [
     (10, &[(&[3], 1023, &[3])]),
     (
         10,

@@ -14,7 +14,7 @@ use std::process::Abort;
 use std::thread::{Threads, join};
 
 /// What a starter asks for: an address and an opaque value.
-pub type Plan = (Addr, u64);
+pub type StartPlan = (Addr, u64);
 
 /// The seats of three harts, of which the first two have started, and what each of these two asks for.
 #[derive(Drop)]
@@ -22,7 +22,7 @@ pub struct Racers {
     pub first: HartSeat,
     pub second: HartSeat,
     pub third: HartSeat,
-    pub plans: (Plan, Plan),
+    pub plans: (StartPlan, StartPlan),
 }
 
 /// The numbers of the three harts.
@@ -34,7 +34,7 @@ fn hart(number: u64) -> HartId
 }
 
 /// Starts hart 2 as the plan says.
-fn attempt(table: &HartTable, seat: HartSeat, by: HartId, plan: Plan) -> (HartSeat, bool)
+fn attempt(table: &HartTable, seat: HartSeat, by: HartId, plan: StartPlan) -> (HartSeat, bool)
     requires seat { IsSeatOf table.now seat }
     requires acts { stands by Running (harts_in seat) }
     requires harts { 2 < harts_of table.now }
@@ -101,7 +101,12 @@ pub fn rounds<R: Threads + Sync>(rt: &R, table: &HartTable, racers: Racers, coun
 }
 
 /// Parts the seat of three harts of which the first runs, and has the second started.
-fn seated(rt: &impl Abort, table: &HartTable, whole: HartSeat, plans: (Plan, Plan)) -> Racers
+fn seated(
+    rt: &impl Abort,
+    table: &HartTable,
+    whole: HartSeat,
+    plans: (StartPlan, StartPlan),
+) -> Racers
     requires seat { IsSeatOf table.now whole }
     requires opening { hart_view_of_seat whole ≡ opening_view 3 0 }
     requires harts { harts_of table.now ≡ 3 }
@@ -124,7 +129,11 @@ fn seated(rt: &impl Abort, table: &HartTable, whole: HartSeat, plans: (Plan, Pla
 }
 
 /// A table of three harts, of which the first and the second run.
-pub fn ready_racers(rt: &impl Abort, alloc: Global, plans: (Plan, Plan)) -> (HartTable, Racers)
+pub fn ready_racers(
+    rt: &impl Abort,
+    alloc: Global,
+    plans: (StartPlan, StartPlan),
+) -> (HartTable, Racers)
     ensures { AreReady result.0 result.1.first result.1.second result.1.third }
 {
     let Ok(shape) = Shape::new(3, 1, 1) else {

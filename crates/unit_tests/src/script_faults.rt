@@ -1,6 +1,6 @@
 //! Lines and scripts that are refused, and where; and what is passed over.
 
-use crate::scripts::{Row, each_is_read_as};
+use crate::scripts::{ScriptRow, each_is_read_as};
 use board_model::Refusal;
 
 // What the malformed lines stand behind.
@@ -219,7 +219,7 @@ board 2 4 3\nformat\npc 1\n\n\n|\
 #\r\nboard 2 4 3\nformat\npc 0x0001\n#\r\n";
 
 /// Lines behind a board line, and whole scripts.
-static ROWS: [Row; 11] = [
+static ROWS: [ScriptRow; 11] = [
     (BOARD, b"", 0, PAST_A_RANGE, Err(Refusal::BadScript(2))),
     (BOARD, b"", 0, WORD_COUNTS, Err(Refusal::BadScript(2))),
     (BOARD, b"", 0, SPELLINGS, Err(Refusal::BadScript(2))),

@@ -1,6 +1,6 @@
 //! Lines of 4,096 bytes and more, scripts of 65,536 lines and more, and lines of any byte.
 
-use crate::scripts::{Row, Text, each_is_read_as, is_read_as};
+use crate::scripts::{ScriptRow, Text, each_is_read_as, is_read_as};
 use board_model::Refusal;
 
 const BOARD: &[u8] = b"board 1 1 1\n";
@@ -8,7 +8,7 @@ const BOARD: &[u8] = b"board 1 1 1\n";
 // A board line and the start of a comment.
 const COMMENT: &[u8] = b"board 1 1 1\n#";
 
-static ROWS: [Row; 12] = [
+static ROWS: [ScriptRow; 12] = [
     // a comment of 4,096 bytes, and one of a byte more
     (COMMENT, b"x", 4095, b"", Ok((1, 1, 1, 0))),
     (COMMENT, b"x", 4095, b"\nformat\n", Ok((1, 1, 1, 1))),

@@ -7,7 +7,7 @@ use std::alloc::Global;
 use std::process::Abort;
 
 /// What a script is read as: the harts, pages and lanes of its board and how many lines follow, or its refusal.
-pub type Answer = Result<(u32, u32, u32, usize), Refusal>;
+pub type ScriptAnswer = Result<(u32, u32, u32, usize), Refusal>;
 
 /// A piece so many times between two texts.
 #[derive(Drop)]
@@ -20,7 +20,13 @@ pub struct Text<'a> {
 
 /// A row of a table of scripts: a start, a piece and how many times it stands there, ends between bars, and what the script with each
 /// end is read as.
-pub type Row = (&'static [u8], &'static [u8], usize, &'static [u8], Answer);
+pub type ScriptRow = (
+    &'static [u8],
+    &'static [u8],
+    usize,
+    &'static [u8],
+    ScriptAnswer,
+);
 
 fn written(rt: &impl Abort, alloc: Global, text: &Text<'_>) -> Vec<u8> {
     let mut script = text.start.to_vec(alloc).expect(rt, "memory");
@@ -31,7 +37,7 @@ fn written(rt: &impl Abort, alloc: Global, text: &Text<'_>) -> Vec<u8> {
     script
 }
 
-fn answer(rt: &impl Abort, alloc: Global, script: &[u8]) -> Answer {
+fn answer(rt: &impl Abort, alloc: Global, script: &[u8]) -> ScriptAnswer {
     match parse_script(alloc, script) {
         Ok(read) => {
             let shape = read.shape;
@@ -44,14 +50,14 @@ fn answer(rt: &impl Abort, alloc: Global, script: &[u8]) -> Answer {
 }
 
 /// The script of that text is read so.
-pub fn is_read_as(rt: &impl Abort, alloc: Global, text: &Text<'_>, wanted: &Answer) {
+pub fn is_read_as(rt: &impl Abort, alloc: Global, text: &Text<'_>, wanted: &ScriptAnswer) {
     let script = written(rt, alloc, text);
     let found = answer(rt, alloc, &script);
     assert!(rt; found == *wanted, "of {script:?}");
 }
 
 /// The scripts of that row are read so.
-pub fn each_is_read_as(rt: &impl Abort, alloc: Global, row: &Row) {
+pub fn each_is_read_as(rt: &impl Abort, alloc: Global, row: &ScriptRow) {
     for end in row.3.split(|b| *b == b'|') {
         let text = Text {
             start: row.0,

@@ -25,10 +25,15 @@ fn formatted<D: Disk + Drop>(rt: &impl Abort, alloc: Global, disk: D) -> Store<D
 }
 
 /// What the commands that set slot 2 and then slot 3 were answered, and how many failures the disk then counts.
-type Answers = (Result<u32, Refusal>, Result<u32, Refusal>, u64);
+type CommandAnswers = (Result<u32, Refusal>, Result<u32, Refusal>, u64);
 
 /// What they are answered by a store over this disk, which fails once, at that of their calls; and the disk that is left.
-fn two_commands<D: Disk + Drop>(rt: &impl Abort, alloc: Global, disk: D, call: u64) -> (Answers, D)
+fn two_commands<D: Disk + Drop>(
+    rt: &impl Abort,
+    alloc: Global,
+    disk: D,
+    call: u64,
+) -> (CommandAnswers, D)
     requires { (D.facts disk).lent.lanes ≡ 0 }
     ensures { (D.facts result.1).lent.lanes ≡ 0 }
 {
@@ -42,13 +47,13 @@ fn two_commands<D: Disk + Drop>(rt: &impl Abort, alloc: Global, disk: D, call: u
 }
 
 /// What two commands are answered over a cache, and the slot that stands in its device once power is cut.
-fn cached(rt: &impl Abort, alloc: Global, call: u64) -> (Answers, Result<u32, Refusal>) {
+fn cached(rt: &impl Abort, alloc: Global, call: u64) -> (CommandAnswers, Result<u32, Refusal>) {
     let (answers, disk) = two_commands(rt, alloc, blank(rt, alloc, 26), call);
     (answers, slot_of(alloc, cut(disk)))
 }
 
 /// What two commands are answered over a disk that keeps nothing back, and the slot that stands in its device.
-fn logged(rt: &impl Abort, alloc: Global, call: u64) -> (Answers, Result<u32, Refusal>) {
+fn logged(rt: &impl Abort, alloc: Global, call: u64) -> (CommandAnswers, Result<u32, Refusal>) {
     let Ok(device) = SimDisk::blank(alloc, 26) else {
         rt.panic("no memory")
     };
@@ -58,7 +63,7 @@ fn logged(rt: &impl Abort, alloc: Global, call: u64) -> (Answers, Result<u32, Re
 }
 
 /// What two commands are answered over a disk of one's own, and the slot that one more open finds.
-fn own(rt: &impl Abort, alloc: Global, call: u64) -> (Answers, Result<u32, Refusal>) {
+fn own(rt: &impl Abort, alloc: Global, call: u64) -> (CommandAnswers, Result<u32, Refusal>) {
     let Ok(device) = SimDisk::blank(alloc, 26) else {
         rt.panic("no memory")
     };
@@ -67,10 +72,10 @@ fn own(rt: &impl Abort, alloc: Global, call: u64) -> (Answers, Result<u32, Refus
 }
 
 /// The command that failed is refused, the same store goes on, and the failure is counted.
-const FAILED: Answers = (Err(Refusal::Device), Ok(1), 1);
+const FAILED: CommandAnswers = (Err(Refusal::Device), Ok(1), 1);
 
 /// The call that fails, none where it is 0: the first two of a command are its record's write and its sync.
-static CALLS: [(u64, Answers); 3] = [(0, (Ok(1), Ok(2), 0)), (1, FAILED), (2, FAILED)];
+static CALLS: [(u64, CommandAnswers); 3] = [(0, (Ok(1), Ok(2), 0)), (1, FAILED), (2, FAILED)];
 
 /// What was acknowledged stands.
 #[test]

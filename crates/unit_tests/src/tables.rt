@@ -4,7 +4,7 @@ ghost use Rattle.std.specs.Prelude.{◌≡◌};
 use crate::crowd::{all_harts, take_all};
 use crate::fixtures::same;
 use crate::race::{ready_racers, rounds};
-use crate::two_tables::{Seen, first_use};
+use crate::two_tables::{SeenState, first_use};
 use board_model::{Addr, HartId, Shape};
 use hsm::{HartTable, SeatTable, State};
 use ipi::PendingTable;
@@ -35,7 +35,7 @@ fn eight_harts_raise_and_take(rt: HostRuntime) {
 }
 
 /// The first use of the tables of a board of two harts.
-fn used<R: Abort + Threads + Sync>(rt: &R, alloc: Global, zero: HartId) -> Seen
+fn used<R: Abort + Threads + Sync>(rt: &R, alloc: Global, zero: HartId) -> SeenState
     requires { zero ≡ 0 }
 {
     let Ok(shape) = Shape::new(2, 1, 1) else {

@@ -15,7 +15,7 @@ use ipi::{IpiSeat, PendingTable};
 use std::thread::{Threads, join};
 
 /// What hart 0 sees of hart 1, what hart 1 begins with, and who has interrupted it.
-pub type Seen = (State, (Option<(Addr, u64)>, HartSet));
+pub type SeenState = (State, (Option<(Addr, u64)>, HartSet));
 
 /// ----
 fn hart(number: u64) -> HartId
@@ -32,7 +32,7 @@ pub fn first_use<R: Threads + Sync>(
     whole: HartSeat,
     pending: &PendingTable,
     pairs: IpiSeat,
-) -> Seen
+) -> SeenState
     requires harts { (harts_of harts.now ≡ 2) × IsSeatOf harts.now whole × (hart_view_of_seat whole ≡ opening_view 2 0) }
     requires pending { (targets_of pending.now ≡ 2) × IsPairSeatOf pending.now pairs × (pairs_of pairs ≡ opening_pairs 2) }
 {

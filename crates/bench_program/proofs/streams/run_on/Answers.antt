@@ -7,7 +7,7 @@ use Rattle.command_line.specs.Pipes.{is_closed_pipe, pipe_contents}
 use Rattle.board_model.specs.declared.refusal.Refusal.TheVariants.{Memory}
 use Rattle.bench_program.specs.Faults.{without_work}
 use Rattle.bench_program.specs.Usage.{IsNamedBy, NamesConflict, NamesNoWork}
-use Rattle.bench_program.specs.Written.{AreDone, IsDone, IsFault, IsFaultOf, IsHandedOn, IsUnread}
+use Rattle.bench_program.specs.Written.{AreDone, IsDone, IsFault, IsFaultOf, IsUnread}
 use Rattle.bench_program.specs.declared.fault.BenchFault.{BenchFault}
 use Rattle.bench_program.specs.declared.fault.BenchFault.TheVariants.{Refused, Wrong}
 use Rattle.command_line.specs.declared.NoWork.TheVariants as whys

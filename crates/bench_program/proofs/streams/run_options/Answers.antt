@@ -2,7 +2,7 @@ use Rattle.std.proofs.Common.{◌≡◌, ◌⊎◌, ℕ, [], inr}
 use Rattle.std.proofs.lemmas.Result.{IfErr-weaker}
 use Rattle.std.specs.Io.Buffered.{writer_buffer, writer_contents, writer_inner}
 use Rattle.command_line.specs.Pipes.{is_closed_pipe, pipe_contents}
-use Rattle.bench_program.specs.Written.{AreDone, IsFaultIn, IsFaultOf, IsHandedOn, IsMade, IsPut, IsUnread}
+use Rattle.bench_program.specs.Written.{AreDone, IsFaultIn, IsFaultOf, IsMade, IsPut, IsUnread}
 use Rattle.bench_program.specs.declared.fault.BenchFault.{BenchFault}
 use Rattle.bench_program.specs.declared.fault.BenchFault.TheVariants.{Refused}
 use Rattle.board_model.specs.declared.refusal.Refusal.TheVariants.{Memory}

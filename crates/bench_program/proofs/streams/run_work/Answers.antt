@@ -1,8 +1,7 @@
 use Rattle.std.proofs.Common.{◌≡◌, Bool, [], IfOk, subst, sym}
 use Rattle.std.specs.Io.Buffered.{writer_buffer, writer_contents, writer_inner}
 use Rattle.command_line.specs.Pipes.{is_closed_pipe, pipe_contents}
-use Rattle.std.specs.Io.KnownBytes.{Keeps}
-use Rattle.bench_program.specs.Written.{IsHandedOn, IsMade, IsPut}
+use Rattle.bench_program.specs.Written.{IsMade, IsPut}
 use Rattle.bench_program.proofs.Judged.{did, faults, told_wrong}
 use Rattle.bench_program.proofs.streams.run_work.Goals as goal
 

@@ -1,7 +1,6 @@
 use Rattle.std.proofs.Common.{◌∙◌, ℕ, List, Option, ap, codes, refl}
 use Rattle.clap.specs.Words.{first_value, found_of}
 use Rattle.bench_program.specs.Usage.{with_part, with_quiet, with_recovery, with_tap, Flags}
-use Rattle.bench_program.specs.declared.usage.Work.{Work}
 use Rattle.bench_program.proofs.usage.work_asked.Goals as goal
 
 pub returns-clause-value : goal.returns-clause-value

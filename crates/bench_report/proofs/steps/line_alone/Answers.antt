@@ -1,4 +1,4 @@
-use Rattle.std.proofs.Common.{refl}
+use Rattle.std.proofs.Common.{◌∙◌, refl, sym}
 use Rattle.bench_report.specs.Happens.{unpowered}
 use Rattle.bench_report.proofs.Lines.{call_reported, row_reported}
 use Rattle.bench_report.proofs.Pokes.{poke_matches}
@@ -14,7 +14,8 @@ returns-in-On-clause-reported g c = λ b h.
 
 pub returns-in-Command-clause-reported : goal.returns-in-Command-clause-reported
 returns-in-Command-clause-reported g c = λ b h.
-    row_reported c.args.setting.now.shape.now _ _ b _ _ _ _ _ c.in-Command.is c.answered-in-Command.ensures.answer c.answered-in-Command.ensures.power h.1 (c.console_line.ensures c.args.setting.now.shape.now b h.0)
+    let did = c.console-answer.ensures c.args.setting.now.shape.now b h.0 in
+    rw c.in-Command.is (did.0, did.1, (did.2, h.1 ∙ sym did.3))
 
 pub returns-in-Cut-clause-reported : goal.returns-in-Cut-clause-reported
 returns-in-Cut-clause-reported g c = λ b h. rw c.in-Cut.is (unpowered b, (c.says.ensures, refl), (c.cut.ensures.reported c.args.setting.now.shape.now b h.0, h.1))

@@ -15,8 +15,8 @@ run_lines-requires-clause-calm g c κs within =
     let calm = c.armed-armed.ensures.runs size sits.0 sits.1 in
     unstruck size (armed_with (fault_at Fails c.args.point.caller c.args.point.call) sits.0) _ calm.agrees calm.calm
 
-pub judge_run-requires-clause-sits : goal.judge_run-requires-clause-sits
-judge_run-requires-clause-sits g c κs within =
+pub judge_last-requires-clause-sits : goal.judge_last-requires-clause-sits
+judge_last-requires-clause-sits g c κs within =
     let size = c.args.runner.now.setting.shape.now in
     let sits = c.requires.sits in
     let calm = c.armed-armed.ensures.runs size sits.0 sits.1 in
@@ -35,4 +35,4 @@ returns-clause-judged g c = λ b l.
     let none = c.none-made.ensures in
     judged_at Fails c.args.point.caller c.args.point.number _ _ _
     (λ row caller number is. past_failure size c.args.point b lines c.in_ok-went.went.count _ _ _ _ all ran left.0 left.1 left.2 (compared c.args.runner.now.recovery) row caller number is.is)
-    (judged_more _ _ _ [] _ (judged_none _ _ none.rows none.runs none.right) (c.in_ok-judge_run.ensures.kept (off ran.bench) left.3))
+    (judged_more _ _ _ [] _ (judged_none _ _ none.rows none.runs none.right) (c.in_ok-judge_last.ensures.kept (off ran.bench) left.3))

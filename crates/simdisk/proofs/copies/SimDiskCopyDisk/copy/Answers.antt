@@ -13,12 +13,11 @@ invariant_of-result c =
     let log = c.in_ok-history.ensures.log in
     let content : c.in_ok-content.content.items ≡ s.content.items = c.in_ok-content.ensures ∙ c.deref.ensures.value in
     let latest = c.in_ok-latest.ensures in
-    let same : length c.in_ok-content.content.items ≡ c.len.result = omega (arith, c.len.ensures, ap (λ (m : Content). length m) content) in
-    let long : c.len-2.result ≡ length c.in_ok-content.content.items = omega (arith, c.len-2.ensures, ap (λ (m : Content). length m) content) in
+    let long : c.len.result ≡ length c.in_ok-content.content.items = omega (arith, c.len.ensures, ap (λ (m : Content). length m) content) in
     record {
       agrees = subst (λ (r : WriteLog). AgreesOutside (synced r) (ranges r.written) c.in_ok-content.content.items) (sym log)
           (subst (λ (m : Content). AgreesOutside (synced (log_of s.history)) (ranges (log_of s.history).written) m) (sym content) s.agrees);
-      stands = c.in_ok-history.ensures.stands c.in_ok-content.content.items same (subst (λ (m : Content). Stands m s.history) (sym content) s.stands);
+      stands = subst (λ (m : Content). Stands m c.in_ok-history.history) (sym (content ∙ sym c.deref-2.ensures.value)) c.in_ok-history.ensures.stands;
       newest = ap newest log ∙ (s.newest ∙ sym (same_latest s.latest c.in_ok-latest.latest s.content.items c.in_ok-content.content.items latest.as_read latest.sectors content));
       room = subst (λ (n : ℕ). HasPlace n c.in_ok-latest.latest) long latest.place;
       few = s.few;

@@ -1,4 +1,4 @@
-use Rattle.std.proofs.Common.{◌≡◌, ◌∙◌, refl, sym, ap}
+use Rattle.std.proofs.Common.{◌≡◌, ◌∙◌, refl, ap}
 use Rattle.simdisk.specs.Views.{left_by_fill, pieces}
 use Rattle.simdisk.specs.History.{log_of}
 use Rattle.disk.specs.WriteLog.{new_log, synced}
@@ -9,10 +9,10 @@ use Rattle.simdisk.proofs.sim.SimDisk.after_cut.Goals as goal
 pub returns-clause-left : goal.returns-clause-left
 returns-clause-left c =
     let s = c.args.self.history in
-    let now = c.copy_from_slice.new.self.items in
-    let history = c.left-history.result in
-    let is : now ≡ left_by_fill c.args.fill (synced (log_of s)) (pieces s.written.items) = c.copy_from_slice.ensures.items ∙ c.deref-3.ensures.value ∙ c.left-history.ensures.content in
-    let begun : log_of history ≡ new_log now = c.left-history.ensures.log ∙ ap new_log (sym is) in
+    let now = c.cut.new.content.items in
+    let history = c.begun_anew-history.result in
+    let is : now ≡ left_by_fill c.args.fill (synced (log_of s)) (pieces s.written.items) = c.cut.ensures.left in
+    let begun : log_of history ≡ new_log now = rw (← c.deref.ensures.value) c.begun_anew-history.ensures.log in
     record {
       left = rw is (left_agrees c.args.fill (synced (log_of s)) (pieces s.written.items) (fits_synced s));
       fresh = fresh_of now (synced (log_of history)) (log_of history) _ _ _ begun (ap synced begun) c.nothing.ensures;

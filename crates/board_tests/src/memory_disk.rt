@@ -1,10 +1,10 @@
-//! A file in memory that holds a disk, for tests.
+//! A file in memory that holds a disk.
 
 ghost use Rattle.std.specs.Prelude.{◌≡◌, Some, IfOk, drop};
 ghost use Rattle.board_files.specs.Disks.{HoldsDisk};
 ghost use Rattle.board_files.specs.Faults.{IsFileFault};
 
-use crate::files::{DiskFile, HeldFile, unreached};
+use board_files::{DiskFile, HeldFile, unreached};
 use board_model::Refusal;
 use command_line::FileFault;
 use disk::Sector;
@@ -20,7 +20,7 @@ pub enum Failing {
     Write,
 }
 
-/// A file in memory that holds a disk, for tests. Faults name it `D`.
+/// A file in memory that holds a disk. Faults name it `D`.
 #[derive(Drop)]
 pub struct MemoryDisk {
     alloc: Global,

@@ -6,7 +6,7 @@ use Rattle.bench_sweep.specs.Recovers.{compared}
 use Rattle.bench_sweep.specs.Reports.{IsOfCall}
 use Rattle.bench_sweep.specs.Along.{CameTold}
 use Rattle.bench_sweep.specs.Runs.{RunsAt}
-use Rattle.bench_sweep.proofs.chunks.RunsAtCallsTask.row.Given as goal
+use Rattle.bench_sweep.proofs.chunks.RunsAtCalls.rows_of.Given as goal
 
 -- the moment is one of the lines' run, and the rows of the calls so far are made
 abbrev pub invariant-loop-done : goal.invariant-loop-done

@@ -1,6 +1,4 @@
-use Rattle.std.specs.Bool.{if◌then◌else◌}
-use Rattle.std.specs.Result.{is_ok}
-use Rattle.std.proofs.Common.{◌≡◌, ◌∙◌, ◌+◌, ◌-◌, ◌≤◌, ◌∷◌, ◌++◌, [], Bool, true, List, length, ap, sym, subst, arith}
+use Rattle.std.proofs.Common.{◌≡◌, ◌∙◌, ◌+◌, ◌-◌, ◌≤◌, ◌∷◌, ◌++◌, [], List, length, ap, sym, subst, arith}
 use Rattle.std.proofs.lemmas.List.{length-append}
 use Rattle.bench_report.specs.Happens.{unpowered}
 use Rattle.jobs.specs.Handed.{AreRows}
@@ -8,17 +6,16 @@ use Rattle.bench_sweep.specs.Recovers.{compared}
 use Rattle.bench_sweep.specs.Reports.{IsOfCall}
 use Rattle.bench_sweep.specs.declared.judging.PointRows.{PointRows}
 use Rattle.bench_sweep.proofs.Along.{rows_more}
-use Rattle.bench_sweep.proofs.chunks.RunsAtCallsTask.row.Goals as goal
+use Rattle.bench_sweep.proofs.chunks.RunsAtCalls.rows_of.Goals as goal
 
 pub loop-done-init : goal.loop-done-init
 loop-done-init g c =
     let self = c.args.self.now in
     let runner = self.runner.now in
-    let from = c.chunk-from.result.from in
     let is = IsOfCall runner.setting.shape.now runner.bench self.caller self.before runner.lines.now (compared runner.recovery) self.site.now in
-    let items : c.new-rows.result.items ≡ [] = c.new-rows.ensures.items in
-    let A : List PointRows → Type 0 = λ rows. AreRows is from rows in
-    let none : length c.new-rows.result.items ≡ 0 = ap (λ (rows : List PointRows). length rows) items in record {
+    let items : c.args.rows.now.items ≡ [] = c.requires.none in
+    let A : List PointRows → Type 0 = λ rows. AreRows is c.args.window.from rows in
+    let none : length c.args.rows.now.items ≡ 0 = ap (λ (rows : List PointRows). length rows) items in record {
       few = omega (arith, c.in_ok-moment.ensures.none);
       came = λ b r. c.in_ok-moment.ensures.came runner.setting.shape.now b runner.lines.now r;
       many = omega (arith, none);
@@ -26,20 +23,18 @@ loop-done-init g c =
     }
 
 pub next_rows-requires-clause-sits : goal.next_rows-requires-clause-sits
-next_rows-requires-clause-sits g c κs within = let sits = c.requires.has.0.sits in (unpowered sits.0, c.loop-done.invariant.came sits.0 sits.1)
+next_rows-requires-clause-sits g c κs within = let sits = c.requires.sits in (unpowered sits.0, c.loop-done.invariant.came sits.0 sits.1)
 
 pub loop-done-preserved : goal.loop-done-preserved
 loop-done-preserved g c =
     let self = c.args.self.now in
     let runner = self.runner.now in
     let i = c.loop-done.invariant in
-    let from = c.chunk-from.result.from in
-    let next = c.in-Ok in
+    let from = c.args.window.from in
+    let next = c.in_ok-next in
     let is = IsOfCall runner.setting.shape.now runner.bench self.caller self.before runner.lines.now (compared runner.recovery) self.site.now in
     let long = length-append c.loop-done.rows.items (next.made ∷ []) in
-    let ok : is_ok c.push.result ≡ true = c.if-is_err.ensures.negation in
-    let items : c.push.new.self.items ≡ c.loop-done.rows.items ++ next.made ∷ [] =
-    c.push.ensures.items ∙ ap (λ (b : Bool). if b then (c.loop-done.rows.items ++ next.made ∷ []) else c.loop-done.rows.items) ok in
+    let items : c.push.new.self.items ≡ c.loop-done.rows.items ++ next.made ∷ [] = c.in_ok-push.ensures.items in
     let as_many : length c.push.new.self.items ≡ length (c.loop-done.rows.items ++ next.made ∷ []) = ap (λ (rows : List PointRows). length rows) items in
     let order : from ≤ c.loop-done.done = omega arith in
     let A : List PointRows → Type 0 = λ rows. AreRows is from rows in record {
