@@ -1,6 +1,6 @@
 -- A bench with its history, one line or row further.
 use Rattle.std.proofs.Common.{◌≡◌, ◌<◌, ◌+◌, ℕ, Bool, true, false, List, [], ◌∷◌, ◌++◌, Result, Ok, Err, take, get_or, length, refl, sym, ap, subst}
-use Rattle.std.specs.Prelude.{OnOk}
+use Rattle.std.specs.Prelude.{IfOk, OnOk}
 use Rattle.std.proofs.lemmas.List.{take_more}
 use Rattle.board_model.specs.Shapes.{Size}
 use Rattle.sbi.specs.Words.{ends}
@@ -15,7 +15,9 @@ use Rattle.bench_live.specs.Rows.{RowMoves, goes_on, made_in}
 use Rattle.bench_live.specs.Notes.{Joins, Leaves, NotesRow}
 use Rattle.bench_live.proofs.Noted.{leaves_more}
 use Rattle.debug_session.specs.declared.debugged.DebuggedBench.{DebuggedBench}
-use Rattle.debug_session.specs.Ats.{GoesOnBy}
+use Rattle.board_model.specs.declared.refusal.Refusal.{Refusal}
+use Rattle.debug_session.specs.declared.timeline.Timeline.{Timeline}
+use Rattle.debug_session.specs.Ats.{GoesOnBy, IsLeft, IsNoted, Ran}
 use Rattle.debug_session.specs.Lives.{Shows}
 use Rattle.debug_session.proofs.Rests.{not_true}
 
@@ -45,6 +47,16 @@ pub line_left : (size : Size) (line : Line) (answer : Answer) (begins : List (Li
 line_left size line answer begins was joined before after moves b left =
     let did = moves b left.2 in
     (did.0, did.1, (leaves_more size (bench_with begins) was b line answer did.0 left.0 did.1, tt, did.2))
+
+-- of a line that makes no turns
+noted_other : (line : Line) (answer : Answer) (was now : List Line) → ((h n : ℕ) → line ≡ lines.Turn h n → ⊥) → now ≡ was ++ line ∷ [] → IsNoted line answer was now
+noted_other (lines.Turn h n) answer was now not is = absurd (not h n refl)
+noted_other line answer was now not is = is
+
+pub ran_other : (size : Size) (line : Line) (r : Result Answer Refusal) (old new : Timeline) → ((h n : ℕ) → line ≡ lines.Turn h n → ⊥)
+    → IfOk r (λ answer. (b : Bench) → IsLeft size old b → (after : Bench) × Moves size line b answer after × IsLeft size new after) → OnOk r (new.history ≡ old.history ++ line ∷ []) → IfOk r (λ answer. Ran size line answer old new)
+ran_other size line (Ok answer) old new not moves grew = record { moves = moves; noted = noted_other line answer old.history new.history not grew }
+ran_other size line (Err e) old new not moves grew = tt
 
 -- ---- a history that is run again
 no_true : false ≡ true → ⊥

@@ -172,6 +172,21 @@ fn touched_behind(
     first_touched(timeline.bench(), load, before)
 }
 
+/// Tells what the line `turn` would have said of the last of these turns, where all halts since it ended everything, or none was made.
+fn tell_last(
+    row: TurnRow,
+    halt: Option<HaltReason>,
+    hart: HartId,
+    told: &mut Vec<Answer>,
+) -> Result<(), Refusal>
+    ensures refused { IfErr result (λ e. e ≡ Memory) }
+{
+    if halt == Some(HaltReason::Ended) || halt == Some(HaltReason::Off) {
+        told.push(row.last().answer(hart))?;
+    }
+    Ok(())
+}
+
 /// Up to so many turns of a hart, to the first that halts everything; what the line `turn` would have said of the
 /// last is told where it does so by itself.
 fn stretch<C: Crew>(
@@ -193,9 +208,7 @@ fn stretch<C: Crew>(
 {
     let (row, rests) = timeline.turns_to(setting, hart, most, points)?;
     let halt = halt_behind(timeline, points, hart, row, rests);
-    if halt == Some(HaltReason::Ended) || halt == Some(HaltReason::Off) {
-        told.push(row.last().answer(hart))?;
-    }
+    tell_last(row, halt, hart, told)?;
     Ok(RoundPart {
         halt,
         made: row.made(),

@@ -2,8 +2,19 @@ use Rattle.std.proofs.Common.{◌∙◌, List, ℕ, subst, sym}
 use Rattle.debug_session.specs.Lives.{machine_of}
 use Rattle.debug_session.specs.Firsts.{Stretched, seen_in}
 use Rattle.debug_session.proofs.Firsts.{tells_on, untouched, watched_halts}
+use Rattle.debug_session.proofs.Wents.{few_of, went_of}
 use Rattle.debug_session.proofs.Withins.{made_one}
 use Rattle.debug_session.proofs.forth.loading_turn.Goals as goal
+
+pub returns-clause-went : goal.returns-clause-went
+returns-clause-went g c =
+    let part = c.in_ok-part.part in
+    went_of c.args.setting.now.shape.now c.args.hart 1 part.made c.points.result.now part.rests part.halt c.args.timeline.now c.stretch.new.timeline c.in_ok-part.ensures.at c.in_ok-part.ensures.begins c.in_ok-part.ensures.made
+
+pub returns-clause-one : goal.returns-clause-one
+returns-clause-one g c =
+    let part = c.in_ok-part.part in
+    few_of c.args.setting.now.shape.now c.args.hart 1 part.made c.points.result.now part.rests part.halt c.args.timeline.now c.stretch.new.timeline c.in_ok-part.ensures.made
 
 pub returns-clause-first : goal.returns-clause-first
 returns-clause-first g c =
