@@ -136,6 +136,20 @@ impl Timeline {
         Ok((row, rests))
     }
 
+    /// Notes a line that was run, and answered that.
+    fn noted(&mut self, line: Line, answer: Answer) -> Result<Answer, Refusal>
+        ensures answer { IfOk result (λ said. said ≡ answer) }
+        ensures grew { OnOk result (self.new.history ≡ self.old.history ++ line ∷ []) }
+        ensures apart { OnOk result (self.new.joins ≡ false) }
+        ensures bench { self.new.bench ≡ self.old.bench }
+        ensures begins { self.new.begins ≡ self.old.begins }
+        ensures refused { IfErr result (λ e. e ≡ Memory) }
+    {
+        self.history.add(line)?;
+        self.joins = false;
+        Ok(answer)
+    }
+
     /// Runs a line as it is, and notes it.
     fn whole_line<C: Crew>(
         &mut self,
@@ -151,10 +165,10 @@ impl Timeline {
         ensures begins { self.new.begins ≡ self.old.begins }
         ensures refused { IfErr result (λ e. e ≡ Memory) }
     {
-        let answer = self.bench.run(setting, &line)?;
-        self.history.add(line)?;
-        self.joins = false;
-        Ok(answer)
+        match self.bench.run(setting, &line) {
+            Ok(answer) => self.noted(line, answer),
+            Err(e) => Err(e),
+        }
     }
 
     /// Runs a line, which becomes part of the history: what it says. A row of turns becomes so with as many as were
