@@ -29,9 +29,9 @@ fn may_load(board: &Board<SimDisk>, hart: HartId) -> bool
 /// Whether it is seen at once that the next turn of a hart of this board reads nothing that is minded. Of most instructions it is seen by
 /// the word alone; of a load by the bytes that it names, whether or not they are there, and the turn is that of an instruction.
 #[tactic(auto, using(crate::proofs::Unread::reads_none, crate::proofs::Unread::reads_unread))]
-fn is_unread_at(board: &Board<SimDisk>, hart: HartId, before: &[SeenBytes]) -> bool
+fn is_unread_at(board: &Board<SimDisk>, hart: HartId, before: &Vec<SeenBytes>) -> bool
     requires { hart < length (machine_in board.now).harts }
-    ensures { result ≡ true → ReadsAs (Some (machine_in board.now)) hart (seen_in before.now) None }
+    ensures { result ≡ true → ReadsAs (Some (machine_in board.now)) hart (seen_in before.now.items) None }
 {
     if !may_load(board, hart) {
         return true;
@@ -43,8 +43,8 @@ fn is_unread_at(board: &Board<SimDisk>, hart: HartId, before: &[SeenBytes]) -> b
 
 impl DebuggedBench {
     /// Whether it is seen at once that the next turn of a hart reads nothing that is minded.
-    fn is_unread_next(&self, hart: HartId, before: &[SeenBytes]) -> bool
-        ensures { result ≡ true → ReadsAs (machine_of self.now) hart (seen_in before.now) None }
+    fn is_unread_next(&self, hart: HartId, before: &Vec<SeenBytes>) -> bool
+        ensures { result ≡ true → ReadsAs (machine_of self.now) hart (seen_in before.now.items) None }
     {
         match &self.live.power {
             Some(Power::On(board)) if board.machine().has(hart) => {
@@ -57,9 +57,9 @@ impl DebuggedBench {
     /// What the next turn of a hart reads; or none, where that is nothing that is minded of what was seen. The look leaves the board as
     /// it was.
     #[tactic(auto, using(crate::proofs::Unread::reads_next))]
-    pub(crate) fn load_among(&mut self, hart: HartId, before: &[SeenBytes]) -> Option<Load>
+    pub(crate) fn load_among(&mut self, hart: HartId, before: &Vec<SeenBytes>) -> Option<Load>
         ensures same { self.new ≡ self.old }
-        ensures reads { ReadsAs (machine_of self.old) hart (seen_in before.now) result }
+        ensures reads { ReadsAs (machine_of self.old) hart (seen_in before.now.items) result }
     {
         if self.is_unread_next(hart, before) {
             None

@@ -221,8 +221,8 @@ fn is_unread_of(was: &SeenBytes, load: Option<Load>) -> bool
 }
 
 /// Whether nothing is read that any of these watchpoints minds.
-pub(crate) fn are_unread(before: &[SeenBytes], load: Option<Load>) -> bool
-    ensures { IsTrue result ↔ All (λ was. is_unread was.watch load ≡ true) before.now }
+pub(crate) fn are_unread(before: &Vec<SeenBytes>, load: Option<Load>) -> bool
+    ensures { IsTrue result ↔ All (λ was. is_unread was.watch load ≡ true) before.now.items }
 {
     before.iter().all(|was| is_unread_of(was, load))
 }

@@ -81,9 +81,9 @@ impl Timeline {
     }
 
     /// What the next turn of a hart reads of what is minded, as `DebuggedBench::load_among` shows it.
-    pub(crate) fn load_among(&mut self, hart: HartId, before: &[SeenBytes]) -> Option<Load>
+    pub(crate) fn load_among(&mut self, hart: HartId, before: &Vec<SeenBytes>) -> Option<Load>
         ensures same { self.new ≡ self.old }
-        ensures reads { ReadsAs (machine_of self.old.bench) hart (seen_in before.now) result }
+        ensures reads { ReadsAs (machine_of self.old.bench) hart (seen_in before.now.items) result }
     {
         self.bench.load_among(hart, before)
     }
