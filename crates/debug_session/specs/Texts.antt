@@ -1,5 +1,6 @@
 -- The text of a history as a script, and what a hart is in words.
 use Rattle.std.specs.Prelude.{ℕ, List, ◌++◌, [], Option, Some, None, length, ◌==◌, if◌then◌else◌}
+use Rattle.std.specs.Fmt.{decimal}
 use Rattle.std.specs.List.{flat_map}
 use Rattle.board.specs.Boots.{payload_at}
 use Rattle.board_model.specs.Shapes.{Size}
