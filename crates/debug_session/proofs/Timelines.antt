@@ -1,5 +1,5 @@
 -- A bench with its history, one line or row further.
-use Rattle.std.proofs.Common.{◌≡◌, ◌<◌, ◌+◌, ℕ, Bool, true, false, List, [], ◌∷◌, ◌++◌, Result, Ok, Err, take, get_or, length, refl, sym, ap, subst}
+use Rattle.std.proofs.Common.{◌≡◌, ◌<◌, ◌+◌, ℕ, Bool, true, false, List, [], ◌∷◌, ◌++◌, Result, Ok, Err, take, get_or, length, refl, sym, ap, ◌∙◌, subst}
 use Rattle.std.specs.Prelude.{IfOk, OnOk}
 use Rattle.std.proofs.lemmas.List.{take_more}
 use Rattle.board_model.specs.Shapes.{Size}
@@ -80,7 +80,7 @@ line_at size line answer (Ok said) old new after at range moves sound fill same 
     let did = line_left size line answer old.begins old.history old.joins old.bench after moves at.left.0 at.left.1 in
     record {
       left = (did.0, left_as size new old.begins (old.history ++ line ∷ []) false after did.0 begins grew apart same did.2);
-      sound = subst IsSound (sym same) sound;
+      sound = (let P : DebuggedBench → Type 0 = λ x. IsSound x in subst P (sym same) sound);
       fill = ap (λ (x : DebuggedBench). x.live.fill) same ∙ fill ∙ ap (fill_after line) at.fill ∙ sym (ap (λ (xs : List Line). fills_after xs fills.Old) grew ∙ fills_snoc old.history line fills.Old);
       ranges = subst (AreInRange size) (sym grew) (ranges_more size old.history line at.ranges range);
     }

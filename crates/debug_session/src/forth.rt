@@ -172,19 +172,25 @@ fn touched_behind(
     first_touched(timeline.bench(), load, before)
 }
 
-/// Tells what the line `turn` would have said of the last of these turns, where all halts since it ended everything, or none was made.
-fn tell_last(
-    row: TurnRow,
-    halt: Option<HaltReason>,
+/// Why everything halts behind these turns of a hart, if it does; what the line `turn` would have said of the last is told where it halts
+/// by itself.
+fn told_halt(
+    timeline: &Timeline,
+    points: &[u64],
     hart: HartId,
+    row: TurnRow,
+    rests: bool,
     told: &mut Vec<Answer>,
-) -> Result<(), Refusal>
+) -> Result<Option<HaltReason>, Refusal>
+    ensures halt { IfOk result (λ halt. halt
+        ≡ halt_after row rests (stands_in points.now (pc_in hart (machine_of timeline.now.bench)))) }
     ensures refused { IfErr result (λ e. e ≡ Memory) }
 {
+    let halt = halt_behind(timeline, points, hart, row, rests);
     if halt == Some(HaltReason::Ended) || halt == Some(HaltReason::Off) {
         told.push(row.last().answer(hart))?;
     }
-    Ok(())
+    Ok(halt)
 }
 
 /// Up to so many turns of a hart, to the first that halts everything; what the line `turn` would have said of the
@@ -207,8 +213,7 @@ fn stretch<C: Crew>(
     ensures refused { IfErr result (λ e. e ≡ Memory) }
 {
     let (row, rests) = timeline.turns_to(setting, hart, most, points)?;
-    let halt = halt_behind(timeline, points, hart, row, rests);
-    tell_last(row, halt, hart, told)?;
+    let halt = told_halt(timeline, points, hart, row, rests, told)?;
     Ok(RoundPart {
         halt,
         made: row.made(),
