@@ -172,27 +172,6 @@ fn touched_behind(
     first_touched(timeline.bench(), load, before)
 }
 
-/// Why everything halts behind these turns of a hart, if it does; what the line `turn` would have said of the last is told where it halts
-/// by itself.
-fn told_halt(
-    timeline: &Timeline,
-    points: &[u64],
-    hart: HartId,
-    row: TurnRow,
-    rests: bool,
-    told: &mut Vec<Answer>,
-) -> Result<Option<HaltReason>, Refusal>
-    ensures halt { IfOk result (λ halt. halt
-        ≡ halt_after row rests (stands_in points.now (pc_in hart (machine_of timeline.now.bench)))) }
-    ensures refused { IfErr result (λ e. e ≡ Memory) }
-{
-    let halt = halt_behind(timeline, points, hart, row, rests);
-    if halt == Some(HaltReason::Ended) || halt == Some(HaltReason::Off) {
-        told.push(row.last().answer(hart))?;
-    }
-    Ok(halt)
-}
-
 /// Up to so many turns of a hart, to the first that halts everything; what the line `turn` would have said of the
 /// last is told where it does so by itself.
 fn stretch<C: Crew>(
@@ -213,7 +192,10 @@ fn stretch<C: Crew>(
     ensures refused { IfErr result (λ e. e ≡ Memory) }
 {
     let (row, rests) = timeline.turns_to(setting, hart, most, points)?;
-    let halt = told_halt(timeline, points, hart, row, rests, told)?;
+    let halt = halt_behind(timeline, points, hart, row, rests);
+    if halt == Some(HaltReason::Ended) || halt == Some(HaltReason::Off) {
+        told.push(row.last().answer(hart))?;
+    }
     Ok(RoundPart {
         halt,
         made: row.made(),
