@@ -95,7 +95,7 @@ pub record IsKept {C : Type 0} (look : GdbLook) (old new : Talk C) : Type 0 wher
   pub acknowledges : acknowledges_in new ≡ acknowledges_after look (acknowledges_in old)
   pub over : is_over_in new ≡ is_over_after look (is_over_in old)
 
--- how a talk changes by any request: one that moves the board leaves all but the stop and the hart that is shown
+-- how a talk changes by any request: one that moves the board leaves all but the stop and the harts that are shown and selected
 abbrev pub Keeps : {C : Type 0} → GdbRequest → Talk C → Talk C → Type 0
 Keeps (asks.Look look) old new = IsKept look old new
 Keeps (asks.Move move) old new = IsTalk (last_in new) (runner_in old) (takes_in old) (acknowledges_in old) (is_over_in old) new

@@ -28,7 +28,7 @@ hart_line b h = stands_text h (pc_in h (machine_of b))
 abbrev pub hart_lines : ℕ → DebuggedBench → List ℕ
 hart_lines harts b = flat_map (hart_line b) (range_with_len 0 harts)
 
--- `monitor when`: where a history stands, and the hart that is shown
+-- `monitor when`: where a history stands, and the hart that is selected
 abbrev pub when_text : ℕ → List Line → List ℕ
 when_text h past =
     codes "life " ++ (decimal (lives_begun past) ++ (codes ", line " ++ (decimal (length past) ++ (codes ", turn "

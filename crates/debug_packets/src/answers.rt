@@ -35,7 +35,7 @@ fn first_hart(shape: &Shape) -> HartId
 }
 
 impl<'a, C: Crew> Talk<'a, C> {
-    /// A talk about a session, whose hart 0 is shown.
+    /// A talk about a session, whose hart 0 is shown and selected.
     pub fn new(session: Session<'a, C>) -> Talk<'a, C>
         ensures session { session_in result ≡ session.entry }
         ensures first { hart_in result ≡ 0 }

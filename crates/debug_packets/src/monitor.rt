@@ -39,7 +39,7 @@ Any line of the script language is run, becomes part of the history, and says it
 Beside them:
   script    the history as a script, which sbibench runs to the same reports
   harts     what each hart stands at
-  when      how many lives, lines and turns the history has, and the hart that is shown
+  when      how many lives, lines and turns the history has, and the hart that is selected
   goto N    back to before the turn that came behind N others; or on, to N turns
   help      this text
 After a line that moves the board, `maintenance flush register-cache` (flushregs) shows it.

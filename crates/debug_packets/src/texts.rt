@@ -128,7 +128,7 @@ pub fn harts_text<C: Crew>(session: &Session<'_, C>) -> Result<String, Refusal>
     Ok(text)
 }
 
-/// Where a session stands, whose hart of that number is shown.
+/// Where a session stands, whose hart of that number is selected.
 pub fn when_text<C: Crew>(session: &Session<'_, C>, hart: HartId) -> Result<String, AllocError>
     ensures { IfOk result (λ text. string_bytes text ≡ when_text hart (history_of session.now)) }
 {

@@ -12,7 +12,7 @@ use Rattle.report_lines.specs.declared.printed.Answer.{Answer}
 use Rattle.bench_report.specs.Agree.{OffIs}
 use Rattle.bench_report.specs.Bench.{Bench, bench_with}
 use Rattle.bench_report.specs.Happens.{off}
-use Rattle.bench_report.specs.Steps.{Moves, Run}
+use Rattle.bench_report.specs.Steps.{Moves}
 use Rattle.bench_report.specs.Views.{fault_state}
 use Rattle.bench_report.proofs.RunLines.{run_more}
 use Rattle.bench_live.specs.Lives.{Shows}

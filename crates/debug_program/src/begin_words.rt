@@ -1,6 +1,6 @@
 //! Where a session begins, by the words of its options.
 
-ghost use Rattle.std.specs.Prelude.{◌≡◌, ◌≤◌, IfSome};
+ghost use Rattle.std.specs.Prelude.{◌≡◌, IfSome};
 ghost use Rattle.std.specs.Option.{option_map};
 ghost use Rattle.script_lang.specs.Words.{number_of};
 ghost use Rattle.debug_program.specs.Limits.{IsBounded, IsUpTo};

@@ -1,9 +1,9 @@
 //! Where a session begins: at the end of its script, where what a bench found of it parts from it, or where what a bench arms strikes.
 
-ghost use Rattle.std.specs.Prelude.{◌≡◌, ◌⊎◌, ◌≤◌, ◌<◌, ◌++◌, ◌∷◌, [], ℕ, List, All, Ok, Err, IfErr, IfOk, drop, length, take};
+ghost use Rattle.std.specs.Prelude.{◌≡◌, ◌⊎◌, ◌≤◌, ◌<◌, ◌++◌, ◌∷◌, [], List, All, Ok, Err, IfErr, IfOk, drop, length, take};
 ghost use Rattle.std.specs.Option.{option_to_list};
 ghost use Rattle.board_model.specs.Shapes.{Size};
-ghost use Rattle.board_model.specs.declared.refusal.Refusal.TheVariants.{BadShape, Memory, Output};
+ghost use Rattle.board_model.specs.declared.refusal.Refusal.TheVariants.{Memory, Output};
 ghost use Rattle.script_lang.specs.Lines.{IsLineInRange};
 ghost use Rattle.script_lang.specs.Scripts.{script_of, Script as Said};
 ghost use Rattle.script_lang.specs.Spellings.{script_text};
@@ -12,7 +12,7 @@ ghost use Rattle.script_lang.specs.declared.line.Line.{Line as SaidLine};
 ghost use Rattle.bench_orders.specs.Orders.{AreOrderOf, IsScheduleOf};
 ghost use Rattle.bench_schedules.specs.Numbers.{numbers_of};
 ghost use Rattle.debug_program.specs.Limits.{IsBounded, IsUpTo};
-ghost use Rattle.debug_program.specs.declared.given.Begin.TheVariants.{Order};
+ghost use Rattle.debug_program.specs.declared.given.Begin.TheVariants.{Order, Schedule};
 ghost use Rattle.debug_program.specs.Begins.{BeginsAt, HasNone, IsDrawn, IsFound, IsRow, NoRow, PartsAt, both_turn, is_same_row, turns_of_both};
 ghost use Rattle.debug_program.specs.Strikes.{StopsBefore};
 
@@ -203,6 +203,44 @@ fn order_found<R: Threads + Sync>(
     read_back(alloc, &text)
 }
 
+/// A script up to where a schedule of it parts from it.
+fn schedule_to<R: Threads + Sync>(
+    alloc: Global,
+    drawn: ScheduleChoice,
+    own: &Script,
+    script: &[u8],
+    payloads: &Payloads,
+) -> Result<Script, Refusal>
+    requires read { script_of script.now ≡ Ok (view own.now) }
+    requires ranges { All (IsLineInRange own.now.shape) own.now.lines.items }
+    ensures begins { IfOk result (λ begun. BeginsAt (Schedule drawn) script.now payloads.now (view begun)) }
+    ensures ranges { IfOk result (λ begun. All (IsLineInRange begun.shape) begun.lines.items) }
+    ensures refused { IfErr result (λ e. (e ≡ Memory) ⊎ (e ≡ Output)) }
+{
+    let found = schedule_found::<R>(alloc, drawn, script, payloads)?;
+    script_to(own, found)
+}
+
+/// A script up to where an order of it parts from it.
+fn order_to<R: Threads + Sync>(
+    threads: &R,
+    alloc: Global,
+    order: OrderChoice,
+    own: &Script,
+    script: &[u8],
+    payloads: &Payloads,
+) -> Result<Script, Refusal>
+    requires bounded { IsUpTo 3 order.most × IsUpTo 1000000 order.number }
+    requires read { script_of script.now ≡ Ok (view own.now) }
+    requires ranges { All (IsLineInRange own.now.shape) own.now.lines.items }
+    ensures begins { IfOk result (λ begun. BeginsAt (Order order) script.now payloads.now (view begun)) }
+    ensures ranges { IfOk result (λ begun. All (IsLineInRange begun.shape) begun.lines.items) }
+    ensures refused { IfErr result (λ e. (e ≡ Memory) ⊎ (e ≡ Output) ⊎ HasNone (Order order) script.now payloads.now e) }
+{
+    let found = order_found(threads, alloc, order, script, payloads)?;
+    script_to(own, found)
+}
+
 /// The script of a row that [`bench_sweep::show_row`] writes.
 fn row_found<R: Threads + Sync>(
     alloc: Global,
@@ -262,14 +300,8 @@ pub fn begun<R: Threads + Sync>(
 {
     match begin {
         Begin::End => Ok(own),
-        Begin::Schedule(drawn) => {
-            let found = schedule_found::<R>(alloc, drawn, script, payloads)?;
-            script_to(&own, found)
-        }
-        Begin::Order(order) => {
-            let found = order_found(threads, alloc, order, script, payloads)?;
-            script_to(&own, found)
-        }
+        Begin::Schedule(drawn) => schedule_to::<R>(alloc, drawn, &own, script, payloads),
+        Begin::Order(order) => order_to(threads, alloc, order, &own, script, payloads),
         Begin::Cut(number) => {
             let wanted = WantedRow {
                 bench: BenchKind::Cuts,

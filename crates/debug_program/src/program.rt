@@ -1,6 +1,6 @@
 //! What the program does: its command line, its files, the talk, and its status (docs/DEBUGGING.md).
 
-ghost use Rattle.std.specs.Prelude.{◌≡◌, ◌≤◌, IfOk, Result};
+ghost use Rattle.std.specs.Prelude.{◌≡◌, IfOk, Result};
 ghost use Rattle.std.specs.Process.{exit_status};
 ghost use Rattle.command_line.specs.Faults.{status_after};
 ghost use Rattle.command_line.specs.Told.{fault_of};

@@ -1,6 +1,6 @@
 //! Where what a row of a bench arms strikes in its script.
 
-ghost use Rattle.std.specs.Prelude.{◌≡◌, ◌↔◌, ◌≤◌, ◌<◌, ◌+◌, ◌++◌, ◌∷◌, [], List, All, None, Some, true, false, length, take, IfErr, IfOk, OnOk};
+ghost use Rattle.std.specs.Prelude.{◌≡◌, ◌↔◌, ◌≤◌, ◌<◌, ◌+◌, ◌++◌, ◌∷◌, [], All, None, Some, true, false, length, take, IfErr, IfOk, OnOk};
 ghost use Rattle.board_model.specs.declared.refusal.Refusal.TheVariants.{Memory};
 ghost use Rattle.disk.specs.FaultState.{Unarmed};
 ghost use Rattle.script_lang.specs.Lines.{IsLineInRange};

@@ -24,13 +24,13 @@ use Rattle.debug_session.specs.Passes.{GoesTo, Passes, machine_left}
 use Rattle.debug_session.specs.Loads.{LoadsNext}
 use Rattle.debug_session.specs.declared.loads.Load.{Load}
 use Rattle.debug_session.proofs.Passed.{shown_machine}
-use Rattle.debug_session.proofs.OneLoad.{one_load}
+use Rattle.debug_session.proofs.Unread.{reads_next}
 use Rattle.debug_session.specs.declared.halts.HaltReason.{HaltReason}
 use Rattle.debug_session.specs.declared.halts.HaltReason.TheVariants as halts
 use Rattle.debug_session.specs.declared.stops.Stops.{Stops}
 use Rattle.debug_session.specs.declared.stops.Watchpoint.{Watchpoint}
 use Rattle.debug_session.specs.Steps.{halt_step}
-use Rattle.debug_session.specs.Firsts.{KeepsWatched, PassAll, RanBy, RanTo, Stretched, ToHalt, Touches, halt_after, halt_seen, halts_all, is_at_point, is_kept, is_of_turn, is_quiet, is_unread, minds_changes, one_turn, seen_all, seen_by, TellsTouched, touched_by, touched_in, touched_since}
+use Rattle.debug_session.specs.Firsts.{KeepsWatched, PassAll, RanBy, RanTo, ReadsAs, Stretched, ToHalt, Touches, halt_after, halt_seen, halts_all, is_at_point, is_kept, is_of_turn, is_quiet, is_unread, minds_changes, one_turn, seen_all, seen_by, TellsTouched, touched_by, touched_in, touched_since}
 
 pub ok_more : {A E : Type 0} (r : Result A E) (P Q : A → Type 0) → ((x : A) → P x → Q x) → IfOk r P → IfOk r Q
 ok_more (Ok x) P Q more h = more x h
@@ -111,17 +111,17 @@ module _ (size : Size) (stops : Stops) where
   -- ---- one turn
   -- what was seen before a turn tells what it touched, where both machines are those of its benches
   touched_told : (h : ℕ) (was now : Option Machine) (load : Option Load) (before : List (Watchpoint × List ℕ)) (touched : Option Watchpoint) (b new : Bench) → TellsTouched was stops.watches.items before → was ≡ machine_left b.power → now ≡ machine_left new.power
-      → LoadsNext was h load → touched ≡ touched_since now load before → Touches stops h b new touched
-  touched_told h was now load before touched b new tells at_first at_last loads is other reads =
-      let P : Option Machine → Type 0 = λ m. touched ≡ touched_in m now load stops.watches.items in
-      let Q : Option Machine → Type 0 = λ m. touched ≡ touched_in (machine_left b.power) m load stops.watches.items in
-      let R : Option Machine → Type 0 = λ m. LoadsNext m h load in
-      let same : other ≡ load = one_load (machine_left b.power) h other load reads (subst R at_first loads) in
-      ap (λ (x : Option Load). touched_by stops x b new) same ∙ sym (subst Q at_last (subst P at_first (is ∙ tells now load)))
+      → ReadsAs was h before load → touched ≡ touched_since now load before → Touches stops h b new touched
+  touched_told h was now load before touched b new tells at_first at_last reads is other loads =
+      let P : Option Machine → Type 0 = λ m. touched ≡ touched_in m now other stops.watches.items in
+      let Q : Option Machine → Type 0 = λ m. touched ≡ touched_in (machine_left b.power) m other stops.watches.items in
+      let R : Option Machine → Type 0 = λ m. LoadsNext m h other in
+      let same : touched_since now other before ≡ touched_since now load before = reads now other (subst R (sym at_first) loads) in
+      sym (subst Q at_last (subst P at_first (is ∙ sym same ∙ tells now other)))
 
   pub touched_along : (h : ℕ) (was now : Option Machine) (load : Option Load) (before : List (Watchpoint × List ℕ)) (touched : Option Watchpoint) (b new : Bench) → before ≡ seen_all was stops.watches.items → was ≡ machine_left b.power → now ≡ machine_left new.power
       → LoadsNext was h load → touched ≡ touched_since now load before → Touches stops h b new touched
-  touched_along h was now load before touched b new had at_first at_last loads is = touched_told h was now load before touched b new (tells_seen was stops.watches.items before had) at_first at_last loads is
+  touched_along h was now load before touched b new had at_first at_last loads is = touched_told h was now load before touched b new (tells_seen was stops.watches.items before had) at_first at_last (reads_next was h before load loads) is
 
   made_ran : (h : ℕ) (word : Word) (changed : Option Watchpoint) (b new : Bench) (ended stands : Bool) → halts_all word ≡ ended → is_at_point stops h new ≡ stands
       → RowMoves size h (rows.Made 1 word) b new → Touches stops h b new changed
@@ -234,17 +234,17 @@ module _ (size : Size) (stops : Stops) where
   }
 
   -- one turn, where bytes are watched
-  pub watched_halts : (h made : ℕ) (rests : Bool) (at halt : Option HaltReason) (load : Option Load) (changed : Option Watchpoint) (before : List (Watchpoint × List ℕ)) (old new : Timeline) → LoadsNext (machine_of old.bench) h load → Stretched size h 1 stops.points.items made rests at old new
+  pub watched_halts : (h made : ℕ) (rests : Bool) (at halt : Option HaltReason) (load : Option Load) (changed : Option Watchpoint) (before : List (Watchpoint × List ℕ)) (old new : Timeline) → ReadsAs (machine_of old.bench) h before load → Stretched size h 1 stops.points.items made rests at old new
       → halt ≡ halt_seen at changed → (made ≡ 0 → changed ≡ None) → TellsTouched (machine_of old.bench) stops.watches.items before
       → ((made ≡ 0 → ⊥) → changed ≡ touched_since (machine_of new.bench) load before)
       → ToHalt size stops h halt old new
-  watched_halts h made rests at halt load changed before old new loads (row, turns, count, within, why, is) seen none had same = record {
+  watched_halts h made rests at halt load changed before old new reads (row, turns, count, within, why, is) seen none had same = record {
     harts = replicate (made_in row) h;
     grew = turns.grew ∙ ap (λ (xs : List Line). moments old.history ++ xs) (map_turns (made_in row) h);
     ran = λ b left. (let did = turns.moves b left in
         let stands : stands_in stops.points.items (pc_in h (machine_of new.bench)) ≡ is_at_point stops h did.0 = ap (λ (m : Option Machine). stands_in stops.points.items (pc_in h m)) (shown new did.0 did.2) in
         let P : Option HaltReason → Type 0 = λ x. RanTo size stops h x (replicate (made_in row) h) b did.0 in
-        let facts = λ (one : made_in row ≡ 1). touched_told h (machine_of old.bench) (machine_of new.bench) load before changed b did.0 had (shown old b left) (shown new did.0 did.2) loads (same (λ zero. absurd (omega (arith, one, zero, count)))) in
+        let facts = λ (one : made_in row ≡ 1). touched_told h (machine_of old.bench) (machine_of new.bench) load before changed b did.0 had (shown old b left) (shown new did.0 did.2) reads (same (λ zero. absurd (omega (arith, one, zero, count)))) in
         (did.0, subst P (sym (seen ∙ ap (λ (x : Option HaltReason). halt_seen x changed) (is ∙ ap (halt_after row rests) stands))) (one_ran h row rests changed b did.0 within did.1 (λ e. none (count ∙ e)) facts), did.2));
   }
 

@@ -3,6 +3,7 @@ pub mod Histories
 pub mod Timelines
 pub mod Passed
 pub mod OneLoad
+pub mod Unread
 pub mod Wents
 pub mod Scripts
 pub mod Places

@@ -19,7 +19,7 @@ one_reading w None (Some j) one two = absurd (one j two)
 one_reading w (Some i) None one two = absurd (two i one)
 one_reading w (Some i) (Some j) one two = ap (λ (x : Instr). Some x) (unique i j w one two)
 
-one_fetch : (memory : List ℕ) (pc : ℕ) (a b : Option Instr) → Fetches memory pc a → Fetches memory pc b → a ≡ b
+pub one_fetch : (memory : List ℕ) (pc : ℕ) (a b : Option Instr) → Fetches memory pc a → Fetches memory pc b → a ≡ b
 one_fetch memory pc a b one two =
     let P : Option Instr → Type 0 = λ x. Reads x (word_at memory pc) in both Instr (is_there memory pc 4) P a b (one_reading (word_at memory pc)) one two
 

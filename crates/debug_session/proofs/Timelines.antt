@@ -1,6 +1,6 @@
 -- A bench with its history, one line or row further.
-use Rattle.std.proofs.Common.{◌≡◌, ◌<◌, ◌+◌, ℕ, Bool, true, false, List, [], ◌∷◌, ◌++◌, Result, Ok, Err, take, get_or, length, refl, sym, ap, subst}
-use Rattle.std.specs.Prelude.{OnOk}
+use Rattle.std.proofs.Common.{◌≡◌, ◌<◌, ◌+◌, ℕ, Bool, true, false, List, [], ◌∷◌, ◌++◌, Result, Ok, Err, take, get_or, length, refl, sym, ap, ◌∙◌, subst}
+use Rattle.std.specs.Prelude.{IfOk, OnOk}
 use Rattle.std.proofs.lemmas.List.{take_more}
 use Rattle.board_model.specs.Shapes.{Size}
 use Rattle.sbi.specs.Words.{ends}
@@ -12,11 +12,17 @@ use Rattle.bench_report.specs.Steps.{Moves}
 use Rattle.bench_live.specs.declared.rows.TurnRow.{TurnRow}
 use Rattle.bench_live.specs.declared.rows.TurnRow.TheVariants as rows
 use Rattle.bench_live.specs.Rows.{RowMoves, goes_on, made_in}
-use Rattle.bench_live.specs.Notes.{Joins, Leaves, NotesRow}
-use Rattle.bench_live.proofs.Noted.{leaves_more}
+use Rattle.bench_report.specs.Agree.{fill_after, fills_after}
+use Rattle.bench_report.proofs.RunLines.{fills_snoc}
+use Rattle.bench_live.specs.Notes.{AreInRange, Joins, Leaves, NotesRow}
+use Rattle.bench_live.proofs.Noted.{leaves_more, ranges_more}
+use Rattle.script_lang.specs.Lines.{IsLineInRange}
+use Rattle.simdisk.specs.declared.fill.Fill.TheVariants as fills
 use Rattle.debug_session.specs.declared.debugged.DebuggedBench.{DebuggedBench}
-use Rattle.debug_session.specs.Ats.{GoesOnBy}
-use Rattle.debug_session.specs.Lives.{Shows}
+use Rattle.board_model.specs.declared.refusal.Refusal.{Refusal}
+use Rattle.debug_session.specs.declared.timeline.Timeline.{Timeline}
+use Rattle.debug_session.specs.Ats.{GoesOnBy, IsAt, IsLeft, IsNoted, Ran}
+use Rattle.debug_session.specs.Lives.{IsSound, Shows}
 use Rattle.debug_session.proofs.Rests.{not_true}
 
 -- what holds whatever is answered
@@ -45,6 +51,49 @@ pub line_left : (size : Size) (line : Line) (answer : Answer) (begins : List (Li
 line_left size line answer begins was joined before after moves b left =
     let did = moves b left.2 in
     (did.0, did.1, (leaves_more size (bench_with begins) was b line answer did.0 left.0 did.1, tt, did.2))
+
+-- that of a timeline whose parts are these
+left_as : (size : Size) (t : Timeline) (begins : List (List ℕ)) (past : List Line) (joins : Bool) (live : DebuggedBench) (b : Bench) → t.begins ≡ begins → t.history ≡ past → t.joins ≡ joins → t.bench ≡ live
+    → Left size begins past joins live b → Left size t.begins t.history t.joins t.bench b
+left_as size t begins past joins live b e f g h left =
+    let P : List (List ℕ) → Type 0 = λ x. Left size x past joins live b in
+    let Q : List Line → Type 0 = λ x. Left size t.begins x joins live b in
+    let R : Bool → Type 0 = λ x. Left size t.begins t.history x live b in
+    let S : DebuggedBench → Type 0 = λ x. Left size t.begins t.history t.joins x b in
+    subst S (sym h) (subst R (sym g) (subst Q (sym f) (subst P (sym e) left)))
+
+pub line_moves : (size : Size) (line : Line) (answer : Answer) (r : Result Answer Refusal) (old new : Timeline) (after : DebuggedBench)
+    → ((b : Bench) → Shows size b old.bench → (x : Bench) × Moves size line b answer x × Shows size x after) → new.bench ≡ after → new.begins ≡ old.begins
+    → IfOk r (λ said. said ≡ answer) → OnOk r (new.history ≡ old.history ++ line ∷ []) → OnOk r (new.joins ≡ false)
+    → IfOk r (λ said. (b : Bench) → IsLeft size old b → (x : Bench) × Moves size line b said x × IsLeft size new x)
+line_moves size line answer (Err e) old new after moves same begins is grew apart = tt
+line_moves size line answer (Ok said) old new after moves same begins is grew apart = λ b left.
+    let did = line_left size line answer old.begins old.history old.joins old.bench after moves b left in
+    let P : Answer → Type 0 = λ a. Moves size line b a did.0 in
+    (did.0, subst P (sym is) did.1, left_as size new old.begins (old.history ++ line ∷ []) false after did.0 begins grew apart same did.2)
+
+pub line_at : (size : Size) (line : Line) (answer : Answer) (r : Result Answer Refusal) (old new : Timeline) (after : DebuggedBench) → IsAt size old → IsLineInRange size line
+    → ((b : Bench) → Shows size b old.bench → (x : Bench) × Moves size line b answer x × Shows size x after) → IsSound after → after.live.fill ≡ fill_after line old.bench.live.fill
+    → new.bench ≡ after → new.begins ≡ old.begins → OnOk r (new.history ≡ old.history ++ line ∷ []) → OnOk r (new.joins ≡ false) → OnOk r (IsAt size new)
+line_at size line answer (Err e) old new after at range moves sound fill same begins grew apart = tt
+line_at size line answer (Ok said) old new after at range moves sound fill same begins grew apart =
+    let did = line_left size line answer old.begins old.history old.joins old.bench after moves at.left.0 at.left.1 in
+    record {
+      left = (did.0, left_as size new old.begins (old.history ++ line ∷ []) false after did.0 begins grew apart same did.2);
+      sound = (let P : DebuggedBench → Type 0 = λ x. IsSound x in subst P (sym same) sound);
+      fill = ap (λ (x : DebuggedBench). x.live.fill) same ∙ fill ∙ ap (fill_after line) at.fill ∙ sym (ap (λ (xs : List Line). fills_after xs fills.Old) grew ∙ fills_snoc old.history line fills.Old);
+      ranges = subst (AreInRange size) (sym grew) (ranges_more size old.history line at.ranges range);
+    }
+
+-- of a line that makes no turns
+noted_other : (line : Line) (answer : Answer) (was now : List Line) → ((h n : ℕ) → line ≡ lines.Turn h n → ⊥) → now ≡ was ++ line ∷ [] → IsNoted line answer was now
+noted_other (lines.Turn h n) answer was now not is = absurd (not h n refl)
+noted_other line answer was now not is = is
+
+pub ran_other : (size : Size) (line : Line) (r : Result Answer Refusal) (old new : Timeline) → ((h n : ℕ) → line ≡ lines.Turn h n → ⊥)
+    → IfOk r (λ answer. (b : Bench) → IsLeft size old b → (after : Bench) × Moves size line b answer after × IsLeft size new after) → OnOk r (new.history ≡ old.history ++ line ∷ []) → IfOk r (λ answer. Ran size line answer old new)
+ran_other size line (Ok answer) old new not moves grew = record { moves = moves; noted = noted_other line answer old.history new.history not grew }
+ran_other size line (Err e) old new not moves grew = tt
 
 -- ---- a history that is run again
 no_true : false ≡ true → ⊥

@@ -1,10 +1,9 @@
 -- Turns counted, one line more.
-use Rattle.std.proofs.Common.{◌≡◌, ◌<◌, ◌≤◌, ◌+◌, ◌-◌, ◌∙◌, ℕ, zero, suc, true, List, [], ◌∷◌, ◌++◌, length, take, get_or, refl, sym, ap, arith}
+use Rattle.std.proofs.Common.{◌≡◌, ◌<◌, ◌≤◌, ◌+◌, ◌-◌, ◌∙◌, ℕ, zero, suc, true, List, [], ◌++◌, length, take, get_or, ap, arith}
 use Rattle.std.specs.Prelude.{min}
 use Rattle.std.proofs.lemmas.List.{take_more}
 use Rattle.std.proofs.lemmas.List.Sums.{sum_by_push, sum_by-append}
 use Rattle.script_lang.specs.declared.line.Line.{Line}
-use Rattle.script_lang.specs.declared.line.Line.TheVariants as lines
 use Rattle.bench_live.specs.Pasts.{some_turns}
 use Rattle.debug_session.specs.Ats.{IsBefore}
 use Rattle.debug_session.specs.declared.timeline.Timeline.{Timeline}
@@ -25,10 +24,6 @@ made_cut h (suc k) xs = sum_by-append turns_of xs (some_turns h (suc k)) ∙ ap 
   where
     some : (k : ℕ) → turns_made (some_turns h (suc k)) ≡ suc k
     some k = omega arith
-
--- what is left behind one line more
-pub left_more : (xs : List Line) (i rest left turns : ℕ) (d : Line) → i < length xs → rest + turns_of (get_or xs i d) ≡ left → left + turns_made (take i xs) ≡ turns → rest + turns_made (take (i + 1) xs) ≡ turns
-left_more xs i rest left turns d less one all = omega (arith, one, all, made_more xs i d less)
 
 -- a history that is cut before a turn
 pub went_to : (h i k n : ℕ) (old new : Timeline) → turns_made (take i old.history) + k ≡ n → new.history ≡ take i old.history ++ some_turns h k → IsBefore h old.history new.history → WentTo n true old new

@@ -1,7 +1,7 @@
 -- Turns that became part of a history, one command after another.
-use Rattle.std.proofs.Common.{◌≡◌, ◌≤◌, ◌+◌, ◌-◌, ◌⊎◌, inl, inr, ℕ, Bool, true, false, List, [], ◌∷◌, ◌++◌, Option, Some, None, length, refl, sym, ap, ◌∙◌, subst, append_assoc, arith}
-use Rattle.std.specs.Prelude.{All}
-use Rattle.std.proofs.lemmas.List.{append-nil, length-append}
+use Rattle.std.proofs.Common.{◌≡◌, ◌≤◌, ◌+◌, ◌-◌, inl, inr, ℕ, zero, suc, Bool, true, false, List, [], ◌∷◌, ◌++◌, Option, Some, None, length, refl, sym, ap, ◌∙◌, subst, append_assoc, arith}
+use Rattle.std.specs.Prelude.{All, replicate}
+use Rattle.std.proofs.lemmas.List.{append-nil, length-append, length-replicate}
 use Rattle.std.proofs.lemmas.List.Elements.{All-append, All-cons, All-head, All-nil, All-tail}
 use Rattle.board_model.specs.Shapes.{Size}
 use Rattle.script_lang.specs.declared.line.Line.{Line}
@@ -91,6 +91,21 @@ step_of size h points part old new (row, turns, within, count, by) = (
   record { moves = λ b left. (let did = turns.moves b left in (did.0, did.1, did.2, did.3, one_turn size h points row b did.0 within did.4)); grew = turns.grew; busy = turns.busy },
   step_ends row part.rests (pc_in h (machine_of new.bench)) part.made part.halt within count by,
 )
+
+turns_of_one : (h n : ℕ) → All (IsTurnOf (λ x. x ≡ h)) (replicate n (lines.Turn h 1))
+turns_of_one h zero = All-nil (IsTurnOf (λ x. x ≡ h))
+turns_of_one h (suc n) = All-cons (IsTurnOf (λ x. x ≡ h)) (lines.Turn h 1) (replicate n (lines.Turn h 1)) (refl, refl) (turns_of_one h n)
+
+pub went_of : (size : Size) (h most made : ℕ) (points : List ℕ) (rests : Bool) (halt : Option HaltReason) (old new : Timeline) → IsAt size new → new.begins ≡ old.begins → Stretched size h most points made rests halt old new
+    → Went (λ x. x ≡ h) made size old new
+went_of size h most made points rests halt old new at begins (row, made_turns, count, within, why, is) = record {
+  at = at;
+  begins = begins;
+  turns = replicate (made_in row) (lines.Turn h 1);
+  grew = made_turns.grew;
+  only = turns_of_one h (made_in row);
+  as_many = length-replicate (made_in row) (lines.Turn h 1) ∙ sym count;
+}
 
 pub few_of : (size : Size) (h most made : ℕ) (points : List ℕ) (rests : Bool) (halt : Option HaltReason) (old new : Timeline) → Stretched size h most points made rests halt old new
     → made ≤ most

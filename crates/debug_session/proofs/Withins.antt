@@ -1,5 +1,5 @@
 -- Stepping while the pc lies within addresses.
-use Rattle.std.proofs.Common.{◌≡◌, ◌≤◌, ◌+◌, ◌⊎◌, inl, inr, ℕ, zero, suc, Bool, true, false, List, ◌∷◌, ◌++◌, Option, Some, None, refl, sym, ap, ◌∙◌, subst, append_assoc, arith}
+use Rattle.std.proofs.Common.{◌≡◌, ◌+◌, ◌⊎◌, inl, inr, ℕ, suc, Bool, true, false, List, ◌++◌, Option, Some, None, refl, sym, ap, ◌∙◌, subst, append_assoc, arith}
 use Rattle.std.specs.Prelude.{IfSome, replicate, if◌then◌else◌}
 use Rattle.std.proofs.lemmas.List.{append-nil, replicate-append-replicate}
 use Rattle.board_model.specs.Shapes.{Size}
@@ -9,7 +9,7 @@ use Rattle.bench_live.specs.Pasts.{moments}
 use Rattle.bench_report.specs.Bench.{Bench}
 use Rattle.bench_live.specs.declared.rows.TurnRow.{TurnRow}
 use Rattle.bench_live.specs.declared.rows.TurnRow.TheVariants as rows
-use Rattle.bench_live.specs.Rows.{IsWithin, RowMoves, is_off, made_in}
+use Rattle.bench_live.specs.Rows.{IsWithin, is_off, made_in}
 use Rattle.debug_session.specs.declared.timeline.Timeline.{Timeline}
 use Rattle.debug_session.specs.Ats.{IsLeft, MadeTurns}
 use Rattle.debug_session.specs.Lives.{Rests, machine_of, pc_in}
@@ -21,7 +21,7 @@ use Rattle.debug_session.specs.declared.halts.HaltReason.{HaltReason}
 use Rattle.debug_session.specs.declared.halts.HaltReason.TheVariants as halts
 use Rattle.debug_session.specs.declared.stops.Watchpoint.{Watchpoint}
 use Rattle.debug_session.specs.Firsts.{Stretched, halt_after, halt_seen, halts_all, is_of_turn, one_turn}
-use Rattle.debug_session.specs.Withins.{HaltsBy, LeftBy, MadeOne, StayedWithin, StaysWithin, IsSpent, StepsTo, StepsWithin, TurnsOnce, is_in, is_pc_in}
+use Rattle.debug_session.specs.Withins.{HaltsBy, LeftBy, MadeOne, StayedWithin, StaysWithin, IsSpent, StepsWithin, TurnsOnce, is_in, is_pc_in}
 
 -- ---- one turn at most
 behind_turn : (ended stands : Bool) (changed : Option Watchpoint) → IfSome (halt_seen (if ended then Some halts.Ended else (if stands then Some halts.Point else None)) changed) (λ x. is_of_turn x ≡ true)

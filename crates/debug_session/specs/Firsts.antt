@@ -176,6 +176,11 @@ touched_since now load (was ∷ more) =
 abbrev pub seen_in : List SeenBytes → List (Watchpoint × List ℕ)
 seen_in all = map (λ was. (was.watch, was.bytes.items)) all
 
+-- whatever the next turn of hart h reads, it touches as much of what was seen as one that reads that
+abbrev pub ReadsAs : Option Machine → ℕ → List (Watchpoint × List ℕ) → Option Load → Type 0
+ReadsAs m h before found =
+    (now : Option Machine) (load : Option Load) → LoadsNext m h load → touched_since now load before ≡ touched_since now found before
+
 -- what was seen tells what a turn touches, from that machine on
 abbrev pub TellsTouched : Option Machine → List Watchpoint → List (Watchpoint × List ℕ) → Type 0
 TellsTouched m watches before =

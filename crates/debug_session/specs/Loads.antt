@@ -1,6 +1,6 @@
 -- What the next turn of a hart reads: the bytes that its load instruction loads. Source: RISC-V Unprivileged ISA 20191213, sections
 -- 2.6 and 5.3; docs/BOARD.md, "A turn of a hart".
-use Rattle.std.specs.Prelude.{◌≡◌, ℕ, ◌-◌, ◌+◌, ◌%◌, Bool, true, false, List, Option, Some, None, ◌==◌, ◌&&◌, not, nat_le, nat_lt, length, if◌then◌else◌}
+use Rattle.std.specs.Prelude.{◌≡◌, ℕ, ◌+◌, ◌%◌, Bool, true, false, List, Option, Some, None, ◌==◌, ◌&&◌, not, nat_le, nat_lt, length, if◌then◌else◌}
 use Rattle.std.specs.Bool.{MatchBool}
 use Rattle.hart.specs.Means.{load_bytes, sum, word_at}
 use Rattle.hart.specs.State.{ArchState, reg}
@@ -55,6 +55,10 @@ abbrev pub LoadsAt : Machine → ℕ → Option Load → Type 0
 LoadsAt m h found =
     MatchBool (is_stepping m h)
     ((i : Option Instr) × Fetches m.memory (hart_at m h).pc i × (found ≡ made_load m.memory (load_in i (hart_at m h)))) (found ≡ None)
+
+-- the word at the pc is that of no load
+abbrev pub LoadsNone : Machine → ℕ → Type 0
+LoadsNone m h = (i : Option Instr) → Fetches m.memory (hart_at m h).pc i → load_in i (hart_at m h) ≡ None
 
 -- none where the board is off, or lacks the hart
 abbrev pub LoadsNext : Option Machine → ℕ → Option Load → Type 0

@@ -1,5 +1,5 @@
 -- Stepping while the pc lies within addresses.
-use Rattle.std.specs.Prelude.{◌≡◌, ◌⊎◌, ℕ, zero, suc, ◌+◌, Bool, true, false, List, ◌++◌, Option, Some, None, IfSome, nat_le, nat_lt, ◌&&◌, replicate, if◌then◌else◌, ⊤}
+use Rattle.std.specs.Prelude.{◌≡◌, ◌⊎◌, ℕ, zero, suc, ◌+◌, Bool, true, false, List, ◌++◌, Option, Some, None, IfSome, nat_le, nat_lt, ◌&&◌, replicate, ⊤}
 use Rattle.board_model.specs.Shapes.{Size}
 use Rattle.bench_live.specs.Pasts.{moments}
 use Rattle.bench_report.specs.Bench.{Bench}

@@ -1,15 +1,13 @@
 //! Running forward: turns of one hart, and of harts in turn.
 
-ghost use Rattle.std.specs.Prelude.{◌≡◌, ◌⊎◌, ◌≤◌, ◌<◌, ◌+◌, ℕ, Bool, true, false, slice_index_or, map, None, Some, IfOk, IfErr, IfSome, OnOk};
+ghost use Rattle.std.specs.Prelude.{◌≡◌, ◌≤◌, ◌<◌, ◌+◌, ℕ, true, false, slice_index_or, None, Some, IfOk, IfErr, IfSome, OnOk};
 ghost use Rattle.board_model.specs.declared.refusal.Refusal.TheVariants.{Memory};
 ghost use Rattle.bench_live.specs.declared.rows.TurnRow.{TurnRow};
-ghost use Rattle.bench_live.specs.Rows.{IsWithin, is_off, made_in};
-ghost use Rattle.debug_session.specs.Ats.{IsAt, MadeTurns};
+ghost use Rattle.debug_session.specs.Ats.{IsAt};
 ghost use Rattle.debug_session.specs.Steps.{IsStep, Went, halt_step};
 ghost use Rattle.debug_session.specs.Withins.{MadeOne, StepsWithin, is_in};
-ghost use Rattle.debug_session.specs.Firsts.{Stretched, ToHalt, halt_after, halt_seen, halts_all, seen_in, touched_since, TellsTouched};
+ghost use Rattle.debug_session.specs.Firsts.{ReadsAs, Stretched, ToHalt, halt_after, halt_seen, halts_all, seen_in, touched_since, TellsTouched};
 ghost use Rattle.debug_session.specs.Lives.{machine_of, pc_in, stands_in};
-ghost use Rattle.debug_session.specs.Loads.{LoadsNext};
 
 use crate::halts::{HaltReason, Stop};
 use crate::loads::Load;
@@ -217,7 +215,7 @@ fn loading_turn<C: Crew>(
 ) -> Result<RoundPart, Refusal>
     requires at { IsAt setting.now.shape.now timeline.old }
     requires hart { hart < setting.now.shape.now.harts }
-    requires loads { LoadsNext (machine_of timeline.old.bench) hart load.now }
+    requires reads { ReadsAs (machine_of timeline.old.bench) hart (seen_in before.now.items) load.now }
     requires tells { TellsTouched (machine_of timeline.old.bench) stops.now.watches.items (seen_in before.now.items) }
     ensures at { OnOk result (IsAt setting.now.shape.now timeline.new) }
     ensures went { IfOk result (λ part. Went (λ h. h ≡ hart) part.made setting.now.shape.now timeline.old timeline.new) }
@@ -261,7 +259,7 @@ fn watched_turn<C: Crew>(
     ensures begins { timeline.new.begins ≡ timeline.old.begins }
     ensures refused { IfErr result (λ e. e ≡ Memory) }
 {
-    let load = timeline.next_load(hart);
+    let load = timeline.load_among(hart, before);
     loading_turn(setting, stops, before, timeline, hart, &load, told)
 }
 

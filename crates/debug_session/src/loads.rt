@@ -3,7 +3,7 @@
 ghost use Rattle.std.specs.Prelude.{◌≡◌, ◌<◌, length, Some, IfSome};
 ghost use Rattle.bench_report.specs.Views.{machine_in};
 ghost use Rattle.debug_session.specs.Lives.{machine_of, machine_on};
-ghost use Rattle.debug_session.specs.Loads.{Fetches, LoadsAt, LoadsNext, is_interrupted, is_set, is_started, is_stepping, is_there, load_in, made_load};
+ghost use Rattle.debug_session.specs.Loads.{Fetches, LoadsAt, LoadsNext, is_interrupted, is_set, is_stepping, is_there, load_in, made_load};
 ghost use Rattle.hart.specs.Means.{load_bytes, sum};
 ghost use Rattle.hart.specs.Values.{residue};
 ghost use Rattle.machine.specs.Machine.{hart_at};
@@ -78,7 +78,7 @@ fn is_there(bytes: &[u8], address: u64, count: u64) -> bool
 }
 
 /// The instruction at the pc of a hart, where there is one.
-fn instruction(board: &Board<SimDisk>, hart: HartId) -> Option<Instr>
+pub(crate) fn instruction(board: &Board<SimDisk>, hart: HartId) -> Option<Instr>
     requires { hart < length (machine_in board.now).harts }
     ensures { Fetches (machine_in board.now).memory (hart_at (machine_in board.now) hart).pc result }
 {
@@ -116,7 +116,7 @@ fn moved(from: u64, by: i32) -> u64
 }
 
 /// The bytes that an instruction loads in that state of a hart, wherever they lie.
-fn load_in(found: &Option<Instr>, hart: &Hart) -> Option<Load>
+pub(crate) fn load_in(found: &Option<Instr>, hart: &Hart) -> Option<Load>
     ensures is { result ≡ load_in found.now hart.now }
     ensures some { IfSome result (λ load. 0 < load.count) }
 {

@@ -1,7 +1,6 @@
 //! Where a debugged board halts: at addresses, and where bytes change or are read.
 
-ghost use Rattle.std.specs.Prelude.{◌≡◌, ◌+◌, [], true, false, ◌==◌, ◌++◌, map, nat_lt, IfErr, IfOk, OnErr, OnOk};
-ghost use Rattle.std.specs.List.{list_any};
+ghost use Rattle.std.specs.Prelude.{◌≡◌, ◌↔◌, ◌+◌, [], All, IsTrue, true, false, ◌==◌, nat_lt, IfErr, IfOk, OnErr, OnOk};
 ghost use Rattle.debug_session.specs.Points.{with_point, with_watch, without_point, without_watch};
 ghost use Rattle.debug_session.specs.Firsts.{is_kept, is_read, is_unread, minds_changes, minds_reads, seen_all, seen_by, seen_in, touched_since};
 ghost use Rattle.debug_session.specs.Others.{first_other, other_of};
@@ -212,6 +211,20 @@ fn is_unread(watch: Watchpoint, load: Option<Load>) -> bool
     } else {
         true
     }
+}
+
+/// Whether nothing is read that the watchpoint of what was seen minds.
+fn is_unread_of(was: &SeenBytes, load: Option<Load>) -> bool
+    ensures { IsTrue result ↔ (is_unread was.now.watch load ≡ true) }
+{
+    is_unread(was.watch, load)
+}
+
+/// Whether nothing is read that any of these watchpoints minds.
+pub(crate) fn are_unread(before: &Vec<SeenBytes>, load: Option<Load>) -> bool
+    ensures { IsTrue result ↔ All (λ was. is_unread was.watch load ≡ true) before.now.items }
+{
+    before.iter().all(|was| is_unread_of(was, load))
 }
 
 /// The watchpoint of what was seen, where a turn that read that touched it.

@@ -1,15 +1,15 @@
 //! The bench with its history.
 
-ghost use Rattle.std.specs.Prelude.{◌≡◌, ◌⊎◌, ◌≤◌, ◌<◌, ◌++◌, ◌∷◌, [], ℕ, true, false, take, replicate, IfOk, OnOk, IfErr, MatchResult, ⊤};
+ghost use Rattle.std.specs.Prelude.{◌≡◌, ◌⊎◌, ◌≤◌, ◌<◌, ◌++◌, ◌∷◌, [], true, false, take, IfOk, OnOk, IfErr, MatchResult, ⊤};
 ghost use Rattle.std.specs.Bool.{MatchBool};
 ghost use Rattle.board_model.specs.declared.refusal.Refusal.TheVariants.{Memory};
-ghost use Rattle.bench_live.specs.Pasts.{IsBack, NoRow, moments, some_turns};
+ghost use Rattle.bench_live.specs.Pasts.{IsBack, NoRow, some_turns};
 ghost use Rattle.bench_report.specs.Bench.{Bench};
 ghost use Rattle.bench_report.specs.Steps.{Moves};
 ghost use Rattle.bench_live.specs.Notes.{AreInRange};
 ghost use Rattle.debug_session.specs.Ats.{IsAt, IsBefore, IsLeft, IsPlace, MadeTurns, Ran};
+ghost use Rattle.debug_session.specs.Firsts.{ReadsAs, seen_in};
 ghost use Rattle.debug_session.specs.Lives.{HasHalted, machine_of};
-ghost use Rattle.debug_session.specs.Loads.{LoadsNext};
 ghost use Rattle.bench_live.specs.Rows.{IsWithin, made_in, row_answer};
 ghost use Rattle.script_lang.specs.Lines.{IsLineInRange};
 ghost use Rattle.script_lang.specs.declared.line.Line.TheVariants as lines;
@@ -17,6 +17,7 @@ ghost use Rattle.script_lang.specs.declared.line.Line.TheVariants as lines;
 use crate::debugged::DebuggedBench;
 use crate::loads::Load;
 use crate::replays::replayed;
+use crate::stops::SeenBytes;
 use bench_live::{LineHistory, TurnRow, note};
 use bench_report::{Answer, Setting};
 use board::Payloads;
@@ -79,12 +80,12 @@ impl Timeline {
         &self.bench
     }
 
-    /// What the next turn of a hart reads, as `DebuggedBench::next_load` shows it.
-    pub fn next_load(&mut self, hart: HartId) -> Option<Load>
+    /// What the next turn of a hart reads of what is minded, as `DebuggedBench::load_among` shows it.
+    pub(crate) fn load_among(&mut self, hart: HartId, before: &Vec<SeenBytes>) -> Option<Load>
         ensures same { self.new ≡ self.old }
-        ensures loads { LoadsNext (machine_of self.old.bench) hart result }
+        ensures reads { ReadsAs (machine_of self.old.bench) hart (seen_in before.now.items) result }
     {
-        self.bench.next_load(hart)
+        self.bench.load_among(hart, before)
     }
 
     /// Up to so many turns of a hart, which become part of the history: what came of them. Refused `Memory` alone,
@@ -135,6 +136,20 @@ impl Timeline {
         Ok((row, rests))
     }
 
+    /// Notes a line that was run, and answered that.
+    fn noted(&mut self, line: Line, answer: Answer) -> Result<Answer, Refusal>
+        ensures answer { IfOk result (λ said. said ≡ answer) }
+        ensures grew { OnOk result (self.new.history ≡ self.old.history ++ line ∷ []) }
+        ensures apart { OnOk result (self.new.joins ≡ false) }
+        ensures bench { self.new.bench ≡ self.old.bench }
+        ensures begins { self.new.begins ≡ self.old.begins }
+        ensures refused { IfErr result (λ e. e ≡ Memory) }
+    {
+        self.history.add(line)?;
+        self.joins = false;
+        Ok(answer)
+    }
+
     /// Runs a line as it is, and notes it.
     fn whole_line<C: Crew>(
         &mut self,
@@ -150,10 +165,10 @@ impl Timeline {
         ensures begins { self.new.begins ≡ self.old.begins }
         ensures refused { IfErr result (λ e. e ≡ Memory) }
     {
-        let answer = self.bench.run(setting, &line)?;
-        self.history.add(line)?;
-        self.joins = false;
-        Ok(answer)
+        match self.bench.run(setting, &line) {
+            Ok(answer) => self.noted(line, answer),
+            Err(e) => Err(e),
+        }
     }
 
     /// Runs a line, which becomes part of the history: what it says. A row of turns becomes so with as many as were

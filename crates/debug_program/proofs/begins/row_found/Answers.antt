@@ -1,6 +1,5 @@
 use Rattle.std.proofs.Common.{◌∙◌, ap, ◌++◌, ◌∷◌, [], List, ℕ, inl}
 use Rattle.std.proofs.lemmas.Result.{IfErr-weaker, IfOk-weaker, err_from_is_err_and}
-use Rattle.board_model.specs.Shapes.{Size}
 use Rattle.script_lang.specs.Scripts.{Script}
 use Rattle.script_lang.specs.Spellings.{script_text}
 use Rattle.script_lang.specs.Views.{view}

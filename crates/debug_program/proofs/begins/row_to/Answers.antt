@@ -1,5 +1,3 @@
-use Rattle.std.proofs.Common.{inl}
-use Rattle.std.proofs.lemmas.Result.{IfErr-weaker}
 use Rattle.debug_program.proofs.Founds.{row_stops}
 use Rattle.debug_program.proofs.begins.row_to.Goals as goal
 

@@ -1,4 +1,4 @@
-use Rattle.std.proofs.Common.{◌≡◌, ◌≤◌, ◌<◌, ◌-◌, true, false, length, take}
+use Rattle.std.proofs.Common.{◌≤◌, ◌<◌, ◌-◌, true, false, length, take}
 use Rattle.debug_program.specs.Strikes.{ArmedBehind}
 use Rattle.debug_program.proofs.strikes.struck_line.Given as goal
 

@@ -1,4 +1,4 @@
-use Rattle.std.proofs.Common.{inl, sym}
+use Rattle.std.proofs.Common.{inl}
 use Rattle.debug_session.proofs.Histories.{place_hart}
 use Rattle.debug_session.proofs.Backs.{went_back}
 use Rattle.debug_session.proofs.back.go_back.Goals as goal

@@ -1,16 +1,14 @@
-use Rattle.std.proofs.Common.{◌≡◌, ◌+◌, ℕ, List, Option, take, get_or, refl, sym, ap, ◌∙◌, subst}
-use Rattle.std.specs.Prelude.{All, IfSome}
+use Rattle.std.proofs.Common.{◌+◌, List, Option, take, refl, sym, subst}
+use Rattle.std.specs.Prelude.{IfSome}
 use Rattle.std.proofs.lemmas.List.{take_all}
 use Rattle.std.proofs.lemmas.List.Elements.{All-get_or}
 use Rattle.bench_live.specs.Pasts.{moments, singles}
-use Rattle.bench_report.specs.Bench.{Bench, bench_with}
+use Rattle.bench_report.specs.Bench.{bench_with}
 use Rattle.bench_live.specs.Notes.{AreInRange}
 use Rattle.script_lang.specs.Lines.{IsLineInRange}
 use Rattle.script_lang.specs.declared.line.Line.{Line}
 use Rattle.debug_session.specs.Ats.{IsPlace}
-use Rattle.debug_session.specs.Lives.{Shows}
 use Rattle.debug_session.specs.declared.back.TurnPlace.{TurnPlace}
-use Rattle.debug_session.specs.declared.halts.Stop.{Stop}
 use Rattle.debug_session.specs.Backs.{FoundIn, FoundOf, IsRowPast}
 use Rattle.debug_session.proofs.Backs.{found_line, later_at}
 use Rattle.debug_session.proofs.back.last_halt_along.Goals as goal

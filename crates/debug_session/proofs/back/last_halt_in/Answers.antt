@@ -1,6 +1,5 @@
 use Rattle.std.proofs.Common.{◌≡◌, ◌+◌, ◌<◌, ℕ, Option, refl, sym, subst}
 use Rattle.std.specs.Prelude.{IfSome, replicate}
-use Rattle.bench_report.specs.Bench.{Bench}
 use Rattle.debug_session.specs.declared.halts.Stop.{Stop}
 use Rattle.debug_session.specs.Backs.{FoundIn}
 use Rattle.debug_session.specs.Firsts.{one_turn}

@@ -1,12 +1,10 @@
-use Rattle.std.proofs.Common.{◌≡◌, List, Option, take, subst}
+use Rattle.std.proofs.Common.{◌≡◌, List, take, subst}
 use Rattle.std.specs.Prelude.{All, IfSome}
-use Rattle.bench_live.specs.Pasts.{moments}
 use Rattle.bench_report.specs.Bench.{bench_with}
 use Rattle.script_lang.specs.declared.line.Line.{Line}
 use Rattle.debug_session.specs.Ats.{IsPlace}
-use Rattle.debug_session.specs.declared.back.TurnPlace.{TurnPlace}
 use Rattle.debug_session.specs.declared.halts.HaltReason.TheVariants as halts
-use Rattle.debug_session.specs.Backs.{FoundOf, IsEnd}
+use Rattle.debug_session.specs.Backs.{IsEnd}
 use Rattle.debug_session.specs.Steps.{MakesNone}
 use Rattle.debug_session.proofs.Backs.{end_first, end_found, some_more}
 use Rattle.debug_session.proofs.back.place_back.Goals as goal

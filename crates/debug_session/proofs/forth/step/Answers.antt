@@ -1,9 +1,9 @@
-use Rattle.std.proofs.Common.{◌≡◌, Option, None, Some, refl, sym, ap, ◌∙◌, subst}
+use Rattle.std.proofs.Common.{Some, sym, subst}
 use Rattle.debug_session.specs.declared.halts.HaltReason.{HaltReason}
 use Rattle.debug_session.specs.Firsts.{TellsTouched, ToHalt, seen_in}
 use Rattle.debug_session.specs.Lives.{machine_of}
 use Rattle.debug_session.specs.declared.debugged.DebuggedBench.{DebuggedBench}
-use Rattle.debug_session.specs.Steps.{IsStep, halt_step}
+use Rattle.debug_session.specs.Steps.{IsStep}
 use Rattle.debug_session.proofs.Firsts.{step_halts, tells_seen}
 use Rattle.debug_session.proofs.Wents.{step_of}
 use Rattle.debug_session.proofs.forth.step.Goals as goal

@@ -9,14 +9,14 @@ use Rattle.debug_session.proofs.forth.watched_turn.Goals as goal
 pub returns-clause-went : goal.returns-clause-went
 returns-clause-went g c =
     let P : Timeline → Type 0 = λ t. IfOk c.loading_turn.result (λ part. Went (λ h. h ≡ c.args.hart) part.made c.args.setting.now.shape.now t c.loading_turn.new.timeline) in
-    subst P c.next_load-load.ensures.same c.loading_turn.ensures.went
+    subst P c.load_among-load.ensures.same c.loading_turn.ensures.went
 
 pub returns-clause-first : goal.returns-clause-first
 returns-clause-first g c =
     let P : Timeline → Type 0 = λ t. IfOk c.loading_turn.result (λ part. ToHalt c.args.setting.now.shape.now c.args.stops.now c.args.hart part.halt t c.loading_turn.new.timeline) in
-    subst P c.next_load-load.ensures.same c.loading_turn.ensures.first
+    subst P c.load_among-load.ensures.same c.loading_turn.ensures.first
 
 pub returns-clause-made : goal.returns-clause-made
 returns-clause-made g c =
     let P : Timeline → Type 0 = λ t. IfOk c.loading_turn.result (λ part. MadeOne c.args.setting.now.shape.now c.args.hart c.args.stops.now.points.items part t c.loading_turn.new.timeline) in
-    subst P c.next_load-load.ensures.same c.loading_turn.ensures.made
+    subst P c.load_among-load.ensures.same c.loading_turn.ensures.made

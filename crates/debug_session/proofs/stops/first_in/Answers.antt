@@ -1,4 +1,4 @@
-use Rattle.std.proofs.Common.{◌≡◌, ◌<◌, ◌∷◌, suc, ℕ, List, Option, Some, length, map, drop, get_or, sym, ap, ◌∙◌}
+use Rattle.std.proofs.Common.{suc, ℕ, List, Option, map, drop, sym, ap, ◌∙◌}
 use Rattle.std.proofs.Math.Seq.{drop-cons}
 use Rattle.debug_session.specs.Lives.{machine_of}
 use Rattle.debug_session.specs.declared.stops.SeenBytes.{SeenBytes}

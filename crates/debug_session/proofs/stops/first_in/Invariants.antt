@@ -1,4 +1,4 @@
-use Rattle.std.proofs.Common.{◌≡◌, ℕ, List, map, drop}
+use Rattle.std.proofs.Common.{◌≡◌, map, drop}
 use Rattle.debug_session.specs.Lives.{machine_of}
 use Rattle.debug_session.specs.Others.{first_other}
 use Rattle.debug_session.proofs.stops.first_in.Given as goal
