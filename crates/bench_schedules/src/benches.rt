@@ -1,6 +1,6 @@
 //! Whole benches.
 
-ghost use Rattle.std.specs.Prelude.{◌≡◌, ◌⊎◌, ◌+◌, ◌-◌, ◌≤◌, ℕ, slice_index_or, length, All, IfErr, IfOk, OnOk, Ok, Err};
+ghost use Rattle.std.specs.Prelude.{◌≡◌, ◌⊎◌, ◌+◌, ◌-◌, ◌≤◌, ◌∷◌, [], ℕ, List, slice_index_or, length, All, IfErr, IfOk, OnOk, Ok, Err};
 ghost use Rattle.std.specs.Io.KnownBytes.{Appends};
 ghost use Rattle.board_model.specs.Shapes.{IsSize};
 ghost use Rattle.board_model.specs.declared.refusal.Refusal.{Refusal as Refused};
@@ -11,14 +11,13 @@ ghost use Rattle.script_lang.specs.Views.{view};
 ghost use Rattle.bench_schedules.specs.Drawable.{AreDrawable};
 ghost use Rattle.bench_schedules.specs.Numbers.{number_of_other, place_of_other};
 ghost use Rattle.bench_schedules.specs.Schedules.{Ran, RanOwn, RunText, Shown, Wrote, WroteSchedules, differing, has_tight, own_count, own_tight, tight_text};
-ghost use Rattle.std.specs.Prelude.{List, ◌∷◌, []};
 
 use crate::numbers::{line_numbers, number_at, number_of_other};
 use crate::own_runs::{OwnRun, drawn_schedule, run_own};
 use crate::runs::{Difference, run_until};
 use crate::written::{write_count, write_difference, write_tight};
 use bench_orders::{fits, orders_keep_lines, shape_in_range, write_script};
-use bench_report::{Answer, Setting};
+use bench_report::Setting;
 use board::Payloads;
 use board_model::Refusal;
 use crew::{Crew, Sequential};

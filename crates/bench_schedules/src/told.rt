@@ -1,6 +1,6 @@
 //! What is told of two answers: the first line in which they are another.
 
-ghost use Rattle.std.specs.Prelude.{◌≡◌, ◌≢◌, ◌++◌, ◌∷◌, [], Some, None, IfOk, MatchOption};
+ghost use Rattle.std.specs.Prelude.{◌≡◌, ◌≢◌, ◌∷◌, [], Some, None, IfOk, MatchOption};
 ghost use Rattle.bench_schedules.specs.Told.{IsFirstApart, head_text, told_lines, told_text};
 ghost use Rattle.bench_schedules.specs.declared.told.ToldLine.TheVariants as told;
 
