@@ -1,10 +1,12 @@
 //! The script's own run, with which those of its schedules are compared.
 
-ghost use Rattle.std.specs.Prelude.{◌≡◌, ◌≤◌, length, All, IfErr, IfOk};
-ghost use Rattle.std.specs.Option.{option_to_list};
+ghost use Rattle.std.specs.Prelude.{◌≡◌, ◌≤◌, ◌++◌, [], ℕ, List, length, All, IfErr, IfOk, OnOk};
 ghost use Rattle.board_model.specs.declared.refusal.Refusal.TheVariants.{Memory};
 ghost use Rattle.script_lang.specs.Lines.{IsLineInRange};
 ghost use Rattle.bench_orders.specs.Orders.{IsOrderFor, is_other, other_count};
+ghost use Rattle.bench_report.specs.Bench.{bench_with};
+ghost use Rattle.bench_live.specs.Lives.{IsSound, Shows};
+ghost use Rattle.bench_schedules.specs.RunSoFar.{RunSoFar};
 ghost use Rattle.bench_schedules.specs.Schedules.{IsNumbered, RanOwn, other_answer};
 
 use crate::line_runs::{end_run, is_other, run_line};
@@ -27,11 +29,53 @@ pub struct OwnRun {
     pub stretches: Stretches,
 }
 
-/// The answer of a line that is no `turn`; of a `turn` line none.
-fn other_answer(line: &Line, answer: Answer) -> Option<Answer>
-    ensures { option_to_list result ≡ other_answer (is_other line.now) answer }
+impl OwnRun {
+    /// No line yet.
+    fn new(alloc: Global) -> OwnRun
+        ensures { result.answers.items ≡ [] }
+    {
+        OwnRun {
+            answers: Vec::new(alloc),
+            stretches: Stretches::new(alloc),
+        }
+    }
+
+    /// Notes the line at that place, and what it answered. The answer of a `turn` line is not kept. Refused `Memory` alone.
+    fn note(&mut self, place: usize, line: &Line, answer: Answer) -> Result<(), Refusal>
+        ensures noted { OnOk result (self.new.answers.items ≡ self.old.answers.items ++ other_answer (is_other line.now) answer) }
+        ensures refused { IfErr result (λ e. e ≡ Memory) }
+    {
+        self.stretches.note(place, line, &answer)?;
+        if !is_other(line) {
+            return Ok(());
+        }
+        self.answers.push(answer)?;
+        Ok(())
+    }
+}
+
+/// Runs the lines of a script from the first on, and notes what they answer. Refused `Memory` alone.
+fn run_lines<C: Crew>(
+    setting: &Setting<'_, C>,
+    lines: &[Line],
+    live: &mut LiveBench,
+    own: &mut OwnRun,
+) -> Result<(), Refusal>
+    requires ranges { All (IsLineInRange setting.now.shape.now) lines.now }
+    requires sound { IsSound live.old }
+    requires none { own.old.answers.items ≡ [] }
+    ensures sound { OnOk result (IsSound live.new) }
+    ensures ran { OnOk result ((start : List (List ℕ)) → Shows setting.now.shape.now (bench_with start) live.old
+        → RunSoFar setting.now.shape.now (bench_with start) lines.now own.new.answers.items live.new) }
+    ensures refused { IfErr result (λ e. e ≡ Memory) }
 {
-    if is_other(line) { Some(answer) } else { None }
+    let mut place = 0;
+    for line in lines {
+        let answer = run_line(setting, line, live)?;
+        own.note(place, line, answer)?;
+        place += 1;
+    }
+    Ok(())
 }
 
 /// Runs the script as it stands, with these payloads in the slots. Refused `Memory` alone.
@@ -46,20 +90,11 @@ pub fn run_own<C: Crew>(
     ensures refused { IfErr result (λ e. e ≡ Memory) }
 {
     let mut live = LiveBench::blank(setting.alloc, setting.shape, payloads)?;
-    let mut answers = Vec::new(setting.alloc);
-    let mut stretches = Stretches::new(setting.alloc);
-    let mut place = 0;
-    for line in lines {
-        let answer = run_line(setting, line, &mut live)?;
-        stretches.note(place, line, &answer)?;
-        if let Some(told) = other_answer(line, answer) {
-            answers.push(told)?;
-        }
-        place += 1;
-    }
+    let mut own = OwnRun::new(setting.alloc);
+    run_lines(setting, lines, &mut live, &mut own)?;
     end_run(live, setting.shape)?;
-    stretches.close()?;
-    Ok(OwnRun { answers, stretches })
+    own.stretches.close()?;
+    Ok(own)
 }
 
 /// Draws schedule k of a seed from the script's own run.
