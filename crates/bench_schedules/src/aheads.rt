@@ -55,7 +55,7 @@ fn run_unlike<C: Crew>(
     setting: &Setting<'_, C>,
     lines: &[Line],
     own: &[Answer],
-    going: RunUnderWay,
+    mut going: RunUnderWay,
     other: &mut LiveBench,
 ) -> Result<Option<Difference>, Refusal>
     requires ranges { All (IsLineInRange setting.now.shape.now) lines.now }
@@ -66,7 +66,6 @@ fn run_unlike<C: Crew>(
         ⊎ ((differs ≡ None) × IsAlike going.live other.old)) }
     ensures refused { IfErr result (λ e. e ≡ Memory) }
 {
-    let mut going = going;
     if going.live.is_as(other) {
         return Ok(None);
     }

@@ -92,7 +92,7 @@ pub fn run_to_end<C: Crew>(
     setting: &Setting<'_, C>,
     lines: &[Line],
     own: &[Answer],
-    going: RunUnderWay,
+    mut going: RunUnderWay,
 ) -> Result<Option<Difference>, Refusal>
     requires ranges { All (IsLineInRange setting.now.shape.now) lines.now }
     requires sound { IsSound going.live }
@@ -100,7 +100,6 @@ pub fn run_to_end<C: Crew>(
     ensures ran { IfOk result (λ differs. EndsSo setting.now.shape.now lines.now own.now going differs) }
     ensures refused { IfErr result (λ e. e ≡ Memory) }
 {
-    let mut going = going;
     let differs = go_on(setting, lines, own, &mut going)?;
     end_run(going.live, setting.shape)?;
     Ok(differs)
