@@ -7,8 +7,10 @@ ghost use Rattle.bench_schedules.specs.Aheads.{IsRunnable, basis_of};
 ghost use Rattle.bench_schedules.specs.Boards.{IsBoards, RestOfBoards};
 
 use crate::aheads::{Ahead, ahead_at, ends_as_own};
-use crate::bases::{Base, base_at, blank_base};
+use crate::bases::{Base, base_at};
 use crate::nodes::OrderRunner;
+use crate::runs::RunUnderWay;
+use bench_live::LiveBench;
 use board_model::Refusal;
 use crew::Crew;
 use script_lang::Line;
@@ -29,9 +31,10 @@ pub fn blank_boards<C>(runner: &OrderRunner<'_, C>) -> Result<Boards, Refusal>
     ensures boards { IfOk result (λ boards. (order : List Said) → IsBoards (basis_of runner.now) order boards) }
     ensures refused { IfErr result (λ e. e ≡ Memory) }
 {
-    let base = blank_base(runner)?;
+    let live = LiveBench::blank(runner.setting.alloc, runner.setting.shape, runner.payloads)?;
+    let going = RunUnderWay { live, place: 0 };
     Ok(Boards {
-        base,
+        base: Base { going, line: 0 },
         is_own: true,
         ahead: None,
     })
