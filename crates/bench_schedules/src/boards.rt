@@ -1,9 +1,9 @@
 //! The boards of an order, beside which the orders run that a preemption makes of it.
 
-ghost use Rattle.std.specs.Prelude.{◌≡◌, ◌<◌, ◌≤◌, None, true, List, length, IfErr, IfOk, OnOk};
+ghost use Rattle.std.specs.Prelude.{◌≡◌, ◌<◌, ◌≤◌, None, true, List, length, IfErr, IfOk, IfSome, OnOk};
 ghost use Rattle.board_model.specs.declared.refusal.Refusal.TheVariants.{Memory};
 ghost use Rattle.script_lang.specs.declared.line.Line.{Line as Said};
-ghost use Rattle.bench_schedules.specs.Aheads.{IsRunnable, basis_of};
+ghost use Rattle.bench_schedules.specs.Aheads.{IsBase, IsBeside, IsRunnable, basis_of};
 ghost use Rattle.bench_schedules.specs.Boards.{IsBoards, RestOfBoards};
 
 use crate::aheads::{Ahead, ahead_at, ends_as_own};
@@ -40,8 +40,33 @@ pub fn blank_boards<C>(runner: &OrderRunner<'_, C>) -> Result<Boards, Refusal>
     })
 }
 
-/// Has an order run on to before that line, and makes the board behind its row. There is none where the order answers otherwise than the
+/// Has an order run on to before that line, and answers the board behind its row. There is none where the order answers otherwise than the
 /// script's own run, and where it is past that line. Refused `Memory` alone.
+fn ahead_before<C: Crew>(
+    runner: &OrderRunner<'_, C>,
+    order: &[Line],
+    boards: &mut Boards,
+    line: usize,
+) -> Result<Option<Ahead>, Refusal>
+    requires few { length order.now ≤ 100000 }
+    requires runnable { IsRunnable (basis_of runner.now) order.now }
+    requires base { boards.old.is_own ≡ true → IsBase (basis_of runner.now) order.now boards.old.base }
+    requires line { line < length order.now }
+    ensures base { OnOk result (boards.new.is_own ≡ true → IsBase (basis_of runner.now) order.now boards.new.base) }
+    ensures ahead { IfOk result (λ ahead. IfSome ahead (IsBeside (basis_of runner.now) order.now boards.new.base)) }
+    ensures refused { IfErr result (λ e. e ≡ Memory) }
+{
+    if !boards.is_own {
+        return Ok(None);
+    }
+    if !base_at(runner, order, &mut boards.base, line)? {
+        boards.is_own = false;
+        return Ok(None);
+    }
+    ahead_at(runner, order, &mut boards.base)
+}
+
+/// Has an order run on to before that line, and makes the board behind its row, where there is one. Refused `Memory` alone.
 pub fn run_to<C: Crew>(
     runner: &OrderRunner<'_, C>,
     order: &[Line],
@@ -55,15 +80,7 @@ pub fn run_to<C: Crew>(
     ensures boards { OnOk result (IsBoards (basis_of runner.now) order.now boards.new) }
     ensures refused { IfErr result (λ e. e ≡ Memory) }
 {
-    boards.ahead = None;
-    if !boards.is_own {
-        return Ok(());
-    }
-    if !base_at(runner, order, &mut boards.base, line)? {
-        boards.is_own = false;
-        return Ok(());
-    }
-    boards.ahead = ahead_at(runner, order, &mut boards.base)?;
+    boards.ahead = ahead_before(runner, order, boards, line)?;
     Ok(())
 }
 
