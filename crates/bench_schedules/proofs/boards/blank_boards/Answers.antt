@@ -7,10 +7,11 @@ returns-clause-boards g c =
     let r = c.args.runner.now in
     let shown = c.in_ok-live.ensures in
     λ order. (
-    λ own. record {
-      sound = shown.sound;
-      few = omega arith;
-      within = omega arith;
-      came = goes_begun r.setting.shape.now r.payloads.now c.in_ok-live.live shown.shows;
-    },
-    tt)
+      λ own. record {
+        sound = shown.sound;
+        few = omega arith;
+        within = omega arith;
+        came = goes_begun r.setting.shape.now r.payloads.now c.in_ok-live.live shown.shows;
+      },
+      tt,
+    )
