@@ -10,6 +10,7 @@ ghost use Rattle.bench_schedules.specs.GoingOn.{EndsSo};
 ghost use Rattle.bench_schedules.specs.Schedules.{RanLike};
 
 use crate::bases::{Base, turned_copy};
+use crate::line_runs::release;
 use crate::nodes::OrderRunner;
 use crate::runs::{Difference, RunUnderWay, run_to_end, run_until};
 use crate::script_points::rows_passed;
@@ -67,6 +68,7 @@ fn run_unlike<C: Crew>(
     ensures refused { IfErr result (λ e. e ≡ Memory) }
 {
     if going.live.is_as(other) {
+        release(going.live);
         return Ok(None);
     }
     run_to_end(setting, lines, own, going)

@@ -6,7 +6,7 @@ ghost use Rattle.script_lang.specs.Lines.{IsLineInRange};
 ghost use Rattle.bench_live.specs.Lives.{IsSound};
 ghost use Rattle.bench_schedules.specs.Aheads.{IsBase, IsRunnable, StaysAs, TurnsRan, basis_of};
 
-use crate::line_runs::{is_other, run_line};
+use crate::line_runs::{is_other, release, run_line};
 use crate::nodes::OrderRunner;
 use crate::runs::{RunUnderWay, go_on};
 use bench_live::{LiveBench, turns_arm_nothing};
@@ -84,8 +84,13 @@ pub fn turned_copy<C: Crew>(
     ensures refused { IfErr result (λ e. e ≡ Memory) }
 {
     let mut copy = live.copy(setting.alloc)?;
-    if run_turns(setting, lines, &mut copy)? {
+    let Ok(all) = run_turns(setting, lines, &mut copy) else {
+        release(copy);
+        return Err(Refusal::Memory);
+    };
+    if all {
         return Ok(Some(copy));
     }
+    release(copy);
     Ok(None)
 }

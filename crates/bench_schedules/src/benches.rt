@@ -77,24 +77,24 @@ fn run_schedule<C: Crew>(
     run_until(&runner.setting, runner.payloads, &lines, &own.answers)
 }
 
-/// Writes the line of schedule k where its run differs. Answers how many schedules that are: 1, or 0.
+/// Writes the line of a schedule where its run differs. Answers how many schedules that are: 1, or 0.
 fn write_run<C, W: Write>(
     runner: &DrawnRunner<'_, C>,
-    k: u64,
-    differs: Option<Difference>,
+    drawn: &DrawnRun,
     out: &mut W,
 ) -> Result<u64, Refusal>
     requires few { length runner.now.lines.now ≤ 65535 }
     ensures ok { IfOk result (λ m. (text : List ℕ) × RunText (λ place. slice_index_or runner.now.numbers.now
-        (1 + place_of_other place runner.now.lines.now) 0) k differs text
-        × Appends (W.contents out.old) (W.contents out.new) text × (m ≡ differing (differs ∷ []))) }
+        (1 + place_of_other place runner.now.lines.now) 0) drawn.now.number drawn.now.differs text
+        × Appends (W.contents out.old) (W.contents out.new) text × (m ≡ differing (drawn.now.differs ∷ []))) }
     ensures err { IfErr result (λ e. (e ≡ Memory) ⊎ (e ≡ Output)) }
 {
-    match differs {
+    match &drawn.differs {
         None => Ok(0),
         Some(difference) => {
             let number = number_of_other(runner.numbers, runner.lines, difference.place);
-            write_difference(runner.setting.alloc, out, k, number, &difference)?;
+            let k = drawn.number;
+            write_difference(runner.setting.alloc, out, k, number, difference)?;
             Ok(1)
         }
     }
@@ -153,7 +153,7 @@ impl<'a, 'b, 'c, C, W: Write> Sink<DrawnRun> for DrawnReport<'a, 'b, 'c, C, W> {
         if drawn.differs.is_some() {
             progress.pause();
         }
-        let differ = write_run(self.runner, drawn.number, drawn.differs, self.out)?;
+        let differ = write_run(self.runner, &drawn, self.out)?;
         self.differ = self.differ.saturating_add(differ);
         progress.went(1);
         Ok(())

@@ -7,7 +7,7 @@ ghost use Rattle.bench_report.specs.Bench.{Bench};
 ghost use Rattle.bench_live.specs.Lives.{IsSound, Shows};
 ghost use Rattle.bench_schedules.specs.Stepped.{LineDid, RanByTurns, RowDid, Stepped, is_busy};
 
-use crate::line_runs::{end_run, run_line};
+use crate::line_runs::{end_run, release, run_line};
 use bench_live::{LiveBench, TurnRow, is_idle};
 use bench_report::Setting;
 use board::Payloads;
@@ -115,7 +115,10 @@ pub fn run_by_turns<C: Crew>(
     ensures refused { IfErr result (λ e. e ≡ Memory) }
 {
     let mut live = LiveBench::blank(setting.alloc, setting.shape, payloads)?;
-    let counts = step_lines(setting, lines, &mut live)?;
+    let Ok(counts) = step_lines(setting, lines, &mut live) else {
+        release(live);
+        return Err(Refusal::Memory);
+    };
     end_run(live, setting.shape)?;
     Ok(counts)
 }

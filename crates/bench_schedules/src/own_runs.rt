@@ -9,7 +9,7 @@ ghost use Rattle.bench_live.specs.Lives.{IsSound, Shows};
 ghost use Rattle.bench_schedules.specs.RunSoFar.{RunSoFar};
 ghost use Rattle.bench_schedules.specs.Schedules.{IsNumbered, RanOwn, other_answer};
 
-use crate::line_runs::{end_run, is_other, run_line};
+use crate::line_runs::{end_run, is_other, release, run_line};
 use crate::stretches::Stretches;
 use bench_live::LiveBench;
 use bench_orders::{generator, schedule};
@@ -91,7 +91,10 @@ pub fn run_own<C: Crew>(
 {
     let mut live = LiveBench::blank(setting.alloc, setting.shape, payloads)?;
     let mut own = OwnRun::new(setting.alloc);
-    run_lines(setting, lines, &mut live, &mut own)?;
+    let Ok(()) = run_lines(setting, lines, &mut live, &mut own) else {
+        release(live);
+        return Err(Refusal::Memory);
+    };
     end_run(live, setting.shape)?;
     own.stretches.close()?;
     Ok(own)
