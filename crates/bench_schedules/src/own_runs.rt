@@ -1,6 +1,7 @@
 //! The script's own run, with which those of its schedules are compared.
 
-ghost use Rattle.std.specs.Prelude.{◌≡◌, ◌≤◌, ◌++◌, [], ℕ, List, length, All, IfErr, IfOk, OnOk};
+ghost use Rattle.std.specs.Prelude.{◌≡◌, ◌≤◌, ℕ, List, length, All, IfErr, IfOk, OnOk};
+ghost use Rattle.std.specs.Option.{option_to_list};
 ghost use Rattle.board_model.specs.declared.refusal.Refusal.TheVariants.{Memory};
 ghost use Rattle.script_lang.specs.Lines.{IsLineInRange};
 ghost use Rattle.bench_orders.specs.Orders.{IsOrderFor, is_other, other_count};
@@ -29,53 +30,39 @@ pub struct OwnRun {
     pub stretches: Stretches,
 }
 
-impl OwnRun {
-    /// No line yet.
-    fn new(alloc: Global) -> OwnRun
-        ensures { result.answers.items ≡ [] }
-    {
-        OwnRun {
-            answers: Vec::new(alloc),
-            stretches: Stretches::new(alloc),
-        }
-    }
-
-    /// Notes the line at that place, and what it answered. The answer of a `turn` line is not kept. Refused `Memory` alone.
-    fn note(&mut self, place: usize, line: &Line, answer: Answer) -> Result<(), Refusal>
-        ensures noted { OnOk result (self.new.answers.items ≡ self.old.answers.items ++ other_answer (is_other line.now) answer) }
-        ensures refused { IfErr result (λ e. e ≡ Memory) }
-    {
-        self.stretches.note(place, line, &answer)?;
-        if !is_other(line) {
-            return Ok(());
-        }
-        self.answers.push(answer)?;
-        Ok(())
-    }
+/// The answer of a line that is no `turn`; of a `turn` line none.
+fn other_answer(line: &Line, answer: Answer) -> Option<Answer>
+    ensures { option_to_list result ≡ other_answer (is_other line.now) answer }
+{
+    if is_other(line) { Some(answer) } else { None }
 }
 
-/// Runs the lines of a script from the first on, and notes what they answer. Refused `Memory` alone.
+/// Runs the lines of a script from the first on, notes them for its stretches, and answers what those answered that are no turns. Refused
+/// `Memory` alone.
 fn run_lines<C: Crew>(
     setting: &Setting<'_, C>,
     lines: &[Line],
     live: &mut LiveBench,
-    own: &mut OwnRun,
-) -> Result<(), Refusal>
+    stretches: &mut Stretches,
+) -> Result<Vec<Answer>, Refusal>
     requires ranges { All (IsLineInRange setting.now.shape.now) lines.now }
     requires sound { IsSound live.old }
-    requires none { own.old.answers.items ≡ [] }
     ensures sound { OnOk result (IsSound live.new) }
-    ensures ran { OnOk result ((start : List (List ℕ)) → Shows setting.now.shape.now (bench_with start) live.old
-        → RunSoFar setting.now.shape.now (bench_with start) lines.now own.new.answers.items live.new) }
+    ensures ran { IfOk result (λ answers. (start : List (List ℕ)) → Shows setting.now.shape.now (bench_with start) live.old
+        → RunSoFar setting.now.shape.now (bench_with start) lines.now answers.items live.new) }
     ensures refused { IfErr result (λ e. e ≡ Memory) }
 {
+    let mut answers = Vec::new(setting.alloc);
     let mut place = 0;
     for line in lines {
         let answer = run_line(setting, line, live)?;
-        own.note(place, line, answer)?;
+        stretches.note(place, line, &answer)?;
+        if let Some(told) = other_answer(line, answer) {
+            answers.push(told)?;
+        }
         place += 1;
     }
-    Ok(())
+    Ok(answers)
 }
 
 /// Runs the script as it stands, with these payloads in the slots. Refused `Memory` alone.
@@ -90,14 +77,14 @@ pub fn run_own<C: Crew>(
     ensures refused { IfErr result (λ e. e ≡ Memory) }
 {
     let mut live = LiveBench::blank(setting.alloc, setting.shape, payloads)?;
-    let mut own = OwnRun::new(setting.alloc);
-    let Ok(()) = run_lines(setting, lines, &mut live, &mut own) else {
+    let mut stretches = Stretches::new(setting.alloc);
+    let Ok(answers) = run_lines(setting, lines, &mut live, &mut stretches) else {
         release(live);
         return Err(Refusal::Memory);
     };
     end_run(live, setting.shape)?;
-    own.stretches.close()?;
-    Ok(own)
+    stretches.close()?;
+    Ok(OwnRun { answers, stretches })
 }
 
 /// Draws schedule k of a seed from the script's own run.

@@ -9,5 +9,5 @@ invariant-loop-line g l = record {
   sound : IsSound l.live;
   place : l.place ≡ l.line-index;
   goes : (start : List (List ℕ)) → Shows l.setting.shape.now (bench_with start) l.initial.live
-      → RunSoFar l.setting.shape.now (bench_with start) (take l.line-index l.lines) l.own.answers.items l.live;
+      → RunSoFar l.setting.shape.now (bench_with start) (take l.line-index l.lines) l.answers.items l.live;
 }

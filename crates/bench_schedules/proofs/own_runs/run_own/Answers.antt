@@ -5,10 +5,10 @@ pub returns-clause-ran : goal.returns-clause-ran
 returns-clause-ran g c =
     let start = c.args.payloads.now in
     let ran = c.in-Ok.ensures.ran start c.in_ok-live.ensures.shows in
-    (ran_own c.args.setting.now.shape.now start c.args.lines.now c.run_lines.new.own.answers.items c.run_lines.new.live ran c.in_ok-end_run.ensures.well).0
+    (ran_own c.args.setting.now.shape.now start c.args.lines.now c.in-Ok.answers.items c.run_lines.new.live ran c.in_ok-end_run.ensures.well).0
 
 pub returns-clause-count : goal.returns-clause-count
 returns-clause-count g c =
     let start = c.args.payloads.now in
     let ran = c.in-Ok.ensures.ran start c.in_ok-live.ensures.shows in
-    (ran_own c.args.setting.now.shape.now start c.args.lines.now c.run_lines.new.own.answers.items c.run_lines.new.live ran c.in_ok-end_run.ensures.well).1
+    (ran_own c.args.setting.now.shape.now start c.args.lines.now c.in-Ok.answers.items c.run_lines.new.live ran c.in_ok-end_run.ensures.well).1
