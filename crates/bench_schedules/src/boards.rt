@@ -8,12 +8,14 @@ ghost use Rattle.bench_schedules.specs.Boards.{IsBoards, RestOfBoards};
 
 use crate::aheads::{Ahead, ahead_at, ends_as_own};
 use crate::bases::{Base, base_at};
+use crate::line_runs::release;
 use crate::nodes::OrderRunner;
 use crate::runs::RunUnderWay;
 use bench_live::LiveBench;
 use board_model::Refusal;
 use crew::Crew;
 use script_lang::Line;
+use std::mem::replace;
 
 /// The boards of an order, as far as it ran.
 #[derive(Drop)]
@@ -24,6 +26,22 @@ pub struct Boards {
     pub is_own: bool,
     /// That behind the row of that line, and the rows of other harts that follow it, where there is one.
     pub ahead: Option<Ahead>,
+}
+
+/// Lets go of the board behind a row, where there is one.
+fn release_ahead(ahead: Option<Ahead>) {
+    if let Some(ahead) = ahead {
+        release(ahead.live);
+    }
+}
+
+impl Boards {
+    /// Lets go of the boards.
+    pub fn release(self) {
+        let Boards { base, ahead, .. } = self;
+        release(base.going.live);
+        release_ahead(ahead);
+    }
 }
 
 /// The boards before the first line of any order. Refused `Memory` alone.
@@ -80,7 +98,9 @@ pub fn run_to<C: Crew>(
     ensures boards { OnOk result (IsBoards (basis_of runner.now) order.now boards.new) }
     ensures refused { IfErr result (λ e. e ≡ Memory) }
 {
-    boards.ahead = ahead_before(runner, order, boards, line)?;
+    let ahead = ahead_before(runner, order, boards, line)?;
+    let before = replace(&mut boards.ahead, ahead);
+    release_ahead(before);
     Ok(())
 }
 
