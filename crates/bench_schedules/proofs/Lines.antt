@@ -176,19 +176,17 @@ ends_so size ls own old new None went disk = ends_alike size ls own old new went
 ends_so size ls own old new (Some d) went disk = ends_apart size ls own old d new.live went.1 disk
 
 -- ---- the own run, and what is drawn
-pub ran_own : (size : Size) (start : List (List ℕ)) (ls : List Line) (i : ℕ) (own : List Answer) (going : LiveBench) → length ls ≤ i → RunSoFar size (bench_with start) (take i ls) own going
+pub ran_own : (size : Size) (start : List (List ℕ)) (ls : List Line) (own : List Answer) (going : LiveBench) → RunSoFar size (bench_with start) ls own going
     → ((b : Bench) → Shows size b going → b.fault_state.own ≡ 0) → RanOwn size start ls own × (length own ≡ other_count ls)
-ran_own size start ls i own going past so_far disk =
-    let P : List Line → Type 0 = λ xs. RunSoFar size (bench_with start) xs own going in
-    let goes = subst P (take_all i ls past) so_far in (
-      record {
-        answers = goes.answers;
-        end = goes.bench;
-        ran = record { run = goes.run; memory = goes.memory; disk = disk goes.bench goes.shows };
-        told = sym goes.told;
-      },
-      ap length (sym goes.told) ∙ told_length size ls (bench_with start) goes.answers goes.bench goes.run,
-    )
+ran_own size start ls own going goes disk = (
+  record {
+    answers = goes.answers;
+    end = goes.bench;
+    ran = record { run = goes.run; memory = goes.memory; disk = disk goes.bench goes.shows };
+    told = sym goes.told;
+  },
+  ap length (sym goes.told) ∙ told_length size ls (bench_with start) goes.answers goes.bench goes.run,
+)
 
 -- what ran was a schedule
 pub ran_of : (size : Size) (start : List (List ℕ)) (from : Source) (those new : List Line) (own : List Answer) (k : ℕ) (differs : Option Difference) → IsSize size → IsNumbered from k those new → IsOrderFor those new → length new ≤ 65535

@@ -1,5 +1,5 @@
 -- The rows that turns are put off behind.
-use Rattle.std.proofs.Common.{◌≡◌, ◌∙◌, ℕ, ◌+◌, ◌<◌, ◌≤◌, zero, suc, List, [], ◌∷◌, length, drop, get_or, refl, sym, ap, arith}
+use Rattle.std.proofs.Common.{◌≡◌, ◌∙◌, ℕ, ◌+◌, ◌<◌, List, ◌∷◌, length, drop, get_or, sym, ap}
 use Rattle.std.proofs.lemmas.List.{drop_more}
 use Rattle.script_lang.specs.declared.line.Line.{Line}
 

@@ -10,6 +10,7 @@ ghost use Rattle.bench_schedules.specs.GoingOn.{EndsSo};
 ghost use Rattle.bench_schedules.specs.Schedules.{RanLike};
 
 use crate::bases::{Base, turned_copy};
+use crate::line_runs::release;
 use crate::nodes::OrderRunner;
 use crate::runs::{Difference, RunUnderWay, run_to_end, run_until};
 use crate::script_points::rows_passed;
@@ -55,7 +56,7 @@ fn run_unlike<C: Crew>(
     setting: &Setting<'_, C>,
     lines: &[Line],
     own: &[Answer],
-    going: RunUnderWay,
+    mut going: RunUnderWay,
     other: &mut LiveBench,
 ) -> Result<Option<Difference>, Refusal>
     requires ranges { All (IsLineInRange setting.now.shape.now) lines.now }
@@ -66,8 +67,8 @@ fn run_unlike<C: Crew>(
         ⊎ ((differs ≡ None) × IsAlike going.live other.old)) }
     ensures refused { IfErr result (λ e. e ≡ Memory) }
 {
-    let mut going = going;
     if going.live.is_as(other) {
+        release(going.live);
         return Ok(None);
     }
     run_to_end(setting, lines, own, going)

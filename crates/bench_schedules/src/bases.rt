@@ -1,13 +1,12 @@
 //! A board to which an order has come, and from which the orders run on that a preemption makes of it.
 
-ghost use Rattle.std.specs.Prelude.{◌≡◌, ◌≤◌, true, List, All, length, IfErr, IfOk, IfSome, OnOk};
+ghost use Rattle.std.specs.Prelude.{◌≡◌, ◌≤◌, true, All, length, IfErr, IfOk, IfSome, OnOk};
 ghost use Rattle.board_model.specs.declared.refusal.Refusal.TheVariants.{Memory};
 ghost use Rattle.script_lang.specs.Lines.{IsLineInRange};
-ghost use Rattle.script_lang.specs.declared.line.Line.{Line as Said};
 ghost use Rattle.bench_live.specs.Lives.{IsSound};
 ghost use Rattle.bench_schedules.specs.Aheads.{IsBase, IsRunnable, StaysAs, TurnsRan, basis_of};
 
-use crate::line_runs::{is_other, run_line};
+use crate::line_runs::{is_other, release, run_line};
 use crate::nodes::OrderRunner;
 use crate::runs::{RunUnderWay, go_on};
 use bench_live::{LiveBench, turns_arm_nothing};
@@ -22,18 +21,6 @@ pub struct Base {
     pub going: RunUnderWay,
     /// How many lines ran.
     pub line: usize,
-}
-
-/// The board before the first line of any order. Refused `Memory` alone.
-pub fn blank_base<C>(runner: &OrderRunner<'_, C>) -> Result<Base, Refusal>
-    ensures base { IfOk result (λ base. (order : List Said) → IsBase (basis_of runner.now) order base) }
-    ensures refused { IfErr result (λ e. e ≡ Memory) }
-{
-    let live = LiveBench::blank(runner.setting.alloc, runner.setting.shape, runner.payloads)?;
-    Ok(Base {
-        going: RunUnderWay { live, place: 0 },
-        line: 0,
-    })
 }
 
 /// Has the board of an order run on to before that line. Answers whether it came there: not where it answers otherwise than the script's
@@ -97,8 +84,13 @@ pub fn turned_copy<C: Crew>(
     ensures refused { IfErr result (λ e. e ≡ Memory) }
 {
     let mut copy = live.copy(setting.alloc)?;
-    if run_turns(setting, lines, &mut copy)? {
+    let Ok(all) = run_turns(setting, lines, &mut copy) else {
+        release(copy);
+        return Err(Refusal::Memory);
+    };
+    if all {
         return Ok(Some(copy));
     }
+    release(copy);
     Ok(None)
 }

@@ -1,6 +1,6 @@
 //! Whole benches.
 
-ghost use Rattle.std.specs.Prelude.{◌≡◌, ◌⊎◌, ◌+◌, ◌-◌, ◌≤◌, ℕ, slice_index_or, length, All, IfErr, IfOk, OnOk, Ok, Err};
+ghost use Rattle.std.specs.Prelude.{◌≡◌, ◌⊎◌, ◌+◌, ◌-◌, ◌≤◌, ◌∷◌, [], ℕ, List, slice_index_or, length, All, IfErr, IfOk, OnOk, Ok, Err};
 ghost use Rattle.std.specs.Io.KnownBytes.{Appends};
 ghost use Rattle.board_model.specs.Shapes.{IsSize};
 ghost use Rattle.board_model.specs.declared.refusal.Refusal.{Refusal as Refused};
@@ -11,14 +11,13 @@ ghost use Rattle.script_lang.specs.Views.{view};
 ghost use Rattle.bench_schedules.specs.Drawable.{AreDrawable};
 ghost use Rattle.bench_schedules.specs.Numbers.{number_of_other, place_of_other};
 ghost use Rattle.bench_schedules.specs.Schedules.{Ran, RanOwn, RunText, Shown, Wrote, WroteSchedules, differing, has_tight, own_count, own_tight, tight_text};
-ghost use Rattle.std.specs.Prelude.{List, ◌∷◌, []};
 
 use crate::numbers::{line_numbers, number_at, number_of_other};
 use crate::own_runs::{OwnRun, drawn_schedule, run_own};
 use crate::runs::{Difference, run_until};
 use crate::written::{write_count, write_difference, write_tight};
 use bench_orders::{fits, orders_keep_lines, shape_in_range, write_script};
-use bench_report::{Answer, Setting};
+use bench_report::Setting;
 use board::Payloads;
 use board_model::Refusal;
 use crew::{Crew, Sequential};
@@ -78,24 +77,24 @@ fn run_schedule<C: Crew>(
     run_until(&runner.setting, runner.payloads, &lines, &own.answers)
 }
 
-/// Writes the line of schedule k where its run differs. Answers how many schedules that are: 1, or 0.
+/// Writes the line of a schedule where its run differs. Answers how many schedules that are: 1, or 0.
 fn write_run<C, W: Write>(
     runner: &DrawnRunner<'_, C>,
-    k: u64,
-    differs: Option<Difference>,
+    drawn: &DrawnRun,
     out: &mut W,
 ) -> Result<u64, Refusal>
     requires few { length runner.now.lines.now ≤ 65535 }
     ensures ok { IfOk result (λ m. (text : List ℕ) × RunText (λ place. slice_index_or runner.now.numbers.now
-        (1 + place_of_other place runner.now.lines.now) 0) k differs text
-        × Appends (W.contents out.old) (W.contents out.new) text × (m ≡ differing (differs ∷ []))) }
+        (1 + place_of_other place runner.now.lines.now) 0) drawn.now.number drawn.now.differs text
+        × Appends (W.contents out.old) (W.contents out.new) text × (m ≡ differing (drawn.now.differs ∷ []))) }
     ensures err { IfErr result (λ e. (e ≡ Memory) ⊎ (e ≡ Output)) }
 {
-    match differs {
+    match &drawn.differs {
         None => Ok(0),
         Some(difference) => {
             let number = number_of_other(runner.numbers, runner.lines, difference.place);
-            write_difference(runner.setting.alloc, out, k, number, &difference)?;
+            let k = drawn.number;
+            write_difference(runner.setting.alloc, out, k, number, difference)?;
             Ok(1)
         }
     }
@@ -154,7 +153,7 @@ impl<'a, 'b, 'c, C, W: Write> Sink<DrawnRun> for DrawnReport<'a, 'b, 'c, C, W> {
         if drawn.differs.is_some() {
             progress.pause();
         }
-        let differ = write_run(self.runner, drawn.number, drawn.differs, self.out)?;
+        let differ = write_run(self.runner, &drawn, self.out)?;
         self.differ = self.differ.saturating_add(differ);
         progress.went(1);
         Ok(())

@@ -90,6 +90,8 @@ impl<'a, 'b, C: Crew + Sync> Task for ChunkRuns<'a, 'b, C> {
     fn row(&self, number: u64) -> Result<Chunk<NextRun>, Refusal> {
         let Window { from, to } = self.within.chunk(self.each, number);
         let mut boards = blank_boards(self.next.runner)?;
-        self.run_lines(&mut boards, from, to)
+        let made = self.run_lines(&mut boards, from, to);
+        boards.release();
+        made
     }
 }

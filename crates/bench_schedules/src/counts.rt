@@ -5,9 +5,9 @@ ghost use Rattle.board_model.specs.declared.refusal.Refusal.TheVariants.{Memory}
 ghost use Rattle.script_lang.specs.Lines.{IsLineInRange};
 ghost use Rattle.bench_report.specs.Bench.{Bench};
 ghost use Rattle.bench_live.specs.Lives.{IsSound, Shows};
-ghost use Rattle.bench_schedules.specs.Stepped.{LineDid, RanByTurns, RowDid, is_busy};
+ghost use Rattle.bench_schedules.specs.Stepped.{LineDid, RanByTurns, RowDid, Stepped, is_busy};
 
-use crate::line_runs::{end_run, run_line};
+use crate::line_runs::{end_run, release, run_line};
 use bench_live::{LiveBench, TurnRow, is_idle};
 use bench_report::Setting;
 use board::Payloads;
@@ -78,6 +78,30 @@ fn step_line<C: Crew>(
     }
 }
 
+/// Runs lines, the turns of each row one by one, and answers of each line how many of its first turns did something. Refused `Memory`
+/// alone.
+fn step_lines<C: Crew>(
+    setting: &Setting<'_, C>,
+    lines: &[Line],
+    live: &mut LiveBench,
+) -> Result<Vec<u32>, Refusal>
+    requires ranges { All (IsLineInRange setting.now.shape.now) lines.now }
+    requires sound { IsSound live.old }
+    ensures sound { OnOk result (IsSound live.new) }
+    ensures few { IfOk result (λ counts. All (λ count. count ≤ 1000000) counts.items) }
+    ensures ran { IfOk result (λ counts. (b : Bench) → Shows setting.now.shape.now b live.old
+        → (new : Bench) × Stepped setting.now.shape.now b lines.now counts.items new × Shows setting.now.shape.now new live.new
+        × (new.growths ≡ b.growths)) }
+    ensures refused { IfErr result (λ e. e ≡ Memory) }
+{
+    let mut counts = Vec::new(setting.alloc);
+    for line in lines {
+        let count = step_line(setting, line, live)?;
+        counts.push(count)?;
+    }
+    Ok(counts)
+}
+
 /// Runs an order, with these payloads in the slots, its turns one by one, and answers of each line how many of its first turns did
 /// something. Refused `Memory` alone.
 pub fn run_by_turns<C: Crew>(
@@ -91,11 +115,10 @@ pub fn run_by_turns<C: Crew>(
     ensures refused { IfErr result (λ e. e ≡ Memory) }
 {
     let mut live = LiveBench::blank(setting.alloc, setting.shape, payloads)?;
-    let mut counts = Vec::new(setting.alloc);
-    for line in lines {
-        let count = step_line(setting, line, &mut live)?;
-        counts.push(count)?;
-    }
+    let Ok(counts) = step_lines(setting, lines, &mut live) else {
+        release(live);
+        return Err(Refusal::Memory);
+    };
     end_run(live, setting.shape)?;
     Ok(counts)
 }

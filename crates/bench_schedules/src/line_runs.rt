@@ -43,6 +43,11 @@ pub fn run_line<C: Crew>(
     Ok(answer)
 }
 
+/// Lets go of a bench. That of its board's many parts is proved here, and not for each function that has a bench.
+pub fn release(live: LiveBench) {
+    let _live = live;
+}
+
 /// Ends a run. Refused `Memory` where, in this run, the disk was refused memory for its record of what it had to keep.
 pub fn end_run(live: LiveBench, shape: &Shape) -> Result<(), Refusal>
     requires { IsSound live }

@@ -1,6 +1,6 @@
 //! The numbers of a script's lines, as an editor counts them.
 
-ghost use Rattle.std.specs.Prelude.{◌≡◌, ◌+◌, ◌≤◌, ◌==◌, ℕ, List, length, map, IfOk, slice_index_or};
+ghost use Rattle.std.specs.Prelude.{◌≡◌, ◌+◌, ◌≤◌, ◌==◌, length, map, IfOk, slice_index_or};
 ghost use Rattle.std.specs.List.{slice_split};
 ghost use Rattle.script_lang.specs.Scripts.{is_passed};
 ghost use Rattle.bench_schedules.specs.Numbers.{numbers_from, numbers_of, number_of_other, place_of_other};

@@ -1,13 +1,16 @@
 //! The script's own run, with which those of its schedules are compared.
 
-ghost use Rattle.std.specs.Prelude.{◌≡◌, ◌≤◌, length, All, IfErr, IfOk};
+ghost use Rattle.std.specs.Prelude.{◌≡◌, ◌≤◌, ℕ, List, length, All, IfErr, IfOk, OnOk};
 ghost use Rattle.std.specs.Option.{option_to_list};
 ghost use Rattle.board_model.specs.declared.refusal.Refusal.TheVariants.{Memory};
 ghost use Rattle.script_lang.specs.Lines.{IsLineInRange};
 ghost use Rattle.bench_orders.specs.Orders.{IsOrderFor, is_other, other_count};
+ghost use Rattle.bench_report.specs.Bench.{bench_with};
+ghost use Rattle.bench_live.specs.Lives.{IsSound, Shows};
+ghost use Rattle.bench_schedules.specs.RunSoFar.{RunSoFar};
 ghost use Rattle.bench_schedules.specs.Schedules.{IsNumbered, RanOwn, other_answer};
 
-use crate::line_runs::{end_run, is_other, run_line};
+use crate::line_runs::{end_run, is_other, release, run_line};
 use crate::stretches::Stretches;
 use bench_live::LiveBench;
 use bench_orders::{generator, schedule};
@@ -34,6 +37,34 @@ fn other_answer(line: &Line, answer: Answer) -> Option<Answer>
     if is_other(line) { Some(answer) } else { None }
 }
 
+/// Runs the lines of a script from the first on, notes them for its stretches, and answers what those answered that are no turns. Refused
+/// `Memory` alone.
+fn run_lines<C: Crew>(
+    setting: &Setting<'_, C>,
+    lines: &[Line],
+    live: &mut LiveBench,
+    stretches: &mut Stretches,
+) -> Result<Vec<Answer>, Refusal>
+    requires ranges { All (IsLineInRange setting.now.shape.now) lines.now }
+    requires sound { IsSound live.old }
+    ensures sound { OnOk result (IsSound live.new) }
+    ensures ran { IfOk result (λ answers. (start : List (List ℕ)) → Shows setting.now.shape.now (bench_with start) live.old
+        → RunSoFar setting.now.shape.now (bench_with start) lines.now answers.items live.new) }
+    ensures refused { IfErr result (λ e. e ≡ Memory) }
+{
+    let mut answers = Vec::new(setting.alloc);
+    let mut place = 0;
+    for line in lines {
+        let answer = run_line(setting, line, live)?;
+        stretches.note(place, line, &answer)?;
+        if let Some(told) = other_answer(line, answer) {
+            answers.push(told)?;
+        }
+        place += 1;
+    }
+    Ok(answers)
+}
+
 /// Runs the script as it stands, with these payloads in the slots. Refused `Memory` alone.
 pub fn run_own<C: Crew>(
     setting: &Setting<'_, C>,
@@ -46,17 +77,11 @@ pub fn run_own<C: Crew>(
     ensures refused { IfErr result (λ e. e ≡ Memory) }
 {
     let mut live = LiveBench::blank(setting.alloc, setting.shape, payloads)?;
-    let mut answers = Vec::new(setting.alloc);
     let mut stretches = Stretches::new(setting.alloc);
-    let mut place = 0;
-    for line in lines {
-        let answer = run_line(setting, line, &mut live)?;
-        stretches.note(place, line, &answer)?;
-        if let Some(told) = other_answer(line, answer) {
-            answers.push(told)?;
-        }
-        place += 1;
-    }
+    let Ok(answers) = run_lines(setting, lines, &mut live, &mut stretches) else {
+        release(live);
+        return Err(Refusal::Memory);
+    };
     end_run(live, setting.shape)?;
     stretches.close()?;
     Ok(OwnRun { answers, stretches })

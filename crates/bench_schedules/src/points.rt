@@ -1,6 +1,6 @@
 //! The points of an order, at which a preemption may part it.
 
-ghost use Rattle.std.specs.Prelude.{◌≡◌, ◌+◌, ◌*◌, ◌≤◌, ◌<◌, All, length};
+ghost use Rattle.std.specs.Prelude.{◌≡◌, ◌+◌, ◌≤◌, ◌<◌, All, length};
 ghost use Rattle.bench_schedules.specs.Points.{IsBusyAt, behind, number_in};
 
 use crate::counts::count_at;

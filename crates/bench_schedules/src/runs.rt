@@ -9,7 +9,7 @@ ghost use Rattle.bench_schedules.specs.Compared.{IsDifference, IsNextPlace};
 ghost use Rattle.bench_schedules.specs.GoingOn.{EndsSo, WentSo};
 ghost use Rattle.bench_schedules.specs.Schedules.{RanLike};
 
-use crate::line_runs::{end_run, is_other, run_line};
+use crate::line_runs::{end_run, is_other, release, run_line};
 use bench_live::LiveBench;
 use bench_report::{Answer, Setting};
 use board::Payloads;
@@ -92,7 +92,7 @@ pub fn run_to_end<C: Crew>(
     setting: &Setting<'_, C>,
     lines: &[Line],
     own: &[Answer],
-    going: RunUnderWay,
+    mut going: RunUnderWay,
 ) -> Result<Option<Difference>, Refusal>
     requires ranges { All (IsLineInRange setting.now.shape.now) lines.now }
     requires sound { IsSound going.live }
@@ -100,8 +100,10 @@ pub fn run_to_end<C: Crew>(
     ensures ran { IfOk result (λ differs. EndsSo setting.now.shape.now lines.now own.now going differs) }
     ensures refused { IfErr result (λ e. e ≡ Memory) }
 {
-    let mut going = going;
-    let differs = go_on(setting, lines, own, &mut going)?;
+    let Ok(differs) = go_on(setting, lines, own, &mut going) else {
+        release(going.live);
+        return Err(Refusal::Memory);
+    };
     end_run(going.live, setting.shape)?;
     Ok(differs)
 }

@@ -1,10 +1,8 @@
 //! The runs of a search: which candidates are kept.
 
-ghost use Rattle.std.specs.Prelude.{◌≡◌, ◌≤◌, length, true, All, IfErr, IfOk, IfSome, OnOk};
+ghost use Rattle.std.specs.Prelude.{◌≡◌, true, IfErr, IfOk, IfSome, OnOk};
 ghost use Rattle.board_model.specs.declared.refusal.Refusal.TheVariants.{Memory};
-ghost use Rattle.script_lang.specs.Lines.{IsLineInRange};
-ghost use Rattle.bench_orders.specs.Orders.{IsOrderFor, other_count};
-ghost use Rattle.bench_schedules.specs.Schedules.{RanLike};
+ghost use Rattle.bench_orders.specs.Orders.{IsOrderFor};
 ghost use Rattle.bench_schedules.specs.Shrunk.{IsFound, IsSearchable};
 
 use crate::runs::run_until;

@@ -1,5 +1,7 @@
 //! The slices that lead the stretches of a schedule. What stands in them is craft: any slices lead to a schedule.
 
+ghost use Rattle.std.specs.Prelude.{◌<◌};
+
 use bench_orders::Slice;
 use script_lang::Line;
 use std::alloc::{AllocError, Global};
@@ -91,25 +93,25 @@ pub fn lessened(
     Ok(new)
 }
 
+/// Which of so many slices comes to a place, where the one at another place and the next one, if there is one, are exchanged.
+fn exchanged_with(at: usize, place: usize, count: usize) -> usize
+    requires { at < count }
+    ensures { result < count }
+{
+    if at == place && at < count - 1 {
+        at + 1
+    } else if 0 < at && at - 1 == place {
+        place
+    } else {
+        at
+    }
+}
+
 /// The slices, of which the one at that place and the next one are exchanged.
 pub fn exchanged(alloc: Global, slices: &[Slice], place: usize) -> Result<Vec<Slice>, AllocError> {
     let mut new = Vec::new(alloc);
-    let mut held: Option<Slice> = None;
-    let mut at = 0usize;
-    for slice in slices {
-        if at == place {
-            held = Some(*slice);
-        } else {
-            add(&mut new, *slice)?;
-            if let Some(before) = held {
-                add(&mut new, before)?;
-                held = None;
-            }
-        }
-        at = at.saturating_add(1);
-    }
-    if let Some(last) = held {
-        add(&mut new, last)?;
+    for at in 0..slices.len() {
+        add(&mut new, slices[exchanged_with(at, place, slices.len())])?;
     }
     Ok(new)
 }

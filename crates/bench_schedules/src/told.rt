@@ -1,6 +1,6 @@
 //! What is told of two answers: the first line in which they are another.
 
-ghost use Rattle.std.specs.Prelude.{◌≡◌, ◌≢◌, ◌++◌, ◌∷◌, [], Some, None, IfOk, MatchOption};
+ghost use Rattle.std.specs.Prelude.{◌≡◌, ◌≢◌, ◌∷◌, [], Some, None, IfOk, MatchOption};
 ghost use Rattle.bench_schedules.specs.Told.{IsFirstApart, head_text, told_lines, told_text};
 ghost use Rattle.bench_schedules.specs.declared.told.ToldLine.TheVariants as told;
 
@@ -13,9 +13,9 @@ use std::fmt;
 
 /// What an image holds beside its memory, but for the serial, which the line `found` has.
 #[derive(Drop)]
-struct HeadText(ImageHead);
+struct ToldHeadText(ImageHead);
 
-impl fmt::Display for HeadText {
+impl fmt::Display for ToldHeadText {
     ghost output = { λ h. Some (head_text h.0) };
 
     fn fmt<W: fmt::Write>(&self, f: &mut fmt::Formatter<W>) -> fmt::Result {
@@ -48,7 +48,7 @@ impl fmt::Display for ToldLine {
             }
             ToldLine::Image(None) => f.write_str("image none"),
             ToldLine::Image(Some(head)) => {
-                let text = HeadText(head);
+                let text = ToldHeadText(head);
                 write!(f, "image {text}")
             }
             ToldLine::Line(line) => write!(f, "{line}"),
