@@ -24,7 +24,7 @@ use disk::Disk;
 use hart::Hart;
 use sbi_calls::{Seats, Tables};
 use shared_store::{Journal, Locks, Part};
-use std::alloc::{AllocError, Global};
+use std::alloc::Global;
 use std::sync::Wait;
 use std::thread::Threads;
 use susp::Doze;
@@ -56,19 +56,20 @@ pub struct Undriven<'a, J: Threaded, E: Drop> {
     pub parts: Vec<Part<J>>,
 }
 
-/// No loop was begun, for want of memory.
+/// No loop was begun.
 fn unbegun<'a, J: Threaded, E: Drop>(
     alloc: Global,
+    refusal: Refusal,
     parts: Vec<Part<J>>,
     side: E,
 ) -> Undriven<'a, J, E>
-    ensures refused { (result.side ≡ side) × (result.refusal ≡ Memory) }
+    ensures refused { (result.side ≡ side) × (result.refusal ≡ refusal) }
     ensures loops { vec_len result.loops ≡ 0 }
     ensures parts { result.parts.items ≡ parts.items }
 {
     Undriven {
         side,
-        refusal: Refusal::Memory,
+        refusal,
         loops: Vec::new(alloc),
         parts,
     }
@@ -121,11 +122,26 @@ pub fn drive<
     ensures back { IfErr result (λ e. vec_len e.loops + vec_len e.parts ≡ vec_len booted.harts) }
     ensures fresh { IfErr result (λ e. All (λ p. p.told ≡ []) e.parts.items) }
 {
+    let BootedHarts {
+        harts,
+        seats,
+        doze,
+        parts,
+        turns,
+    } = booted;
     let alloc = board.saving.alloc;
-    let (rooms, works, parts) = match prepare(rt, gate, board, booted) {
-        Ok(prepared) => prepared,
-        Err(parts) => return Err(unbegun(alloc, parts, side)),
+    let all = match seat_harts(alloc, harts, seats, doze, board.tables) {
+        Ok(all) => all,
+        Err(refusal) => return Err(unbegun(alloc, refusal, parts, side)),
     };
+    let many = all.len();
+    let Ok(rooms) = Rooms::new(alloc, many) else {
+        return Err(unbegun(alloc, Refusal::Memory, parts, side));
+    };
+    let Ok(room) = Vec::with_capacity(alloc, many) else {
+        return Err(unbegun(alloc, Refusal::Memory, parts, side));
+    };
+    let (works, parts) = works_of(rt, gate, board, all, parts, turns, room);
     let done = on_threads(
         rt,
         board.closing,
@@ -207,97 +223,6 @@ impl<J: Threaded> StopSource for Closing<J> {
     fn stop(&self) {
         self.halt();
     }
-}
-
-/// Room for the threads of so many harts, for what they give back, and for their loops.
-fn rooms_for<
-    'r,
-    'g,
-    'a,
-    'c,
-    's,
-    R: Threads + Wait + Sync,
-    G: Gate + Sync,
-    D: Disk + Drop + Send,
-    J: Threaded + Send + Sync,
->(
-    alloc: Global,
-    many: usize,
-) -> Result<
-    (
-        Rooms<Rested<'c, J>>,
-        Vec<HartWork<'r, 'g, 'a, 'c, 's, R, G, D, J>>,
-    ),
-    AllocError,
->
-    ensures handles { IfOk result (λ r. (vec_len r.0.handles ≡ 0) × (vec_capacity r.0.handles ≡ many)) }
-    ensures given { IfOk result (λ r. (vec_len r.0.given ≡ 0) × (vec_capacity r.0.given ≡ many)) }
-    ensures works { IfOk result (λ r. (vec_len r.1 ≡ 0) × (vec_capacity r.1 ≡ many)) }
-{
-    let rooms = Rooms::new(alloc, many)?;
-    let works = Vec::with_capacity(alloc, many)?;
-    Ok((rooms, works))
-}
-
-/// The loops of all harts, which can be begun, with room for their threads, and the parts that are left. Where there is no room
-/// for them, the parts, which were told nothing.
-fn prepare<
-    'r,
-    'g,
-    'a,
-    'c,
-    's,
-    R: Threads + Wait + Sync,
-    G: Gate + Sync,
-    D: Disk + Drop + Send,
-    J: Threaded + Send + Sync,
->(
-    rt: &'r R,
-    gate: &'g G,
-    board: SharedBoard<'a, 'c, D, J, crew::Threads<'s, R>>,
-    booted: BootedHarts<J>,
-) -> Result<
-    (
-        Rooms<Rested<'c, J>>,
-        Vec<HartWork<'r, 'g, 'a, 'c, 's, R, G, D, J>>,
-        Vec<Part<J>>,
-    ),
-    Vec<Part<J>>,
->
-    requires board { board.shape.now ≡ J.size }
-    requires turns { booted.turns ≡ J.turns }
-    requires gated { (h n : ℕ) → G.answers gate.now h n false → J.gated ≡ true }
-    requires parts { vec_len booted.parts ≡ vec_len booted.harts }
-    requires fresh { All (λ p. p.told ≡ []) booted.parts.items }
-    requires held { IsHeld board.shape.now booted.harts.items board.tables.now (Some booted.seats) booted.doze }
-    requires machine { J.machine ≡ board_of board.shape.now J.memory booted.doze booted.harts.items booted.seats }
-    ensures handles { IfOk result (λ r. (vec_len r.0.handles ≡ 0) × (vec_capacity r.0.handles ≡ vec_len r.1)) }
-    ensures given { IfOk result (λ r. (vec_len r.0.given ≡ 0) × (vec_capacity r.0.given ≡ vec_len r.1)) }
-    ensures all { IfOk result (λ r. vec_len r.1 ≡ vec_len booted.harts) }
-    ensures seated { IfOk result (λ r. All (λ w. IsSeated w.board.tables.now w.acting.hart.id w.acting.seats
-        w.acting.doze) r.1.items) }
-    ensures none { IfOk result (λ r. vec_len r.2 ≡ 0) }
-    ensures rest { IfOk result (λ r. All (λ p. p.told ≡ []) r.2.items) }
-    ensures back { IfErr result (λ parts. vec_len parts ≡ vec_len booted.harts) }
-    ensures fresh { IfErr result (λ parts. All (λ p. p.told ≡ []) parts.items) }
-{
-    let BootedHarts {
-        harts,
-        seats,
-        doze,
-        parts,
-        turns,
-    } = booted;
-    let alloc = board.saving.alloc;
-    let all = match seat_harts(alloc, harts, seats, doze, board.tables) {
-        Ok(all) => all,
-        Err(_) => return Err(parts),
-    };
-    let Ok((rooms, room)) = rooms_for(alloc, all.len()) else {
-        return Err(parts);
-    };
-    let (works, parts) = works_of(rt, gate, board, all, parts, turns, room);
-    Ok((rooms, works, parts))
 }
 
 /// The loops of those harts, each with one of the parts, and the parts that are left.
