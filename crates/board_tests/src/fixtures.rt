@@ -218,9 +218,8 @@ pub fn driven<R: Threads + Wait + Clock + Abort + Sync>(
     let Ok(halt) = Halt::new(alloc) else {
         rt.panic("no memory")
     };
-    let books = (book, doubts);
-    let halting = (OnceLock::new(), halt);
-    driven_as::<Brand, R>(rt, alloc, gate, trial, parts, books, halting, &shape)
+    let marks = ((book, doubts), (OnceLock::new(), halt));
+    driven_as::<Brand, R>(rt, alloc, gate, trial, parts, marks, &shape)
 }
 
 /// How the loop of such a board's first hart ends, and what its console writes.
@@ -234,26 +233,26 @@ pub fn ended<R: Threads + Wait + Clock + Abort + Sync>(
     (ran.end.expect(rt, "a loop"), ran.said)
 }
 
-/// Runs those parts of a board, of a journal that has a name.
+/// Runs those parts of a board, of a journal that has a name. The marks of its life are the books of its commands and of what is in
+/// doubt, and what ends its loops: what the console says, and the halt.
 fn driven_as<J: Threaded + Send + Sync, R: Threads + Wait + Clock + Abort + Sync>(
     rt: &R,
     alloc: Global,
     gate: &(dyn Gate + Sync),
     trial: BoardTrial<'_>,
     parts: Parts<SimDisk>,
-    books: (NewBook, NewBook),
-    halting: (OnceLock<AfterConsole>, Halt),
+    marks: ((NewBook, NewBook), (OnceLock<AfterConsole>, Halt)),
     shape: &Shape,
 ) -> Ran
     requires held { IsHeld shape.now parts.harts.items parts.tables (Some parts.seats) parts.bus.doze }
     requires begun { IsBegun shape.now parts.store }
     requires named { (J.size ≡ shape.now) × (J.found ≡ found_state parts.store) × (J.issued ≡ [])
         × (J.memory ≡ parts.bus.ram) }
-    requires book { (id_of books.0 ≡ J.book) × (parts_of books.0 ≡ J.parts) × (J.parts ≡ shape.now.harts + 2) }
-    requires doubts { (id_of books.1 ≡ J.doubts) × (parts_of books.1 ≡ 2) }
+    requires book { (id_of marks.0.0 ≡ J.book) × (parts_of marks.0.0 ≡ J.parts) × (J.parts ≡ shape.now.harts + 2) }
+    requires doubts { (id_of marks.0.1 ≡ J.doubts) × (parts_of marks.0.1 ≡ 2) }
     requires opened { failures_at_open parts.store ≡ J.failures }
     requires machine { J.machine ≡ board_of shape.now J.memory parts.bus.doze parts.harts.items parts.seats }
-    requires driven { (halting.0.id ≡ J.parting) × (halting.1 ≡ J.halt) × (trial.turns ≡ J.turns) × (J.gated ≡ true) }
+    requires driven { (marks.1.0.id ≡ J.parting) × (marks.1.1 ≡ J.halt) × (trial.turns ≡ J.turns) × (J.gated ≡ true) }
     ensures { IsIdle (⟦<SimDisk as Disk>⟧.facts result.disk) }
 {
     let Parts {
@@ -263,6 +262,7 @@ fn driven_as<J: Threaded + Send + Sync, R: Threads + Wait + Clock + Abort + Sync
         bus,
         store,
     } = parts;
+    let (books, halting) = marks;
     let (book, doubts) = books;
     let (mut whole, boot, mut heard) = Unshared::<SimDisk, J>::new(store, book, doubts);
     let part = whole.hand_out();
