@@ -1,24 +1,19 @@
 -- Turns that were made in place, as a line of the bench.
-use Rattle.std.proofs.Common.{◌≡◌, ◌≤◌, inl, inr, ℕ, zero, suc, true, false, List, Option, None, Some, Result, Ok, Err, MatchResult, refl, subst, arith}
-use Rattle.std.specs.Prelude.{IfOk}
+use Rattle.std.proofs.Common.{◌≡◌, ℕ, true, false, Option, None, Some, refl, subst}
 use Rattle.board.specs.Turns as boards
 use Rattle.board_model.specs.Shapes.{Size}
-use Rattle.board_model.specs.declared.refusal.Refusal.{Refusal}
 use Rattle.machine.specs.Machine.{Machine}
 use Rattle.machine.specs.Shows.{HasHart}
 use Rattle.machine.specs.declared.line.MachineLine.TheVariants as shown
 use Rattle.sbi.specs.declared.words.Word.{Word}
-use Rattle.script_lang.specs.declared.line.Line.{Line}
 use Rattle.script_lang.specs.declared.line.Line.TheVariants as lines
-use Rattle.bench_report.specs.declared.power.Power.{Power}
 use Rattle.bench_report.specs.declared.power.Power.TheVariants.{On}
-use Rattle.report_lines.specs.declared.printed.Answer.{Answer}
-use Rattle.bench_report.specs.Agree.{BoardIs, IsBench, OnIs}
+use Rattle.bench_report.specs.Agree.{BoardIs, OnIs}
 use Rattle.bench_report.specs.Bench.{BenchLife, Bench}
 use Rattle.bench_report.specs.Happens.{shows, unpowered}
 use Rattle.bench_report.specs.Steps.{Moves, TurnStep}
 use Rattle.bench_report.specs.Turns.{GuestTurns}
-use Rattle.bench_report.specs.Views.{SimBoard, SimStore, store_in, machine_in}
+use Rattle.bench_report.specs.Views.{SimBoard, store_in, machine_in}
 use Rattle.bench_report.proofs.Came.{turns}
 use Rattle.bench_report.proofs.Commanded.{Running}
 use Rattle.bench_report.proofs.Lines.{stands_by}

@@ -1,5 +1,5 @@
 -- A line that a bench under way runs.
-use Rattle.std.proofs.Common.{◌≡◌, ◌∙◌, ◌↔◌, Bool, List, ℕ, Option, Some, Result, Ok, Err, MatchResult, IfOk, OnOk, inl, inr, true, false, refl, sym, subst}
+use Rattle.std.proofs.Common.{◌≡◌, ◌∙◌, Bool, List, ℕ, Option, Some, Result, Ok, Err, MatchResult, IfOk, OnOk, inl, inr, true, false, refl, sym, subst}
 use Rattle.board_model.specs.Shapes.{Size}
 use Rattle.board_model.specs.declared.refusal.Refusal.{Refusal}
 use Rattle.board_model.specs.declared.refusal.Refusal.TheVariants.{Memory}

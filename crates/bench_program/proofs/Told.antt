@@ -4,7 +4,6 @@ use Rattle.board_model.specs.declared.refusal.Refusal.{Refusal}
 use Rattle.board_model.specs.declared.refusal.Refusal.TheVariants.{BadShape, Memory, Output}
 use Rattle.script_lang.specs.Scripts.{script_of}
 use Rattle.bench_program.specs.Written.{IsFaultIn, IsFaultOf, IsFileOf, IsNoBench, IsRefusedWith, IsUnread, IsFault}
-use Rattle.command_line.specs.declared.NoWork.{NoWork}
 use Rattle.command_line.specs.declared.NoWork.TheVariants as whys
 use Rattle.board_files.proofs.PayloadFaults.{file_fault}
 use Rattle.std.specs.declared.io.ErrorKind.{ErrorKind}

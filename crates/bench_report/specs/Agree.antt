@@ -1,5 +1,5 @@
 -- How the code's disk and board stand for the bench of the model.
-use Rattle.std.specs.Prelude.{◌≡◌, ◌↔◌, false, ◌⊎◌, Bool, true, false, ℕ, List, [], ◌∷◌, All, ◌≤◌, Option, Some, None, Result, Ok, OnOk, IfOk, length, ⊤}
+use Rattle.std.specs.Prelude.{◌≡◌, ◌↔◌, false, ◌⊎◌, Bool, true, false, ℕ, List, [], ◌∷◌, ◌≤◌, Option, Some, None, Result, Ok, OnOk, IfOk, length, ⊤}
 use Rattle.board_model.specs.Durable.{DurableState}
 use Rattle.board_model.specs.Kept.{Kept, MayFind, found_of}
 use Rattle.board_model.specs.Shapes.{Size, sectors_of}

@@ -1,5 +1,5 @@
 -- What a line of a script may answer, and what the bench then is; whole runs. Source: docs/SCRIPT.md.
-use Rattle.std.specs.Prelude.{◌≡◌, ℕ, ◌⊎◌, Bool, true, false, List, [], ◌∷◌, Option, Some, None, Result, Ok, Err, length, slice_set}
+use Rattle.std.specs.Prelude.{◌≡◌, ℕ, ◌⊎◌, true, false, List, [], ◌∷◌, Option, Some, None, Result, Ok, Err}
 use Rattle.board_model.specs.Shapes.{Size}
 use Rattle.disk.specs.declared.device.ArmedFault.{ArmedFault}
 use Rattle.board_model.specs.declared.boot_mode.BootMode.{BootMode}

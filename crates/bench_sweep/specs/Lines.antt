@@ -51,7 +51,7 @@ pub record LineMoves (size : Size) (line : Line) (b : Bench) (power : Power) (sl
   pub resumed : Resumes old ledger (line_resumes line does.0)
   pub runs : Runs size bench power slots ledger
 
--- The same, and the line said that.
+-- The line's step was made, its answer says that, and the ledger is a run's.
 pub record LineSays (size : Size) (line : Line) (b : Bench) (said : Printed) (power : Power) (slots : List (List ℕ)) (ledger : RunLedger)
     : Type 0 where
   pub bench : Bench
@@ -60,7 +60,7 @@ pub record LineSays (size : Size) (line : Line) (b : Bench) (said : Printed) (po
   pub says : answer.line ≡ said
   pub runs : Runs size bench power slots ledger
 
--- The same, and what the line says where it looks is kept behind what was kept before.
+-- The line's step was made, and what the line says where it looks is kept behind what was kept before.
 pub record LineAdds (size : Size) (line : Line) (b : Bench) (old new : List Printed) (power : Power) (slots : List (List ℕ)) (ledger : RunLedger)
     : Type 0 where
   pub bench : Bench

@@ -22,7 +22,7 @@ use crate::follows::enough_memory;
 use crate::judges::Sweep;
 use crate::ledgers::RunLedger;
 use bench_report::{Answer, OffDisk, Power, Printed, power_on};
-use board::{Board, Parts, Payloads};
+use board::{Board, BoardParts, Payloads};
 use board_model::{BootMode, Bytes, Durable, Plain, Refusal, Shape};
 use ram::Ram;
 use simdisk::SimDisk;
@@ -59,7 +59,7 @@ fn plain_of(found: &Durable, memory: Vec<u8>) -> Option<Plain>
 fn store_and_ram(board: Board<SimDisk>) -> (Store<SimDisk>, Ram)
     ensures { result.0 ≡ store_in board }
 {
-    let Parts { store, bus, .. } = board.into_parts();
+    let BoardParts { store, bus, .. } = board.into_parts();
     (store, bus.ram)
 }
 

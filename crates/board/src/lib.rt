@@ -6,4 +6,4 @@ mod powered;
 mod ready;
 
 pub use payloads::Payloads;
-pub use powered::{Board, Parts, Unpowered};
+pub use powered::{Board, BoardParts, Unpowered};

@@ -37,7 +37,7 @@ pub struct Unpowered<D: Disk + Drop> {
 
 /// What a board consists of.
 #[derive(Drop)]
-pub struct Parts<D: Disk + Drop> {
+pub struct BoardParts<D: Disk + Drop> {
     /// The harts, by number.
     pub harts: Vec<Hart>,
     /// The seat of all harts in each table, of which `split` makes one for each.
@@ -385,7 +385,7 @@ impl<D: Disk + Drop> Board<D> {
     }
 
     /// Takes the board apart.
-    pub fn into_parts(self) -> Parts<D>
+    pub fn into_parts(self) -> BoardParts<D>
         ensures harts { result.harts.items ≡ (machine_of self).harts }
         ensures ram { result.bus.ram ≡ (machine_of self).memory }
         ensures doze { result.bus.doze ≡ (machine_of self).doze }
@@ -401,7 +401,7 @@ impl<D: Disk + Drop> Board<D> {
             tables,
             bus,
         } = machine.into_parts();
-        Parts {
+        BoardParts {
             harts,
             seats,
             tables,

@@ -1,5 +1,5 @@
 -- How the harts ended that another hart's command ended, by the last command of the journal.
-use Rattle.std.proofs.Common.{◌≡◌, ◌∙◌, ◌++◌, ℕ, suc, ◌<◌, List, [], ◌∷◌, All, Option, Some, None, IfSome, get_or, length, arith, sym, subst}
+use Rattle.std.proofs.Common.{◌≡◌, ℕ, List, [], All, Option, Some, None, IfSome, arith, sym, subst}
 use Rattle.board_model.specs.Durable.{Change}
 use Rattle.board_model.specs.declared.durable.Entry.{Entry}
 use Rattle.hart_threads.specs.Ends.{Ending}

@@ -1,5 +1,5 @@
 -- Ends of harts, one after another.
-use Rattle.std.proofs.Common.{◌≡◌, ◌∙◌, ℕ, suc, ◌+◌, List, [], ◌∷◌, ◌++◌, length, arith, sym, subst}
+use Rattle.std.proofs.Common.{◌≡◌, ℕ, suc, ◌+◌, List, [], ◌∷◌, ◌++◌, length, arith, sym, subst}
 use Rattle.hart_threads.specs.Ends.{Ending, AreNumberedFrom}
 
 -- one more, of the next hart

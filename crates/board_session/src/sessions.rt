@@ -29,7 +29,7 @@ ghost use Rattle.board_session.specs.Sessions.{TakesFormat, RunsOver, RefusesDis
 use crate::gate::{Open, harts_after};
 use crate::heard::ConsoleHeard;
 use crate::life_end::{disk_at_once, disk_of, ends_of};
-use board::{Board, Parts, Payloads};
+use board::{Board, BoardParts, Payloads};
 use board_console::{Left, console};
 use board_model::{Refusal, Shape};
 use board_options::Options;
@@ -76,7 +76,7 @@ pub struct SessionEnd<D: Disk + Drop, I: Read + Drop, W: Write + Drop> {
 /// A board that is on, its shape, the book of its receipts, that of what is in doubt, and the word that halts its harts.
 #[derive(Drop)]
 struct BootedBoard<D: Disk + Drop> {
-    parts: Parts<D>,
+    parts: BoardParts<D>,
     shape: Shape,
     book: NewBook,
     doubts: NewBook,
@@ -200,7 +200,7 @@ fn run_board<
         doubts,
         halt,
     } = booted;
-    let Parts {
+    let BoardParts {
         harts,
         seats,
         tables,
@@ -580,7 +580,7 @@ pub fn session<R: Threads + Wait + Sync, D: Disk + Drop + Send, I: Read + Drop, 
             run_board::<D, Brand, R, I, W>(rt, alloc, booted, turns, lock, streams)
         }
         Err(_) => {
-            let Parts {
+            let BoardParts {
                 harts: _,
                 seats: _,
                 tables: _,

@@ -10,7 +10,7 @@ ghost use Rattle.tallies.specs.BookViews.{id_of, parts_of};
 ghost use Rattle.board_tests.specs.Begun.{IsBegun};
 
 use crate::dozing::UntilWoken;
-use board::{Board, Parts, Payloads};
+use board::{Board, BoardParts, Payloads};
 use board_console::console;
 use board_model::{BootMode, Command, Refusal, Shape, Slot};
 use disk::{ArmedFault, Disk};
@@ -58,7 +58,7 @@ pub fn parts_of(
     alloc: Global,
     shape: &Shape,
     payload: &[u8],
-) -> Result<(Parts<SimDisk>, Shape), Refusal>
+) -> Result<(BoardParts<SimDisk>, Shape), Refusal>
     ensures held { IfOk result (λ p. IsHeld p.1 p.0.harts.items p.0.tables (Some p.0.seats) p.0.bus.doze) }
     ensures begun { IfOk result (λ p. IsBegun p.1 p.0.store) }
 {
@@ -74,7 +74,7 @@ pub fn parts_of(
 }
 
 /// Those parts, with a fault of the disk armed.
-fn armed(parts: Parts<SimDisk>, shape: &Shape, fault: ArmedFault) -> Parts<SimDisk>
+fn armed(parts: BoardParts<SimDisk>, shape: &Shape, fault: ArmedFault) -> BoardParts<SimDisk>
     requires held { IsHeld shape.now parts.harts.items parts.tables (Some parts.seats) parts.bus.doze }
     requires begun { IsBegun shape.now parts.store }
     ensures held { IsHeld shape.now result.harts.items result.tables (Some result.seats) result.bus.doze }
@@ -240,7 +240,7 @@ fn driven_as<J: Threaded + Send + Sync, R: Threads + Wait + Clock + Abort + Sync
     alloc: Global,
     gate: &(dyn Gate + Sync),
     trial: BoardTrial<'_>,
-    parts: Parts<SimDisk>,
+    parts: BoardParts<SimDisk>,
     marks: ((NewBook, NewBook), (OnceLock<AfterConsole>, Halt)),
     shape: &Shape,
 ) -> Ran
@@ -255,7 +255,7 @@ fn driven_as<J: Threaded + Send + Sync, R: Threads + Wait + Clock + Abort + Sync
     requires driven { (marks.1.0.id ≡ J.parting) × (marks.1.1 ≡ J.halt) × (trial.turns ≡ J.turns) × (J.gated ≡ true) }
     ensures { IsIdle (⟦<SimDisk as Disk>⟧.facts result.disk) }
 {
-    let Parts {
+    let BoardParts {
         harts,
         seats,
         tables,

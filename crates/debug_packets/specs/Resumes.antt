@@ -5,10 +5,10 @@ use Rattle.board_model.specs.Shapes.{Size}
 use Rattle.debug_packets.specs.declared.asked.VCont.{VCont}
 use Rattle.debug_packets.specs.declared.asked.VCont.TheVariants as asked
 use Rattle.gdb_protocol.specs.Actions.{are_known, first_asked}
-use Rattle.gdb_protocol.specs.declared.actions.Action.{Action}
-use Rattle.gdb_protocol.specs.declared.actions.Action.TheVariants.{Step, StepWithin, Go}
+use Rattle.gdb_protocol.specs.declared.actions.ResumeAction.{ResumeAction}
+use Rattle.gdb_protocol.specs.declared.actions.ResumeAction.TheVariants.{Step, StepWithin, Go}
 
-abbrev pub goes : Option Action → Bool
+abbrev pub goes : Option ResumeAction → Bool
 goes None = false
 goes (Some Step) = false
 goes (Some (StepWithin first end)) = false
@@ -24,7 +24,7 @@ goers_by words =
     is_going 0 words ∷ is_going 1 words ∷ is_going 2 words ∷ is_going 3 words ∷ is_going 4 words ∷ is_going 5 words
     ∷ is_going 6 words ∷ is_going 7 words ∷ []
 
-abbrev pub steps : Option Action → Bool
+abbrev pub steps : Option ResumeAction → Bool
 steps None = false
 steps (Some Step) = true
 steps (Some (StepWithin first end)) = true

@@ -7,7 +7,7 @@ ghost use Rattle.gdb_protocol.specs.Fields.{behind_prefix};
 
 use crate::asked::VCont;
 use board_model::{Refusal, Shape};
-use gdb_protocol::{Action, action_for, are_known, behind, parts};
+use gdb_protocol::{ResumeAction, action_for, are_known, behind, parts};
 use std::alloc::Global;
 
 /// The step that a hart is to make, if it is to make one.
@@ -19,9 +19,9 @@ fn step_of(shape: &Shape, words: &[&[u8]], number: u64) -> Option<VCont>
     let hart = shape.hart(number)?;
     match action_for(words, number + 1) {
         None => None,
-        Some(Action::Go) => None,
-        Some(Action::Step) => Some(VCont::Step(hart)),
-        Some(Action::StepWithin(first, end)) => Some(VCont::StepWithin(hart, first, end)),
+        Some(ResumeAction::Go) => None,
+        Some(ResumeAction::Step) => Some(VCont::Step(hart)),
+        Some(ResumeAction::StepWithin(first, end)) => Some(VCont::StepWithin(hart, first, end)),
     }
 }
 
@@ -44,7 +44,7 @@ fn is_going(words: &[&[u8]], number: u64) -> bool
     ensures { result ≡ is_going number (map (λ w. w.now) words.now) }
 {
     match action_for(words, number + 1) {
-        Some(Action::Go) => true,
+        Some(ResumeAction::Go) => true,
         _ => false,
     }
 }

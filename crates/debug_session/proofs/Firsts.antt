@@ -30,7 +30,7 @@ use Rattle.debug_session.specs.declared.halts.HaltReason.TheVariants as halts
 use Rattle.debug_session.specs.declared.stops.Stops.{Stops}
 use Rattle.debug_session.specs.declared.stops.Watchpoint.{Watchpoint}
 use Rattle.debug_session.specs.Steps.{halt_step}
-use Rattle.debug_session.specs.Firsts.{KeepsWatched, PassAll, RanBy, RanTo, ReadsAs, Stretched, ToHalt, Touches, halt_after, halt_seen, halts_all, is_at_point, is_kept, is_of_turn, is_quiet, is_unread, minds_changes, one_turn, seen_all, seen_by, TellsTouched, touched_by, touched_in, touched_since}
+use Rattle.debug_session.specs.Firsts.{KeepsWatched, PassAll, RanBy, RanTo, ReadsAs, Stretched, ToHalt, Touches, halt_after, halt_seen, halts_all, is_at_point, is_kept, is_of_turn, is_quiet, is_unread, minds_changes, one_turn, seen_all, seen_by, TellsTouched, touched_in, touched_since}
 
 pub ok_more : {A E : Type 0} (r : Result A E) (P Q : A → Type 0) → ((x : A) → P x → Q x) → IfOk r P → IfOk r Q
 ok_more (Ok x) P Q more h = more x h

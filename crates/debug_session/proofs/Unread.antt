@@ -9,7 +9,7 @@ use Rattle.machine.specs.Machine.{Machine, hart_at}
 use Rattle.rv_decode.specs.Spells.{Reads, spells}
 use Rattle.rv_decode.specs.declared.instr.Instr.{Instr}
 use Rattle.rv_decode.specs.declared.instr.Instr.TheVariants as instr
-use Rattle.debug_session.specs.Firsts.{ReadsAs, is_kept, is_quiet, is_unread, minds_reads, seen_by, seen_in, touched_since}
+use Rattle.debug_session.specs.Firsts.{ReadsAs, is_kept, is_unread, minds_reads, seen_by, seen_in, touched_since}
 use Rattle.debug_session.specs.Loads.{Fetches, LoadsAt, LoadsNext, LoadsNone, is_stepping, is_there, load_in, made_load}
 use Rattle.debug_session.specs.declared.loads.Load.{Load}
 use Rattle.debug_session.specs.declared.stops.SeenBytes.{SeenBytes}

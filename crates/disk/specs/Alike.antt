@@ -11,7 +11,7 @@ pub record StandsAs (d e : Facts) : Type 0 where
   pub lent : e.lent ≡ d.lent
   pub now : (c : Content) → (e.may_leave c → d.may_leave c) × (d.may_leave c → e.may_leave c)
 
--- The same is armed, power is cut or not, and it failed as often by itself. What was armed before is left aside.
+-- Both have one fault armed, power cut or not, and failed as often by themselves. What was armed before is left aside.
 pub record FailsAlike (m n : FaultState) : Type 0 where
   pub armed : n.armed ≡ m.armed
   pub struck : n.struck ≡ m.struck

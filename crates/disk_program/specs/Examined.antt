@@ -45,8 +45,8 @@ RefusesLines c BadShape = ReadsAs c BadShape
 RefusesLines c Device = ⊤
 RefusesLines c e = ⊥
 
--- The same, where the memory of its image is asked for: no state stands on it, or one without an image, or with one that is
--- not whole.
+-- The disk of these sectors is refused, where the memory of its image is asked for: no state stands on it, or one without an
+-- image, or with one that is not whole.
 abbrev pub RefusesMemory : Content → Refusal → Type 0
 RefusesMemory c NotFormatted = ReadsAs c NotFormatted
 RefusesMemory c BadShape = ReadsAs c BadShape

@@ -2,7 +2,7 @@
 use Rattle.std.proofs.Common.{◌≡◌, ◌∙◌, ◌⊎◌, inl, inr, ℕ, ◌≤◌, length, sym, ap, subst, arith}
 use Rattle.board_model.specs.declared.refusal.Refusal.{Refusal}
 use Rattle.board_model.specs.declared.refusal.Refusal.TheVariants.{NotFormatted, BadShape, BadRecord, Device, Memory}
-use Rattle.disk.specs.Facts.{Content, Facts, Failed}
+use Rattle.disk.specs.Facts.{Content, Facts}
 use Rattle.store.specs.Answers.{StoreView, Opened}
 use Rattle.store.specs.Leaves.{ReadsAlone, IsSettled, IsRenewed, LeftAsBefore}
 use Rattle.store.specs.Opens.{OpenRefused}

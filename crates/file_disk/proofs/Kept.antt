@@ -6,7 +6,7 @@ use Rattle.std.proofs.Math.Logic.{∥∥₁_map}
 use Rattle.std.specs.Prelude.{OnOk}
 use Rattle.disk.specs.Facts.{Content, Facts, Only, Torn, Passes, Lent, lent_sectors, nothing, sector}
 use Rattle.disk.specs.WriteLog.{WriteLog, Piece, Untouched, AgreesOutside, NotedOrRefused, more_written, ranges, range}
-use Rattle.file_disk.specs.Files.{FileFacts, FileKnown, Unknown, Known, IfKnown, Goes, IsDurable, IsMarked, AgreesOff, LeavesOff, LeavesNoMore, EverAllowed, IsKeptIn, AreMarks, Marks, Pushes, PushesSome}
+use Rattle.file_disk.specs.Files.{FileFacts, FileKnown, Unknown, Known, IfKnown, Goes, IsDurable, IsMarked, AgreesOff, LeavesNoMore, EverAllowed, IsKeptIn, AreMarks, Marks, Pushes, PushesSome}
 
 -- ---- the ranges
 untouched_before : (rs more : List (ℕ × ℕ)) (k : ℕ) → Untouched (rs ++ more) k → Untouched rs k

@@ -1,7 +1,7 @@
 -- What stands in memory comes into the file, sector by sector.
-use Rattle.std.proofs.Common.{suc, ◌≡◌, ◌∙◌, ℕ, ◌<◌, ◌+◌, Bool, true, false, List, [], ◌∷◌, length, get_or, Result, Ok, Err, arith, inl, inr, refl, ⊎_elim}
+use Rattle.std.proofs.Common.{suc, ◌≡◌, ◌∙◌, ℕ, ◌<◌, ◌+◌, Bool, true, false, List, [], ◌∷◌, length, get_or, Result, Ok, arith, inr, refl, ⊎_elim}
 use Rattle.disk.specs.Facts.{Content, Torn, sector}
-use Rattle.file_disk.specs.Files.{FileFacts, FileKnown, Unknown, Known, IfKnown, Goes, LeavesBut, WritesSector, SyncsFile, AgreesOff, LeavesOff, PushesSome, WritesUpTo, WritesMarked, Pushes}
+use Rattle.file_disk.specs.Files.{FileFacts, FileKnown, Unknown, Known, IfKnown, Goes, LeavesBut, WritesSector, AgreesOff, LeavesOff, PushesSome, WritesUpTo, WritesMarked}
 
 -- a content that agrees off the marks does so still with other bytes in a sector that is marked
 torn_agrees : (marks : List Bool) (content d c : Content) (number : ℕ) → get_or marks number false ≡ true

@@ -1,17 +1,17 @@
 -- What `vCont` asks of each thread. Source: "Debugging with GDB", appendix "GDB Remote Serial Protocol", "Packets", `vCont`.
 use Rattle.std.specs.Prelude.{ℕ, Bool, true, false, List, [], ◌∷◌, Option, Some, None, ◌==◌, nat_lt, if◌then◌else◌, bytes_eq, ◌&&◌}
 use Rattle.gdb_protocol.specs.Fields.{number_of, parted_at, two_numbers}
-use Rattle.gdb_protocol.specs.declared.actions.Action.{Action}
-use Rattle.gdb_protocol.specs.declared.actions.Action.TheVariants.{Step, StepWithin, Go}
+use Rattle.gdb_protocol.specs.declared.actions.ResumeAction.{ResumeAction}
+use Rattle.gdb_protocol.specs.declared.actions.ResumeAction.TheVariants.{Step, StepWithin, Go}
 use lib.Chars.{codes}
 
 -- r START,END
-abbrev pub within : Option (ℕ × ℕ) → Option Action
+abbrev pub within : Option (ℕ × ℕ) → Option ResumeAction
 within None = None
 within (Some range) = Some (StepWithin range.0 range.1)
 
 -- s, S and c, C, of which the capital ones have a signal behind them, which no hart takes
-abbrev pub lettered : ℕ → List ℕ → Option Action
+abbrev pub lettered : ℕ → List ℕ → Option ResumeAction
 lettered letter rest =
     if letter == 115 then Some Step else
     (if letter == 83 then Some Step else
@@ -19,7 +19,7 @@ lettered letter rest =
     (if letter == 67 then Some Go else
     (if letter == 114 then within (two_numbers rest) else None))))
 
-abbrev pub action_of : List ℕ → Option Action
+abbrev pub action_of : List ℕ → Option ResumeAction
 action_of [] = None
 action_of (letter ∷ rest) = lettered letter rest
 
@@ -32,24 +32,24 @@ abbrev pub names : ℕ → List ℕ → Bool
 names thread text = if bytes_eq text (codes "-1") then true else is_that thread (number_of text)
 
 -- what ACTION or ACTION:THREAD asks of a thread
-abbrev pub in_parts : ℕ → List ℕ → Option (List ℕ × List ℕ) → Option Action
+abbrev pub in_parts : ℕ → List ℕ → Option (List ℕ × List ℕ) → Option ResumeAction
 in_parts thread word None = action_of word
 in_parts thread word (Some parts) = if names thread parts.1 then action_of parts.0 else None
 
-abbrev pub asked_by : ℕ → List ℕ → Option Action
+abbrev pub asked_by : ℕ → List ℕ → Option ResumeAction
 asked_by thread word = in_parts thread word (parted_at 58 word)
 
-abbrev pub or_next : Option Action → Option Action → Option Action
+abbrev pub or_next : Option ResumeAction → Option ResumeAction → Option ResumeAction
 or_next None next = next
 or_next (Some action) next = Some action
 
 -- what the words ask of a thread: the first that names it
-abbrev pub first_asked : ℕ → List (List ℕ) → Option Action
+abbrev pub first_asked : ℕ → List (List ℕ) → Option ResumeAction
 first_asked thread [] = None
 first_asked thread (word ∷ more) = or_next (asked_by thread word) (first_asked thread more)
 
 -- whether the action of a word is known, and its thread, where it has one, can be one; and those of all words
-abbrev pub some_action : Option Action → Bool
+abbrev pub some_action : Option ResumeAction → Bool
 some_action None = false
 some_action (Some action) = true
 

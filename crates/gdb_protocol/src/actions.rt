@@ -10,7 +10,7 @@ use std::alloc::{AllocError, Global};
 
 /// What is asked of a thread; of one that is asked nothing, that it stays as it is.
 #[derive(Clone, Copy, Drop)]
-pub enum Action {
+pub enum ResumeAction {
     /// It makes one turn.
     Step,
     /// It makes turns while its pc lies from the first address on and before the second.
@@ -27,29 +27,29 @@ pub fn parts(alloc: Global, word: &[u8]) -> Result<Vec<&[u8]>, AllocError>
 }
 
 /// A step within the addresses that stand behind `r`.
-fn within(range: &[u8]) -> Option<Action>
+fn within(range: &[u8]) -> Option<ResumeAction>
     ensures { result ≡ within (two_numbers range.now) }
 {
     match two_numbers(range) {
         None => None,
-        Some((first, end)) => Some(Action::StepWithin(first, end)),
+        Some((first, end)) => Some(ResumeAction::StepWithin(first, end)),
     }
 }
 
 /// The action of a letter and what stands behind it.
-fn lettered(letter: u8, rest: &[u8]) -> Option<Action>
+fn lettered(letter: u8, rest: &[u8]) -> Option<ResumeAction>
     ensures { result ≡ lettered letter rest.now }
 {
     match letter {
-        b's' | b'S' => Some(Action::Step),
-        b'c' | b'C' => Some(Action::Go),
+        b's' | b'S' => Some(ResumeAction::Step),
+        b'c' | b'C' => Some(ResumeAction::Go),
         b'r' => within(rest),
         _ => None,
     }
 }
 
 /// The action of a word.
-fn action_of(word: &[u8]) -> Option<Action>
+fn action_of(word: &[u8]) -> Option<ResumeAction>
     ensures { result ≡ action_of word.now }
 {
     match word.split_first() {
@@ -72,7 +72,7 @@ fn names(thread: u64, text: &[u8]) -> bool
 }
 
 /// What a word asks of a thread.
-fn asked_by(thread: u64, word: &[u8]) -> Option<Action>
+fn asked_by(thread: u64, word: &[u8]) -> Option<ResumeAction>
     ensures { result ≡ asked_by thread word.now }
 {
     match parted(word, b':') {
@@ -88,7 +88,7 @@ fn asked_by(thread: u64, word: &[u8]) -> Option<Action>
 }
 
 /// What the words of a `vCont` ask of a thread: the first that names it, or all.
-pub fn action_for(words: &[&[u8]], thread: u64) -> Option<Action>
+pub fn action_for(words: &[&[u8]], thread: u64) -> Option<ResumeAction>
     ensures { result ≡ first_asked thread (map (λ w. w.now) words.now) }
 {
     for word in words {

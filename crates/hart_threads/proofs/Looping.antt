@@ -1,11 +1,10 @@
 -- Turns one after another.
-use Rattle.std.proofs.Common.{◌≡◌, ◌+◌, ℕ, zero, suc, Bool, List, [], ◌∷◌, Option, Some, None, ap, true, false, arith, refl, sym, ◌∙◌, subst, inl, inr}
+use Rattle.std.proofs.Common.{◌≡◌, ◌+◌, ℕ, zero, suc, Bool, List, Option, Some, None, ap, true, false, arith, refl, sym, ◌∙◌, subst, inl, inr}
 use Rattle.board_model.specs.Shapes.{Size}
 use Rattle.board_model.specs.declared.durable.Entry.{Entry}
 use Rattle.sbi_abi.specs.declared.call.Call.{Call}
 use Rattle.shared_store.specs.Called.{IsToldBy}
 use Rattle.shared_store.specs.Noted.{part_after}
-use Rattle.shared_store.specs.Runs.{StepsMake}
 use Rattle.tallies.specs.declared.book_views.PartView.{PartView}
 use Rattle.sbi_abi.specs.Calls.{call_of}
 use Rattle.sbi.specs.Words.{stage_told, word_of_sleep}
@@ -21,7 +20,6 @@ use Rattle.sbi_calls.specs.Both.{GivesBack, Acts, AreSeatsOfBoth, views, Known}
 use Rattle.susp.specs.declared.buses.Doze.{Doze}
 use Rattle.susp.specs.declared.sleeps.Sleep.{Sleep}
 use Rattle.susp.specs.declared.sleeps.Sleep.TheVariants.{ToRam, ToDisk}
-use Rattle.turns.specs.Own.{TurnOwn}
 use Rattle.sbi_calls.specs.declared.words.Did.{Did}
 use Rattle.sbi_calls.specs.declared.words.Turned.{Turned}
 use Rattle.sbi_calls.specs.declared.words.Turned.TheVariants.{Made, Durable}

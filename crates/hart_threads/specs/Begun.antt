@@ -1,5 +1,5 @@
 -- A hart as the boot left it, whose loop begins. Source: docs/BOARD.md, "Power on"; docs/THREADS.md, "The end of a loop".
-use Rattle.std.specs.Prelude.{◌≡◌, ℕ, List, Option, Some}
+use Rattle.std.specs.Prelude.{◌≡◌, ℕ, List, Option}
 use Rattle.board_model.specs.Shapes.{Size}
 use Rattle.hart.specs.State.{ArchState}
 use Rattle.hsm_steps.specs.Rule.{stands}

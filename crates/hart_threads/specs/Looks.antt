@@ -1,6 +1,6 @@
 -- A hart in whose doze its board is, and its looks at the bus. Source: SBI specification 2.0, chapter 13; docs/THREADS.md,
 -- "A doze".
-use Rattle.std.specs.Prelude.{◌+◌, ℕ, Bool, true, false, Option, Some, None}
+use Rattle.std.specs.Prelude.{◌+◌, ℕ, Bool, true, false, Option, None}
 use Rattle.sbi_calls.specs.Words.{is_doze}
 use Rattle.sbi.specs.declared.words.Word.{Word}
 use Rattle.sbi.specs.declared.words.Word.TheVariants.{Goes, Over}

@@ -15,7 +15,7 @@ use crate::ends::{Rested, at_rest};
 use crate::gates::Gate;
 use crate::loops::hart_loop;
 use crate::refusals::Refusals;
-use crate::seated::{Acting, seat_harts};
+use crate::seated::{ActingHart, seat_harts};
 use crate::shared::{HartLocal, SharedBoard};
 use crate::threaded::Threaded;
 use crate::works::{Rooms, StopSource, on_threads};
@@ -170,7 +170,7 @@ struct HartWork<'r, 'g, 'a, 'c, 's, R, G: Gate, D: Disk + Drop, J: Threaded> {
     rt: &'r R,
     gate: &'g G,
     board: SharedBoard<'a, 'c, D, J, crew::Threads<'s, R>>,
-    acting: Acting,
+    acting: ActingHart,
     part: Part<J>,
     turns: u64,
     ghost sized: { board.shape.now ≡ J.size },
@@ -206,7 +206,7 @@ fn loop_of<
         part,
         turns,
     } = work;
-    let Acting { hart, seats, doze } = acting;
+    let ActingHart { hart, seats, doze } = acting;
     let local = HartLocal {
         seats,
         doze,
@@ -240,7 +240,7 @@ fn works_of<
     rt: &'r R,
     gate: &'g G,
     board: SharedBoard<'a, 'c, D, J, crew::Threads<'s, R>>,
-    all: Vec<Acting>,
+    all: Vec<ActingHart>,
     parts: Vec<Part<J>>,
     turns: u64,
     room: Vec<HartWork<'r, 'g, 'a, 'c, 's, R, G, D, J>>,
@@ -278,7 +278,7 @@ fn works_of<
 
 /// A hart that is taken out of the list is as the boot left it, as each hart of the list is. The tables are an argument only so
 /// that this can be said of them.
-fn known_begun<J: Threaded>(acting: &Acting, tables: &Tables)
+fn known_begun<J: Threaded>(acting: &ActingHart, tables: &Tables)
     requires { IsFromBoot J.machine tables.now acting.now.hart acting.now.seats acting.now.doze }
     ensures seated { IsSeated tables.now acting.now.hart.id acting.now.seats acting.now.doze }
     ensures begins { ∥ BeginsAs J.machine acting.now.hart.id

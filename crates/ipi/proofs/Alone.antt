@@ -7,8 +7,8 @@ use Rattle.std.proofs.Math.Pow.{pow_pos, pow-lt}
 use mathlib.Core.Logic.{dite}
 use native.Mathlib.Decide.{ℕ_discrete, dec_le}
 use Rattle.tallies.specs.Sums.{total}
-use Rattle.ipi.specs.declared.view.Action.{Action}
-use Rattle.ipi.specs.declared.view.Action.TheVariants.{Raised, Took, Looked}
+use Rattle.ipi.specs.declared.view.IpiAction.{IpiAction}
+use Rattle.ipi.specs.declared.view.IpiAction.TheVariants.{Raised, Took, Looked}
 use Rattle.tallies.specs.Notes.{seat_notes, is_of, seats, noted}
 use Rattle.ipi.specs.Ledger.{raise_of, take_of, raised, taken, HasNoted, HasEveryHart, InRange, PendingSeatView}
 use Rattle.ipi.specs.Pairs.{IsPending, SameHarts, Shows, with_pair, without_target}
@@ -20,10 +20,10 @@ module _ (harts by : ℕ) (c : PendingSeatView) (whole : HasEveryHart harts c) (
   sits : 0 < seats by c
   sits = let w = whole by lt in omega arith
 
-  raised_then : (p : ℕ) (x : Action) (s t : ℕ) → raised s t (seat_notes (noted by tt p x c.harts)) ≡ raised s t c + (if by == s then raise_of s t x else 0)
+  raised_then : (p : ℕ) (x : IpiAction) (s t : ℕ) → raised s t (seat_notes (noted by tt p x c.harts)) ≡ raised s t c + (if by == s then raise_of s t x else 0)
   raised_then p x s t = weigh_noted s (raise_of s t) by p x c.harts sits
 
-  taken_then : (p : ℕ) (x : Action) (s t : ℕ) → taken s t (seat_notes (noted by tt p x c.harts)) ≡ taken s t c + (if by == t then take_of s x else 0)
+  taken_then : (p : ℕ) (x : IpiAction) (s t : ℕ) → taken s t (seat_notes (noted by tt p x c.harts)) ≡ taken s t c + (if by == t then take_of s x else 0)
   taken_then p x s t = weigh_noted t (take_of s) by p x c.harts sits
 
 nothing : (b : Bool) → ◌≡◌ {A = ℕ} (if b then 0 else 0) 0
@@ -31,7 +31,7 @@ nothing true = refl
 nothing false = refl
 
 -- ---- the harts of the seat stay
-pub same_harts : (by : ℕ) (x : Action) (c c' : PendingSeatView) → HasNoted by x c.harts c'.harts → SameHarts c c'
+pub same_harts : (by : ℕ) (x : IpiAction) (c c' : PendingSeatView) → HasNoted by x c.harts c'.harts → SameHarts c c'
 same_harts by x c c' is = record {
   harts = numbered by tt x c.harts c'.harts is;
   each = λ h. ap (total (is_of h)) is.1 ∙ seats_noted h by tt is.0 x c.harts;

@@ -4,7 +4,7 @@ use Rattle.std.specs.Prelude.{slice_index}
 use Rattle.std.specs.Int.{bit_at}
 use Rattle.std.proofs.lemmas.Nat.Bits.{bit_at-zero}
 use Rattle.atomic_table.specs.Table.{Splits, Joins, opening}
-use Rattle.ipi.specs.declared.view.Action.{Action}
+use Rattle.ipi.specs.declared.view.IpiAction.{IpiAction}
 use Rattle.tallies.specs.Notes.{first_hart, other_harts, together, nobody, opening_from}
 use Rattle.tallies.specs.Sums.{total}
 use Rattle.ipi.specs.Ledger.{raise_of, take_of, raised_by, taken_by, IsOwed, PendingInvariant, reading, first_word, opening_pending_view, PendingView, PendingSeatView}
@@ -15,7 +15,7 @@ use Rattle.tallies.proofs.Totals.{total_split, total_join, total-append}
 use Rattle.ipi.proofs.Keeps.{nothing, weight}
 
 -- ---- the start
-fresh_weight : (key : ℕ) (g : Action → ℕ) (first n : ℕ) → total (weight key g) (opening_from (λ _. tt) first n) ≡ 0
+fresh_weight : (key : ℕ) (g : IpiAction → ℕ) (first n : ℕ) → total (weight key g) (opening_from (λ _. tt) first n) ≡ 0
 fresh_weight key g first zero = refl
 fresh_weight key g first (suc n) = let z = nothing (eqb first key) in let more = fresh_weight key g (suc first) n in omega arith
 
@@ -33,7 +33,7 @@ opens harts words long zeros = record {
 
 pub opens_shown : (harts : ℕ) → Shows harts (opening_pending_view harts) (λ _ _. false)
 opens_shown harts = (
-  opens_seated Action (λ _. tt) harts,
+  opens_seated IpiAction (λ _. tt) harts,
   (λ s t. (
     (λ yes. absurd (true≢false (sym yes))),
     (λ p. let a = fresh_weight s (raise_of s t) 0 harts in let b = fresh_weight t (take_of s) 0 harts in absurd (omega arith)),

@@ -9,25 +9,25 @@ use Rattle.tallies.specs.Logs.{Reading}
 use Rattle.tallies.specs.Rules.{Everywhere, IsLogged}
 use Rattle.tallies.specs.declared.view.HartNotes.{HartNotes}
 use Rattle.tallies.specs.declared.view.SeatNotes.{SeatNotes}
-use Rattle.ipi.specs.declared.view.Action.{Action}
-use Rattle.ipi.specs.declared.view.Action.TheVariants.{Raised, Took, Looked}
+use Rattle.ipi.specs.declared.view.IpiAction.{IpiAction}
+use Rattle.ipi.specs.declared.view.IpiAction.TheVariants.{Raised, Took, Looked}
 
 -- a hart of a seat, with its steps; it has one stage
 abbrev pub PendingView : Type 0
-PendingView = HartNotes (Unit {0}) Action
+PendingView = HartNotes (Unit {0}) IpiAction
 
 -- the harts of a seat
 abbrev pub PendingSeatView : Type 0
-PendingSeatView = SeatNotes (Unit {0}) Action
+PendingSeatView = SeatNotes (Unit {0}) IpiAction
 
 -- a raise of the target that found the sender's bit clear
-abbrev pub raise_of : ℕ → ℕ → Action → ℕ
+abbrev pub raise_of : ℕ → ℕ → IpiAction → ℕ
 raise_of sender target (Raised t found) = if t == target then 1 - bit_at found sender else 0
 raise_of sender target (Took found) = 0
 raise_of sender target (Looked found) = 0
 
 -- a take whose answer holds the sender
-abbrev pub take_of : ℕ → Action → ℕ
+abbrev pub take_of : ℕ → IpiAction → ℕ
 take_of sender (Raised t found) = 0
 take_of sender (Took found) = bit_at found sender
 take_of sender (Looked found) = 0
@@ -45,7 +45,7 @@ abbrev pub taken : ℕ → ℕ → PendingSeatView → ℕ
 taken sender target c = total (taken_by sender target) c.harts
 
 -- the hart raised for itself and has not taken since
-abbrev pub owes : ℕ → List Action → Bool
+abbrev pub owes : ℕ → List IpiAction → Bool
 owes h [] = false
 owes h (Raised t found ∷ ds) = if t == h then true else owes h ds
 owes h (Took found ∷ ds) = false
@@ -56,24 +56,24 @@ IsOwed words d = owes d.hart d.actions ≡ true → bit_at (slice_index words d.
 
 -- ---- the actions as steps
 -- the hart in whose word an action of the hart h was
-abbrev pub word_of : ℕ → Action → ℕ
+abbrev pub word_of : ℕ → IpiAction → ℕ
 word_of h (Raised t found) = t
 word_of h (Took found) = h
 word_of h (Looked found) = h
 
 -- what it says that it found there
-abbrev pub found_by : Action → ℕ → ℕ
+abbrev pub found_by : IpiAction → ℕ → ℕ
 found_by (Raised t found) word = found
 found_by (Took found) word = found
 found_by (Looked found) word = found
 
 -- and what it left there
-abbrev pub left_by : ℕ → Action → ℕ → ℕ
+abbrev pub left_by : ℕ → IpiAction → ℕ → ℕ
 left_by h (Raised t found) word = bit_or word (2 ^ h)
 left_by h (Took found) word = 0
 left_by h (Looked found) word = word
 
-abbrev pub reading : Reading Action
+abbrev pub reading : Reading IpiAction
 reading = record { word_of = word_of; found_by = found_by; left_by = left_by }
 
 -- the words at the start
@@ -90,7 +90,7 @@ pub record PendingInvariant (harts : ℕ) (s : State (Unit {0}) PendingSeatView)
   pub owed : Everywhere (IsOwed s.words) s.views
 
 -- a view that has one more action of the hart, at whatever place, and nothing else is new
-abbrev pub HasNoted : ℕ → Action → List PendingView → List PendingView → Type 0
+abbrev pub HasNoted : ℕ → IpiAction → List PendingView → List PendingView → Type 0
 HasNoted h x = notes.HasNoted h tt x
 
 -- no step yet
@@ -107,7 +107,7 @@ Tells harts c target found =
     HasEveryHart harts c → (sender : ℕ) → raised sender target c ≡ taken sender target c + bit_at found sender
 
 -- what the hart did
-abbrev pub actions_of : ℕ → List PendingView → List Action
+abbrev pub actions_of : ℕ → List PendingView → List IpiAction
 actions_of h [] = []
 actions_of h (d ∷ ds) = if d.hart == h then d.actions else actions_of h ds
 

@@ -6,10 +6,10 @@ ghost use Rattle.board_model.specs.HartSets.{Has};
 ghost use Rattle.ipi.specs.Ledger.{Raises, Takes, Looks, HasNoted, Tells, OwnsUp, InRange, IsOwing};
 ghost use Rattle.ipi.specs.Pairs.{Sits, SameHarts, ActsAlone, with_pair, without_target};
 ghost use Rattle.ipi.specs.Seating.{IsSeatOf, harts_of, pending_view_of_seat, pending_views_in};
-ghost use Rattle.ipi.specs.declared.view.Action.TheVariants.{Raised, Took, Looked};
+ghost use Rattle.ipi.specs.declared.view.IpiAction.TheVariants.{Raised, Took, Looked};
 ghost use Rattle.tallies.specs.Notes.{seats};
 
-use crate::table::{Acting, IpiSeat, PendingTable};
+use crate::table::{IpiActing, IpiSeat, PendingTable};
 use crate::view::PendingSeatView;
 use atomic_table::Play;
 use board_model::{HartId, HartSet};
@@ -19,7 +19,7 @@ struct RaiseStep<J> {
     of: PhantomData<J>,
 }
 
-impl<J: Acting> Play<(), PendingSeatView> for RaiseStep<J> {
+impl<J: IpiActing> Play<(), PendingSeatView> for RaiseStep<J> {
     ghost then = { Raises J.harts J.by };
 }
 
@@ -27,19 +27,19 @@ struct TakeStep<J> {
     of: PhantomData<J>,
 }
 
-impl<J: Acting> Play<(), PendingSeatView> for TakeStep<J> {
+impl<J: IpiActing> Play<(), PendingSeatView> for TakeStep<J> {
     ghost then = { Takes J.harts };
 }
 
-struct LookStep<J> {
+struct PendingLook<J> {
     of: PhantomData<J>,
 }
 
-impl<J: Acting> Play<(), PendingSeatView> for LookStep<J> {
+impl<J: IpiActing> Play<(), PendingSeatView> for PendingLook<J> {
     ghost then = { Looks J.harts };
 }
 
-fn raise_by<J: Acting>(table: &PendingTable, seat: &mut IpiSeat, by: HartId, target: HartId) -> u64
+fn raise_by<J: IpiActing>(table: &PendingTable, seat: &mut IpiSeat, by: HartId, target: HartId) -> u64
     requires named { (J.harts ≡ harts_of table.now) × (J.by ≡ by) }
     requires seat { IsSeatOf table.now seat.old }
     requires acts { Sits by (pending_view_of_seat seat.old) }
@@ -57,7 +57,7 @@ fn raise_by<J: Acting>(table: &PendingTable, seat: &mut IpiSeat, by: HartId, tar
         .fetch_or::<RaiseStep<J>>(seat, word, 1 << bit)
 }
 
-fn take_by<J: Acting>(table: &PendingTable, seat: &mut IpiSeat, by: HartId) -> u64
+fn take_by<J: IpiActing>(table: &PendingTable, seat: &mut IpiSeat, by: HartId) -> u64
     requires named { J.harts ≡ harts_of table.now }
     requires seat { IsSeatOf table.now seat.old }
     requires acts { Sits by (pending_view_of_seat seat.old) }
@@ -72,7 +72,7 @@ fn take_by<J: Acting>(table: &PendingTable, seat: &mut IpiSeat, by: HartId) -> u
     table.table.shared.swap::<TakeStep<J>>(seat, word, 0)
 }
 
-fn look_by<J: Acting>(table: &PendingTable, seat: &mut IpiSeat, by: HartId) -> u64
+fn look_by<J: IpiActing>(table: &PendingTable, seat: &mut IpiSeat, by: HartId) -> u64
     requires named { J.harts ≡ harts_of table.now }
     requires seat { IsSeatOf table.now seat.old }
     requires acts { Sits by (pending_view_of_seat seat.old) }
@@ -84,7 +84,7 @@ fn look_by<J: Acting>(table: &PendingTable, seat: &mut IpiSeat, by: HartId) -> u
     ensures range { InRange (harts_of table.now) result }
 {
     let word = by.index();
-    table.table.shared.load::<LookStep<J>>(seat, word)
+    table.table.shared.load::<PendingLook<J>>(seat, word)
 }
 
 impl PendingTable {

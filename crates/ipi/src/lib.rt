@@ -17,4 +17,4 @@ pub use pairs::laws;
 pub use seen::one_set;
 pub use table::{IpiSeat, Ledger, PendingTable, Seats};
 pub use tallies::SeatTable;
-pub use view::{Action, PendingSeatView, PendingView};
+pub use view::{IpiAction, PendingSeatView, PendingView};

@@ -7,21 +7,21 @@ ghost use Rattle.ipi.specs.Pairs.{Sits};
 ghost use Rattle.ipi.specs.Seating.{IsSeatOf, harts_of, pending_view_of_seat};
 ghost use Rattle.ipi.specs.Views.{pair_in};
 
-use crate::table::{Acting, IpiSeat, PendingTable};
+use crate::table::{IpiActing, IpiSeat, PendingTable};
 use crate::view::PendingSeatView;
 use atomic_table::Play;
 use board_model::{HartId, HartSet};
 use std::marker::{Brand, PhantomData};
 
-struct PeekStep<J> {
+struct PendingPeek<J> {
     of: PhantomData<J>,
 }
 
-impl<J: Acting> Play<(), PendingSeatView> for PeekStep<J> {
+impl<J: IpiActing> Play<(), PendingSeatView> for PendingPeek<J> {
     ghost then = { Peeks J.harts };
 }
 
-fn peek_at<J: Acting>(table: &PendingTable, seat: &mut IpiSeat, target: HartId) -> u64
+fn peek_at<J: IpiActing>(table: &PendingTable, seat: &mut IpiSeat, target: HartId) -> u64
     requires named { J.harts ≡ harts_of table.now }
     requires seat { IsSeatOf table.now seat.old }
     requires sits { Sits target (pending_view_of_seat seat.old) }
@@ -32,7 +32,7 @@ fn peek_at<J: Acting>(table: &PendingTable, seat: &mut IpiSeat, target: HartId) 
     ensures range { InRange (harts_of table.now) result }
 {
     let word = target.index();
-    table.table.shared.load::<PeekStep<J>>(seat, word)
+    table.table.shared.load::<PendingPeek<J>>(seat, word)
 }
 
 impl PendingTable {

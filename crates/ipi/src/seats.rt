@@ -10,7 +10,7 @@ ghost use Rattle.ipi.specs.Seating.{IsSeatOf, harts_of, pending_view_of_seat, pe
 ghost use Rattle.board_model.specs.declared.refusal.Refusal.TheVariants.{Memory};
 
 use crate::table::{IpiSeat, PendingTable, Seats};
-use crate::view::Action;
+use crate::view::IpiAction;
 use atomic_table::Table;
 use board_model::{Refusal, Shape};
 use std::alloc::Global;
@@ -19,7 +19,7 @@ use tallies::{ByHart, SeatTable};
 impl SeatTable for PendingTable {
     type Stage = ();
 
-    type Action = Action;
+    type Action = IpiAction;
 
     ghost id = { λ t. t.table.shared.table_id };
 

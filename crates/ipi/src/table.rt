@@ -3,7 +3,7 @@
 ghost use Rattle.std.specs.Prelude.{◌≡◌, ℕ, ◌<◌, ◌≤◌};
 ghost use Rattle.ipi.specs.Ledger.{PendingInvariant, opening_pending_view};
 
-use crate::view::{Action, PendingSeatView};
+use crate::view::{IpiAction, PendingSeatView};
 use atomic_table::{Table, TableRule};
 use std::alloc::Global;
 use std::marker::Brand;
@@ -20,23 +20,23 @@ impl TableRule<(), PendingSeatView, u32> for Ledger {
 
 /// What the contract of a step names beside the step's own operands. A caller names itself `Brand` and picks
 /// the values in its proof.
-pub(crate) trait Acting {
+pub(crate) trait IpiActing {
     ghost harts: { ℕ };
 
     ghost by: { ℕ };
 }
 
-impl Acting for Brand {
+impl IpiActing for Brand {
     ghost harts = { 0 };
 
     ghost by = { 0 };
 }
 
 /// A seat of some of the harts: the right to act as them. It takes no bytes, and may go to another thread.
-pub type IpiSeat = NotedSeat<(), Action>;
+pub type IpiSeat = NotedSeat<(), IpiAction>;
 
 /// A seat for each hart of a board, in a list. A seat that is out with its hart leaves `None`.
-pub type Seats = NotedSeats<(), Action>;
+pub type Seats = NotedSeats<(), IpiAction>;
 
 /// The pending interrupts of one board. Threads share it by reference, each with seats of its own.
 #[derive(Drop)]

@@ -1,10 +1,10 @@
 -- What stands in a record is what was put there.
-use Rattle.std.proofs.Common.{◌≡◌, ◌∙◌, ℕ, ◌+◌, ◌^◌, ◌<◌, ◌≤◌, List, [], ◌∷◌, ◌++◌, Option, Some, None, length, slice_index, replicate, refl, sym, ap, append_assoc, arith}
+use Rattle.std.proofs.Common.{◌≡◌, ◌∙◌, ℕ, ◌+◌, ◌^◌, ◌<◌, ◌≤◌, List, [], ◌∷◌, ◌++◌, Option, Some, None, length, slice_index, replicate, refl, ap, append_assoc, arith}
 use Rattle.board_model.specs.Shapes.{Size}
 use Rattle.board_model.specs.Views.{reason_number}
 use Rattle.board_model.specs.declared.durable.Reason.{Reason}
 use Rattle.layout.specs.Fields.{Field, FitAll, number_bytes, fields_bytes, width_of, sector_of, number_at}
-use Rattle.layout.specs.Records.{selected_by, gate_of, version_number, head_fields, saved_fields, no_saved_fields, image_fields, trial_fields, presence_of, record_of, IsSaved, IsRecord}
+use Rattle.layout.specs.Records.{selected_by, gate_of, version_number, head_fields, saved_fields, no_saved_fields, image_fields, trial_fields, presence_of, IsSaved, IsRecord}
 use Rattle.layout.specs.Read.{StandsIn}
 use Rattle.layout.specs.declared.saved.Saved.{Saved}
 use Rattle.layout.specs.declared.records.Record.{Record}

@@ -30,11 +30,11 @@ use Rattle.sbi.specs.Resets.{reset_of}
 use Rattle.sbi.specs.declared.resets.ResetType.{ResetType}
 use Rattle.sbi.specs.declared.words.Word.{Word}
 use Rattle.sbi.specs.Words.{word_of_sleep}
-use Rattle.sbi.specs.Helds.{Refuses, EndsReset, EndsSleep, MakesReset, SleepsIn, HeldIn, HeldAlone}
+use Rattle.sbi.specs.Helds.{Refuses, EndsReset, EndsSleep, MakesReset, HeldIn, HeldAlone}
 use Rattle.turns.specs.Turns.{Rests, RestsAt}
 use Rattle.machine.specs.declared.machine.Machine.TheInside.{Inside}
 use Rattle.machine.specs.Held.{table_of, shown_by, stage_left, RestsBy}
-use Rattle.machine.specs.Durables.{StandsAtCall, HeldOf, bus_at}
+use Rattle.machine.specs.Durables.{StandsAtCall, HeldOf}
 use Rattle.machine.proofs.Owners.{its_own, none_beside}
 use Rattle.machine.proofs.Holding.{Finds, shown_as, seats_found, low_number, doze_found, seat_rests, others_rest, DoneAlone}
 

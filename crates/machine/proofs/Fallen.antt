@@ -1,5 +1,5 @@
 -- A board that just fell asleep in its RAM stands still.
-use Rattle.std.proofs.Common.{◌≡◌, ◌≢◌, ◌<◌, ℕ, suc, false, List, Some, None, sym, ap, ◌∙◌, subst, arith}
+use Rattle.std.proofs.Common.{◌≡◌, ◌≢◌, ℕ, suc, false, List, Some, sym, ap, ◌∙◌, arith}
 use Rattle.std.specs.Prelude.{length, get_or}
 use Rattle.std.proofs.lemmas.List.{get_or_past}
 use native.Mathlib.Decide.{dec_le}
@@ -9,7 +9,7 @@ use Rattle.hsm.specs.Views.{listed}
 use Rattle.susp.specs.Sleeps.{AreStopped}
 use Rattle.susp.specs.declared.buses.Doze.{Doze}
 use Rattle.machine.specs.Held.{AreNumbered}
-use Rattle.machine.specs.Machine.{Machine, hart_at, state_at}
+use Rattle.machine.specs.Machine.{Machine}
 use Rattle.machine.specs.Dozes.{Dozes}
 use Rattle.machine.proofs.Owners.{is_other}
 

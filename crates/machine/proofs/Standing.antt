@@ -1,9 +1,6 @@
 -- A doze that was not woken stands.
 use Rattle.board_model.specs.declared.call_words.CallWords.{CallWords}
-use Rattle.std.proofs.Common.{◌≡◌, ◌≢◌, ℕ, zero, suc, Bool, true, false, Option, Some, None, refl, sym, ap, ◌∙◌, subst, inl, inr, ne_eqb, eq-eqb}
-use Rattle.std.specs.Prelude.{length}
-use mathlib.Core.Logic.{dite}
-use native.Mathlib.Decide.{ℕ_discrete}
+use Rattle.std.proofs.Common.{◌≡◌, ℕ, zero, suc, Bool, false, Option, Some, None, refl, sym, ap, ◌∙◌, subst, inl, inr}
 use Rattle.board_model.specs.Shapes.{Size}
 use Rattle.hart.specs.State.{ArchState}
 use Rattle.hsm_steps.specs.States.{HartState, stopped, started}
@@ -13,7 +10,7 @@ use Rattle.susp.specs.declared.buses.Doze.{Doze}
 use Rattle.sbi_calls.specs.declared.words.Turned.{Turned}
 use Rattle.sbi_calls.specs.declared.words.Did.TheVariants.{Idle}
 use Rattle.sbi_calls.specs.declared.words.Turned.TheVariants.{Made}
-use Rattle.turns.specs.Turns.{Moment, begun_by, TurnAs, TurnOf}
+use Rattle.turns.specs.Turns.{Moment, begun_by, TurnAs}
 use Rattle.machine.specs.Machine.{Machine, hart_at, state_at}
 use Rattle.machine.specs.Turns.{moment_of, with_moment, DozeTurn, TurnBy, MakesTurn, CallBy, MakesOneCall, calling}
 use Rattle.machine.specs.Durables.{StandsAtCall}

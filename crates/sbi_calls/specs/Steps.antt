@@ -10,7 +10,7 @@ use Rattle.hsm_steps.specs.declared.view.Action.TheVariants.{Looked, Stopped as 
 use Rattle.hsm_steps.specs.Rule.{HasNoted as HartHasNoted}
 use Rattle.hsm.specs.Calls.{code_of, state_in_word, stage_of, Starts}
 use Rattle.ipi.specs.Ledger.{HasNoted, PendingView}
-use Rattle.ipi.specs.declared.view.Action.TheVariants.{Raised}
+use Rattle.ipi.specs.declared.view.IpiAction.TheVariants.{Raised}
 use Rattle.sbi_abi.specs.Calls.{call_of}
 use Rattle.board_model.specs.HartSets.{Has}
 use Rattle.sbi_calls.specs.declared.requests.Request.TheVariants.{Value, Start, Stop, Status, Suspend, SuspendAfresh, Send, Command}

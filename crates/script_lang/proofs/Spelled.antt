@@ -15,7 +15,7 @@ use Rattle.script_lang.specs.Lines.{line_of, extension_of, spelling_of, text_of,
 use Rattle.script_lang.specs.declared.line.Line.{Line}
 use Rattle.script_lang.specs.declared.line.Line.TheVariants.{Payload, Format, On, Command, Turn, Call, Show, Arm, Cut, Poke, Inspect, Wake}
 use Rattle.script_lang.proofs.Numerals.{IsWord-decimal, IsWord-encode, IsWord-fill, number_of-decimal, ranged-decimal, hex_of-encode, fill_of-text}
-use Rattle.script_lang.proofs.Spells.{SpellsLine, long, short, fill_short, join_back}
+use Rattle.script_lang.proofs.Spells.{SpellsLine, short, fill_short, join_back}
 use Rattle.script_lang.proofs.SpelledCommands.{line_of-command, SpellsLine-command}
 use Rattle.script_lang.proofs.SpelledLooks.{line_of-look, SpellsLine-look}
 use Rattle.script_lang.proofs.SpelledArmings.{line_of-arming, SpellsLine-arming}

@@ -1,11 +1,10 @@
 -- Each line that arms a fault is read from its spelling.
-use Rattle.std.proofs.Common.{◌≡◌, ℕ, ◌+◌, ◌^◌, ◌<◌, true, nat_le, ◌&&◌, List, [], ◌∷◌, Some, refl, arith}
-use Rattle.std.proofs.lemmas.Bool.Decides.{nat_tests}
-use Rattle.board_model.specs.Shapes.{Size, IsSize, ram_bytes_of}
+use Rattle.std.proofs.Common.{◌≡◌, Some, refl, arith}
+use Rattle.board_model.specs.Shapes.{Size, IsSize}
 use Rattle.script_lang.specs.Lines.{line_of}
 use Rattle.script_lang.specs.declared.line.Line.TheVariants as lines
-use Rattle.script_lang.proofs.Numerals.{IsWord-decimal, IsWord-fill, number_of-decimal, ranged-decimal, fill_of-text}
-use Rattle.script_lang.proofs.Spells.{SpellsLine, long, short, fill_short}
+use Rattle.script_lang.proofs.Numerals.{IsWord-decimal, IsWord-fill, ranged-decimal, fill_of-text}
+use Rattle.script_lang.proofs.Spells.{SpellsLine, short, fill_short}
 use Rattle.script_lang.specs.declared.armings.Arming.{Arming}
 use Rattle.script_lang.specs.declared.armings.Arming.TheVariants.{CutAt, CutLane, FailAt, FailLane}
 use Rattle.script_lang.specs.Armings.{arming_spelling, IsArmingInRange, FitsArming}

@@ -1,11 +1,10 @@
 -- Each command of the console is read from its spelling.
-use Rattle.std.proofs.Common.{◌≡◌, ℕ, ◌+◌, ◌^◌, ◌<◌, true, nat_le, ◌&&◌, List, [], ◌∷◌, Some, refl, arith}
-use Rattle.std.proofs.lemmas.Bool.Decides.{nat_tests}
-use Rattle.board_model.specs.Shapes.{Size, IsSize, ram_bytes_of}
+use Rattle.std.proofs.Common.{◌≡◌, ◌^◌, Some, refl, arith}
+use Rattle.board_model.specs.Shapes.{Size, IsSize}
 use Rattle.script_lang.specs.Lines.{line_of}
 use Rattle.script_lang.specs.declared.line.Line.TheVariants as lines
-use Rattle.script_lang.proofs.Numerals.{IsWord-decimal, IsWord-fill, number_of-decimal, ranged-decimal, fill_of-text}
-use Rattle.script_lang.proofs.Spells.{SpellsLine, long, short, fill_short}
+use Rattle.script_lang.proofs.Numerals.{IsWord-decimal, ranged-decimal}
+use Rattle.script_lang.proofs.Spells.{SpellsLine, short}
 use Rattle.board_model.specs.declared.console_command.ConsoleCommand.{ConsoleCommand}
 use Rattle.board_model.specs.declared.console_command.ConsoleCommand.TheVariants.{Slot, Discard, Tries, Good}
 use Rattle.script_lang.specs.Commands.{command_spelling, IsCommandInRange}

@@ -11,7 +11,7 @@ use Rattle.script_lang.specs.Scripts.{Script, is_sound, is_passed, is_size, whol
 use Rattle.script_lang.specs.Spellings.{board_text, script_text, IsWritable}
 use Rattle.script_lang.specs.declared.line.Line.{Line}
 use Rattle.script_lang.proofs.Numerals.{AreWords, AreFree, IsWord-free, slice_split-join, words_of-join, IsWord-decimal, number_of-decimal}
-use Rattle.script_lang.proofs.Spells.{long, short, text_short, text_not_passed, text_filled}
+use Rattle.script_lang.proofs.Spells.{short, text_short, text_not_passed, text_filled}
 use Rattle.script_lang.proofs.Spelled.{SpellsLine-spelling, line_of-text}
 use lib.Chars.{codes}
 

@@ -1,5 +1,5 @@
 -- What is in doubt of a life: a command puts itself there, where none was, and is then refused 6.
-use Rattle.std.proofs.Common.{◌≡◌, ◌∙◌, ◌⊎◌, ⊎_elim, inl, inr, ℕ, zero, suc, Bool, true, false, List, [], ◌∷◌, ◌++◌, Option, Some, None, Result, Ok, Err, length, refl, sym, ap, subst, arith}
+use Rattle.std.proofs.Common.{◌≡◌, ◌∙◌, ◌⊎◌, ⊎_elim, inl, inr, ℕ, zero, suc, Bool, true, false, List, [], ◌∷◌, ◌++◌, Option, Some, None, Result, Ok, Err, refl, sym, ap, subst, arith}
 use Rattle.std.specs.Prelude.{MatchOption, IfSome, is_none, slice_get}
 use Rattle.std.specs.Option.{option_to_list}
 use Rattle.board_model.specs.Durable.{Change, Slot, Reset, Suspend, Consume, Discard, Tries, Good, Attempt}
@@ -35,7 +35,7 @@ use Rattle.sbi.specs.declared.words.Word.{Word}
 use Rattle.sbi.specs.declared.words.LifeEnd.TheVariants as ends
 use Rattle.sbi.specs.declared.resets.ResetType.{ResetType}
 use Rattle.sbi.specs.Resets.{reset_of}
-use Rattle.sbi.specs.Helds.{MakesReset, MakesSleep, MakesHeld}
+use Rattle.sbi.specs.Helds.{MakesReset, MakesHeld}
 use Rattle.tallies.specs.Closed.{AreStanding, AreReceiptsOf}
 use Rattle.shared_store.specs.Doubts.{HartAsksFor, IsDoubtOf, AreAskedByHarts, doubt_told, newly_down, noted_by, noted_if}
 use Rattle.shared_store.specs.Noted.{entries_in}

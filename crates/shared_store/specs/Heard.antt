@@ -1,5 +1,5 @@
 -- What a holder of a shared store heard beside its receipts. Source: docs/THREADS.md, "Receipts".
-use Rattle.std.specs.Prelude.{ℕ, ◌+◌, ◌%◌, ◌^◌, Bool, true, false, Option, Some, None, Result, Ok, Err}
+use Rattle.std.specs.Prelude.{ℕ, ◌+◌, ◌%◌, ◌^◌, Bool, true, Option, Some, None, Result, Ok, Err}
 use Rattle.board_model.specs.declared.durable.Command.{Command}
 use Rattle.board_model.specs.declared.durable.Durable.{Durable}
 use Rattle.board_model.specs.declared.durable.Entry.{Entry}

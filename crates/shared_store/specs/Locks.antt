@@ -1,5 +1,5 @@
 -- The locks of a bus and a store that one thread holds. Source: docs/THREADS.md, "A turn of a hart on its thread".
-use Rattle.std.specs.Prelude.{Bool, true, false}
+use Rattle.std.specs.Prelude.{Bool, false}
 
 pub record Held : Type 0 where
   pub bus : Bool

@@ -1,8 +1,8 @@
 -- What is armed.
-use Rattle.std.proofs.Common.{◌≡◌, ◌⊎◌, false, true, Bool, Option, None, Some, refl, sym, ◌∙◌, ap}
+use Rattle.std.proofs.Common.{◌≡◌, false, Option, None, Some, refl}
 use Rattle.std.specs.Prelude.{◌↔◌}
 use Rattle.std.specs.Option.{is_some}
-use Rattle.disk.specs.FaultState.{Armed, Unarmed, FaultArmed, CutArmed}
+use Rattle.disk.specs.FaultState.{Unarmed}
 use Rattle.disk.specs.declared.device.ArmedFault.{ArmedFault}
 use Rattle.disk.specs.declared.device.ArmedFault.TheVariants.{FailAt, CutAt, FailLane, CutLane}
 use Rattle.simdisk.specs.Armings.{arming}

@@ -9,7 +9,7 @@ ghost use Rattle.simdisk.specs.Lendings.{Lends, TakesBack};
 ghost use Rattle.disk.specs.WriteLog.{more_written, more_synced, lent_piece, NotedOrRefused};
 
 use crate::laid::overwrite;
-use crate::lane::{Bytes, SimLane};
+use crate::lane::{LaneBytes, SimLane};
 use crate::lending::{count_calls, failures_of, lay_row};
 use crate::loan::Loan;
 use crate::logged::{Logged, Stateful};
@@ -231,7 +231,7 @@ impl Disk for SimDisk {
             loan.lanes,
             loan.each,
             &lanes,
-            Bytes::Read,
+            LaneBytes::Read,
         );
         let last = self.latest.over(&self.content);
         self.history.take_newest(loan, last);

@@ -56,7 +56,7 @@ impl Last {
 
 /// Which bytes of a lane are meant.
 #[derive(Clone, Copy, PartialEq, Eq)]
-pub(crate) enum Bytes {
+pub(crate) enum LaneBytes {
     /// What a read gives.
     Read,
     /// The bytes of the last write, also of one that failed.
@@ -66,12 +66,12 @@ pub(crate) enum Bytes {
 impl SimLane {
     ghost use Rattle.simdisk.specs.Lanes.{lane_view_of};
 
-    pub(crate) fn bytes(&self, bytes: Bytes) -> &[Sector]
+    pub(crate) fn bytes(&self, bytes: LaneBytes) -> &[Sector]
         ensures { result.now ≡ (lane_view_of bytes self.now).content }
     {
         match bytes {
-            Bytes::Read => &self.sectors,
-            Bytes::Written => match &self.last {
+            LaneBytes::Read => &self.sectors,
+            LaneBytes::Written => match &self.last {
                 Last::AsRead => &self.sectors,
                 Last::Apart(newest) => newest,
             },

@@ -6,7 +6,7 @@ ghost use Rattle.disk.specs.WriteLog.{laid_over, ranges, AgreesOutside, AreWithi
 ghost use Rattle.simdisk.specs.Views.{pieces};
 
 use crate::laid::{copy_patches, overwrite};
-use crate::lane::{Bytes, SimLane};
+use crate::lane::{LaneBytes, SimLane};
 use crate::lending::{lay_row, stays_in_step};
 use crate::loan::Loan;
 use crate::patch::Patch;
@@ -119,7 +119,7 @@ impl Latest {
             loan.lanes,
             loan.each,
             lanes,
-            Bytes::Written,
+            LaneBytes::Written,
         );
     }
 }

@@ -7,7 +7,7 @@ ghost use Rattle.simdisk.specs.LaneStates.{AreLent, state_at, CountsLanes};
 
 use crate::faults::Faults;
 use crate::laid::overwrite;
-use crate::lane::{Bytes, Last, SimLane};
+use crate::lane::{LaneBytes, Last, SimLane};
 use crate::patch::copy_of;
 use crate::remembered::Remembered;
 use disk::Sector;
@@ -123,7 +123,7 @@ pub(crate) fn lay_row(
     count: usize,
     each: usize,
     lanes: &[SimLane],
-    bytes: Bytes,
+    bytes: LaneBytes,
 )
     requires count { length lanes.now ≡ count }
     requires each { (i : ℕ) → i < count → length (lane_at (map (lane_view_of bytes) lanes.now) i).content ≡ each }

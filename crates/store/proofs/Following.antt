@@ -1,18 +1,16 @@
 -- The record that a command makes stands for the state after the command.
-use Rattle.std.proofs.Common.{◌≡◌, ◌∙◌, ◌==◌, ◌||◌, zero, suc, ℕ, ◌+◌, ◌≤◌, ◌<◌, ◌^◌, List, [], ◌∷◌, slice_index, sum, Option, Some, None, is_some, if◌then◌else◌, refl, sym, ap, subst, arith}
+use Rattle.std.proofs.Common.{◌≡◌, ◌∙◌, ℕ, ◌≤◌, ◌<◌, ◌^◌, Option, Some, None, is_some, if◌then◌else◌, refl, sym, ap, subst, arith}
 use Rattle.board_model.specs.Durable.{DurableState, HasValidNumbers, refusal_of, after}
 use Rattle.board_model.proofs.Steps.{ByCommand, Drops, Keeps, by_command}
 use Rattle.board_model.proofs.Table.{stays_valid}
 use Rattle.std.specs.Prelude.{IfSome}
 use Rattle.store.specs.Entries.{is_change}
 use Rattle.board_model.specs.declared.durable.Entry.TheVariants as entries
-use Rattle.std.proofs.lemmas.List.Sums.{sum_by-cons}
 use Rattle.board_model.specs.declared.durable.ImageHead.{ImageHead}
 use Rattle.board_model.specs.Shapes.{Size}
 use Rattle.board_model.specs.Views.{change_of, durable_of, head_of, reason_number}
 use Rattle.board_model.specs.declared.durable.Command.{Command}
 use Rattle.board_model.specs.declared.durable.Durable.{Durable}
-use Rattle.store.specs.declared.saving.Resumption.{Resumption}
 use Rattle.board_model.specs.declared.durable.Trial.{Trial}
 use Rattle.board_model.specs.declared.durable.Reason.{Reason}
 use Rattle.board_model.specs.declared.durable.Reason.TheVariants.{NoReason, SystemFailure}

@@ -12,7 +12,7 @@ use Rattle.sbi_abi.specs.declared.ret.SbiError.TheVariants.{Denied}
 use Rattle.store.specs.Views.{size_of_store}
 use Rattle.store.specs.declared.stores.Store.{Store}
 use Rattle.susp.specs.Checks.{IsChecked}
-use Rattle.susp.specs.Sleeps.{AreUnclaimed, AreStopped, FallsAsleep, FallsAsleepBy, Sleeps, SleepsAlone}
+use Rattle.susp.specs.Sleeps.{AreUnclaimed, AreStopped, FallsAsleepBy, Sleeps, SleepsAlone}
 use Rattle.susp.specs.declared.sleeps.Sleep.{Sleep}
 use Rattle.susp.specs.declared.buses.Bus.{Bus}
 use Rattle.sbi_abi.specs.declared.ret.SbiError.{SbiError}

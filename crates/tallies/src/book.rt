@@ -126,12 +126,12 @@ impl<J: Journal> Model for Keeper<J> {
 /// What one holder was told: the receipts of its commands, each with the command. It goes with the holder, and
 /// takes no bytes. A contract sees a `PartView`.
 #[derive(Drop)]
-pub struct Part<J: Journal> {
+pub struct BookPart<J: Journal> {
     seat: Seat<(), BookView>,
     of: PhantomData<J>,
 }
 
-impl<J: Journal> Model for Part<J> {
+impl<J: Journal> Model for BookPart<J> {
     ghost use Rattle.std.specs.Prelude.{◌≡◌, []};
     ghost use Rattle.tallies.specs.Books.{part_seat, first_of};
     ghost use Rattle.tallies.specs.declared.book_views.PartView.{PartView};
@@ -178,19 +178,19 @@ impl NewBook {
 fn note_entry<A: Adding, J: Journal>(
     book: &Book<J>,
     keeper: &mut Keeper<J>,
-    part: Part<J>,
+    part: BookPart<J>,
     entry: Entry,
-) -> Part<J>
+) -> BookPart<J>
     requires named { A.entry ≡ entry }
     ensures keeper { keeper.new ≡ keeper_view J.parts ((part.who, entry) ∷ keeper.old.log) keeper.old.parts }
     ensures part { result ≡ told_after (suc (length keeper.old.log)) entry part }
 {
-    let Part { seat, of: _ } = part;
+    let BookPart { seat, of: _ } = part;
     book.table
         .shared
         .join_seat::<Notes<A>>(&mut keeper.seat, seat);
     let seat = book.table.shared.split_seat::<FirstPart>(&mut keeper.seat);
-    Part {
+    BookPart {
         seat,
         of: PhantomData,
     }
@@ -198,13 +198,13 @@ fn note_entry<A: Adding, J: Journal>(
 
 impl<J: Journal> Book<J> {
     /// The keeper's first part goes off.
-    pub fn hand_out(&self, keeper: &mut Keeper<J>) -> Part<J>
+    pub fn hand_out(&self, keeper: &mut Keeper<J>) -> BookPart<J>
         requires some { 0 < length keeper.old.parts }
         ensures keeper { keeper.new ≡ keeper_view J.parts keeper.old.log (drop 1 keeper.old.parts) }
         ensures part { result ≡ first_of keeper.old.parts }
     {
         let seat = self.table.shared.split_seat::<FirstPart>(&mut keeper.seat);
-        Part {
+        BookPart {
             seat,
             of: PhantomData,
         }
@@ -212,7 +212,7 @@ impl<J: Journal> Book<J> {
 
     /// Notes an entry that was added to the journal, and for the part that added it its receipt: the entry's place,
     /// from 1.
-    pub fn note(&self, keeper: &mut Keeper<J>, part: Part<J>, entry: Entry) -> Part<J>
+    pub fn note(&self, keeper: &mut Keeper<J>, part: BookPart<J>, entry: Entry) -> BookPart<J>
         ensures keeper { keeper.new ≡ keeper_view J.parts ((part.who, entry) ∷ keeper.old.log) keeper.old.parts }
         ensures part { result ≡ told_after (suc (length keeper.old.log)) entry part }
     {
@@ -220,10 +220,10 @@ impl<J: Journal> Book<J> {
     }
 
     /// A part comes back to the keeper.
-    pub fn gather(&self, keeper: &mut Keeper<J>, part: Part<J>)
+    pub fn gather(&self, keeper: &mut Keeper<J>, part: BookPart<J>)
         ensures keeper { keeper.new ≡ keeper_view J.parts keeper.old.log (part ∷ keeper.old.parts) }
     {
-        let Part { seat, of: _ } = part;
+        let BookPart { seat, of: _ } = part;
         self.table
             .shared
             .join_seat::<FirstPart>(&mut keeper.seat, seat);
@@ -243,7 +243,7 @@ impl<J: Journal> Book<J> {
 
     /// What a part was told stands in the journal, each entry at the place of its receipt. The part is with the keeper
     /// for one look, and goes off again.
-    pub fn recall(&self, keeper: &mut Keeper<J>, part: Part<J>) -> Part<J>
+    pub fn recall(&self, keeper: &mut Keeper<J>, part: BookPart<J>) -> BookPart<J>
         ensures keeper { keeper.new ≡ keeper_view J.parts keeper.old.log keeper.old.parts }
         ensures part { result ≡ part }
         ensures stands { AreStanding (entries_of keeper.old.log) part.told }

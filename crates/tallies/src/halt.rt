@@ -35,9 +35,9 @@ impl Play<(), HaltView> for Looking {
     ghost then = { Looks };
 }
 
-struct Setting;
+struct SettingHalt;
 
-impl Play<(), HaltView> for Setting {
+impl Play<(), HaltView> for SettingHalt {
     ghost use Rattle.tallies.specs.Halts.{Sets};
 
     ghost then = { Sets };
@@ -102,7 +102,7 @@ impl Halt {
         ensures of { result.of ≡ self.now }
         ensures set { is_some result.sum ≡ true }
     {
-        let (_found, seat) = self.table.shared.swap_new_seat::<Setting>(0, 1);
+        let (_found, seat) = self.table.shared.swap_new_seat::<SettingHalt>(0, 1);
         Watch { seat }
     }
 }

@@ -1,6 +1,6 @@
 -- What the store says of its calls, as events.
-use Rattle.std.proofs.Common.{◌≡◌, ◌==◌, ◌||◌, ◌∙◌, ◌⊎◌, inl, inr, ℕ, List, [], ◌∷◌, ◌++◌, Option, Some, None, Result, Ok, Err, Bool, true, false, nat_lt, is_some, if◌then◌else◌, refl, sym, ap, subst}
-use Rattle.board_model.specs.Durable.{DurableState, Image, Change, Consume, refusal_of, after, fold, ends_life}
+use Rattle.std.proofs.Common.{◌≡◌, ◌∙◌, ◌⊎◌, inl, inr, ℕ, List, [], ◌∷◌, ◌++◌, Some, None, Result, Ok, Err, Bool, true, false, refl, sym, ap, subst}
+use Rattle.board_model.specs.Durable.{DurableState, Image, Change, Consume, refusal_of, after, ends_life}
 use Rattle.board_model.proofs.Table.{of_table}
 use Rattle.board_model.specs.declared.refusal.Refusal.{Refusal}
 use Rattle.board_model.specs.declared.refusal.Refusal.TheVariants.{BadShape, Device, Down, Over, JournalFull, Memory}

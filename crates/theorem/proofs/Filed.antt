@@ -1,5 +1,5 @@
 -- Commands over a disk that is kept in a file.
-use Rattle.std.proofs.Common.{◌≡◌, ◌⊎◌, ◌∙◌, ◌≤◌, ◌+◌, ℕ, List, inl, inr, refl, sym, ap, subst, arith}
+use Rattle.std.proofs.Common.{◌≡◌, ◌⊎◌, ◌∙◌, ◌≤◌, ◌+◌, ℕ, List, inl, inr, sym, ap, subst, arith}
 use Rattle.std.proofs.Math.Logic.{∥∥₁_map}
 use Rattle.board_model.specs.Durable.{DurableState}
 use Rattle.board_model.specs.Shapes.{Size}
@@ -11,7 +11,7 @@ use Rattle.store.specs.Leaves.{IsSettled, LeftAsBefore}
 use Rattle.store.specs.Lives.{now_of}
 use Rattle.store.specs.Standing.{StandsFor}
 use Rattle.theorem.specs.Files.{KeepsCommands}
-use Rattle.theorem.specs.Prefixes.{after_first, IsAfterFirst}
+use Rattle.theorem.specs.Prefixes.{IsAfterFirst}
 use Rattle.theorem.proofs.PowerLost.{OneStanding}
 
 module _ (one : OneStanding) (memory made : Facts) (size : Size) (s : DurableState) (fresh : IsFresh memory.content memory) (same : Unchanged memory made) (stands : StandsFor memory.content size s) where

@@ -1,12 +1,11 @@
 -- What a session promises over a disk that stands for one state, and what an open then finds.
-use Rattle.std.proofs.Common.{◌≡◌, ◌≢◌, ◌⊎◌, ◌∙◌, ℕ, List, [], Bool, true, false, Option, Some, None, Result, inl, inr, refl, sym, subst}
+use Rattle.std.proofs.Common.{◌≡◌, ◌⊎◌, ◌∙◌, ℕ, List, Bool, false, Option, Some, None, inl, inr, refl, sym, subst}
 use Rattle.board_model.specs.Durable.{DurableState, Change, after, fold, refusal_of}
 use Rattle.board_model.specs.Shapes.{Size}
 use Rattle.board_model.specs.declared.boot_mode.BootMode.{BootMode}
 use Rattle.board_model.specs.declared.durable.Entry.{Entry}
-use Rattle.board_model.specs.declared.refusal.Refusal.{Refusal}
 use Rattle.disk.specs.Facts.{Facts, IsLeft, Failed}
-use Rattle.store.specs.Leaves.{Leaves, LeavesOnly, LeavesEither}
+use Rattle.store.specs.Leaves.{Leaves}
 use Rattle.store.specs.Standing.{StandsFor}
 use Rattle.board.specs.Begins.{IsBegun}
 use Rattle.board.specs.Moments.{commands_by}

@@ -23,7 +23,7 @@ ghost use Rattle.board.specs.Views.{store_of, machine_of};
 ghost use Rattle.machine.specs.Machine.{woken};
 ghost use Rattle.theorem.specs.Prefixes.{IsAfterFirst};
 
-use board::{Board, Parts, Payloads, Unpowered};
+use board::{Board, BoardParts, Payloads, Unpowered};
 use board_model::{BootMode, Command, Refusal, Shape};
 use crew::Crew;
 use disk::{ArmedFault, Disk};
@@ -200,7 +200,7 @@ pub fn never_resumed_again(
 {
     one_standing();
     let first = Board::power_on(alloc, disk, BootMode::Resume, payloads)?;
-    let Parts {
+    let BoardParts {
         harts: _,
         seats: _,
         tables: _,

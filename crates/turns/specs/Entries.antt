@@ -5,7 +5,7 @@ use Rattle.hsm.specs.Calls.{EntersAs, FindsNone}
 use Rattle.hsm.specs.Views.{listed}
 use Rattle.hsm_steps.specs.States.{started}
 use Rattle.ipi.specs.Ledger.{HasNoted, PendingView}
-use Rattle.ipi.specs.declared.view.Action.TheVariants.{Took}
+use Rattle.ipi.specs.declared.view.IpiAction.TheVariants.{Took}
 use Rattle.sbi_calls.specs.declared.tables.Seats.{Seats}
 use Rattle.sbi_calls.specs.Both.{Known, TableState, IsTable}
 use Rattle.sbi_calls.specs.Answers.{with_state}

@@ -13,7 +13,7 @@ use Rattle.hsm.specs.Calls.{stage_of, state_in_word, EntersAs, FindsNone}
 use Rattle.hsm.specs.declared.state.State.{State as Code}
 use Rattle.hsm.specs.declared.state.State.TheVariants as codes
 use Rattle.ipi.specs.Ledger.{HasNoted}
-use Rattle.ipi.specs.declared.view.Action.TheVariants.{Took, Looked as LookedAt}
+use Rattle.ipi.specs.declared.view.IpiAction.TheVariants.{Took, Looked as LookedAt}
 use Rattle.sbi_calls.specs.Both.{Known}
 use Rattle.sbi_calls.specs.Steps.{OneStep, Calls}
 use Rattle.sbi_calls.specs.declared.words.Turned.{Turned}

@@ -1,5 +1,4 @@
-use Rattle.std.proofs.Common.{◌≡◌, ◌∙◌, ◌<◌, ◌≤◌, ℕ, Option, None, Some, refl, sym, ap, arith}
-use Rattle.board_model.specs.declared.durable.Trial.{Trial}
+use Rattle.std.proofs.Common.{◌∙◌, Some, sym, ap, arith}
 use Rattle.layout.proofs.SpelledRecords.{some_trial, reads_none, reads_some, reads_few, trial_of_two}
 use Rattle.layout.proofs.trials.trial_in.Goals as goal
 

@@ -1,6 +1,6 @@
-use Rattle.std.proofs.Common.{◌≡◌, ◌⊎◌, inl, inr, refl, ◌<◌, length, sym, subst, rules, arith}
+use Rattle.std.proofs.Common.{◌≡◌, ◌⊎◌, inl, inr, refl, ◌<◌, length, sym, subst, rules}
 use Rattle.std.specs.Prelude.{Result, Ok, Err, IfErr}
-use Rattle.board_model.specs.Shapes.{Size, sectors_of}
+use Rattle.board_model.specs.Shapes.{Size}
 use Rattle.board_model.specs.declared.refusal.Refusal.{Refusal}
 use Rattle.board_model.specs.declared.refusal.Refusal.TheVariants.{NotFormatted, BadShape, Device, Memory}
 use Rattle.disk.specs.Facts.{Content, Facts, counted}

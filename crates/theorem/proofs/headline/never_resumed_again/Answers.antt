@@ -3,7 +3,7 @@ use Rattle.board_model.specs.Durable.{DurableState}
 use Rattle.disk.specs.Facts.{Facts, Unchanged}
 use Rattle.bench_report.specs.Views.{facts}
 use Rattle.machine.specs.Machine.{Machine}
-use Rattle.board.specs.Views.{machine_of, store_of}
+use Rattle.board.specs.Views.{store_of}
 use Rattle.store.specs.Views.{view_of, disk_of}
 use Rattle.theorem.proofs.PowerLost.{none_on, resumed_once, left_resumed, not_powered}
 use Rattle.theorem.proofs.headline.never_resumed_again.Goals as goal

@@ -4,7 +4,6 @@ use Rattle.hsm_steps.specs.declared.view.Stage.TheVariants.{Running}
 use Rattle.hsm_steps.specs.Rule.{stands}
 use Rattle.hsm_steps.specs.States.{HartState}
 use Rattle.hsm_steps.specs.Seating.{harts_in}
-use Rattle.hsm.specs.Calls.{state_in_word}
 use Rattle.hsm.specs.Views.{listed}
 use Rattle.hsm.specs.declared.state.State.{State as Code}
 use Rattle.hsm.specs.declared.state.State.TheVariants as codes

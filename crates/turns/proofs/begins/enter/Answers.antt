@@ -4,7 +4,6 @@ use Rattle.hsm_steps.specs.declared.view.Stage.TheVariants.{Out}
 use Rattle.hsm_steps.specs.Rule.{stands}
 use Rattle.hsm_steps.specs.Seating.{harts_in}
 use Rattle.hsm.specs.Views.{listed}
-use Rattle.sbi_calls.specs.declared.tables.Seats.{Seats}
 use Rattle.sbi_calls.specs.Both.{TableState, IsTable, harts_of_both, known}
 use Rattle.turns.specs.Turns.{after_take}
 use Rattle.turns.proofs.Begun.{gives_then, entered_ready, entered_table, then_enters}

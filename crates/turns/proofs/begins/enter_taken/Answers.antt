@@ -1,12 +1,11 @@
 use Rattle.std.proofs.Common.{◌≡◌, ℕ, List, Option, refl, sym, ap, ◌∙◌, subst}
 use Rattle.std.specs.Prelude.{slice_set, MatchOption}
-use Rattle.std.proofs.lemmas.List.{set-get_or}
-use Rattle.hsm_steps.specs.States.{HartState, stopped, started, begin}
+use Rattle.hsm_steps.specs.States.{HartState, started, begin}
 use Rattle.hsm_steps.specs.Seating.{harts_in}
 use Rattle.hsm.specs.Calls.{EntersAs, FindsNone}
 use Rattle.hsm.specs.Views.{listed, AreStates}
 use Rattle.sbi_calls.specs.declared.tables.Seats.{Seats}
-use Rattle.sbi_calls.specs.Both.{harts_of_both, harts_known, known, IsTable}
+use Rattle.sbi_calls.specs.Both.{harts_of_both, harts_known}
 use Rattle.turns.specs.declared.readies.Ready.TheVariants as readies
 use Rattle.turns.specs.Turns.{begun_by, IsOutside}
 use Rattle.turns.proofs.Begun.{none_is, some_is}

@@ -1,4 +1,4 @@
-use Rattle.std.proofs.Common.{refl, sym, ◌∙◌}
+use Rattle.std.proofs.Common.{refl}
 use Rattle.bench_live.proofs.Lives.{alike_on, disk_on, shows_on}
 use Rattle.bench_live.proofs.live.LiveBench.is_as.Goals as goal
 

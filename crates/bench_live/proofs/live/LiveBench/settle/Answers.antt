@@ -1,4 +1,4 @@
-use Rattle.std.proofs.Common.{◌≡◌, Some, refl, subst, sym}
+use Rattle.std.proofs.Common.{◌≡◌, refl, subst, sym}
 use Rattle.bench_report.specs.declared.power.Power.{Power}
 use Rattle.bench_live.specs.Lives.{IsSettled}
 use Rattle.bench_live.proofs.live.LiveBench.settle.Goals as goal

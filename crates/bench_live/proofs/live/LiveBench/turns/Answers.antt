@@ -1,12 +1,10 @@
-use Rattle.std.proofs.Common.{◌≡◌, ◌∙◌, ℕ, List, Option, inl, inr, refl, sym, subst}
-use Rattle.board_model.specs.Shapes.{Size}
+use Rattle.std.proofs.Common.{◌∙◌, Option, inl, inr, refl, sym, subst}
 use Rattle.bench_report.specs.declared.power.Power.{Power}
 use Rattle.bench_report.specs.Agree.{Agrees, IsBench}
-use Rattle.bench_report.specs.Bench.{Bench}
 use Rattle.bench_report.specs.Happens.{shows}
 use Rattle.machine.specs.declared.line.MachineLine.TheVariants as shown
 use Rattle.script_lang.specs.declared.line.Line.TheVariants as lines
-use Rattle.bench_live.specs.Lives.{IsAfter, PowerShows}
+use Rattle.bench_live.specs.Lives.{PowerShows}
 use Rattle.bench_live.proofs.Lives.{did_from, lost_did, lost_row, made_did, made_row, stays, still_row}
 use Rattle.bench_live.proofs.live.LiveBench.turns.Goals as goal
 

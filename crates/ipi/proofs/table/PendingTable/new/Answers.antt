@@ -5,7 +5,7 @@ use Rattle.tallies.specs.Notes.{SeatState, seats, numbers}
 use Rattle.ipi.specs.Ledger.{opening_pending_view, PendingSeatView}
 use Rattle.ipi.specs.Pairs.{Shows}
 use Rattle.tallies.proofs.Noted.{opens_numbered, opens_seated}
-use Rattle.ipi.specs.declared.view.Action.{Action}
+use Rattle.ipi.specs.declared.view.IpiAction.{IpiAction}
 use Rattle.ipi.proofs.Parting.{opens, opens_shown}
 use Rattle.ipi.proofs.table.PendingTable.new.Goals as goal
 
@@ -22,12 +22,12 @@ of_words-requires c =
 
 pub returns-clause-all : goal.returns-clause-all
 returns-clause-all c =
-    ap (λ (m : SeatState PendingSeatView). numbers m.0.harts) c.in_ok-table.ensures.4 ∙ (opens_numbered Action (λ _. tt) c.harts-harts.result ∙ ap (λ (n : ℕ). numbers_from 0 n) (sym c.in_ok-table.ensures.5))
+    ap (λ (m : SeatState PendingSeatView). numbers m.0.harts) c.in_ok-table.ensures.4 ∙ (opens_numbered IpiAction (λ _. tt) c.harts-harts.result ∙ ap (λ (n : ℕ). numbers_from 0 n) (sym c.in_ok-table.ensures.5))
 
 pub returns-clause-sits : goal.returns-clause-sits
 returns-clause-sits c = λ h lt.
     let size = c.harts-harts.ensures.value in
-    ap (λ (m : SeatState PendingSeatView). seats h m.0) c.in_ok-table.ensures.4 ∙ opens_seated Action (λ _. tt) c.harts-harts.result h (rw size lt)
+    ap (λ (m : SeatState PendingSeatView). seats h m.0) c.in_ok-table.ensures.4 ∙ opens_seated IpiAction (λ _. tt) c.harts-harts.result h (rw size lt)
 
 pub returns-clause-shows : goal.returns-clause-shows
 returns-clause-shows c =

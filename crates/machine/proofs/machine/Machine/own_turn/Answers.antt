@@ -1,4 +1,4 @@
-use Rattle.std.proofs.Common.{Option, None, sym, ◌∙◌, ◌≡◌, subst}
+use Rattle.std.proofs.Common.{None, sym, ◌∙◌, ◌≡◌, subst}
 use Rattle.susp.specs.Dozes.{doze_of}
 use Rattle.turns.specs.Turns.{TurnOf}
 use Rattle.machine.specs.Machine.{Machine}

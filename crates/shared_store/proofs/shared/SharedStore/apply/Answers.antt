@@ -1,4 +1,4 @@
-use Rattle.std.proofs.Common.{◌≡◌, ◌∙◌, ◌&&◌, ℕ, Bool, true, Ok, Err, List, ap, length, arith, refl, sym}
+use Rattle.std.proofs.Common.{◌∙◌, ◌&&◌, ℕ, Bool, Ok, Err, List, ap, length, arith, refl, sym}
 use Rattle.board_model.specs.Durable.{Change}
 use Rattle.board_model.specs.Views.{change_of}
 use Rattle.store.specs.Lives.{Applied}

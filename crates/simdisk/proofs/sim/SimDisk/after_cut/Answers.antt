@@ -1,4 +1,4 @@
-use Rattle.std.proofs.Common.{◌≡◌, ◌∙◌, refl, ap}
+use Rattle.std.proofs.Common.{◌≡◌, refl, ap}
 use Rattle.simdisk.specs.Views.{left_by_fill, pieces}
 use Rattle.simdisk.specs.History.{log_of}
 use Rattle.disk.specs.WriteLog.{new_log, synced}

@@ -1,4 +1,4 @@
-use Rattle.std.proofs.Common.{◌∙◌, sym, ap, subst}
+use Rattle.std.proofs.Common.{subst}
 use Rattle.tallies.specs.declared.book_views.BookView.{BookView}
 use Rattle.tallies.specs.Books.{Each, IsPart}
 use Rattle.tallies.proofs.Closing.{part_stands}
