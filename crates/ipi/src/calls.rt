@@ -39,7 +39,12 @@ impl<J: IpiActing> Play<(), PendingSeatView> for PendingLook<J> {
     ghost then = { Looks J.harts };
 }
 
-fn raise_by<J: IpiActing>(table: &PendingTable, seat: &mut IpiSeat, by: HartId, target: HartId) -> u64
+fn raise_by<J: IpiActing>(
+    table: &PendingTable,
+    seat: &mut IpiSeat,
+    by: HartId,
+    target: HartId,
+) -> u64
     requires named { (J.harts ≡ harts_of table.now) × (J.by ≡ by) }
     requires seat { IsSeatOf table.now seat.old }
     requires acts { Sits by (pending_view_of_seat seat.old) }
