@@ -16,7 +16,7 @@ use crate::words::{Said, line_said};
 use arrayvec::ArrayVec;
 use board_model::Refusal;
 use disk::Disk;
-use shared_store::{Heard, Journal, Locks, Part};
+use shared_store::{BookPart, Heard, Journal, Locks};
 use std::io::{Read, Write};
 use std::sync::Wait;
 
@@ -118,10 +118,10 @@ fn write_answer<W: Write, D: Disk + Drop, J: Journal>(
 fn answer_to<R: Wait, D: Disk + Drop, J: Journal>(
     rt: &R,
     locks: &mut Locks<'_, D, J>,
-    part: Part<J>,
+    part: BookPart<J>,
     heard: &mut Heard<J>,
     said: Said,
-) -> (Part<J>, Reply)
+) -> (BookPart<J>, Reply)
     requires free { locks.old ≡ no_locks }
     ensures free { locks.new ≡ no_locks }
     ensures fits { IsAnswerTo J.found J.issued said result.1 (party part.told heard.old) (party result.0.told heard.new) }
@@ -151,11 +151,11 @@ fn answer_to<R: Wait, D: Disk + Drop, J: Journal>(
 pub fn console<R: Wait, D: Disk + Drop, J: Journal, I: Read, W: Write>(
     rt: &R,
     locks: &mut Locks<'_, D, J>,
-    part: Part<J>,
+    part: BookPart<J>,
     heard: &mut Heard<J>,
     input: &mut I,
     out: &mut W,
-) -> (Part<J>, Left)
+) -> (BookPart<J>, Left)
     requires free { locks.old ≡ no_locks }
     ensures free { locks.new ≡ no_locks }
     ensures talks { Talks J.found J.issued result.1

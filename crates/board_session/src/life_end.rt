@@ -14,7 +14,7 @@ ghost use Rattle.board_session.specs.Sessions.{IsBy, IsOfLife};
 use board_model::Entry;
 use disk::Disk;
 use hart_threads::{HartEnd, HartLocal, Parted, Rested, ShutBy, Threaded};
-use shared_store::{Heard, Part, Unshared};
+use shared_store::{BookPart, Heard, Unshared};
 use std::sync::Wait;
 use store::Store;
 
@@ -93,7 +93,7 @@ fn gather_loops<D: Disk + Drop, J: Threaded>(whole: &mut Unshared<D, J>, loops: 
 }
 
 /// Parts that were given to no loop come back to the store.
-fn gather_parts<D: Disk + Drop, J: Threaded>(whole: &mut Unshared<D, J>, parts: Vec<Part<J>>)
+fn gather_parts<D: Disk + Drop, J: Threaded>(whole: &mut Unshared<D, J>, parts: Vec<BookPart<J>>)
     requires back { AreBack (parts_with whole.old) }
     requires fresh { All (λ p. p.told ≡ []) parts.items }
     ensures store { inside whole.new ≡ inside whole.old }
@@ -109,8 +109,8 @@ fn gather_parts<D: Disk + Drop, J: Threaded>(whole: &mut Unshared<D, J>, parts: 
 /// The console's part and the boot's come back.
 fn gather_last<D: Disk + Drop, J: Threaded>(
     whole: &mut Unshared<D, J>,
-    console: Part<J>,
-    boot: Part<J>,
+    console: BookPart<J>,
+    boot: BookPart<J>,
 )
     ensures store { inside whole.new ≡ inside whole.old }
     ensures parts { parts_with whole.new ≡ boot ∷ console ∷ parts_with whole.old }
@@ -124,10 +124,10 @@ fn gather_last<D: Disk + Drop, J: Threaded>(
 pub(crate) fn disk_of<D: Disk + Drop, J: Threaded>(
     whole: Unshared<D, J>,
     loops: Vec<Rested<'_, J>>,
-    parts: Vec<Part<J>>,
-    console: Part<J>,
+    parts: Vec<BookPart<J>>,
+    console: BookPart<J>,
     heard: Heard<J>,
-    boot: Part<J>,
+    boot: BookPart<J>,
 ) -> D
     requires back { AreBack (parts_with whole) }
     requires fresh { All (λ p. p.told ≡ []) parts.items }

@@ -39,7 +39,7 @@ use hart_threads::{
     drive,
 };
 use sbi_calls::Tables;
-use shared_store::{Heard, Journal, Locks, NewBook, Part, SharedBus, SharedStore, Unshared};
+use shared_store::{BookPart, Heard, Journal, Locks, NewBook, SharedBus, SharedStore, Unshared};
 use std::alloc::{AllocError, Global};
 use std::io::{Read, Write};
 use std::marker::Brand;
@@ -87,7 +87,7 @@ struct BootedBoard<D: Disk + Drop> {
 #[derive(Drop)]
 struct ConsoleSide<J: Journal, I: Read + Drop, W: Write + Drop> {
     streams: Streams<I, W>,
-    part: Part<J>,
+    part: BookPart<J>,
     heard: Heard<J>,
 }
 
@@ -333,7 +333,7 @@ fn hand_out_to_harts<D: Disk + Drop, J: Threaded>(
     alloc: Global,
     whole: &mut Unshared<D, J>,
     harts: usize,
-) -> Result<(Vec<Part<J>>, Vec<HartEnd>), AllocError>
+) -> Result<(Vec<BookPart<J>>, Vec<HartEnd>), AllocError>
     requires some { harts ≤ length (parts_with whole.old) }
     requires fresh { All (λ p. p.told ≡ []) (parts_with whole.old) }
     ensures fresh { All (λ p. p.told ≡ []) (parts_with whole.new) }
@@ -355,7 +355,7 @@ fn after_console<'c, R: Wait, D: Disk + Drop, J: Threaded, I: Read + Drop, W: Wr
     whole: Unshared<D, J>,
     loops: Vec<Rested<'c, J>>,
     talked: Talked<'c, J, I, W>,
-    boot: Part<J>,
+    boot: BookPart<J>,
     room: Vec<HartEnd>,
 ) -> SessionEnd<D, I, W>
     requires none { length (parts_with whole) ≡ 0 }
@@ -399,9 +399,9 @@ fn without_console<D: Disk + Drop, J: Threaded, I: Read + Drop, W: Write + Drop>
     alloc: Global,
     whole: Unshared<D, J>,
     loops: Vec<Rested<'_, J>>,
-    parts: Vec<Part<J>>,
+    parts: Vec<BookPart<J>>,
     side: ConsoleSide<J, I, W>,
-    boot: Part<J>,
+    boot: BookPart<J>,
 ) -> SessionEnd<D, I, W>
     requires back { AreBack (parts_with whole) }
     requires fresh { All (λ p. p.told ≡ []) parts.items }

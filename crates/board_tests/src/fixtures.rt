@@ -18,7 +18,7 @@ use hart_threads::{
     AfterConsole, BootedHarts, Closing, Gate, Rested, SharedBoard, Threaded, Why, drive,
 };
 use rv_decode::Reg;
-use shared_store::{Heard, Journal, Locks, NewBook, Part, SharedBus, SharedStore, Unshared};
+use shared_store::{BookPart, Heard, Journal, Locks, NewBook, SharedBus, SharedStore, Unshared};
 use simdisk::SimDisk;
 use std::alloc::Global;
 use std::marker::Brand;
@@ -158,7 +158,7 @@ fn end_of<J: Threaded>(loops: &[Rested<'_, J>]) -> Option<End> {
 /// Issues these commands, whatever they are answered, for the console that is to be.
 fn issue<J: Journal>(
     store: &mut SharedStore<SimDisk, J>,
-    part: Part<J>,
+    part: BookPart<J>,
     heard: &mut Heard<J>,
     commands: &[Command],
 ) {
@@ -175,7 +175,7 @@ fn talk<J: Journal, R: Wait + Clock>(
     alloc: Global,
     bus: &Mutex<SharedBus<J>>,
     store: &Mutex<SharedStore<SimDisk, J>>,
-    part: Part<J>,
+    part: BookPart<J>,
     heard: Heard<J>,
     trial: BoardTrial<'_>,
 ) -> (Vec<u8>, Heard<J>) {

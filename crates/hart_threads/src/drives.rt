@@ -23,7 +23,7 @@ use board_model::Refusal;
 use disk::Disk;
 use hart::Hart;
 use sbi_calls::{Seats, Tables};
-use shared_store::{Journal, Locks, Part};
+use shared_store::{BookPart, Journal, Locks};
 use std::alloc::Global;
 use std::sync::Wait;
 use std::thread::Threads;
@@ -38,7 +38,7 @@ pub struct BootedHarts<J: Journal> {
     /// The doze of the bus, where the board dozes. The hart of the doze is given a copy of it.
     pub doze: Option<Doze>,
     /// A part of the receipts for each loop, which was told nothing yet.
-    pub parts: Vec<Part<J>>,
+    pub parts: Vec<BookPart<J>>,
     /// How many turns each makes at most.
     pub turns: u64,
 }
@@ -53,14 +53,14 @@ pub struct Undriven<'a, J: Threaded, E: Drop> {
     /// The loops, which have ended: of each hart, or none.
     pub loops: Vec<Rested<'a, J>>,
     /// The parts that no loop had; they were told nothing.
-    pub parts: Vec<Part<J>>,
+    pub parts: Vec<BookPart<J>>,
 }
 
 /// No loop was begun.
 fn unbegun<'a, J: Threaded, E: Drop>(
     alloc: Global,
     refusal: Refusal,
-    parts: Vec<Part<J>>,
+    parts: Vec<BookPart<J>>,
     side: E,
 ) -> Undriven<'a, J, E>
     ensures refused { (result.side ≡ side) × (result.refusal ≡ refusal) }
@@ -171,7 +171,7 @@ struct HartWork<'r, 'g, 'a, 'c, 's, R, G: Gate, D: Disk + Drop, J: Threaded> {
     gate: &'g G,
     board: SharedBoard<'a, 'c, D, J, crew::Threads<'s, R>>,
     acting: ActingHart,
-    part: Part<J>,
+    part: BookPart<J>,
     turns: u64,
     ghost sized: { board.shape.now ≡ J.size },
     ghost named: { J.machine.size ≡ board.shape.now },
@@ -241,10 +241,13 @@ fn works_of<
     gate: &'g G,
     board: SharedBoard<'a, 'c, D, J, crew::Threads<'s, R>>,
     all: Vec<ActingHart>,
-    parts: Vec<Part<J>>,
+    parts: Vec<BookPart<J>>,
     turns: u64,
     room: Vec<HartWork<'r, 'g, 'a, 'c, 's, R, G, D, J>>,
-) -> (Vec<HartWork<'r, 'g, 'a, 'c, 's, R, G, D, J>>, Vec<Part<J>>)
+) -> (
+    Vec<HartWork<'r, 'g, 'a, 'c, 's, R, G, D, J>>,
+    Vec<BookPart<J>>,
+)
     requires board { board.shape.now ≡ J.size }
     requires named { (J.machine.size ≡ board.shape.now) × (J.machine.memory ≡ J.memory) }
     requires turns { turns ≡ J.turns }
@@ -289,7 +292,7 @@ fn known_begun<J: Threaded>(acting: &ActingHart, tables: &Tables)
 }
 
 /// One of the parts.
-fn next_part<J: Threaded>(parts: &mut Vec<Part<J>>) -> Part<J>
+fn next_part<J: Threaded>(parts: &mut Vec<BookPart<J>>) -> BookPart<J>
     requires some { 0 < vec_len parts.old }
     requires fresh { All (λ p. p.told ≡ []) parts.old.items }
     ensures told { result.told ≡ [] }

@@ -9,7 +9,7 @@ use board_model::Shape;
 use disk::Disk;
 use sbi::Word;
 use sbi_calls::{Seats, Tables};
-use shared_store::{CommandReceipt, Journal, Part, SharedBus, SharedStore};
+use shared_store::{BookPart, CommandReceipt, Journal, SharedBus, SharedStore};
 use std::alloc::AllocError;
 use std::sync::Mutex;
 use store::Saving;
@@ -73,7 +73,7 @@ pub struct HartLocal<J: Journal> {
     /// Its own copy of its doze, where the board dozes by it.
     pub doze: Option<Doze>,
     /// Its part of the journal's receipts.
-    pub part: Part<J>,
+    pub part: BookPart<J>,
     /// Its calls that the store refused.
     pub refused: Refusals<J>,
 }

@@ -7,7 +7,7 @@ ghost use Rattle.shared_store.specs.Heard.{Hearing, after_look, after_refusal, a
 use crate::doubts::OfDoubts;
 use board_model::{Command, Durable, Refusal};
 use std::marker::Model;
-use tallies::{Journal, Part};
+use tallies::{BookPart, Journal};
 
 /// How many commands of the console were refused, the last of these with its refusal, and the one of them that is in doubt;
 /// how often the console was shown the state, and which it was last; and how often it woke the board. Only a shared store and a
@@ -23,7 +23,7 @@ pub struct Heard<J: Journal> {
     state: Option<Durable>,
     woken: u64,
     // Its part of the book of what is in doubt, which stays here but for the moment in which that book notes a command.
-    pub(crate) part: Option<Part<OfDoubts<J>>>,
+    pub(crate) part: Option<BookPart<OfDoubts<J>>>,
 }
 
 impl<J: Journal> Model for Heard<J> {
@@ -36,7 +36,7 @@ impl<J: Journal> Model for Heard<J> {
 
 impl<J: Journal> Heard<J> {
     /// Nothing yet.
-    pub(crate) fn nothing(part: Part<OfDoubts<J>>) -> Heard<J>
+    pub(crate) fn nothing(part: BookPart<OfDoubts<J>>) -> Heard<J>
         requires { part.told ≡ [] }
         ensures { result ≡ heard_nothing }
     {

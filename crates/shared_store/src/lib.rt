@@ -17,6 +17,6 @@ pub use doubts::OfDoubts;
 pub use heard::Heard;
 pub use locks::{Apart, BusLock, Locks};
 pub use shared::SharedStore;
-pub use tallies::{Journal, NewBook, Part};
+pub use tallies::{BookPart, Journal, NewBook};
 pub use told::CommandReceipt;
 pub use unshared::Unshared;

@@ -33,7 +33,7 @@ use hart::Hart;
 use sbi::Word;
 use sbi_calls::{Seats, Tables};
 use store::{Saving, Store};
-use tallies::{Book, Journal, Keeper, Part};
+use tallies::{Book, BookPart, Journal, Keeper};
 
 /// A store whose journal is J's: its open found what J says, its board has that size, its journal begins with
 /// what the boot issued, and its state now is what the journal makes of what was found. The table of commands
@@ -79,7 +79,7 @@ impl<D: Disk + Drop, J: Journal> SharedStore<D, J> {
 
     /// The durable state now, for the holder of that part, which hears of it: the part's own receipts stand in the
     /// journal that made it.
-    pub fn now(&mut self, part: Part<J>, heard: &mut Heard<J>) -> (Part<J>, Durable)
+    pub fn now(&mut self, part: BookPart<J>, heard: &mut Heard<J>) -> (BookPart<J>, Durable)
         ensures now { result.1 ≡ durable_of (now_state (store_in self.old)) }
         ensures same { store_in self.new ≡ store_in self.old }
         ensures part { result.0 ≡ part }
@@ -95,10 +95,10 @@ impl<D: Disk + Drop, J: Journal> SharedStore<D, J> {
     /// refusal.
     pub fn apply(
         &mut self,
-        part: Part<J>,
+        part: BookPart<J>,
         heard: &mut Heard<J>,
         command: Command,
-    ) -> (Part<J>, Result<CommandReceipt<J>, Refusal>)
+    ) -> (BookPart<J>, Result<CommandReceipt<J>, Refusal>)
         ensures asked { Asked Applied (store_in self.old) (change_of command) (number_told result.1)
             (store_in self.new) }
         ensures may { MayAnswer J.found (change_of command) (number_told result.1) }
@@ -138,8 +138,8 @@ impl<D: Disk + Drop, J: Journal> SharedStore<D, J> {
         seats: Seats,
         tables: &Tables,
         bus: &mut SharedBus<J>,
-        part: Part<J>,
-    ) -> (Seats, Word, Option<CommandReceipt<J>>, Part<J>)
+        part: BookPart<J>,
+    ) -> (Seats, Word, Option<CommandReceipt<J>>, BookPart<J>)
         requires seats { AreSeatsOfBoth tables.now seats }
         requires acts { Acts hart.old.id Running seats }
         requires hart { hart.old.id < harts_of_both tables.now }

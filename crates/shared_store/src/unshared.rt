@@ -21,7 +21,7 @@ use board_model::Entry;
 use disk::Disk;
 use std::alloc::{AllocError, Global};
 use store::Store;
-use tallies::{Book, Journal, Keeper, NewBook, Part};
+use tallies::{Book, BookPart, Journal, Keeper, NewBook};
 
 /// A store of the life J with the book of its receipts, which one holder has: it hands out the book's parts
 /// before it is shared, and takes them back when the life has ended.
@@ -52,7 +52,7 @@ impl<D: Disk + Drop, J: Journal> Unshared<D, J> {
         store: Store<D>,
         book: NewBook,
         doubts: NewBook,
-    ) -> (Unshared<D, J>, Part<J>, Heard<J>)
+    ) -> (Unshared<D, J>, BookPart<J>, Heard<J>)
         requires board { size_of_store store ≡ J.size }
         requires found { found_state store ≡ J.found }
         requires issued { journal_of store ≡ J.issued }
@@ -87,7 +87,7 @@ impl<D: Disk + Drop, J: Journal> Unshared<D, J> {
     }
 
     /// The next part goes off, which was told nothing.
-    pub fn hand_out(&mut self) -> Part<J>
+    pub fn hand_out(&mut self) -> BookPart<J>
         requires some { 0 < length (parts_with self.old) }
         requires fresh { All (λ d. d.told ≡ []) (parts_with self.old) }
         ensures store { inside self.new ≡ inside self.old }
@@ -99,7 +99,11 @@ impl<D: Disk + Drop, J: Journal> Unshared<D, J> {
     }
 
     /// So many parts go off; none does where there is no room for them.
-    pub fn hand_out_all(&mut self, alloc: Global, count: usize) -> Result<Vec<Part<J>>, AllocError>
+    pub fn hand_out_all(
+        &mut self,
+        alloc: Global,
+        count: usize,
+    ) -> Result<Vec<BookPart<J>>, AllocError>
         requires some { count ≤ length (parts_with self.old) }
         requires fresh { All (λ d. d.told ≡ []) (parts_with self.old) }
         ensures store { inside self.new ≡ inside self.old }
@@ -139,7 +143,7 @@ impl<D: Disk + Drop, J: Journal> Unshared<D, J> {
     }
 
     /// A part comes back.
-    pub fn gather(&mut self, part: Part<J>)
+    pub fn gather(&mut self, part: BookPart<J>)
         ensures store { inside self.new ≡ inside self.old }
         ensures parts { parts_with self.new ≡ part ∷ parts_with self.old }
     {
@@ -188,8 +192,8 @@ fn note_journal<D: Disk + Drop, J: Journal>(
     store: &Store<D>,
     book: &Book<J>,
     keeper: &mut Keeper<J>,
-    part: Part<J>,
-) -> (Part<J>, u32)
+    part: BookPart<J>,
+) -> (BookPart<J>, u32)
     requires few { receipts store.now ≤ 4096 }
     requires empty { keeper.old.log ≡ [] }
     requires fresh { part.told ≡ [] }
