@@ -5,7 +5,7 @@ use Rattle.std.specs.Str.{bytes_eq}
 use Rattle.board_model.specs.Shapes.{Size}
 use Rattle.script_lang.specs.declared.armings.Arming.{Arming}
 use Rattle.script_lang.specs.declared.armings.Arming.TheVariants.{CutAt, CutLane, FailAt, FailLane}
-use Rattle.script_lang.specs.Words.{IsCount, FitsFill, fill_of, fill_text, ranged, one_of, two_of, three_of}
+use Rattle.script_lang.specs.Words.{◌>>=◌, IsCount, FitsFill, fill_of, fill_text, ranged, one_of, two_of, three_of}
 use lib.Chars.{codes}
 
 -- `cutat N FILL`

@@ -4,7 +4,7 @@ use Rattle.std.specs.Fmt.{decimal}
 use Rattle.std.specs.Str.{bytes_eq}
 use Rattle.board_model.specs.declared.console_command.ConsoleCommand.{ConsoleCommand}
 use Rattle.board_model.specs.declared.console_command.ConsoleCommand.TheVariants.{Slot, Discard, Tries, Good}
-use Rattle.script_lang.specs.Words.{alone, ranged, one_of, two_of}
+use Rattle.script_lang.specs.Words.{◌>>=◌, alone, ranged, one_of, two_of}
 use lib.Chars.{codes}
 
 -- `slot S`

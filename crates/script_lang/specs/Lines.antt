@@ -8,7 +8,7 @@ use Rattle.hex.specs.Hex.{encode_lower, IsBytes}
 use Rattle.board_model.specs.Shapes.{Size, sectors_of}
 use Rattle.board_model.specs.declared.boot_mode.BootMode.{BootMode}
 use Rattle.board_model.specs.declared.boot_mode.BootMode.TheVariants as modes
-use Rattle.script_lang.specs.Words.{alone, or_else, IsCount, FitsFill, number_of, ranged, fill_of, fill_text, hex_of, none_of, one_of, two_of, three_of}
+use Rattle.script_lang.specs.Words.{◌>>=◌, alone, or_else, IsCount, FitsFill, number_of, ranged, fill_of, fill_text, hex_of, none_of, one_of, two_of, three_of}
 use Rattle.script_lang.specs.Commands.{command_said, command_spelling, IsCommandInRange}
 use Rattle.script_lang.specs.Looks.{look_said, look_spelling, IsLookInRange}
 use Rattle.script_lang.specs.Armings.{arming_said, arming_spelling, IsArmingInRange, FitsArming}

@@ -5,7 +5,7 @@ use Rattle.std.specs.Str.{bytes_eq}
 use Rattle.board_model.specs.Shapes.{Size, ram_bytes_of}
 use Rattle.script_lang.specs.declared.looks.Look.{Look}
 use Rattle.script_lang.specs.declared.looks.Look.TheVariants.{Reg, Pc, Csr, Pending, Mem}
-use Rattle.script_lang.specs.Words.{alone, number_of, ranged, one_of, two_of}
+use Rattle.script_lang.specs.Words.{◌>>=◌, alone, number_of, ranged, one_of, two_of}
 use lib.Chars.{codes}
 
 -- `reg H R`
