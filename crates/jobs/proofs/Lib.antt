@@ -1,4 +1,4 @@
 pub mod HandedOn
 pub mod Pieces
 pub mod Chunked
-pub mod Dealing
+pub mod Placing

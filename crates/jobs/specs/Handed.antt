@@ -1,14 +1,18 @@
 -- Rows that are handed on in order.
-use Rattle.std.specs.Prelude.{◌≡◌, ◌+◌, ◌-◌, ℕ, List, [], ◌∷◌, Option, None, Some, Result, Ok, Err, length}
+use Rattle.std.specs.Prelude.{◌≡◌, ◌+◌, ◌-◌, ◌<◌, ℕ, List, [], ◌∷◌, Option, None, Some, Result, Ok, Err, length}
 use Rattle.board_model.specs.declared.refusal.Refusal.{Refusal}
 use Rattle.board_model.specs.declared.refusal.Refusal.TheVariants.{Memory}
 use Rattle.jobs.specs.Parts.{chunk_from, chunk_to}
 
--- what a slot holds once the row of that number was made
-abbrev pub IsMade : {Row : Type 0} → (ℕ → Row → Type 0) → ℕ → Option (Result Row Refusal) → Type 0
-IsMade is n None = ⊥
-IsMade is n (Some (Ok row)) = is n row
-IsMade is n (Some (Err e)) = e ≡ Memory
+-- what a slot holds where the row of that number was made, or not yet
+abbrev pub MayBeMade : {Row : Type 0} → (ℕ → Row → Type 0) → ℕ → Option (Result Row Refusal) → Type 0
+MayBeMade is n None = Unit {0}
+MayBeMade is n (Some (Ok row)) = is n row
+MayBeMade is n (Some (Err e)) = e ≡ Memory
+
+-- a place of a window of so many rows, which begins with that number, and what was made for it
+abbrev pub IsPlaced : {Row : Type 0} → (ℕ → Row → Type 0) → ℕ → ℕ → ℕ × Result Row Refusal → Type 0
+IsPlaced is first size made = (made.0 < size) × MayBeMade is (first + made.0) (Some made.1)
 
 -- the rows of the numbers from that one on, in order
 abbrev pub AreRows : {Row : Type 0} → (ℕ → Row → Type 0) → ℕ → List Row → Type 0

@@ -1,3 +1,2 @@
 pub mod Handed
 pub mod Parts
-pub mod Dealing

@@ -3,10 +3,10 @@
 #![tactic(auto)]
 
 mod chunk;
+mod hands;
 mod part;
 mod progress;
 mod shares;
-mod slots;
 mod windows;
 
 pub use chunk::Chunk;

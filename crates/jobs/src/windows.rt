@@ -1,15 +1,13 @@
 //! Rows that several threads make, a window of them at a time.
 
-ghost use Rattle.std.specs.Prelude.{◌≡◌, ◌⊎◌, ◌+◌, ◌*◌, ◌<◌, ◌≤◌, ◌^◌, ℕ, length, IfOk, IfErr, OnOk, slice_index_or};
+ghost use Rattle.std.specs.Prelude.{◌≡◌, ◌⊎◌, ◌+◌, ◌<◌, ◌^◌, ℕ, None, All, length, IfOk, IfErr, OnOk, slice_index_or};
 ghost use Rattle.board_model.specs.declared.refusal.Refusal.TheVariants.{Memory, Output};
-ghost use Rattle.jobs.specs.Handed.{IsMade, Handed};
-ghost use Rattle.jobs.specs.Dealing.{dealt};
+ghost use Rattle.jobs.specs.Handed.{MayBeMade, Handed};
 
+use crate::hands::make_rows;
 use crate::progress::Progress;
-use crate::slots::{dealt, hands_of};
 use board_model::Refusal;
 use std::alloc::Global;
-use std::thread;
 use std::thread::Threads;
 
 /// How many rows are made at a time for each thread, where there are several.
@@ -95,159 +93,41 @@ pub trait Sink<Row> {
         ensures refused { IfErr result (λ e. (e ≡ Memory) ⊎ (e ≡ Output)) };
 }
 
-/// Makes the row of that slot. The rows begin with that number, and are dealt to so many threads, which have so many slots each.
-fn make_slot<T: Task>(
-    task: &T,
-    first: u64,
-    hands: usize,
-    each: usize,
-    slot: usize,
-) -> Result<T::Row, Refusal>
-    requires room { first + hands * each < 2 ^ 64 }
-    requires within { slot < hands * each }
-    requires has { (i : ℕ) → i < hands * each → T.has task.now (first + i) }
-    ensures row { IfOk result (λ row. T.is_row task.now (first + dealt slot each hands) row) }
-    ensures refused { IfErr result (λ e. e ≡ Memory) }
-{
-    task.row(first + dealt(slot, each, hands) as u64)
-}
-
-/// Makes the row of each slot, by the threads of these jobs. The rows begin with that number, and are dealt to so many threads, which
-/// have so many slots each: where later rows take longer, each thread makes some of these.
-fn make_each<R: Threads + Sync, P: Progress, T: Task>(
-    jobs: &Jobs<'_, R, P>,
-    task: &T,
-    first: u64,
-    hands: usize,
-    each: usize,
-    slots: &mut [Option<Result<T::Row, Refusal>>],
-)
-    requires room { first + length slots.old < 2 ^ 64 }
-    requires all { length slots.old ≡ hands * each }
-    requires has { (i : ℕ) → i < length slots.old → T.has task.now (first + i) }
-    ensures each { (i : ℕ) (d : _) → i < length slots.old
-        → IsMade (T.is_row task.now) (first + dealt i each hands) (slice_index_or slots.new i d) }
-    ensures as_many { length slots.new ≡ length slots.old }
-{
-    thread::for_each_mut(
-        jobs.rt,
-        slots,
-        jobs.count,
-        &|i: usize, slot: &mut Option<Result<T::Row, Refusal>>|
-            requires room { first + hands * each < 2 ^ 64 }
-            requires within { i < hands * each }
-            requires has { (k : ℕ) → k < hands * each → T.has task.now (first + k) }
-            ensures { IsMade (T.is_row task.entry.now) (first + dealt i each hands) slot.new }
-        {
-            *slot = Some(make_slot(task, first, hands, each, i));
-        },
-    );
-}
-
-/// Takes the row of that number out of its slot.
+/// The row of that number: the one in its slot, or one that is made here where none is.
 fn row_in<T: Task>(
     task: &T,
     number: u64,
     slot: &mut Option<Result<T::Row, Refusal>>,
 ) -> Result<T::Row, Refusal>
-    requires { IsMade (T.is_row task.now) number slot.old }
+    requires has { T.has task.now number }
+    requires made { MayBeMade (T.is_row task.now) number slot.old }
     ensures row { IfOk result (λ row. T.is_row task.now number row) }
     ensures refused { IfErr result (λ e. e ≡ Memory) }
 {
-    let _task = task;
-    let _number = number;
     match slot.take() {
         Some(made) => made,
-        None => unreachable!(),
+        None => task.row(number),
     }
 }
 
-/// Hands on the rows of the slots, in order, up to the first that was refused. They were dealt to so many threads, which have so many
-/// slots each.
+/// Hands on the rows of the slots, which begin with that number, in order, up to the first that is refused.
 fn hand_on<P: Progress, T: Task, S: Sink<T::Row>>(
     task: &T,
     first: u64,
-    hands: usize,
-    each: usize,
     slots: &mut [Option<Result<T::Row, Refusal>>],
     sink: &mut S,
     progress: &P,
 ) -> Result<(), Refusal>
     requires room { first + length slots.old < 2 ^ 64 }
-    requires all { length slots.old ≡ hands * each }
+    requires has { (i : ℕ) → i < length slots.old → T.has task.now (first + i) }
     requires made { (i : ℕ) (d : _) → i < length slots.old
-        → IsMade (T.is_row task.now) (first + dealt i each hands) (slice_index_or slots.old i d) }
+        → MayBeMade (T.is_row task.now) (first + i) (slice_index_or slots.old i d) }
     ensures handed { OnOk result (Handed (T.is_row task.now) S.takes first (length slots.old) sink.old sink.new) }
-    ensures as_many { length slots.new ≡ length slots.old }
     ensures refused { IfErr result (λ e. (e ≡ Memory) ⊎ (e ≡ Output)) }
 {
     for i in 0..slots.len() {
-        let at = dealt(i, hands, each);
-        let row = row_in(task, first + i as u64, &mut slots[at])?;
+        let row = row_in(task, first + i as u64, &mut slots[i])?;
         sink.take(row, progress)?;
-    }
-    Ok(())
-}
-
-/// Makes the rows of the slots, and hands them on.
-fn run_window<R: Threads + Sync, P: Progress, T: Task, S: Sink<T::Row>>(
-    jobs: &Jobs<'_, R, P>,
-    task: &T,
-    first: u64,
-    slots: &mut [Option<Result<T::Row, Refusal>>],
-    sink: &mut S,
-) -> Result<(), Refusal>
-    requires room { first + length slots.old < 2 ^ 64 }
-    requires has { (i : ℕ) → i < length slots.old → T.has task.now (first + i) }
-    ensures handed { OnOk result (Handed (T.is_row task.now) S.takes first (length slots.old) sink.old sink.new) }
-    ensures as_many { length slots.new ≡ length slots.old }
-    ensures refused { IfErr result (λ e. (e ≡ Memory) ⊎ (e ≡ Output)) }
-{
-    let (hands, each) = hands_of(jobs.count, slots.len());
-    make_each(jobs, task, first, hands, each, slots);
-    hand_on(task, first, hands, each, slots, sink, &jobs.progress)
-}
-
-/// Makes the rows of so many of the slots, from the first on, and hands them on.
-fn run_front<R: Threads + Sync, P: Progress, T: Task, S: Sink<T::Row>>(
-    jobs: &Jobs<'_, R, P>,
-    task: &T,
-    first: u64,
-    size: usize,
-    slots: &mut [Option<Result<T::Row, Refusal>>],
-    sink: &mut S,
-) -> Result<(), Refusal>
-    requires size { size ≤ length slots.old }
-    requires room { first + size < 2 ^ 64 }
-    requires has { (i : ℕ) → i < size → T.has task.now (first + i) }
-    ensures handed { OnOk result (Handed (T.is_row task.now) S.takes first size sink.old sink.new) }
-    ensures as_many { length slots.new ≡ length slots.old }
-    ensures refused { IfErr result (λ e. (e ≡ Memory) ⊎ (e ≡ Output)) }
-{
-    run_window(jobs, task, first, &mut slots[..size], sink)
-}
-
-/// Makes so many rows from that number on, as many at a time as there are slots, and hands them on.
-fn run_windows<R: Threads + Sync, P: Progress, T: Task, S: Sink<T::Row>>(
-    jobs: &Jobs<'_, R, P>,
-    task: &T,
-    first: u64,
-    count: u64,
-    slots: &mut [Option<Result<T::Row, Refusal>>],
-    sink: &mut S,
-) -> Result<(), Refusal>
-    requires some { 0 < length slots.old }
-    requires room { first + count < 2 ^ 64 }
-    requires has { (i : ℕ) → i < count → T.has task.now (first + i) }
-    ensures handed { OnOk result (Handed (T.is_row task.now) S.takes first count sink.old sink.new) }
-    ensures refused { IfErr result (λ e. (e ≡ Memory) ⊎ (e ≡ Output)) }
-{
-    let window = slots.len();
-    let mut done = 0;
-    while done < count {
-        let size = (count - done).min(window as u64);
-        run_front(jobs, task, first + done, size as usize, slots, sink)?;
-        done += size;
     }
     Ok(())
 }
@@ -257,7 +137,7 @@ fn no_rows<Row: Drop>(
     alloc: Global,
     count: usize,
 ) -> Result<Vec<Option<Result<Row, Refusal>>>, Refusal>
-    ensures slots { IfOk result (λ v. length v.items ≡ count) }
+    ensures slots { IfOk result (λ v. (length v.items ≡ count) × All (λ slot. slot ≡ None) v.items) }
     ensures refused { IfErr result (λ e. e ≡ Memory) }
 {
     let mut slots = Vec::new(alloc);
@@ -265,6 +145,34 @@ fn no_rows<Row: Drop>(
         slots.push(None)?;
     }
     Ok(slots)
+}
+
+/// Makes so many rows from that number on, and hands them on. Where there are several threads, these make them first.
+fn run_window<R: Threads + Sync, P: Progress, T: Task, S: Sink<T::Row>>(
+    jobs: &Jobs<'_, R, P>,
+    alloc: Global,
+    task: &T,
+    first: u64,
+    size: usize,
+    sink: &mut S,
+) -> Result<(), Refusal>
+    requires room { first + size < 2 ^ 64 }
+    requires has { (i : ℕ) → i < size → T.has task.now (first + i) }
+    ensures handed { OnOk result (Handed (T.is_row task.now) S.takes first size sink.old sink.new) }
+    ensures refused { IfErr result (λ e. (e ≡ Memory) ⊎ (e ≡ Output)) }
+{
+    let mut slots = no_rows::<T::Row>(alloc, size)?;
+    if 1 < jobs.count {
+        make_rows(
+            jobs.rt,
+            alloc,
+            jobs.count,
+            task,
+            first,
+            slots.as_mut_slice(),
+        )?;
+    }
+    hand_on(task, first, slots.as_mut_slice(), sink, &jobs.progress)
 }
 
 /// Makes so many rows from that number on, by the threads of these jobs, and hands them on in order. A window of rows is
@@ -286,6 +194,11 @@ pub fn hand_on_all<R: Threads + Sync, P: Progress, T: Task, S: Sink<T::Row>>(
     ensures handed { OnOk result (Handed (T.is_row task.now) S.takes first count sink.old sink.new) }
     ensures refused { IfErr result (λ e. (e ≡ Memory) ⊎ (e ≡ Output)) }
 {
-    let mut slots = no_rows::<T::Row>(alloc, jobs.window)?;
-    run_windows(jobs, task, first, count, slots.as_mut_slice(), sink)
+    let mut done = 0;
+    while done < count {
+        let size = (count - done).min(jobs.window as u64);
+        run_window(jobs, alloc, task, first + done, size as usize, sink)?;
+        done += size;
+    }
+    Ok(())
 }

@@ -1,9 +1,9 @@
-use Rattle.std.proofs.Common.{◌≡◌, ◌∙◌, ◌+◌, subst, arith}
+use Rattle.std.proofs.Common.{◌≡◌, ◌+◌, subst, arith}
 use Rattle.jobs.proofs.HandedOn.{handed_both}
-use Rattle.jobs.proofs.windows.run_windows.Goals as goal
+use Rattle.jobs.proofs.windows.hand_on_all.Goals as goal
 
-pub run_front-requires-clause-has : goal.run_front-requires-clause-has
-run_front-requires-clause-has g c κs within = λ i lt.
+pub run_window-requires-clause-has : goal.run_window-requires-clause-has
+run_window-requires-clause-has g c κs within = λ i lt.
     let first = c.args.first in
     let done = c.loop-done.done in
     let same : first + (done + i) ≡ first + done + i = omega arith in
@@ -13,6 +13,5 @@ pub loop-done-preserved : goal.loop-done-preserved
 loop-done-preserved g c =
     let i = c.loop-done.invariant in record {
       few = omega (arith, c.min-size.ensures);
-      as_many = c.run_front.ensures.as_many ∙ i.as_many;
-      handed = handed_both (g.T.Task.is_row c.args.task.now) g.S.Sink.takes c.args.first c.loop-done.done c.min-size.result _ _ _ i.handed c.in_ok-run_front.ensures.handed;
+      handed = handed_both (g.T.Task.is_row c.args.task.now) g.S.Sink.takes c.args.first c.loop-done.done c.min-size.result _ _ _ i.handed c.in_ok-run_window.ensures.handed;
     }
