@@ -75,8 +75,8 @@ impl LineHistory {
         ensures { OnOk result (IsAdded hart count joins self.old self.new) }
     {
         if joins && let Some(before) = self.open_row(hart, count) {
-            self.lines.pop();
-            self.lines.push(Line::Turn(hart, before + count))?;
+            let last = self.lines.len() - 1;
+            self.lines[last] = Line::Turn(hart, before + count);
             return Ok(());
         }
         self.lines.push(Line::Turn(hart, count))?;
