@@ -29,7 +29,7 @@ pub struct DebuggedBench {
 }
 
 /// Whether a row of turns goes on.
-#[derive(Clone, Copy, PartialEq, Eq, Drop)]
+#[derive(Clone, Copy, Drop)]
 enum Next {
     /// The next turn is idle.
     Rests,

@@ -27,7 +27,7 @@ pub enum HaltReason {
 }
 
 /// Why nothing runs, and the hart that is shown.
-#[derive(Clone, Copy, PartialEq, Eq, Drop)]
+#[derive(Clone, Copy, Drop)]
 pub struct Stop {
     /// The hart that is shown.
     pub hart: HartId,

@@ -19,7 +19,7 @@ use rv_decode::{Instr, LoadOp, decode};
 use simdisk::SimDisk;
 
 /// Bytes of memory that a turn reads.
-#[derive(Clone, Copy, PartialEq, Eq, Drop)]
+#[derive(Clone, Copy, Drop)]
 pub struct Load {
     /// Where they begin.
     pub address: u64,
