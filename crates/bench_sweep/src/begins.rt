@@ -1,13 +1,13 @@
 //! Where a bench begins: behind the first format of its script that answers Ok.
 
-ghost use Rattle.std.specs.Prelude.{◌≡◌, ◌≤◌, ℕ, List, false, true, length, take, All, Err, IfOk, IfErr, MatchResult, OnErr, OnOk, ◌↔◌, IsTrue};
+ghost use Rattle.std.specs.Prelude.{◌≡◌, ◌≤◌, ℕ, List, false, true, length, take, All, Err, IfOk, IfErr, MatchResult, OnErr, ◌↔◌, IsTrue};
 ghost use Rattle.board_model.specs.declared.refusal.Refusal.TheVariants.{Memory};
 ghost use Rattle.script_lang.specs.Lines.{IsLineInRange};
 ghost use Rattle.bench_report.specs.Agree.{Agrees, IsBench};
 ghost use Rattle.bench_report.specs.Bench.{Bench, bench_with};
 ghost use Rattle.bench_report.specs.Steps.{Moves};
 ghost use Rattle.bench_sweep.specs.Told.{ShowsEnoughMemory};
-ghost use Rattle.bench_sweep.specs.Runs.{Begun, IsFormattedAt, Formats, StopsOff};
+ghost use Rattle.bench_sweep.specs.Runs.{Begun, IsFormattedAt, Formats};
 
 use crate::follows::enough_memory;
 use crate::ledgers::RunLedger;
@@ -34,18 +34,6 @@ fn is_formatted(line: &Line, answer: &Answer) -> bool
     }
 }
 
-/// Refused `Memory` where the board is on: over a disk that no format has answered Ok on, that takes a format which was
-/// refused memory.
-fn begins_off(power: &Power) -> Result<(), Refusal>
-    ensures off { OnOk result (StopsOff power.now) }
-    ensures refused { IfErr result (λ e. e ≡ Memory) }
-{
-    if is_off(power) {
-        return Ok(());
-    }
-    Err(Refusal::Memory)
-}
-
 /// Whether the line formatted the disk, by what was answered. Refused `Memory` where the line was, where it says so, or
 /// where it says nothing.
 fn formatted_by(line: &Line, answer: Result<Answer, Refusal>) -> Result<bool, Refusal>
@@ -63,6 +51,11 @@ fn formatted_by(line: &Line, answer: Result<Answer, Refusal>) -> Result<bool, Re
     }
 }
 
+/// Lets go of a bench's board and of what its slots boot.
+fn release(bench: BenchBoard) {
+    let _bench = bench;
+}
+
 /// Runs a line before the disk is formatted, and answers whether it was by that. Refused `Memory` alone.
 fn run_before_format<C: Crew>(
     setting: &Setting<'_, C>,
@@ -75,10 +68,19 @@ fn run_before_format<C: Crew>(
         × IsBench setting.now.shape.now new did.0.power did.0.payloads × (new.growths ≡ b.growths) × (did.1 ≡ true → Formats line.now answer)) }
     ensures refused { IfErr result (λ e. e ≡ Memory) }
 {
-    begins_off(&bench.power)?;
+    // A board that is on, over a disk that no format has answered Ok on, takes a format which was refused memory.
+    if !is_off(&bench.power) {
+        release(bench);
+        return Err(Refusal::Memory);
+    }
     let (after, answer) = line_with_cuts(setting, line, bench);
-    let formatted = formatted_by(line, answer)?;
-    Ok((after, formatted))
+    match formatted_by(line, answer) {
+        Ok(formatted) => Ok((after, formatted)),
+        Err(refusal) => {
+            release(after);
+            Err(refusal)
+        }
+    }
 }
 
 /// A board over a blank disk of the size that it needs, whose slots boot copies of these.
@@ -145,5 +147,6 @@ pub fn run_to_format<C: Crew>(
         bench = after;
     }
     // A line formats the disk, which is blank, and nothing is armed. Only want of memory lets each format fail.
+    release(bench);
     Err(Refusal::Memory)
 }

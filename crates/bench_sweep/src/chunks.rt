@@ -25,46 +25,18 @@ const MOST_CALLS: u64 = 64;
 
 const MANY_CALLS: u64 = 16;
 
-/// How many calls a chunk of so many may have, for so many threads: there are 32 chunks or more, 8 or more for each thread, and 32 or more
-/// for each where a chunk has many calls, if there are as many calls. So what is written, and how far the run is, is told often, and still
-/// few chunks begin within the same line.
-fn most_of(calls: u64, threads: u64) -> u64
-    requires { 0 < threads }
-    ensures some { 0 < result }
-    ensures most { result ≤ 64 }
-{
-    let few = calls / threads.saturating_mul(8).max(32);
-    let many = calls / threads.saturating_mul(32);
-    few.min(MANY_CALLS).max(many).clamp(1, MOST_CALLS)
-}
-
-/// How long threads take for so many calls where each chunk has so many: a call is one, and so is what it costs to begin a chunk. It is as
-/// long as the thread takes that makes the most of them.
-fn time_of(calls: u64, threads: u64, each: u64) -> u64
-    requires threads { 0 < threads }
-    requires each { 0 < each }
-{
-    let chunks = calls.div_ceil(each).div_ceil(threads);
-    let made = chunks.saturating_mul(each).min(calls);
-    made.saturating_add(chunks)
-}
-
-/// How many calls each chunk of so many has, for so many threads: as many as it may have, or down to half of them where the threads are
-/// done sooner then, since they end together.
+/// How many calls each chunk of so many has, for so many threads: there are 40 chunks or more, ten or more for each thread, and 32 or more
+/// for each where a chunk has many calls, if there are as many calls. So threads end together, what is written and how far the run is are
+/// told often, and still few chunks begin within the same line.
 pub fn chunk_size(calls: u64, threads: usize) -> u64
     requires { 0 < threads }
     ensures some { 0 < result }
     ensures most { result ≤ 64 }
 {
     let threads = threads as u64;
-    let most = most_of(calls, threads);
-    let mut best = most;
-    for each in most / 2 + 1..most {
-        if time_of(calls, threads, each) < time_of(calls, threads, best) {
-            best = each;
-        }
-    }
-    best
+    let few = calls / threads.saturating_mul(10).max(40);
+    let many = calls / threads.saturating_mul(32);
+    few.min(MANY_CALLS).max(many).clamp(1, MOST_CALLS)
 }
 
 /// Keeps how many calls the caller has made at that moment from the site on. Refused `Memory` alone.
@@ -95,8 +67,13 @@ fn mark_next<C: Crew>(
     ensures refused { IfErr result (λ e. e ≡ Memory) }
 {
     let moment = moment.run_to(&runner.setting, runner.lines, to)?;
-    mark(&moment, site, caller, marks)?;
-    Ok(moment)
+    match mark(&moment, site, caller, marks) {
+        Ok(()) => Ok(moment),
+        Err(refusal) => {
+            moment.going.release();
+            Err(refusal)
+        }
+    }
 }
 
 /// How many calls the caller has made from the site on behind each of so many first lines but the last, in which all others lie. It is a
@@ -217,8 +194,13 @@ impl<'a, 'b, C: Crew> RunsAtCalls<'a, 'b, C> {
     {
         let next = line_of(self.marks, moment.count, self.count, done);
         let mut moment = moment.run_to(&self.runner.setting, self.runner.lines, next)?;
-        let made = self.rows_at(&mut moment, done)?;
-        Ok((moment, made))
+        match self.rows_at(&mut moment, done) {
+            Ok(made) => Ok((moment, made)),
+            Err(refusal) => {
+                moment.going.release();
+                Err(refusal)
+            }
+        }
     }
 
     /// Makes the runs at the calls of that window, one after another. Refused `Memory` alone: then those made stay.
@@ -238,9 +220,15 @@ impl<'a, 'b, C: Crew> RunsAtCalls<'a, 'b, C> {
         let mut moment = Moment::at(self.runner.setting.alloc, self.site)?;
         for done in from..to {
             let (next, made) = self.next_rows(moment, done)?;
-            moment = next;
-            rows.push(made)?;
+            match rows.push(made) {
+                Ok(()) => moment = next,
+                Err(_) => {
+                    next.going.release();
+                    return Err(Refusal::Memory);
+                }
+            }
         }
+        moment.going.release();
         Ok(())
     }
 }

@@ -15,6 +15,7 @@ ghost use Rattle.bench_sweep.specs.Told.{moves_harts};
 
 use crate::follows::record_hart;
 use crate::ledgers::RunLedger;
+use crate::sites::release;
 use bench_report::{Power, after};
 use board::Board;
 use board_model::{CallWords, HartId, Refusal, Shape};
@@ -191,9 +192,13 @@ pub fn run_hart_line<C: Crew>(
     match power {
         Power::Off(off) => Ok(Power::Off(off)),
         Power::On(mut board) => {
-            match run_in_place(alloc, crew, shape, &mut board, line, ledger)? {
-                None => Ok(Power::On(board)),
-                Some(word) => Ok(after(board, word)),
+            match run_in_place(alloc, crew, shape, &mut board, line, ledger) {
+                Ok(None) => Ok(Power::On(board)),
+                Ok(Some(word)) => Ok(after(board, word)),
+                Err(refusal) => {
+                    release(Power::On(board));
+                    Err(refusal)
+                }
             }
         }
     }

@@ -21,7 +21,7 @@ ghost use Rattle.bench_report.specs.Examined.{OpensOf};
 
 use crate::finds::count_run;
 use crate::judges::Sweep;
-use crate::points::{BenchKind, FILLS, Point, cut_fill};
+use crate::points::{BenchKind, FILLS, FIRST_FILLS, LAST_FILL, Point, cut_fill};
 use crate::recovery::Differs;
 use crate::rows::Row;
 use crate::runner::Runner;
@@ -126,7 +126,7 @@ fn judge_run<C: Crew>(
 }
 
 /// Judges as [`judge_run`] does, at a site that nothing else is made of: where no recovery runs behind it, its own disk is cut, and
-/// no copy of that is made.
+/// not another one like it.
 fn judge_last<C: Crew>(
     runner: &Runner<'_, C>,
     site: Site,
@@ -142,7 +142,9 @@ fn judge_last<C: Crew>(
     ensures refused { IfErr result (λ e. e ≡ Memory) }
 {
     if !runner.recovery.own.is_empty() {
-        return judge_run(runner, &site, point, fill, made);
+        let judged = judge_run(runner, &site, point, fill, made);
+        site.release();
+        return judged;
     }
     let Setting { alloc, shape, .. } = runner.setting;
     let off = cut_off(site.off, cut_fill(fill));
@@ -219,9 +221,10 @@ fn judge_each_fill<C: Crew>(
         return judge_settled(runner, site, point);
     }
     let mut made = PointRows::none(runner.setting.alloc);
-    for fill in FILLS {
+    for fill in FIRST_FILLS {
         judge_run(runner, &site, point, Some(fill), &mut made)?;
     }
+    judge_last(runner, site, point, Some(LAST_FILL), &mut made)?;
     Ok(made)
 }
 
@@ -281,10 +284,12 @@ pub fn turn_off(going: Going, struck: bool) -> Result<Site, Refusal>
     ensures refused { IfErr result (λ e. e ≡ Memory) }
 {
     if going.is_struck() != struck {
+        going.release();
         return Err(Refusal::Memory);
     }
     let site = going.into_site();
     if site.off.disk.refused() != 0 {
+        site.release();
         return Err(Refusal::Memory);
     }
     Ok(site)
@@ -302,10 +307,12 @@ pub fn turn_off_failed(went: Went, all: usize) -> Result<Site, Refusal>
     let Went { count, going } = went;
     // No cut is armed that could end the run before its last line.
     if count < all {
+        going.release();
         return Err(Refusal::Memory);
     }
     let left = turn_off(going, false)?;
     if left.off.disk.is_armed() {
+        left.release();
         return Err(Refusal::Memory);
     }
     Ok(left)

@@ -45,9 +45,9 @@ impl Going {
         ensures resumed { IfOk result (λ copy. copy.ledger.resumed.items ≡ self.old.ledger.resumed.items) }
         ensures refused { IfErr result (λ e. e ≡ Memory) }
     {
-        let power = copy_power(alloc, &mut self.power)?;
         let payloads = self.payloads.copy()?;
         let ledger = self.ledger.copy(alloc)?;
+        let power = copy_power(alloc, &mut self.power)?;
         Ok(Going {
             power,
             payloads,
@@ -125,6 +125,7 @@ impl Moment {
         let went = run_lines(setting, &lines[count..to], false, going)?;
         // Nothing is armed that could strike.
         if went.going.is_struck() {
+            went.going.release();
             return Err(Refusal::Memory);
         }
         Ok(Moment {

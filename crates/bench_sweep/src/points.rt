@@ -109,6 +109,12 @@ pub const FILLS: [Fill; 5] = [
     Fill::New,
 ];
 
+/// What all of them but the last leave.
+pub const FIRST_FILLS: [Fill; 4] = [Fill::Byte(0), Fill::Byte(255), Fill::Alternating, Fill::Old];
+
+/// What the last of them leaves.
+pub const LAST_FILL: Fill = Fill::New;
+
 /// What a cut leaves of what was written since the last sync, by the fill of its run: a run behind a failure has none, and is cut
 /// with zeros.
 pub fn cut_fill(fill: Option<Fill>) -> Fill

@@ -180,7 +180,10 @@ fn keep_line<C: Crew>(
 {
     if is_look(line) {
         let (after, printed) = look(setting, line, going)?;
-        said.push(printed)?;
+        if said.push(printed).is_err() {
+            after.release();
+            return Err(Refusal::Memory);
+        }
         return Ok(after);
     }
     run_line(setting, line, going)
@@ -204,10 +207,11 @@ pub fn looks_of<C: Crew>(
         going = keep_line(setting, line, going, &mut said)?;
         // Nothing is armed that could strike.
         if going.is_struck() {
+            going.release();
             return Err(Refusal::Memory);
         }
     }
-    turn_off(going, false)?;
+    turn_off(going, false)?.release();
     Ok(said)
 }
 

@@ -181,11 +181,11 @@ fn check_ended(bench: BenchKind, went: Went, all: usize) -> Result<(), Refusal>
 {
     match bench {
         BenchKind::Cuts => {
-            turn_off(went.going, true)?;
+            turn_off(went.going, true)?.release();
             Ok(())
         }
         BenchKind::Fails => {
-            turn_off_failed(went, all)?;
+            turn_off_failed(went, all)?.release();
             Ok(())
         }
     }

@@ -12,10 +12,20 @@ pub struct Site {
     pub ledger: RunLedger,
 }
 
+impl Site {
+    /// Lets go of a site. That of its disk's many parts is proved here, and not for each function that has a site.
+    pub fn release(self) {}
+}
+
 /// A run that is under way.
 #[derive(Drop)]
 pub struct Going {
     pub power: Power,
     pub payloads: Payloads,
     pub ledger: RunLedger,
+}
+
+impl Going {
+    /// Lets go of a run. That of its board's many parts is proved here, and not for each function that has a run.
+    pub fn release(self) {}
 }

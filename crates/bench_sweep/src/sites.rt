@@ -56,7 +56,7 @@ pub fn cut_by(off: &OffDisk, fill: Fill) -> Result<OffDisk, Refusal>
     Ok(OffDisk { disk })
 }
 
-/// The disk that a power cut leaves of that one, as [`cut_by`] says, in its place: no copy of it is made.
+/// The disk that a power cut leaves of that one, as [`cut_by`] says, in its place: no other disk is made.
 pub fn cut_off(off: OffDisk, fill: Fill) -> OffDisk
     ensures left { (size : Size) (b : Bench) → OffIs size b off.disk → OffIs size (unpowered b) result.disk }
     ensures exact { (facts result.disk).content
@@ -92,9 +92,9 @@ impl Site {
         ensures resumed { IfOk result (λ left. left.ledger.resumed.items ≡ self.now.ledger.resumed.items) }
         ensures refused { IfErr result (λ e. e ≡ Memory) }
     {
-        let off = cut_by(&self.off, fill)?;
         let payloads = self.payloads.copy()?;
         let ledger = self.ledger.copy(alloc)?;
+        let off = cut_by(&self.off, fill)?;
         Ok(Site {
             off,
             payloads,
@@ -187,6 +187,11 @@ impl Going {
     }
 }
 
+/// Lets go of a board.
+pub fn release(power: Power) {
+    let _power = power;
+}
+
 /// Runs a line that powers a board on, and the ledger follows it. A board that is on stays as it is.
 fn run_power_on(
     alloc: Global,
@@ -204,8 +209,13 @@ fn run_power_on(
         Power::On(board) => Ok(Power::On(board)),
         Power::Off(off) => {
             let (power, answer, now) = power_on(alloc, mode, off, payloads);
-            record_powered(ledger, alloc, mode, &answer, now)?;
-            Ok(power)
+            match record_powered(ledger, alloc, mode, &answer, now) {
+                Ok(()) => Ok(power),
+                Err(refusal) => {
+                    release(power);
+                    Err(refusal)
+                }
+            }
         }
     }
 }
@@ -229,8 +239,13 @@ pub fn say_still_line<C: Crew>(
     ensures refused { IfErr result (λ e. e ≡ Memory) }
 {
     let (power, answer) = line_alone(setting, line, power, payloads);
-    let said = record_answered(ledger, setting.alloc, line, answer)?;
-    Ok((power, said))
+    match record_answered(ledger, setting.alloc, line, answer) {
+        Ok(said) => Ok((power, said)),
+        Err(refusal) => {
+            release(power);
+            Err(refusal)
+        }
+    }
 }
 
 /// Runs a line that moves no hart and powers no board on, and the ledger follows it. Nobody asks what it said.

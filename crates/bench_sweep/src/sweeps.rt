@@ -36,6 +36,7 @@ use jobs::{Chunk, Jobs, Part, Progress, Sink, Window, hand_on_all};
 use script_lang::{Line, Script, parse_script};
 use std::alloc::Global;
 use std::io::Write;
+use std::mem::replace;
 use std::thread::Threads;
 
 /// What a bench writes, and what it counts.
@@ -220,14 +221,23 @@ fn sweep_stretch<R: Threads + Sync, P: Progress, C: Crew + Sync, W: Write>(
     ensures refused { IfErr result (λ e. (e ≡ Memory) ⊎ (e ≡ Output)) }
 {
     let LifeSpan { count, next } = stretch_of(runner, site)?;
-    let made_here = calls_between(caller, site, &next)?;
+    let made_here = match calls_between(caller, site, &next) {
+        Ok(calls) => calls,
+        Err(refusal) => {
+            next.release();
+            return Err(refusal);
+        }
+    };
     let calls = Calls {
         caller,
         made,
         count: made_here,
     };
-    run_at_calls(jobs, runner, count, site, calls, within, report)?;
-    *site = next;
+    if let Err(refusal) = run_at_calls(jobs, runner, count, site, calls, within, report) {
+        next.release();
+        return Err(refusal);
+    }
+    replace(site, next).release();
     Ok((count, made_here))
 }
 
@@ -262,11 +272,19 @@ fn sweep_caller<R: Threads + Sync, P: Progress, C: Crew + Sync, W: Write>(
             lines: &runner.lines[from..],
             recovery: runner.recovery,
         };
-        let (count, calls) = sweep_stretch(jobs, &rest, &mut site, caller, made, left, report)?;
-        from += count;
-        made += calls;
-        left = left.behind(calls);
+        match sweep_stretch(jobs, &rest, &mut site, caller, made, left, report) {
+            Ok((count, calls)) => {
+                from += count;
+                made += calls;
+                left = left.behind(calls);
+            }
+            Err(refusal) => {
+                site.release();
+                return Err(refusal);
+            }
+        }
     }
+    site.release();
     Ok(made)
 }
 
@@ -290,11 +308,14 @@ pub fn run_plain<C: Crew>(runner: &Runner<'_, C>, begin: &Site) -> Result<Site, 
             lines: &runner.lines[from..],
             recovery: runner.recovery,
         };
-        let LifeSpan { count, next } = stretch_of(&rest, &site)?;
+        let lived = stretch_of(&rest, &site);
+        site.release();
+        let LifeSpan { count, next } = lived?;
         from += count;
         site = next;
     }
     if site.off.disk.refused() != 0 {
+        site.release();
         return Err(Refusal::Memory);
     }
     Ok(site)

@@ -1,8 +1,8 @@
 use Rattle.bench_sweep.proofs.Begun.{moved_by}
 use Rattle.bench_sweep.proofs.begins.run_before_format.Goals as goal
 
-pub returns-clause-moved : goal.returns-clause-moved
-returns-clause-moved g c = λ b is.
+pub returns-in-Ok-clause-moved : goal.returns-in-Ok-clause-moved
+returns-in-Ok-clause-moved g c = λ b is.
     let size = c.args.setting.now.shape.now in
-    moved_by size c.args.line.now b c.line_with_cuts-after.result.1 c.line_with_cuts-after.result.0.fill c.line_with_cuts-after.result.0.power c.line_with_cuts-after.result.0.payloads c.in_ok-formatted.formatted (c.in_ok-begins_off.ensures.off size b is.0 is.2)
-    (c.line_with_cuts-after.ensures.reported b is) c.in_ok-formatted.ensures.formats
+    moved_by size c.args.line.now b c.line_with_cuts-after.result.1 c.line_with_cuts-after.result.0.fill c.line_with_cuts-after.result.0.power c.line_with_cuts-after.result.0.payloads c.in-Ok.formatted (c.is_off.ensures c.if-not-is_off.false size b is.0 is.2)
+    (c.line_with_cuts-after.ensures.reported b is) c.in-Ok.ensures.formats

@@ -1,6 +1,6 @@
 use Rattle.std.proofs.Common.{◌≡◌, ℕ, [], ◌∷◌, map, take, Some, refl, sym, ap, arith}
 use Rattle.simdisk.specs.declared.fill.Fill.{Fill}
-use Rattle.simdisk.specs.declared.fill.Fill.TheVariants.{Byte, Alternating, Old, New}
+use Rattle.simdisk.specs.declared.fill.Fill.TheVariants.{Byte, Alternating, Old}
 use Rattle.bench_sweep.specs.Swept.{cell}
 use Rattle.bench_sweep.proofs.Rowed.{judged_none, judged_more, judged_as}
 use Rattle.bench_sweep.proofs.Written.{map_more}
@@ -19,5 +19,7 @@ loop-fill-preserved g c = λ b r.
 
 pub returns-clause-judged : goal.returns-clause-judged
 returns-clause-judged g c = λ b r.
-    let all : c.loop-fill.fill-index ≡ 5 = omega arith in
-    judged_as _ _ _ _ (ap (λ (k : ℕ). map (λ (fill : Fill). cell c.args.point.caller c.args.point.number (Some fill)) (take k (Byte 0 ∷ Byte 255 ∷ Alternating ∷ Old ∷ New ∷ []))) all) (c.loop-fill.invariant b r)
+    let all : c.loop-fill.fill-index ≡ 4 = omega arith in
+    judged_more _ _ _ _ _
+    (judged_as _ _ _ _ (ap (λ (k : ℕ). map (λ (fill : Fill). cell c.args.point.caller c.args.point.number (Some fill)) (take k (Byte 0 ∷ Byte 255 ∷ Alternating ∷ Old ∷ []))) all) (c.loop-fill.invariant b r))
+    (c.in_ok-judge_last.ensures.kept b r)

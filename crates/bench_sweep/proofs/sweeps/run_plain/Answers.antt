@@ -19,8 +19,8 @@ loop-from-init g c =
       lives = λ b r. none_yet _ (unpowered b) _ _ (off_sits size (unpowered b) _ _ _ (copy.runs size b r));
     }
 
-pub stretch_of-requires-clause-lines : goal.stretch_of-requires-clause-lines
-stretch_of-requires-clause-lines g c κs within =
+pub stretch_of-lived-requires-clause-lines : goal.stretch_of-lived-requires-clause-lines
+stretch_of-lived-requires-clause-lines g c κs within =
     let shape = c.args.runner.now.setting.shape.now in
     swept_take shape _ _ (swept_drop shape c.loop-from.from c.args.runner.now.lines.now c.requires.lines)
 

@@ -5,12 +5,6 @@ use Rattle.bench_sweep.proofs.site.Going.copy.Goals as goal
 pub returns-in_err-power-clause-stays : goal.returns-in_err-power-clause-stays
 returns-in_err-power-clause-stays c = λ size b r. copied_runs size b c.args.self.now.power _ c.args.self.now.payloads _ c.args.self.now.ledger _ r (c.copy_power.ensures.stays size b r.agrees) refl (λ k t. t)
 
-pub returns-in_err-payloads-clause-stays : goal.returns-in_err-payloads-clause-stays
-returns-in_err-payloads-clause-stays c = λ size b r. copied_runs size b c.args.self.now.power _ c.args.self.now.payloads _ c.args.self.now.ledger _ r (c.copy_power.ensures.stays size b r.agrees) refl (λ k t. t)
-
-pub returns-in_err-ledger-clause-stays : goal.returns-in_err-ledger-clause-stays
-returns-in_err-ledger-clause-stays c = λ size b r. copied_runs size b c.args.self.now.power _ c.args.self.now.payloads _ c.args.self.now.ledger _ r (c.copy_power.ensures.stays size b r.agrees) refl (λ k t. t)
-
 pub returns-clause-stays : goal.returns-clause-stays
 returns-clause-stays c = λ size b r. copied_runs size b c.args.self.now.power _ c.args.self.now.payloads _ c.args.self.now.ledger _ r (c.copy_power.ensures.stays size b r.agrees) refl (λ k t. t)
 
