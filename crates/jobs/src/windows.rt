@@ -147,7 +147,8 @@ fn no_rows<Row: Drop>(
     Ok(slots)
 }
 
-/// Makes so many rows from that number on, and hands them on. Where there are several threads, these make them first.
+/// Makes so many rows from that number on, and hands them on. Where there are several threads, and several rows, these make
+/// them first.
 fn run_window<R: Threads + Sync, P: Progress, T: Task, S: Sink<T::Row>>(
     jobs: &Jobs<'_, R, P>,
     alloc: Global,
@@ -162,15 +163,9 @@ fn run_window<R: Threads + Sync, P: Progress, T: Task, S: Sink<T::Row>>(
     ensures refused { IfErr result (λ e. (e ≡ Memory) ⊎ (e ≡ Output)) }
 {
     let mut slots = no_rows::<T::Row>(alloc, size)?;
-    if 1 < jobs.count {
-        make_rows(
-            jobs.rt,
-            alloc,
-            jobs.count,
-            task,
-            first,
-            slots.as_mut_slice(),
-        )?;
+    let threads = jobs.count.min(size);
+    if 1 < threads {
+        make_rows(jobs.rt, alloc, threads, task, first, slots.as_mut_slice())?;
     }
     hand_on(task, first, slots.as_mut_slice(), sink, &jobs.progress)
 }
