@@ -1,10 +1,10 @@
 //! Rows that several threads make, each of the first place that no thread has taken yet.
 
-ghost use Rattle.std.specs.Prelude.{◌≡◌, ◌+◌, ◌<◌, ◌^◌, ℕ, [], All, length, IfOk, IfErr, OnOk, slice_index_or};
-ghost use Rattle.board_model.specs.declared.refusal.Refusal.TheVariants.{Memory};
+ghost use Rattle.std.specs.Prelude.{◌≡◌, ◌+◌, ◌<◌, ◌^◌, ℕ, All, length, slice_index_or};
+ghost use Rattle.std.specs.Thread.{IsSend, IsSync};
 ghost use Rattle.jobs.specs.Handed.{IsPlaced, MayBeMade};
 
-use crate::windows::{Jobs, Task};
+use crate::windows::Task;
 use board_model::Refusal;
 use std::alloc::Global;
 use std::sync::atomic::{AtomicU64, Ordering};
@@ -40,38 +40,76 @@ fn make_some<T: Task>(
     }
 }
 
-/// Makes rows of a window by a thread for each of the hands, into these.
-fn make_by_hands<R: Threads + Sync, T: Task>(
-    rt: &R,
+/// The rows that one thread makes of a window.
+fn made_alone<T: Task>(
+    alloc: Global,
     task: &T,
     first: u64,
     size: usize,
-    hands: &mut [Vec<Placed<T::Row>>],
-)
-    requires some { 0 < length hands.old }
+    next: &AtomicU64,
+) -> Vec<Placed<T::Row>>
     requires room { first + size < 2 ^ 64 }
     requires has { (i : ℕ) → i < size → T.has task.now (first + i) }
-    requires made { (i : ℕ) (d : _) → i < length hands.old
-        → All (IsPlaced (T.is_row task.now) first size) (slice_index_or hands.old i d).items }
-    ensures made { (i : ℕ) (d : _) → i < length hands.old
-        → All (IsPlaced (T.is_row task.now) first size) (slice_index_or hands.new i d).items }
-    ensures as_many { length hands.new ≡ length hands.old }
+    ensures { All (IsPlaced (T.is_row task.now) first size) result.items }
 {
-    let next = AtomicU64::new(0);
-    let count = hands.len();
-    thread::for_each_mut(
-        rt,
-        hands,
-        count,
-        &|_: usize, made: &mut Vec<Placed<T::Row>>|
-            requires room { first + size < 2 ^ 64 }
-            requires has { (k : ℕ) → k < size → T.has task.now (first + k) }
-            requires made { All (IsPlaced (T.is_row task.now) first size) made.old.items }
-            ensures { All (IsPlaced (T.is_row task.entry.now) first size) made.new.items }
-        {
-            make_some(task, first, size, &next, made);
-        },
-    );
+    let mut made = Vec::new(alloc);
+    make_some(task, first, size, next, &mut made);
+    made
+}
+
+/// Rows, and those of another thread behind them. Where memory is refused these are left out.
+fn with_others<T: Task>(
+    task: &T,
+    first: u64,
+    size: usize,
+    made: Vec<Placed<T::Row>>,
+    others: Vec<Placed<T::Row>>,
+) -> Vec<Placed<T::Row>>
+    requires made { All (IsPlaced (T.is_row task.now) first size) made.items }
+    requires others { All (IsPlaced (T.is_row task.now) first size) others.items }
+    ensures { All (IsPlaced (T.is_row task.now) first size) result.items }
+{
+    let _task = task;
+    let _first = first;
+    let _size = size;
+    let mut all = made;
+    let mut others = others;
+    let _all = all.append(&mut others);
+    all
+}
+
+/// Makes rows as [`made_alone`] does, by so many threads. This one makes each of the others, so that the system finds a processor of its own
+/// for each, and then makes rows beside them.
+#[cycle(hands)]
+fn made_by<R: Threads + Sync, T: Task>(
+    rt: &R,
+    alloc: Global,
+    threads: usize,
+    task: &T,
+    first: u64,
+    size: usize,
+    next: &AtomicU64,
+) -> Vec<Placed<T::Row>>
+    requires some { 0 < threads }
+    requires room { first + size < 2 ^ 64 }
+    requires has { (i : ℕ) → i < size → T.has task.now (first + i) }
+    ensures { All (IsPlaced (T.is_row task.now) first size) result.items }
+{
+    if threads == 1 {
+        return made_alone(alloc, task, first, size, next);
+    }
+    let fewer = threads - 1;
+    let one = move || -> Vec<Placed<T::Row>>
+        requires { IsSync T.row × IsSend T.Row.row × (first + size < 2 ^ 64) × ((i : ℕ) → i < size → T.has task.now (first + i)) }
+        ensures { All (IsPlaced (T.is_row task.entry.now) first size) result.items }
+    { made_alone(alloc, task, first, size, next) };
+    let others = move || -> Vec<Placed<T::Row>>
+        requires { IsSync R.row × IsSync T.row × IsSend T.Row.row × (0 < fewer) × (first + size < 2 ^ 64)
+            × ((i : ℕ) → i < size → T.has task.now (first + i)) }
+        ensures { All (IsPlaced (T.is_row task.entry.now) first size) result.items }
+    { made_by(rt, alloc, fewer, task, first, size, next) };
+    let (theirs, ours) = thread::join(rt, one, others);
+    with_others(task, first, size, ours, theirs)
 }
 
 /// Puts a row into its slot.
@@ -94,57 +132,6 @@ fn place_one<T: Task>(
     slots[at] = Some(row);
 }
 
-/// Puts the rows of a hand into their slots.
-fn place_some<T: Task>(
-    task: &T,
-    first: u64,
-    made: &mut Vec<Placed<T::Row>>,
-    slots: &mut [Option<Result<T::Row, Refusal>>],
-)
-    requires made { All (IsPlaced (T.is_row task.now) first (length slots.old)) made.old.items }
-    requires slots { (i : ℕ) (d : _) → i < length slots.old
-        → MayBeMade (T.is_row task.now) (first + i) (slice_index_or slots.old i d) }
-    ensures slots { (i : ℕ) (d : _) → i < length slots.old
-        → MayBeMade (T.is_row task.now) (first + i) (slice_index_or slots.new i d) }
-    ensures as_many { length slots.new ≡ length slots.old }
-{
-    while let Some(one) = made.pop() {
-        place_one(task, first, one, slots);
-    }
-}
-
-/// Puts the rows of all hands into their slots.
-fn place_all<T: Task>(
-    task: &T,
-    first: u64,
-    hands: &mut [Vec<Placed<T::Row>>],
-    slots: &mut [Option<Result<T::Row, Refusal>>],
-)
-    requires made { (i : ℕ) (d : _) → i < length hands.old
-        → All (IsPlaced (T.is_row task.now) first (length slots.old)) (slice_index_or hands.old i d).items }
-    requires slots { (i : ℕ) (d : _) → i < length slots.old
-        → MayBeMade (T.is_row task.now) (first + i) (slice_index_or slots.old i d) }
-    ensures slots { (i : ℕ) (d : _) → i < length slots.old
-        → MayBeMade (T.is_row task.now) (first + i) (slice_index_or slots.new i d) }
-    ensures as_many { length slots.new ≡ length slots.old }
-{
-    for hand in 0..hands.len() {
-        place_some(task, first, &mut hands[hand], slots);
-    }
-}
-
-/// So many hands, none of which has made a row.
-fn no_hands<Row: Drop>(alloc: Global, count: usize) -> Result<Vec<Vec<Placed<Row>>>, Refusal>
-    ensures hands { IfOk result (λ v. (length v.items ≡ count) × All (λ made. made.items ≡ []) v.items) }
-    ensures refused { IfErr result (λ e. e ≡ Memory) }
-{
-    let mut hands = Vec::new(alloc);
-    for _ in 0..count {
-        hands.push(Vec::new(alloc))?;
-    }
-    Ok(hands)
-}
-
 /// Makes rows of the slots, which begin with that number, by so many threads, and puts them there. What memory is lacking for is left
 /// out.
 pub(crate) fn make_rows<R: Threads + Sync, T: Task>(
@@ -154,20 +141,19 @@ pub(crate) fn make_rows<R: Threads + Sync, T: Task>(
     task: &T,
     first: u64,
     slots: &mut [Option<Result<T::Row, Refusal>>],
-) -> Result<(), Refusal>
+)
     requires some { 0 < threads }
     requires room { first + length slots.old < 2 ^ 64 }
     requires has { (i : ℕ) → i < length slots.old → T.has task.now (first + i) }
     requires slots { (i : ℕ) (d : _) → i < length slots.old
         → MayBeMade (T.is_row task.now) (first + i) (slice_index_or slots.old i d) }
-    ensures slots { OnOk result ((i : ℕ) (d : _) → i < length slots.old
-        → MayBeMade (T.is_row task.now) (first + i) (slice_index_or slots.new i d)) }
-    ensures as_many { OnOk result (length slots.new ≡ length slots.old) }
-    ensures refused { IfErr result (λ e. e ≡ Memory) }
+    ensures slots { (i : ℕ) (d : _) → i < length slots.old
+        → MayBeMade (T.is_row task.now) (first + i) (slice_index_or slots.new i d) }
+    ensures as_many { length slots.new ≡ length slots.old }
 {
-    let mut hands = no_hands::<T::Row>(alloc, threads)?;
-    let all = hands.as_mut_slice();
-    make_by_hands(rt, task, first, slots.len(), all);
-    place_all(task, first, all, slots);
-    Ok(())
+    let next = AtomicU64::new(0);
+    let mut made = made_by(rt, alloc, threads, task, first, slots.len(), &next);
+    while let Some(one) = made.pop() {
+        place_one(task, first, one, slots);
+    }
 }

@@ -165,7 +165,7 @@ fn run_window<R: Threads + Sync, P: Progress, T: Task, S: Sink<T::Row>>(
     let mut slots = no_rows::<T::Row>(alloc, size)?;
     let threads = jobs.count.min(size);
     if 1 < threads {
-        make_rows(jobs.rt, alloc, threads, task, first, slots.as_mut_slice())?;
+        make_rows(jobs.rt, alloc, threads, task, first, slots.as_mut_slice());
     }
     hand_on(task, first, slots.as_mut_slice(), sink, &jobs.progress)
 }

@@ -1,6 +1,6 @@
 use Rattle.std.proofs.Common.{◌≡◌, ◌<◌, ◌+◌, ℕ, All, length, slice_index_or}
 use Rattle.jobs.specs.Handed.{IsPlaced, MayBeMade}
-use Rattle.jobs.proofs.hands.place_some.Given as goal
+use Rattle.jobs.proofs.hands.make_rows.Given as goal
 
 abbrev pub invariant-loop-one : goal.invariant-loop-one
 invariant-loop-one g l = record {
