@@ -4,7 +4,7 @@ use Rattle.std.specs.Io.KnownBytes.{Appends}
 use Rattle.report_lines.proofs.Written.{unwritten}
 use Rattle.gdb_protocol.specs.declared.heard.PacketEvent.{PacketEvent}
 use Rattle.gdb_protocol.specs.Replies.{packets_of}
-use Rattle.debug_packets.specs.Answers.{IsReplied}
+use Rattle.debug_talk.specs.Answers.{IsReplied}
 use Rattle.debug_program.specs.Responses.{Says}
 use Rattle.debug_program.proofs.Responses.{says_nothing}
 use Rattle.debug_program.proofs.streams.respond.Goals as goal
