@@ -25,9 +25,9 @@ const MOST_CALLS: u64 = 64;
 
 const MANY_CALLS: u64 = 16;
 
-/// How many calls each chunk of so many has, for so many threads: there are 40 chunks or more, ten or more for each thread, and 32 or more
-/// for each where a chunk has many calls, if there are as many calls. So threads end together, what is written and how far the run is are
-/// told often, and still few chunks begin within the same line.
+/// How many calls each chunk of so many has, for so many threads. If there are as many calls, there are 32 chunks or more, ten or more for
+/// each thread, and 32 or more for each where a chunk has more than 16 calls. So threads end at much the same time, what is written and how
+/// far the run is are told often, and still few chunks begin within the same line.
 pub fn chunk_size(calls: u64, threads: usize) -> u64
     requires { 0 < threads }
     ensures some { 0 < result }

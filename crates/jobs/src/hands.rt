@@ -78,8 +78,8 @@ fn with_others<T: Task>(
     all
 }
 
-/// Makes rows as [`made_alone`] does, by so many threads. This one makes each of the others, so that the system finds a processor of its own
-/// for each, and then makes rows beside them.
+/// Makes rows as [`made_alone`] does, by so many threads. This one makes each of the others, so that the system finds a processor of its
+/// own for each, and then makes rows beside them.
 #[cycle(hands)]
 fn made_by<R: Threads + Sync, T: Task>(
     rt: &R,
