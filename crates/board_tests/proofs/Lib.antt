@@ -1,3 +1,0 @@
-pub mod Crossing
-pub mod Empty
-pub mod FileBytes

@@ -1,0 +1,4 @@
+pub mod Crossing
+pub mod Empty
+pub mod FileBytes
+pub mod Rows

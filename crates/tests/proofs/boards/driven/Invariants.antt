@@ -1,0 +1,13 @@
+use Rattle.std.proofs.Common.{[], true}
+use Rattle.store.specs.Views.{failures_at_open, found_state}
+use Rattle.tallies.specs.BookViews.{id_of, parts_of}
+use Rattle.hart_threads.specs.Begun.{board_of}
+use Rattle.tests.proofs.boards.driven.Given as goal
+
+-- the life that the board has just begun
+abbrev pub ghosts-driven_as-J-Journal : goal.ghosts-driven_as-J-Journal
+ghosts-driven_as-J-Journal g a = record { found = found_state a.parts.store; size = a.shape.now; issued = []; memory = a.parts.bus.ram; book = id_of a.marks.0.0; parts = parts_of a.marks.0.0; failures = failures_at_open a.parts.store; doubts = id_of a.marks.0.1 }
+
+-- and its harts, which the gate may end
+abbrev pub ghosts-driven_as-J-Threaded : goal.ghosts-driven_as-J-Threaded
+ghosts-driven_as-J-Threaded g a = record { turns = a.trial.turns; parting = a.marks.1.0.id; halt = a.marks.1.1; gated = true; machine = board_of a.shape.now a.parts.bus.ram a.parts.bus.doze a.parts.harts.items a.parts.seats }

@@ -1,0 +1,294 @@
+//! Boards that are about to be run, and their runs.
+
+ghost use Rattle.std.specs.Prelude.{◌≡◌, ◌+◌, [], true, Some, IfOk};
+ghost use Rattle.store.specs.Leaves.{IsIdle};
+ghost use Rattle.store.specs.Views.{found_state, failures_at_open};
+ghost use Rattle.hart_threads.specs.Begun.{board_of};
+ghost use Rattle.machine.specs.Held.{IsHeld};
+ghost use Rattle.tallies.specs.BookViews.{id_of, parts_of};
+ghost use Rattle.tests.specs.Begun.{IsBegun};
+
+use crate::dozing::UntilWoken;
+use crate::fixtures::{NEVER, formatted};
+use board::{Board, BoardParts, Payloads};
+use board_console::console;
+use board_model::{BootMode, Command, Refusal, Shape, Slot};
+use disk::{ArmedFault, Disk};
+use hart_threads::{
+    AfterConsole, BootedHarts, Closing, Gate, Rested, SharedBoard, Threaded, Why, drive,
+};
+use rv_decode::Reg;
+use shared_store::{BookPart, Heard, Journal, Locks, NewBook, SharedBus, SharedStore, Unshared};
+use simdisk::SimDisk;
+use std::alloc::Global;
+use std::marker::Brand;
+use std::process::Abort;
+use std::sync::{Mutex, OnceLock, Wait};
+use std::thread::Threads;
+use std::time::Clock;
+use store::Saving;
+use tallies::Halt;
+
+/// Slot 0 boots these bytes, and the other slots nothing.
+fn booting(alloc: Global, payload: &[u8]) -> Result<Payloads, Refusal> {
+    let mut bytes = Vec::new(alloc);
+    bytes.extend_from_slice(payload)?;
+    let mut payloads = Payloads::new(alloc);
+    payloads.set(Slot::new(0).ok_or(Refusal::BadShape)?, bytes);
+    Ok(payloads)
+}
+
+/// The parts of a board that was powered on fresh over a new disk, and its shape.
+pub fn parts_of(
+    alloc: Global,
+    shape: &Shape,
+    payload: &[u8],
+) -> Result<(BoardParts<SimDisk>, Shape), Refusal>
+    ensures held { IfOk result (λ p. IsHeld p.1 p.0.harts.items p.0.tables (Some p.0.seats) p.0.bus.doze) }
+    ensures begun { IfOk result (λ p. IsBegun p.1 p.0.store) }
+{
+    let disk = formatted(alloc, shape)?;
+    let payloads = booting(alloc, payload)?;
+    match Board::power_on(alloc, disk, BootMode::Fresh, &payloads) {
+        Ok(board) => {
+            let shape = board.shape();
+            Ok((board.into_parts(), shape))
+        }
+        Err(unpowered) => Err(unpowered.refusal),
+    }
+}
+
+/// Those parts, with a fault of the disk armed.
+fn armed(parts: BoardParts<SimDisk>, shape: &Shape, fault: ArmedFault) -> BoardParts<SimDisk>
+    requires held { IsHeld shape.now parts.harts.items parts.tables (Some parts.seats) parts.bus.doze }
+    requires begun { IsBegun shape.now parts.store }
+    ensures held { IsHeld shape.now result.harts.items result.tables (Some result.seats) result.bus.doze }
+    ensures begun { IsBegun shape.now result.store }
+{
+    let _ = shape;
+    let mut parts = parts;
+    parts.store.arm(fault);
+    parts
+}
+
+/// More turns than a test has time for.
+pub const ENDLESS: u64 = 1_000_000_000_000;
+
+/// A board's run on threads.
+#[derive(Clone, Copy, Drop)]
+pub struct BoardTrial<'a> {
+    /// The harts, pages and lanes of the board, and what it boots.
+    pub size: (u64, u64, u64),
+    pub payload: &'a [u8],
+    /// How many turns a hart makes at most.
+    pub turns: u64,
+    /// What is issued before the harts run, whatever it is answered under that fault of the disk.
+    pub commands: &'a [Command],
+    pub fault: ArmedFault,
+    /// What the console reads; it waits for this gate first, and tells it when it has left.
+    pub input: &'a [u8],
+    pub until: Option<&'a UntilWoken>,
+}
+
+impl<'a> BoardTrial<'a> {
+    /// So many turns of one hart that boots nothing, with no command, and a console that returns at once.
+    pub fn of(turns: u64) -> BoardTrial<'a> {
+        BoardTrial {
+            size: (1, 1, 1),
+            payload: &[],
+            turns,
+            commands: &[],
+            fault: NEVER,
+            input: b"",
+            until: None,
+        }
+    }
+}
+
+/// How a loop ended: how many turns it made and why it ended, the hart's a0, a1 and pc then, the number of its receipt, how
+/// many of its turns it dozed, and how often it found the board woken.
+#[derive(Drop)]
+pub struct End {
+    pub made: u64,
+    pub why: Why,
+    pub regs: (u64, u64),
+    pub pc: u64,
+    pub receipt: Option<u32>,
+    pub dozed: u64,
+    pub woken: u64,
+}
+
+/// How the loop of a board's first hart ended, what its console wrote, and its disk.
+#[derive(Drop)]
+pub struct Ran {
+    end: Option<End>,
+    said: Vec<u8>,
+    pub disk: SimDisk,
+}
+
+/// How the first of these loops ended.
+fn end_of<J: Threaded>(loops: &[Rested<'_, J>]) -> Option<End> {
+    let ended = &loops.first()?.ended;
+    Some(End {
+        made: ended.made,
+        why: ended.why,
+        regs: (ended.hart.reg(Reg::new(10)), ended.hart.reg(Reg::new(11))),
+        pc: ended.hart.pc(),
+        receipt: ended.told.as_ref().map(|told| told.number()),
+        dozed: ended.looks.made(),
+        woken: ended.looks.woken(),
+    })
+}
+
+/// Issues these commands, whatever they are answered, for the console that is to be.
+fn issue<J: Journal>(
+    store: &mut SharedStore<SimDisk, J>,
+    part: BookPart<J>,
+    heard: &mut Heard<J>,
+    commands: &[Command],
+) {
+    let mut part = part;
+    for command in commands {
+        let (told, _answered) = store.apply(part, heard, *command);
+        part = told;
+    }
+}
+
+/// What the console of a trial writes, and what it heard.
+fn talk<J: Journal, R: Wait + Clock>(
+    rt: &R,
+    alloc: Global,
+    bus: &Mutex<SharedBus<J>>,
+    store: &Mutex<SharedStore<SimDisk, J>>,
+    part: BookPart<J>,
+    heard: Heard<J>,
+    trial: BoardTrial<'_>,
+) -> (Vec<u8>, Heard<J>) {
+    let mut out = Vec::new(alloc);
+    let (mut input, mut heard) = (trial.input, heard);
+    let mut locks = Locks::new(bus, store);
+    if let Some(gate) = trial.until {
+        gate.wait(rt);
+    }
+    let (_part, _left) = console(rt, &mut locks, part, &mut heard, &mut input, &mut out);
+    if let Some(gate) = trial.until {
+        gate.tell();
+    }
+    (out, heard)
+}
+
+/// Runs the harts of a board that was powered on fresh under that gate, with its console.
+pub fn driven<R: Threads + Wait + Clock + Abort + Sync>(
+    rt: &R,
+    alloc: Global,
+    gate: &(dyn Gate + Sync),
+    trial: BoardTrial<'_>,
+) -> Ran
+    ensures { IsIdle (⟦<SimDisk as Disk>⟧.facts result.disk) }
+{
+    let (harts, pages, lanes) = trial.size;
+    let Ok(size) = Shape::new(harts, pages, lanes) else {
+        rt.panic("not a shape")
+    };
+    let Ok((parts, shape)) = parts_of(alloc, &size, trial.payload) else {
+        rt.panic("no board")
+    };
+    let parts = armed(parts, &shape, trial.fault);
+    let Ok(book) = NewBook::new(alloc, shape.harts() + 2) else {
+        rt.panic("no memory")
+    };
+    let Ok(doubts) = NewBook::new(alloc, 2) else {
+        rt.panic("no memory")
+    };
+    let Ok(halt) = Halt::new(alloc) else {
+        rt.panic("no memory")
+    };
+    let marks = ((book, doubts), (OnceLock::new(), halt));
+    driven_as::<Brand, R>(rt, alloc, gate, trial, parts, marks, &shape)
+}
+
+/// How the loop of such a board's first hart ends, and what its console writes.
+pub fn ended<R: Threads + Wait + Clock + Abort + Sync>(
+    rt: &R,
+    alloc: Global,
+    gate: &(dyn Gate + Sync),
+    trial: BoardTrial<'_>,
+) -> (End, Vec<u8>) {
+    let ran = driven(rt, alloc, gate, trial);
+    (ran.end.expect(rt, "a loop"), ran.said)
+}
+
+/// Runs those parts of a board, of a journal that has a name. The marks of its life are the books of its commands and of what is in
+/// doubt, and what ends its loops: what the console says, and the halt.
+fn driven_as<J: Threaded + Send + Sync, R: Threads + Wait + Clock + Abort + Sync>(
+    rt: &R,
+    alloc: Global,
+    gate: &(dyn Gate + Sync),
+    trial: BoardTrial<'_>,
+    parts: BoardParts<SimDisk>,
+    marks: ((NewBook, NewBook), (OnceLock<AfterConsole>, Halt)),
+    shape: &Shape,
+) -> Ran
+    requires held { IsHeld shape.now parts.harts.items parts.tables (Some parts.seats) parts.bus.doze }
+    requires begun { IsBegun shape.now parts.store }
+    requires named { (J.size ≡ shape.now) × (J.found ≡ found_state parts.store) × (J.issued ≡ [])
+        × (J.memory ≡ parts.bus.ram) }
+    requires book { (id_of marks.0.0 ≡ J.book) × (parts_of marks.0.0 ≡ J.parts) × (J.parts ≡ shape.now.harts + 2) }
+    requires doubts { (id_of marks.0.1 ≡ J.doubts) × (parts_of marks.0.1 ≡ 2) }
+    requires opened { failures_at_open parts.store ≡ J.failures }
+    requires machine { J.machine ≡ board_of shape.now J.memory parts.bus.doze parts.harts.items parts.seats }
+    requires driven { (marks.1.0.id ≡ J.parting) × (marks.1.1 ≡ J.halt) × (trial.turns ≡ J.turns) × (J.gated ≡ true) }
+    ensures { IsIdle (⟦<SimDisk as Disk>⟧.facts result.disk) }
+{
+    let BoardParts {
+        harts,
+        seats,
+        tables,
+        bus,
+        store,
+    } = parts;
+    let (books, halting) = marks;
+    let (book, doubts) = books;
+    let (mut whole, boot, mut heard) = Unshared::<SimDisk, J>::new(store, book, doubts);
+    let part = whole.hand_out();
+    let Ok(given) = whole.hand_out_all(alloc, harts.len()) else {
+        rt.panic("no memory")
+    };
+    let booted = BootedHarts {
+        harts,
+        seats,
+        doze: bus.doze,
+        parts: given,
+        turns: trial.turns,
+    };
+    let bus: Mutex<SharedBus<J>> = Mutex::new(SharedBus::new(bus));
+    let mut shared = whole.share();
+    issue(&mut shared, boot, &mut heard, trial.commands);
+    let store = Mutex::new(shared);
+    let (lock, halt) = halting;
+    let closing = Closing::new(lock, halt);
+    let crew = crew::Threads::new(rt);
+    let (rung, told, size) = (&bus, &store, *shape);
+    let board = SharedBoard {
+        saving: Saving { alloc, crew: &crew },
+        tables: &tables,
+        shape: &size,
+        bus: &bus,
+        store: &store,
+        closing: &closing,
+    };
+    let done = drive(
+        rt,
+        &gate,
+        board,
+        booted,
+        part,
+        move |part| talk(rt, alloc, rung, told, part, heard, trial),
+    );
+    let Ok((loops, (said, heard))) = done else {
+        rt.panic("a thread was not had")
+    };
+    let end = end_of(&loops);
+    let disk = store.into_inner().unshare().close(heard).into_disk();
+    Ran { end, said, disk }
+}

@@ -1,0 +1,124 @@
+//! Boards that sleep in their RAM, on threads (docs/THREADS.md, "A doze").
+
+use crate::boards::{BoardTrial, ENDLESS, ended};
+use crate::fixtures::{NEVER, has_come, same};
+use crate::many::CountingGate;
+use board_model::{Command, HartId, RAM_BASE, Reason};
+use disk::ArmedFault;
+use hart_threads::{Gate, Why};
+use std::sync::atomic::{AtomicBool, AtomicU64, Ordering};
+use std::time::Clock;
+
+/// How many turns go by before the board is woken.
+const IDLE: u64 = 100;
+
+/// How many turns more begin once it was woken.
+const MORE: u64 = 5;
+
+/// It lets turns begin until the board was woken, and then so many more.
+#[derive(Drop)]
+pub struct UntilWoken {
+    made: AtomicU64,
+    woken: AtomicBool,
+    more: AtomicU64,
+}
+
+impl UntilWoken {
+    fn new() -> UntilWoken {
+        UntilWoken {
+            made: AtomicU64::new(0),
+            woken: AtomicBool::new(false),
+            more: AtomicU64::new(0),
+        }
+    }
+
+    /// Waits until those turns were made.
+    pub fn wait(&self, clock: &impl Clock) {
+        let _in_time = has_come(clock, &self.made, IDLE);
+    }
+
+    /// The board was woken.
+    pub fn tell(&self) {
+        self.woken.store(true, Ordering::SeqCst);
+    }
+}
+
+impl Gate for UntilWoken {
+    ghost answers = { λ gate hart turn answer. Unit {0} };
+
+    ghost hears = { λ gate hart turn. Unit {0} };
+
+    fn before(&self, _hart: HartId, _turn: u64) -> bool {
+        !self.woken.load(Ordering::SeqCst) || self.more.fetch_add(1, Ordering::SeqCst) < MORE
+    }
+
+    fn after(&self, _hart: HartId, _turn: u64) {
+        self.made.fetch_add(1, Ordering::SeqCst);
+    }
+}
+
+/// A suspend to RAM by `system_suspend`, to go on behind its ECALL with 9: AUIPC x11, 0; ADDI x11, x11, 32; ADDI x10, x0, 0;
+/// ADDI x12, x0, 9; ADDI x16, x0, 0; LUI x17, 0x53555; ADDI x17, x17, 0x350; ECALL, the eighth instruction, and a jump to
+/// itself.
+const SLEEPER: [u8; 36] = [
+    0x97, 0x05, 0x00, 0x00, 0x93, 0x85, 0x05, 0x02, 0x13, 0x05, 0x00, 0x00, 0x13, 0x06, 0x90, 0x00,
+    0x13, 0x08, 0x00, 0x00, 0xb7, 0x58, 0x55, 0x53, 0x93, 0x88, 0x08, 0x35, 0x73, 0x00, 0x00, 0x00,
+    0x6f, 0x00, 0x00, 0x00,
+];
+
+/// Where the jump stands.
+const SITE: u64 = RAM_BASE + 32;
+
+/// How often the sleeper looks at the bus at least before it is woken: its first eight turns are no looks.
+const LOOKS: u64 = IDLE - 8;
+
+/// The hart goes on at its address, with its number in a0 and its opaque value in a1; its turns before were idle.
+#[test]
+fn a_board_that_sleeps_in_its_ram_is_woken_by_its_console(rt: HostRuntime) {
+    let gate = UntilWoken::new();
+    let trial = BoardTrial {
+        payload: &SLEEPER,
+        input: b"wake\nwake\nslot 2\nquit\n",
+        until: Some(&gate),
+        ..BoardTrial::of(ENDLESS)
+    };
+    let (end, said) = ended(&rt, rt.alloc(), &gate, trial);
+    let told = b"wake ok\nwake refused 18\nslot ok 1\nquit\n";
+    same(&rt, said.as_slice(), told.as_slice());
+    same(&rt, (end.regs, end.pc), ((0, 9), SITE));
+    same(&rt, (end.why, end.woken), (Why::Gate, 1));
+    assert!(&rt; LOOKS <= end.dozed);
+}
+
+/// A suspend to RAM by `system_suspend`, to go on where it begins: AUIPC x11, 0; ADDI x10, x0, 0; ADDI x12, x0, -1;
+/// ADDI x16, x0, 0; LUI x17, 0x53555; ADDI x17, x17, 0x350; ECALL, the seventh instruction.
+const DOZER: [u8; 28] = [
+    0x97, 0x05, 0x00, 0x00, 0x13, 0x05, 0x00, 0x00, 0x13, 0x06, 0xf0, 0xff, 0x13, 0x08, 0x00, 0x00,
+    0xb7, 0x58, 0x55, 0x53, 0x93, 0x88, 0x08, 0x35, 0x73, 0x00, 0x00, 0x00,
+];
+
+/// Where its ECALL stands, and the hart while it dozes.
+const ASKS: u64 = RAM_BASE + 24;
+
+/// A store that is over, full or down, and so refuses every command: the board dozes, and no receipt is told.
+#[test]
+fn a_board_dozes_whatever_its_store_would_refuse(rt: HostRuntime) {
+    let full = [Command::Slot(1); 4096];
+    let stores: [(&[Command], ArmedFault); 4] = [
+        (&[], NEVER),
+        (&[Command::Reset(Reason::NoReason)], NEVER),
+        (&full, NEVER),
+        (&[Command::Slot(1)], ArmedFault::FailAt(3)),
+    ];
+    for (commands, fault) in stores {
+        let trial = BoardTrial {
+            payload: &DOZER,
+            commands,
+            fault,
+            ..BoardTrial::of(10)
+        };
+        let (end, _said) = ended(&rt, rt.alloc(), &CountingGate::new(None), trial);
+        same(&rt, (end.made, end.why, end.pc), (10, Why::Turns, ASKS));
+        same(&rt, (end.receipt, end.dozed), (None, 3));
+    }
+}

@@ -1,0 +1,104 @@
+//! Tests: values are compared with the standard, docs/, an outside assembler, emulator or debugger; disks fail, lose power or have
+//! their process killed; tables, crews and whole boards run on threads; and sessions of the console run over files in memory. Here is
+//! what no clause says, and what no script of `crates/examples` shows.
+#![tactic(auto)]
+
+#[cfg(test)]
+mod areas;
+#[cfg(test)]
+mod boards;
+#[cfg(test)]
+mod caches;
+#[cfg(test)]
+mod commands;
+#[cfg(test)]
+mod crews;
+#[cfg(test)]
+mod crowd;
+#[cfg(test)]
+mod decoder;
+#[cfg(test)]
+mod dozing;
+#[cfg(test)]
+mod driven;
+#[cfg(test)]
+mod edges;
+#[cfg(test)]
+mod examiner;
+#[cfg(test)]
+mod files;
+#[cfg(test)]
+mod first_slot;
+#[cfg(test)]
+mod first_use;
+#[cfg(test)]
+mod fixtures;
+#[cfg(test)]
+mod guest;
+#[cfg(test)]
+mod inputs;
+#[cfg(test)]
+mod kept;
+#[cfg(test)]
+mod kept_back;
+#[cfg(test)]
+mod last_bytes;
+#[cfg(test)]
+mod looped;
+#[cfg(test)]
+mod many;
+#[cfg(test)]
+mod many_writes;
+#[cfg(test)]
+mod meeting;
+mod memory_disk;
+#[cfg(test)]
+mod memory_files;
+#[cfg(test)]
+mod mine;
+#[cfg(test)]
+mod model;
+#[cfg(test)]
+mod packets;
+#[cfg(test)]
+mod plains;
+#[cfg(test)]
+mod programs;
+#[cfg(test)]
+mod race;
+#[cfg(test)]
+mod runs;
+#[cfg(test)]
+mod sbi;
+#[cfg(test)]
+mod script_faults;
+#[cfg(test)]
+mod script_limits;
+#[cfg(test)]
+mod scripts;
+#[cfg(test)]
+mod sectors;
+#[cfg(test)]
+mod sessions;
+#[cfg(test)]
+mod sites;
+#[cfg(test)]
+mod steps;
+#[cfg(test)]
+mod stopped;
+#[cfg(test)]
+mod stored;
+#[cfg(test)]
+mod streams;
+#[cfg(test)]
+mod suspensions;
+#[cfg(test)]
+mod tables;
+#[cfg(test)]
+mod traps;
+#[cfg(test)]
+mod trials;
+#[cfg(test)]
+mod two_tables;
+#[cfg(test)]
+mod two_threads;

@@ -1,0 +1,395 @@
+//! Runs of `sbiboard` over files: what a session answers, what its disk's file holds after it, and what is refused.
+
+use crate::fixtures::same;
+use crate::memory_disk::Failing;
+use crate::memory_files::Broken;
+use crate::runs::{KEEP, OLD, PLAIN, Run, all_come, all_left, has_status};
+use crate::trials::SLEEPS;
+use std::test::*;
+
+static ANSWERED: [Run; 2] = [
+    Run {
+        lines: b"slot 1\nstate\nslot 4\ndiscard\nhello\nquit\n",
+        told: b"slot ok 1\nstate slot 1 reason 0 image none next 0\nslot refused 9\ndiscard refused 8\n?\nquit\n",
+        ..PLAIN
+    },
+    Run {
+        words: &OLD,
+        lines: b"state",
+        told: b"state slot 1 reason 0 image none next 0\n",
+        ..PLAIN
+    },
+];
+
+#[test]
+fn the_console_answers_and_the_disk_keeps(rt: HostRuntime) -> Result<(), Fail> {
+    all_come(&rt, rt.alloc(), b"", &ANSWERED)
+}
+
+const FILES: [&str; 15] = [
+    "sbiboard", "--disk", "D", "--mode", "fresh", "--turns", "10", "--p0", "p0", "--p1", "p1",
+    "--p2", "p2", "--p3", "p3",
+];
+
+/// A session that shows the state.
+const SEEN: Run = Run {
+    words: &KEEP,
+    lines: b"state\n",
+    ..PLAIN
+};
+
+/// For each slot: a session sets it, in the next one its guest suspends the board, and the last one shows the state.
+static SLOTS: [[Run; 3]; 4] = [
+    [
+        Run {
+            lines: b"slot 0\n",
+            told: b"slot ok 1\n",
+            ..PLAIN
+        },
+        Run {
+            words: &FILES,
+            payloads: [SLEEPS, b"", b"", b""],
+            ..PLAIN
+        },
+        Run {
+            told: b"state slot 0 reason 0 image 0 next 1\n",
+            ..SEEN
+        },
+    ],
+    [
+        Run {
+            lines: b"slot 1\n",
+            told: b"slot ok 1\n",
+            ..PLAIN
+        },
+        Run {
+            words: &FILES,
+            payloads: [b"", SLEEPS, b"", b""],
+            ..PLAIN
+        },
+        Run {
+            told: b"state slot 1 reason 0 image 0 next 1\n",
+            ..SEEN
+        },
+    ],
+    [
+        Run {
+            lines: b"slot 2\n",
+            told: b"slot ok 1\n",
+            ..PLAIN
+        },
+        Run {
+            words: &FILES,
+            payloads: [b"", b"", SLEEPS, b""],
+            ..PLAIN
+        },
+        Run {
+            told: b"state slot 2 reason 0 image 0 next 1\n",
+            ..SEEN
+        },
+    ],
+    [
+        Run {
+            lines: b"slot 3\n",
+            told: b"slot ok 1\n",
+            ..PLAIN
+        },
+        Run {
+            words: &FILES,
+            payloads: [b"", b"", b"", SLEEPS],
+            ..PLAIN
+        },
+        Run {
+            told: b"state slot 3 reason 0 image 0 next 1\n",
+            ..SEEN
+        },
+    ],
+];
+
+/// The guest of one file runs where its slot boots, and in no other.
+#[test]
+fn each_payload_file_is_for_its_slot(rt: HostRuntime) -> Result<(), Fail> {
+    for runs in &SLOTS {
+        all_come(&rt, rt.alloc(), b"", runs)?;
+    }
+    Ok(())
+}
+
+const LONG: [u8; 4097] = [0; 4097];
+
+/// The digits of a payload that is longer than RAM.
+const LONG_PAYLOAD: [u8; 8194] = [b'0'; 8194];
+
+const FORMATTED: Run = Run {
+    words: &OLD,
+    lines: b"state\n",
+    told: b"state slot 0 reason 0 image none next 0\n",
+    ..PLAIN
+};
+
+static LONG_GUEST: [Run; 2] = [
+    Run {
+        payloads: [&LONG_PAYLOAD, b"", b"", b""],
+        words: &[
+            "sbiboard", "--disk", "D", "--mode", "fresh", "--new", "--turns", "1", "--p0", "p0",
+        ],
+        lines: b"slot 1\n",
+        status: 1,
+        faults: b"sbiboard: refusal 3\n",
+        ..PLAIN
+    },
+    FORMATTED,
+];
+
+/// A payload that is longer than RAM: the new disk was formatted, and stands in the place of the old one.
+#[test]
+fn a_refused_session_writes_its_disk(rt: HostRuntime) -> Result<(), Fail> {
+    let disk = all_left(&rt, rt.alloc(), b"another", &LONG_GUEST)?;
+    same(&rt, disk.len(), 13312);
+    Ok(())
+}
+
+static FULL: [Run; 2] = [
+    Run {
+        lines: b"slot 1\nslot 2\nslot 3\n",
+        room: 12,
+        status: 1,
+        told: b"slot ok 1\n",
+        faults: b"sbiboard: refusal 16\n",
+        ..PLAIN
+    },
+    Run {
+        told: b"state slot 2 reason 0 image none next 0\n",
+        ..FORMATTED
+    },
+];
+
+/// The answers do not fit: the command of the first line was acknowledged, and stands in the file.
+#[test]
+fn an_output_that_fails_is_a_refusal(rt: HostRuntime) -> Result<(), Fail> {
+    all_come(&rt, rt.alloc(), b"", &FULL)
+}
+
+/// A session that makes a disk, and sets its slot.
+const SET: Run = Run {
+    lines: b"slot 1\n",
+    told: b"slot ok 1\n",
+    ..PLAIN
+};
+
+const SYNCED: [&str; 9] = [
+    "sbiboard", "--disk", "D", "--mode", "fresh", "--new", "--turns", "1", "--sync",
+];
+
+static WRITES: [Run; 1] = [SET];
+
+static SYNCS: [Run; 1] = [Run {
+    words: &SYNCED,
+    ..SET
+}];
+
+static WRITES_AGAIN: [Run; 1] = [Run { words: &OLD, ..SET }];
+
+/// With `--sync` the file holds the same.
+#[test]
+fn a_file_holds_the_disk_either_way(rt: HostRuntime) -> Result<(), Fail> {
+    let written = all_left(&rt, rt.alloc(), b"", &WRITES)?;
+    let kept = all_left(&rt, rt.alloc(), b"", &SYNCS)?;
+    same(&rt, written.as_slice(), kept.as_slice());
+    Ok(())
+}
+
+/// What stands behind a disk in its file stays, but for a new disk.
+#[test]
+fn what_stands_behind_a_disk_stays(rt: HostRuntime) -> Result<(), Fail> {
+    let mut longer = all_left(&rt, rt.alloc(), b"", &WRITES)?;
+    longer.extend_from_slice(&[7; 512])?;
+    let longer = all_left(&rt, rt.alloc(), &longer, &WRITES_AGAIN)?;
+    same(&rt, longer.len(), 13824);
+    same(&rt, longer.get(13312..), Some([7; 512].as_slice()));
+    Ok(())
+}
+
+/// The bytes of the disk's file, and a run over it.
+static FAULTS: [(&[u8], &[Run]); 9] = [
+    (
+        b"",
+        &[Run {
+            words: &FILES,
+            broken: Broken::Payload(b'2'),
+            status: 1,
+            faults: b"sbiboard: file\nsbiboard: p2: it is not there\n",
+            ..PLAIN
+        }],
+    ),
+    (
+        b"",
+        &[Run {
+            broken: Broken::Hold,
+            status: 1,
+            faults: b"sbiboard: file\nsbiboard: D: another has it\n",
+            ..PLAIN
+        }],
+    ),
+    (
+        b"",
+        &[Run {
+            words: &OLD,
+            broken: Broken::Disk(Failing::Length),
+            status: 1,
+            faults: b"sbiboard: file\nsbiboard: D: it fails\n",
+            ..PLAIN
+        }],
+    ),
+    (
+        &LONG,
+        &[Run {
+            words: &OLD,
+            broken: Broken::Disk(Failing::Read),
+            status: 1,
+            faults: b"sbiboard: file\nsbiboard: D: it fails\n",
+            ..PLAIN
+        }],
+    ),
+    (
+        &LONG,
+        &[Run {
+            words: &OLD,
+            status: 1,
+            faults: b"sbiboard: refusal 3\n",
+            ..PLAIN
+        }],
+    ),
+    (
+        &[0; 512],
+        &[Run {
+            words: &OLD,
+            status: 1,
+            faults: b"sbiboard: refusal 1\n",
+            ..PLAIN
+        }],
+    ),
+    (
+        b"",
+        &[Run {
+            broken: Broken::Disk(Failing::Write),
+            lines: b"slot 1\n",
+            status: 1,
+            told: b"slot ok 1\n",
+            faults: b"sbiboard: file\nsbiboard: D: it fails\nsbiboard: the commands of this session are lost\n",
+            ..PLAIN
+        }],
+    ),
+    (
+        b"",
+        &[Run {
+            words: &SYNCED,
+            broken: Broken::Keep,
+            status: 1,
+            faults: b"sbiboard: file\nsbiboard: D.new: no room\n",
+            ..PLAIN
+        }],
+    ),
+    (
+        b"",
+        &[Run {
+            words: &OLD,
+            status: 1,
+            faults: b"sbiboard: refusal 3\n",
+            ..PLAIN
+        }],
+    ),
+];
+
+#[test]
+fn each_fault_has_its_status_and_its_line(rt: HostRuntime) -> Result<(), Fail> {
+    for (disk, runs) in &FAULTS {
+        all_come(&rt, rt.alloc(), disk, runs)?;
+    }
+    Ok(())
+}
+
+/// Runs of words that ask for no session.
+static STATUSES: [Run; 13] = [
+    Run {
+        words: &["sbiboard", "--help"],
+        ..PLAIN
+    },
+    Run {
+        words: &["sbiboard", "--version"],
+        ..PLAIN
+    },
+    Run {
+        words: &["sbiboard"],
+        status: 2,
+        ..PLAIN
+    },
+    // No disk, and no mode.
+    Run {
+        words: &["sbiboard", "--mode", "fresh"],
+        status: 2,
+        ..PLAIN
+    },
+    Run {
+        words: &["sbiboard", "--disk", "D"],
+        status: 2,
+        ..PLAIN
+    },
+    Run {
+        words: &["sbiboard", "--disk", "", "--mode", "fresh"],
+        status: 2,
+        ..PLAIN
+    },
+    Run {
+        words: &["sbiboard", "--disk", "D", "--mode", "asleep"],
+        status: 2,
+        ..PLAIN
+    },
+    // An option twice.
+    Run {
+        words: &["sbiboard", "--disk", "D", "--disk", "E", "--mode", "fresh"],
+        status: 2,
+        ..PLAIN
+    },
+    // Numbers out of their limits.
+    Run {
+        words: &["sbiboard", "--disk", "D", "--mode", "fresh", "--harts", "9"],
+        status: 2,
+        ..PLAIN
+    },
+    Run {
+        words: &["sbiboard", "--disk", "D", "--mode", "fresh", "--pages", "0"],
+        status: 2,
+        ..PLAIN
+    },
+    Run {
+        words: &["sbiboard", "--disk", "D", "--mode", "fresh", "--lanes", "5"],
+        status: 2,
+        ..PLAIN
+    },
+    Run {
+        words: &["sbiboard", "--disk", "D", "--mode", "fresh", "--turns", "0"],
+        status: 2,
+        ..PLAIN
+    },
+    Run {
+        words: &[
+            "sbiboard",
+            "--disk",
+            "D",
+            "--mode",
+            "fresh",
+            "--turns",
+            "1000000001",
+        ],
+        status: 2,
+        ..PLAIN
+    },
+];
+
+#[test]
+fn words_that_ask_for_no_session_have_their_status(rt: HostRuntime) {
+    for run in &STATUSES {
+        has_status(&rt, rt.alloc(), run);
+    }
+}

@@ -1,2 +1,0 @@
-pub mod Race
-pub mod Crowd
