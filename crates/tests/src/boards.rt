@@ -1,6 +1,6 @@
 //! Boards that are about to be run, and their runs.
 
-ghost use Rattle.std.specs.Prelude.{◌≡◌, ◌+◌, [], true, Some, IfOk};
+ghost use Rattle.std.specs.Prelude.{◌≡◌, ◌+◌, [], true, Some, All, IfOk, vec_len};
 ghost use Rattle.store.specs.Leaves.{IsIdle};
 ghost use Rattle.store.specs.Views.{found_state, failures_at_open};
 ghost use Rattle.hart_threads.specs.Begun.{board_of};
@@ -26,7 +26,7 @@ use std::process::Abort;
 use std::sync::{Mutex, OnceLock, Wait};
 use std::thread::Threads;
 use std::time::Clock;
-use store::Saving;
+use store::{Saving, Store};
 use tallies::Halt;
 
 /// Slot 0 boots these bytes, and the other slots nothing.
@@ -218,6 +218,39 @@ pub fn ended<R: Threads + Wait + Clock + Abort + Sync>(
     (ran.end.expect(rt, "a loop"), ran.said)
 }
 
+/// The store of a life that has just begun, with its books, shared by its console and so many harts once these commands were issued;
+/// the console's part, those of the harts, and what the console has heard.
+fn shared<J: Threaded>(
+    rt: &impl Abort,
+    alloc: Global,
+    begun: (Store<SimDisk>, (NewBook, NewBook)),
+    harts: usize,
+    commands: &[Command],
+) -> (
+    SharedStore<SimDisk, J>,
+    BookPart<J>,
+    Vec<BookPart<J>>,
+    Heard<J>,
+)
+    requires begun { IsBegun J.size begun.0 }
+    requires named { (J.found ≡ found_state begun.0) × (J.issued ≡ []) }
+    requires book { (id_of begun.1.0 ≡ J.book) × (parts_of begun.1.0 ≡ J.parts) × (J.parts ≡ harts + 2) }
+    requires doubts { (id_of begun.1.1 ≡ J.doubts) × (parts_of begun.1.1 ≡ 2) }
+    requires opened { failures_at_open begun.0 ≡ J.failures }
+    ensures many { vec_len result.2 ≡ harts }
+    ensures fresh { All (λ p. p.told ≡ []) result.2.items }
+{
+    let (store, books) = begun;
+    let (mut whole, boot, mut heard) = Unshared::<SimDisk, J>::new(store, books.0, books.1);
+    let part = whole.hand_out();
+    let Ok(given) = whole.hand_out_all(alloc, harts) else {
+        rt.panic("no memory")
+    };
+    let mut store = whole.share();
+    issue(&mut store, boot, &mut heard, commands);
+    (store, part, given, heard)
+}
+
 /// Runs those parts of a board, of a journal that has a name. The marks of its life are the books of its commands and of what is in
 /// doubt, and what ends its loops: what the console says, and the halt.
 fn driven_as<J: Threaded + Send + Sync, R: Threads + Wait + Clock + Abort + Sync>(
@@ -248,12 +281,13 @@ fn driven_as<J: Threaded + Send + Sync, R: Threads + Wait + Clock + Abort + Sync
         store,
     } = parts;
     let (books, halting) = marks;
-    let (book, doubts) = books;
-    let (mut whole, boot, mut heard) = Unshared::<SimDisk, J>::new(store, book, doubts);
-    let part = whole.hand_out();
-    let Ok(given) = whole.hand_out_all(alloc, harts.len()) else {
-        rt.panic("no memory")
-    };
+    let (store, part, given, heard) = shared::<J>(
+        rt,
+        alloc,
+        (store, books),
+        harts.len(),
+        trial.commands,
+    );
     let booted = BootedHarts {
         harts,
         seats,
@@ -262,9 +296,7 @@ fn driven_as<J: Threaded + Send + Sync, R: Threads + Wait + Clock + Abort + Sync
         turns: trial.turns,
     };
     let bus: Mutex<SharedBus<J>> = Mutex::new(SharedBus::new(bus));
-    let mut shared = whole.share();
-    issue(&mut shared, boot, &mut heard, trial.commands);
-    let store = Mutex::new(shared);
+    let store = Mutex::new(store);
     let (lock, halt) = halting;
     let closing = Closing::new(lock, halt);
     let crew = crew::Threads::new(rt);
