@@ -177,6 +177,20 @@ fn talk<J: Journal, R: Wait + Clock>(
     (out, heard)
 }
 
+/// The marks of a life: the books of its commands and of what is in doubt, and what ends its loops: what the console says, and the
+/// halt.
+type Marks = ((NewBook, NewBook), (OnceLock<AfterConsole>, Halt));
+
+/// New marks, of which the book of commands has so many parts.
+fn new_marks(rt: &impl Abort, alloc: Global, parts: u32) -> Marks
+    ensures { (parts_of result.0.0 ≡ parts) × (parts_of result.0.1 ≡ 2) }
+{
+    let book = NewBook::new(alloc, parts).expect(rt, "memory");
+    let doubts = NewBook::new(alloc, 2).expect(rt, "memory");
+    let halt = Halt::new(alloc).expect(rt, "memory");
+    ((book, doubts), (OnceLock::new(), halt))
+}
+
 /// Runs the harts of a board that was powered on fresh under that gate, with its console.
 pub fn driven<R: Threads + Wait + Clock + Abort + Sync>(
     rt: &R,
@@ -194,16 +208,7 @@ pub fn driven<R: Threads + Wait + Clock + Abort + Sync>(
         rt.panic("no board")
     };
     let parts = armed(parts, &shape, trial.fault);
-    let Ok(book) = NewBook::new(alloc, shape.harts() + 2) else {
-        rt.panic("no memory")
-    };
-    let Ok(doubts) = NewBook::new(alloc, 2) else {
-        rt.panic("no memory")
-    };
-    let Ok(halt) = Halt::new(alloc) else {
-        rt.panic("no memory")
-    };
-    let marks = ((book, doubts), (OnceLock::new(), halt));
+    let marks = new_marks(rt, alloc, shape.harts() + 2);
     driven_as::<Brand, R>(rt, alloc, gate, trial, parts, marks, &shape)
 }
 
@@ -251,15 +256,14 @@ fn shared<J: Threaded>(
     (store, part, given, heard)
 }
 
-/// Runs those parts of a board, of a journal that has a name. The marks of its life are the books of its commands and of what is in
-/// doubt, and what ends its loops: what the console says, and the halt.
+/// Runs those parts of a board, of a journal that has a name, with the marks of its life.
 fn driven_as<J: Threaded + Send + Sync, R: Threads + Wait + Clock + Abort + Sync>(
     rt: &R,
     alloc: Global,
     gate: &(dyn Gate + Sync),
     trial: BoardTrial<'_>,
     parts: BoardParts<SimDisk>,
-    marks: ((NewBook, NewBook), (OnceLock<AfterConsole>, Halt)),
+    marks: Marks,
     shape: &Shape,
 ) -> Ran
     requires held { IsHeld shape.now parts.harts.items parts.tables (Some parts.seats) parts.bus.doze }
