@@ -62,8 +62,8 @@ fn hand_on(rt: &impl Abort, disk: &mut CachedDisk<SimDisk>, count: u8) -> Result
     write_byte(rt, disk, 11, 9)
 }
 
-/// So many sectors are handed on, and that call of the device fails meanwhile, none where it is 0. They read as before, and the next sync keeps
-/// them.
+/// So many sectors are handed on, and that call of the device fails meanwhile, none where it is 0. They read as before, and the next
+/// sync keeps them.
 fn are_kept(
     rt: &impl Abort,
     alloc: Global,
