@@ -1,11 +1,11 @@
 //! What a script's run leaves, also where it was refused memory: how it ended, what a power-on over its disk
 //! finds, and its report.
 
-ghost use Rattle.std.specs.Prelude.{IfErr};
+ghost use Rattle.std.specs.Prelude.{IfErr, IfSome};
 ghost use Rattle.bench_report.specs.Views.{facts};
 ghost use Rattle.store.specs.Leaves.{IsIdle};
 
-use bench_report::run_left;
+use bench_report::{StoppedRun, run_left};
 use board::{Board, Payloads, Unpowered};
 use board_console::StateText;
 use board_model::{BootMode, Durable};
@@ -47,25 +47,36 @@ fn tell_left(rt: &HostRuntime, disk: SimDisk) -> io::Result<()>
     }
 }
 
-/// Runs the script of standard input. Writes `ran`, or `stopped N` by the refusal's number; what a power-on over
-/// the disk that is left finds, `left nothing` where there is none; and the report, as far as it was written.
+/// Writes `stopped N` by the refusal's number, and what a power-on over the disk that is left finds, `left nothing` where there
+/// is none.
+fn tell_stopped(rt: &HostRuntime, stopped: StoppedRun) -> io::Result<()>
+    requires { IfSome stopped.disk (λ disk. IsIdle (facts disk)) }
+{
+    let number = stopped.refusal.code();
+    println!(rt; "stopped {number}")?;
+    match stopped.disk {
+        None => println!(rt; "left nothing"),
+        Some(disk) => tell_left(rt, disk),
+    }
+}
+
+/// Writes `ran`, and what a power-on over the disk finds.
+fn tell_ran(rt: &HostRuntime, disk: SimDisk) -> io::Result<()>
+    requires { IsIdle (facts disk) }
+{
+    println!(rt; "ran")?;
+    tell_left(rt, disk)
+}
+
+/// Runs the script of standard input. Writes how it ended, what a power-on over the disk that is left finds, and the report,
+/// as far as it was written.
 pub fn tell<C: Crew>(rt: &HostRuntime, crew: &C) -> io::Result<()> {
     let mut script = Vec::new(rt.alloc());
     let _count = rt.reader().read_to_end(&mut script)?;
     let mut report = Vec::new(rt.alloc());
     match run_left(rt.alloc(), &script, crew, &mut report) {
-        Ok((_report, disk)) => {
-            println!(rt; "ran")?;
-            tell_left(rt, disk)?;
-        }
-        Err(stopped) => {
-            let number = stopped.refusal.code();
-            println!(rt; "stopped {number}")?;
-            match stopped.disk {
-                None => println!(rt; "left nothing")?,
-                Some(disk) => tell_left(rt, disk)?,
-            }
-        }
+        Ok((_report, disk)) => tell_ran(rt, disk)?,
+        Err(stopped) => tell_stopped(rt, stopped)?,
     }
     io::writer(rt).write_all(&report)
 }

@@ -1,6 +1,8 @@
 //! What a line of a script says, and its text, which `lines_read_as_spelled` reads back.
 
 ghost use Rattle.std.specs.Prelude.{◌≡◌, map, IfOk, IfSome, Some};
+ghost use Rattle.std.specs.Fmt.{WritesOnOk};
+ghost use Rattle.script_lang.specs.declared.line.Line.TheVariants as lines;
 ghost use Rattle.script_lang.specs.Lines.{other_said, line_of, mode_text, text_of, IsLineInRange};
 
 use crate::armings::{Arming, ArmingText, arming_said};
@@ -147,39 +149,67 @@ impl fmt::Display for ModeText {
     }
 }
 
+/// `payload S HEX`
 #[tactic(auto, using(crate::proofs::BytePairs::pairs_encode))]
+fn write_payload<W: fmt::Write>(f: &mut fmt::Formatter<W>, slot: Slot, bytes: &Bytes) -> fmt::Result
+    ensures { WritesOnOk W.write_str_gives f.old result (text_of (lines.Payload slot bytes.now)) f.new }
+{
+    write!(f, "payload {} {}", slot.number(), HexText(bytes))
+}
+
+/// `turn H N`
+fn write_turns<W: fmt::Write>(f: &mut fmt::Formatter<W>, hart: HartId, count: u32) -> fmt::Result
+    ensures { WritesOnOk W.write_str_gives f.old result (text_of (lines.Turn hart count)) f.new }
+{
+    write!(f, "turn {} {count}", hart.number())
+}
+
+/// `call H EID FID A0 A1 A2`
+fn write_call<W: fmt::Write>(
+    f: &mut fmt::Formatter<W>,
+    hart: HartId,
+    words: CallWords,
+) -> fmt::Result
+    ensures { WritesOnOk W.write_str_gives f.old result (text_of (lines.Call hart words)) f.new }
+{
+    let CallWords {
+        eid,
+        fid,
+        a0,
+        a1,
+        a2,
+    } = words;
+    write!(f, "call {} {eid} {fid} {a0} {a1} {a2}", hart.number())
+}
+
+/// `poke SECTOR OFFSET HEX`
+#[tactic(auto, using(crate::proofs::BytePairs::pairs_encode))]
+fn write_poke<W: fmt::Write>(
+    f: &mut fmt::Formatter<W>,
+    sector: u32,
+    offset: u32,
+    bytes: &Bytes,
+) -> fmt::Result
+    ensures { WritesOnOk W.write_str_gives f.old result (text_of (lines.Poke sector offset bytes.now)) f.new }
+{
+    write!(f, "poke {sector} {offset} {}", HexText(bytes))
+}
+
 impl<'a> fmt::Display for LineText<'a> {
     ghost output = { λ t. Some (text_of t.0.now) };
 
     fn fmt<W: fmt::Write>(&self, f: &mut fmt::Formatter<W>) -> fmt::Result {
         match self.0 {
-            Line::Payload(slot, bytes) => {
-                write!(f, "payload {} {}", slot.number(), HexText(bytes))
-            }
+            Line::Payload(slot, bytes) => write_payload(f, *slot, bytes),
             Line::Format => f.write_str("format"),
             Line::On(mode) => write!(f, "on {}", ModeText(*mode)),
             Line::Command(command) => write!(f, "{}", CommandText(*command)),
-            Line::Turn(hart, count) => {
-                let count = *count;
-                write!(f, "turn {} {count}", hart.number())
-            }
-            Line::Call(hart, words) => {
-                let CallWords {
-                    eid,
-                    fid,
-                    a0,
-                    a1,
-                    a2,
-                } = *words;
-                write!(f, "call {} {eid} {fid} {a0} {a1} {a2}", hart.number())
-            }
+            Line::Turn(hart, count) => write_turns(f, *hart, *count),
+            Line::Call(hart, words) => write_call(f, *hart, *words),
             Line::Show(look) => write!(f, "{}", LookText(*look)),
             Line::Arm(arming) => write!(f, "{}", ArmingText(*arming)),
             Line::Cut(fill) => write!(f, "cut {}", FillText(*fill)),
-            Line::Poke(sector, offset, bytes) => {
-                let (sector, offset) = (*sector, *offset);
-                write!(f, "poke {sector} {offset} {}", HexText(bytes))
-            }
+            Line::Poke(sector, offset, bytes) => write_poke(f, *sector, *offset, bytes),
             Line::Inspect => f.write_str("inspect"),
             Line::Wake => f.write_str("wake"),
         }
