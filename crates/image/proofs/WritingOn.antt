@@ -1,13 +1,14 @@
 -- Lanes of an area are lent, come back, and are made durable.
-use Rattle.std.proofs.Common.{◌≡◌, ◌∙◌, ◌≤◌, ℕ, ◌+◌, ◌*◌, List, Ok, Err, refl, sym, ap, subst, arith}
+use Rattle.std.proofs.Common.{◌≡◌, ◌∙◌, ◌≤◌, ◌<◌, ℕ, ◌+◌, ◌*◌, List, Ok, Err, refl, sym, ap, subst, arith}
 use Rattle.board_model.specs.Shapes.{Size, places_of, area_sectors_of, sectors_of}
 use Rattle.board_model.specs.declared.refusal.Refusal.{Refusal}
 use Rattle.board_model.specs.declared.refusal.Refusal.TheVariants.{Device, Memory}
 use Rattle.disk.specs.Calls.{MakesCalls, NoCall}
-use Rattle.disk.specs.Facts.{Content, Facts, LaneFacts, Lent, Joined, Only, Passes, Stays, Torn, lane_failures, nothing, counted, most}
+use Rattle.disk.specs.Facts.{Content, Facts, LaneFacts, Lent, InRow, Joined, Only, Passes, Stays, Torn, lane_failures, nothing, counted, most}
 use Rattle.disk.specs.FaultState.{FaultState, Cause, CausedInLanes}
 use Rattle.disk.specs.Moments.{passes_stays}
 use Rattle.layout.specs.Sizes.{area_start, lane_sectors}
+use Rattle.savers.specs.Saved.{SamePlaces}
 use Rattle.savers.specs.Saves.{SaveRefused}
 use Rattle.image.specs.Refusals.{WriteRefused, WritesOn}
 use Rattle.image.proofs.Written.{lanes_of}
@@ -28,10 +29,23 @@ module _ (size : Size) (area first lanes places : ℕ) (begins : first ≡ area_
       ∙ ap (λ (k : ℕ). row (area_start size area) k (9 * places)) many
       ∙ ap (λ (k : ℕ). row (area_start size area) size.lanes (9 * k)) room
 
+  all : lanes * (9 * places) ≡ area_sectors_of size
+  all = ap (λ (k : ℕ). k * (9 * places)) many ∙ ap (λ (k : ℕ). size.lanes * (9 * k)) room ∙ lanes_of size
+
+  pub lent_within : (k : ℕ) → first + area_sectors_of size ≤ sectors_of size → sectors_of size ≤ k → first + lanes * (9 * places) ≤ k
+  lent_within k within enough = subst (λ (n : ℕ). first + n ≤ k) (sym all) (omega (arith, within, enough))
+
   pub passes_area : (a b : Facts) → Passes a b (Torn first (lanes * (9 * places))) → Passes a b (Torn (area_start size area) (area_sectors_of size))
   passes_area a b p =
-      let all = ap (λ (k : ℕ). k * (9 * places)) many ∙ ap (λ (k : ℕ). size.lanes * (9 * k)) room ∙ lanes_of size in
       subst (λ (k : ℕ). Passes a b (Torn k (area_sectors_of size))) begins (subst (λ (n : ℕ). Passes a b (Torn first n)) all p)
+
+-- lanes that each stand where they did stand in their row
+pub row_back : (l : Lent) (before after : List LaneFacts) → InRow l before → SamePlaces before after → InRow l after
+row_back l before after in_row same = record {
+  count = same.count ∙ in_row.count;
+  first = λ i lt. same.first i (subst (λ (n : ℕ). i < n) (sym in_row.count) lt) ∙ in_row.first i lt;
+  each = λ i lt. same.each i (subst (λ (n : ℕ). i < n) (sym in_row.count) lt) ∙ in_row.each i lt;
+}
 
 -- the area lies on the disk
 pub area_within : (size : Size) (area first k : ℕ) → first ≡ area_start size area → first + area_sectors_of size ≤ sectors_of size → sectors_of size ≤ k → area_start size area + area_sectors_of size ≤ k
