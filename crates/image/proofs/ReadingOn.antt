@@ -1,9 +1,10 @@
 -- Reads of a disk, one after another.
-use Rattle.std.proofs.Common.{◌≡◌, ◌∙◌, ◌≤◌, ◌+◌, ◌*◌, ℕ, Result, Ok, Err, OnOk, IfErr, refl, subst, arith}
+use Rattle.std.proofs.Common.{◌≡◌, ◌∙◌, ◌≤◌, ◌+◌, ◌*◌, ℕ, Result, Ok, Err, OnOk, IfErr, refl, ap, subst, arith}
 use Rattle.board_model.specs.declared.refusal.Refusal.{Refusal}
 use Rattle.board_model.specs.declared.refusal.Refusal.TheVariants.{Device, BadImage}
-use Rattle.disk.specs.Facts.{Facts, Stays, counted, most}
+use Rattle.disk.specs.Facts.{Facts, Lent, Stays, counted, most}
 use Rattle.disk.specs.FaultState.{FaultState, Cause}
+use Rattle.disk.specs.Calls.{MakesCalls}
 use Rattle.disk.specs.Moments.{passes_none, passes_stays}
 use Rattle.image.specs.Refusals.{ReadRefused, StopsWithin, ReadsOn, HasRead}
 use Rattle.image.proofs.Calls.{calls_none, calls_more, stops_after}
@@ -20,6 +21,54 @@ reads_none a m idle few = record {
   refused = tt;
   calls = calls_none a.calls few;
   stops = tt;
+}
+
+-- a place was read, by two calls
+pub reads_place : {T U E : Type 0} (v : T) (u : U) (a : Facts) (m : FaultState) (b : Facts) (n : FaultState) → a.lent.lanes ≡ 0
+    → MakesCalls {T = T} {E = E} 2 Stays a b m n (Ok v) → b.moment ≡ a.moment → ReadsOn {T = U} 1 a m (Ok u) b n
+reads_place v u a m b n idle made still = record {
+  content = made.content;
+  crash = made.crash;
+  unsynced = still;
+  none_out = ap (λ (l : Lent). l.lanes) made.lent ∙ idle;
+  no_fewer = omega (arith, made.failures.ok);
+  no_failure = made.failures.ok;
+  unmoved = made.cause.ok;
+  refused = tt;
+  calls = made.calls.ok;
+  stops = tt;
+}
+
+-- the disk failed at one of the two calls
+pub reads_failed : {T U E : Type 0} (e : E) (a : Facts) (m : FaultState) (b : Facts) (n : FaultState) → a.failures ≤ most → a.lent.lanes ≡ 0
+    → MakesCalls {T = T} {E = E} 2 Stays a b m n (Err e) → b.moment ≡ a.moment → ReadsOn {T = U} 1 a m (Err Device) b n
+reads_failed e a m b n few idle made still = record {
+  content = made.content;
+  crash = made.crash;
+  unsynced = still;
+  none_out = ap (λ (l : Lent). l.lanes) made.lent ∙ idle;
+  no_fewer = omega (arith, few, made.failures.err);
+  no_failure = tt;
+  unmoved = tt;
+  refused = (omega (arith, made.failures.err), made.cause.err);
+  calls = tt;
+  stops = made.calls.err;
+}
+
+-- the header is not as it should be, and the page was not read
+pub reads_spoilt : {T U E : Type 0} (v : T) (a : Facts) (m : FaultState) (b : Facts) (n : FaultState) → a.lent.lanes ≡ 0
+    → MakesCalls {T = T} {E = E} 1 Stays a b m n (Ok v) → b.moment ≡ a.moment → ReadsOn {T = U} 1 a m (Err BadImage) b n
+reads_spoilt v a m b n idle made still = record {
+  content = made.content;
+  crash = made.crash;
+  unsynced = still;
+  none_out = ap (λ (l : Lent). l.lanes) made.lent ∙ idle;
+  no_fewer = omega (arith, made.failures.ok);
+  no_failure = tt;
+  unmoved = tt;
+  refused = (made.failures.ok, made.cause.ok);
+  calls = tt;
+  stops = (0, omega arith, made.calls.ok);
 }
 
 still_refused : (old : Facts) (m : FaultState) (mid : Facts) (n : FaultState) (e : Refusal) (new : Facts) (o : FaultState) → mid.failures ≡ old.failures → n ≡ m → ReadRefused mid n e new o → ReadRefused old m e new o

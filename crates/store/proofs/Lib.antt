@@ -21,3 +21,4 @@ pub mod Kept
 pub mod Inspecting
 pub mod Taken
 pub mod Called
+pub mod Alone

@@ -1,5 +1,5 @@
 -- A commit of the same state leaves it, at each moment; and what an open leaves.
-use Rattle.std.proofs.Common.{◌≡◌, ◌∙◌, ◌⊎◌, inl, inr, ℕ, ◌+◌, ◌-◌, ◌≤◌, ◌==◌, Option, length, refl, sym, ap, subst, ⊎_elim, Bool, true, false, if◌then◌else◌, arith}
+use Rattle.std.proofs.Common.{◌≡◌, ◌∙◌, ◌⊎◌, inl, inr, ℕ, ◌+◌, ◌≤◌, ◌==◌, Option, length, refl, sym, ap, subst, ⊎_elim, Bool, true, false, if◌then◌else◌, arith}
 use Rattle.board_model.specs.Durable.{DurableState}
 use Rattle.board_model.specs.Shapes.{Size, sectors_of}
 use Rattle.board_model.specs.declared.durable.Trial.{Trial}
