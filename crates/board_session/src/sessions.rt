@@ -218,7 +218,6 @@ fn run_board<
         lock,
         room,
     } = provisions;
-    let closing = Closing::new(lock, halt);
     let (mut whole, boot, heard) = Unshared::<D, J>::new(store, book, doubts);
     let part = whole.hand_out();
     let side = ConsoleSide {
@@ -227,6 +226,7 @@ fn run_board<
         heard,
     };
     let Ok(parts) = whole.hand_out_all(alloc, on.harts.len()) else {
+        drop((hardware, on));
         return without_console(alloc, whole, Vec::new(alloc), Vec::new(alloc), side, boot);
     };
     let booted = BootedHarts {
@@ -236,18 +236,18 @@ fn run_board<
         parts,
         turns: on.turns,
     };
-    match drive_beside_console(rt, alloc, &closing, hardware, whole, booted, side) {
-        Ok((whole, loops, talked)) => after_console(rt, alloc, whole, loops, talked, boot, room),
-        Err((whole, back)) => {
-            without_console(alloc, whole, back.loops, back.parts, back.side, boot)
-        }
+    let closing = Closing::new(lock, halt);
+    let (whole, driven) = drive_beside_console(rt, alloc, &closing, hardware, whole, booted, side);
+    match driven {
+        Ok((loops, talked)) => after_console(rt, alloc, whole, loops, talked, boot, room),
+        Err(back) => without_console(alloc, whole, back.loops, back.parts, back.side, boot),
     }
 }
 
-/// The store, with the loops that ended and the console that has left, or with what comes back where no console could be begun.
-type Driven<'c, D, J, I, W> = Result<
-    (Unshared<D, J>, Vec<Rested<'c, J>>, Talked<'c, J, I, W>),
-    (Unshared<D, J>, Undriven<'c, J, ConsoleSide<J, I, W>>),
+/// The loops that ended and the console that has left, or what comes back where no console could be begun.
+type Driven<'c, J, I, W> = Result<
+    (Vec<Rested<'c, J>>, Talked<'c, J, I, W>),
+    Undriven<'c, J, ConsoleSide<J, I, W>>,
 >;
 
 /// Runs the harts on threads and the console beside them, with the bus and the store behind their locks, until all have ended.
@@ -267,7 +267,7 @@ fn drive_beside_console<
     whole: Unshared<D, J>,
     booted: BootedHarts<J>,
     side: ConsoleSide<J, I, W>,
-) -> Driven<'c, D, J, I, W>
+) -> (Unshared<D, J>, Driven<'c, J, I, W>)
     requires none { length (parts_with whole) ≡ 0 }
     requires shape { hardware.shape ≡ J.size }
     requires memory { hardware.bus.ram ≡ J.memory }
@@ -276,15 +276,15 @@ fn drive_beside_console<
     requires fresh { All (λ p. p.told ≡ []) booted.parts.items }
     requires held { IsHeld hardware.shape booted.harts.items hardware.tables (Some booted.seats) booted.doze }
     requires machine { J.machine ≡ board_of hardware.shape J.memory booted.doze booted.harts.items booted.seats }
-    ensures none { MatchResult result (λ r. length (parts_with r.0) ≡ 0) (λ e. length (parts_with e.0) ≡ 0) }
-    ensures said { IfOk result (λ r. Talks J.found J.issued r.2.left
+    ensures none { length (parts_with result.0) ≡ 0 }
+    ensures said { IfOk result.1 (λ r. Talks J.found J.issued r.1.left
         (dialogue_ends (I.remaining side.streams.input) (W.contents side.streams.out) (party side.part.told side.heard))
-        (dialogue_ends (I.remaining r.2.side.streams.input) (W.contents r.2.side.streams.out)
-        (party r.2.side.part.told r.2.side.heard))) }
-    ensures loops { IfOk result (λ r. vec_len r.1 ≡ vec_len booted.harts) }
-    ensures side { IfErr result (λ e. e.1.side ≡ side) }
-    ensures back { IfErr result (λ e. vec_len e.1.loops + vec_len e.1.parts ≡ vec_len booted.harts) }
-    ensures fresh { IfErr result (λ e. All (λ p. p.told ≡ []) e.1.parts.items) }
+        (dialogue_ends (I.remaining r.1.side.streams.input) (W.contents r.1.side.streams.out)
+        (party r.1.side.part.told r.1.side.heard))) }
+    ensures loops { IfOk result.1 (λ r. vec_len r.0 ≡ vec_len booted.harts) }
+    ensures side { IfErr result.1 (λ e. e.side ≡ side) }
+    ensures back { IfErr result.1 (λ e. vec_len e.loops + vec_len e.parts ≡ vec_len booted.harts) }
+    ensures fresh { IfErr result.1 (λ e. All (λ p. p.told ≡ []) e.parts.items) }
 {
     let Hardware { shape, tables, bus } = hardware;
     let bus_lock: Mutex<SharedBus<J>> = Mutex::new(SharedBus::new(bus));
@@ -313,11 +313,7 @@ fn drive_beside_console<
                 (party result.side.part.told result.side.heard)) }
         { attend(rt, bus, store, closing, side) },
     );
-    let whole = store_lock.into_inner().unshare();
-    match driven {
-        Ok((loops, talked)) => Ok((whole, loops, talked)),
-        Err(back) => Err((whole, back)),
-    }
+    (store_lock.into_inner().unshare(), driven)
 }
 
 /// What a session gives back whose console has left, once the loops of all harts have ended. `room` is for how they ended.
