@@ -542,9 +542,6 @@ pub fn session<R: Threads + Wait + Sync, D: Disk + Drop + Send, I: Read + Drop, 
     };
     let shape = board.shape();
     let parts = board.into_parts();
-    let Ok(provisions) = provide(alloc, &shape) else {
-        return unbegun(alloc, disk_at_once(parts.store), Refusal::Memory, streams);
-    };
     let BoardParts {
         harts,
         seats,
@@ -559,5 +556,9 @@ pub fn session<R: Threads + Wait + Sync, D: Disk + Drop + Send, I: Read + Drop, 
         turns: options.turns,
     };
     let hardware = Hardware { shape, tables, bus };
+    let Ok(provisions) = provide(alloc, &hardware.shape) else {
+        drop((hardware, on));
+        return unbegun(alloc, disk_at_once(store), Refusal::Memory, streams);
+    };
     run_board::<D, Brand, R, I, W>(rt, alloc, store, hardware, on, provisions, streams)
 }
