@@ -34,19 +34,20 @@ use board_console::{Left, console};
 use board_model::{Refusal, Shape};
 use board_options::Options;
 use disk::Disk;
+use hart::Hart;
 use hart_threads::{
     AfterConsole, BootedHarts, Closing, HartEnd, Parted, Rested, SharedBoard, Threaded, Undriven,
     drive,
 };
-use sbi_calls::Tables;
+use sbi_calls::{Seats, Tables};
 use shared_store::{BookPart, Heard, Journal, Locks, NewBook, SharedBus, SharedStore, Unshared};
 use std::alloc::{AllocError, Global};
 use std::io::{Read, Write};
 use std::marker::Brand;
 use std::sync::{Mutex, OnceLock, Wait};
 use std::thread::Threads;
-use store::{Saving, format, kept_disks};
-use susp::Bus;
+use store::{Saving, Store, format, kept_disks};
+use susp::{Bus, Doze};
 use tallies::Halt;
 
 /// What a console reads its lines from, and what it writes its answers to.
@@ -73,14 +74,32 @@ pub struct SessionEnd<D: Disk + Drop, I: Read + Drop, W: Write + Drop> {
     pub harts: Vec<HartEnd>,
 }
 
-/// A board that is on, its shape, the book of its receipts, that of what is in doubt, and the word that halts its harts.
+/// The harts of a board that is on, the one seat of them all, the doze of their bus, and how many turns each makes at most.
 #[derive(Drop)]
-struct BootedBoard<D: Disk + Drop> {
-    parts: BoardParts<D>,
+struct HartsOn {
+    harts: Vec<Hart>,
+    seats: Seats,
+    doze: Option<Doze>,
+    turns: u64,
+}
+
+/// What the harts of a board that is on share beside its store.
+#[derive(Drop)]
+struct Hardware {
     shape: Shape,
+    tables: Tables,
+    bus: Bus,
+}
+
+/// What the threads of a board need beside it: the book of its receipts, that of what is in doubt, the word that halts its harts,
+/// the lock in which the console says what they do once it has left, and room for how they end.
+#[derive(Drop)]
+struct Provisions {
     book: NewBook,
     doubts: NewBook,
     halt: Halt,
+    lock: OnceLock<AfterConsole>,
+    room: Vec<HartEnd>,
 }
 
 /// The streams of a console, its part of the receipts, and what it heard beside them.
@@ -157,31 +176,30 @@ fn run_board<
 >(
     rt: &R,
     alloc: Global,
-    booted: BootedBoard<D>,
-    turns: u64,
-    lock: OnceLock<AfterConsole>,
+    store: Store<D>,
+    hardware: Hardware,
+    on: HartsOn,
+    provisions: Provisions,
     streams: Streams<I, W>,
 ) -> SessionEnd<D, I, W>
-    requires held { IsHeld booted.shape booted.parts.harts.items booted.parts.tables (Some booted.parts.seats)
-        booted.parts.bus.doze }
-    requires harts { vec_len booted.parts.harts ≡ J.size.harts }
-    requires shape { booted.shape ≡ J.size }
-    requires store { (size_of_store booted.parts.store ≡ J.size) × (found_state booted.parts.store ≡ J.found)
-        × (journal_of booted.parts.store ≡ J.issued) }
-    requires memory { booted.parts.bus.ram ≡ J.memory }
-    requires machine { J.machine ≡ board_of booted.shape J.memory booted.parts.bus.doze booted.parts.harts.items
-        booted.parts.seats }
-    requires carried { IsCarried J.memory (life_of booted.parts.store) }
-    requires turns { turns ≡ J.turns }
-    requires lock { lock.id ≡ J.parting }
-    requires halt { booted.halt ≡ J.halt }
+    requires held { IsHeld hardware.shape on.harts.items hardware.tables (Some on.seats) on.doze }
+    requires harts { vec_len on.harts ≡ J.size.harts }
+    requires shape { hardware.shape ≡ J.size }
+    requires store { (size_of_store store ≡ J.size) × (found_state store ≡ J.found) × (journal_of store ≡ J.issued) }
+    requires memory { hardware.bus.ram ≡ J.memory }
+    requires machine { J.machine ≡ board_of hardware.shape J.memory on.doze on.harts.items on.seats }
+    requires carried { IsCarried J.memory (life_of store) }
+    requires turns { on.turns ≡ J.turns }
+    requires lock { provisions.lock.id ≡ J.parting }
+    requires halt { provisions.halt ≡ J.halt }
     requires ungated { J.gated ≡ false }
     requires taken { (are_taken J.found J.issued ≡ true) × (length J.issued ≤ 2) }
-    requires book { (id_of booted.book ≡ J.book) × (parts_of booted.book ≡ J.parts)
+    requires book { (id_of provisions.book ≡ J.book) × (parts_of provisions.book ≡ J.parts)
         × (J.parts ≡ J.size.harts + 2) }
-    requires doubts { (id_of booted.doubts ≡ J.doubts) × (parts_of booted.doubts ≡ 2) }
-    requires up { doubt_of booted.parts.store ≡ None }
-    requires opened { failures_at_open booted.parts.store ≡ J.failures }
+    requires doubts { (id_of provisions.doubts ≡ J.doubts) × (parts_of provisions.doubts ≡ 2) }
+    requires room { (vec_len provisions.room ≡ 0) × (J.size.harts ≤ vec_capacity provisions.room) }
+    requires up { doubt_of store ≡ None }
+    requires opened { failures_at_open store ≡ J.failures }
     ensures none_out { IsIdle (D.facts result.disk) }
     ensures life { (console : List (ℕ × Entry))
         × (life : IsOfLife J.size J.found J.issued J.memory J.failures console result.heard.doubt (D.facts result.disk))
@@ -193,20 +211,13 @@ fn run_board<
     ensures driven { AreDriven J.size.harts J.machine J.turns J.found result.console_left result.harts.items }
     ensures unheard { result.console_left ≡ None → (result.streams ≡ streams) × (result.heard ≡ heard_nothing) }
 {
-    let BootedBoard {
-        parts,
-        shape,
+    let Provisions {
         book,
         doubts,
         halt,
-    } = booted;
-    let BoardParts {
-        harts,
-        seats,
-        tables,
-        bus,
-        store,
-    } = parts;
+        lock,
+        room,
+    } = provisions;
     let (mut whole, boot, heard) = Unshared::<D, J>::new(store, book, doubts);
     let part = whole.hand_out();
     let side = ConsoleSide {
@@ -214,44 +225,29 @@ fn run_board<
         part,
         heard,
     };
-    let Ok((given, room)) = hand_out_to_harts(alloc, &mut whole, harts.len()) else {
+    let Ok(parts) = whole.hand_out_all(alloc, on.harts.len()) else {
+        drop((hardware, on));
         return without_console(alloc, whole, Vec::new(alloc), Vec::new(alloc), side, boot);
     };
-    let closing = Closing::new(lock, halt);
     let booted = BootedHarts {
-        harts,
-        seats,
-        doze: bus.doze,
-        parts: given,
-        turns,
+        harts: on.harts,
+        seats: on.seats,
+        doze: on.doze,
+        parts,
+        turns: on.turns,
     };
-    let unlocked = Unlocked {
-        shape,
-        tables,
-        bus,
-        whole,
-    };
-    match drive_beside_console(rt, alloc, &closing, unlocked, booted, side) {
-        Ok((whole, loops, talked)) => after_console(rt, alloc, whole, loops, talked, boot, room),
-        Err((whole, back)) => {
-            without_console(alloc, whole, back.loops, back.parts, back.side, boot)
-        }
+    let closing = Closing::new(lock, halt);
+    let (whole, driven) = drive_beside_console(rt, alloc, &closing, hardware, whole, booted, side);
+    match driven {
+        Ok((loops, talked)) => after_console(rt, alloc, whole, loops, talked, boot, room),
+        Err(back) => without_console(alloc, whole, back.loops, back.parts, back.side, boot),
     }
 }
 
-/// What the threads of a board's harts are to share, before its bus and its store are behind their locks.
-#[derive(Drop)]
-struct Unlocked<D: Disk + Drop, J: Journal> {
-    shape: Shape,
-    tables: Tables,
-    bus: Bus,
-    whole: Unshared<D, J>,
-}
-
-/// The store, with the loops that ended and the console that has left, or with what comes back where no console could be begun.
-type Driven<'c, D, J, I, W> = Result<
-    (Unshared<D, J>, Vec<Rested<'c, J>>, Talked<'c, J, I, W>),
-    (Unshared<D, J>, Undriven<'c, J, ConsoleSide<J, I, W>>),
+/// The loops that ended and the console that has left, or what comes back where no console could be begun.
+type Driven<'c, J, I, W> = Result<
+    (Vec<Rested<'c, J>>, Talked<'c, J, I, W>),
+    Undriven<'c, J, ConsoleSide<J, I, W>>,
 >;
 
 /// Runs the harts on threads and the console beside them, with the bus and the store behind their locks, until all have ended.
@@ -267,34 +263,30 @@ fn drive_beside_console<
     rt: &R,
     alloc: Global,
     closing: &'c Closing<J>,
-    unlocked: Unlocked<D, J>,
+    hardware: Hardware,
+    whole: Unshared<D, J>,
     booted: BootedHarts<J>,
     side: ConsoleSide<J, I, W>,
-) -> Driven<'c, D, J, I, W>
-    requires none { length (parts_with unlocked.whole) ≡ 0 }
-    requires shape { unlocked.shape ≡ J.size }
-    requires memory { unlocked.bus.ram ≡ J.memory }
+) -> (Unshared<D, J>, Driven<'c, J, I, W>)
+    requires none { length (parts_with whole) ≡ 0 }
+    requires shape { hardware.shape ≡ J.size }
+    requires memory { hardware.bus.ram ≡ J.memory }
     requires turns { booted.turns ≡ J.turns }
     requires parts { vec_len booted.parts ≡ vec_len booted.harts }
     requires fresh { All (λ p. p.told ≡ []) booted.parts.items }
-    requires held { IsHeld unlocked.shape booted.harts.items unlocked.tables (Some booted.seats) booted.doze }
-    requires machine { J.machine ≡ board_of unlocked.shape J.memory booted.doze booted.harts.items booted.seats }
-    ensures none { MatchResult result (λ r. length (parts_with r.0) ≡ 0) (λ e. length (parts_with e.0) ≡ 0) }
-    ensures said { IfOk result (λ r. Talks J.found J.issued r.2.left
+    requires held { IsHeld hardware.shape booted.harts.items hardware.tables (Some booted.seats) booted.doze }
+    requires machine { J.machine ≡ board_of hardware.shape J.memory booted.doze booted.harts.items booted.seats }
+    ensures none { length (parts_with result.0) ≡ 0 }
+    ensures said { IfOk result.1 (λ r. Talks J.found J.issued r.1.left
         (dialogue_ends (I.remaining side.streams.input) (W.contents side.streams.out) (party side.part.told side.heard))
-        (dialogue_ends (I.remaining r.2.side.streams.input) (W.contents r.2.side.streams.out)
-        (party r.2.side.part.told r.2.side.heard))) }
-    ensures loops { IfOk result (λ r. vec_len r.1 ≡ vec_len booted.harts) }
-    ensures side { IfErr result (λ e. e.1.side ≡ side) }
-    ensures back { IfErr result (λ e. vec_len e.1.loops + vec_len e.1.parts ≡ vec_len booted.harts) }
-    ensures fresh { IfErr result (λ e. All (λ p. p.told ≡ []) e.1.parts.items) }
+        (dialogue_ends (I.remaining r.1.side.streams.input) (W.contents r.1.side.streams.out)
+        (party r.1.side.part.told r.1.side.heard))) }
+    ensures loops { IfOk result.1 (λ r. vec_len r.0 ≡ vec_len booted.harts) }
+    ensures side { IfErr result.1 (λ e. e.side ≡ side) }
+    ensures back { IfErr result.1 (λ e. vec_len e.loops + vec_len e.parts ≡ vec_len booted.harts) }
+    ensures fresh { IfErr result.1 (λ e. All (λ p. p.told ≡ []) e.parts.items) }
 {
-    let Unlocked {
-        shape,
-        tables,
-        bus,
-        whole,
-    } = unlocked;
+    let Hardware { shape, tables, bus } = hardware;
     let bus_lock: Mutex<SharedBus<J>> = Mutex::new(SharedBus::new(bus));
     let store_lock: Mutex<SharedStore<D, J>> = Mutex::new(whole.share());
     let (bus, store) = (&bus_lock, &store_lock);
@@ -321,31 +313,7 @@ fn drive_beside_console<
                 (party result.side.part.told result.side.heard)) }
         { attend(rt, bus, store, closing, side) },
     );
-    let whole = store_lock.into_inner().unshare();
-    match driven {
-        Ok((loops, talked)) => Ok((whole, loops, talked)),
-        Err(back) => Err((whole, back)),
-    }
-}
-
-/// A part of the receipts for each of so many harts, and room for how they end.
-fn hand_out_to_harts<D: Disk + Drop, J: Threaded>(
-    alloc: Global,
-    whole: &mut Unshared<D, J>,
-    harts: usize,
-) -> Result<(Vec<BookPart<J>>, Vec<HartEnd>), AllocError>
-    requires some { harts ≤ length (parts_with whole.old) }
-    requires fresh { All (λ p. p.told ≡ []) (parts_with whole.old) }
-    ensures fresh { All (λ p. p.told ≡ []) (parts_with whole.new) }
-    ensures many { IfOk result (λ r. vec_len r.0 ≡ harts) }
-    ensures told { IfOk result (λ r. All (λ p. p.told ≡ []) r.0.items) }
-    ensures room { IfOk result (λ r. (vec_len r.1 ≡ 0) × (harts ≤ vec_capacity r.1)) }
-    ensures rest { IfOk result (λ r. length (parts_with whole.new) + harts ≡ length (parts_with whole.old)) }
-    ensures none { IfErr result (λ e. length (parts_with whole.new) ≡ length (parts_with whole.old)) }
-{
-    let room = Vec::with_capacity(alloc, harts)?;
-    let given = whole.hand_out_all(alloc, harts)?;
-    Ok((given, room))
+    (store_lock.into_inner().unshare(), driven)
 }
 
 /// What a session gives back whose console has left, once the loops of all harts have ended. `room` is for how they ended.
@@ -512,15 +480,23 @@ fn powered<D: Disk + Drop>(
     }
 }
 
-/// The book of a board's receipts, with a part for each hart, one for the console and one for the boot; and the book of what
-/// is in doubt, with one for the console and one for the harts. With them comes the word that halts the harts.
-fn new_books(alloc: Global, shape: &Shape) -> Result<(NewBook, NewBook, Halt), AllocError>
-    ensures { IfOk result (λ b. (parts_of b.0 ≡ shape.now.harts + 2) × (parts_of b.1 ≡ 2)) }
+/// What the threads of a board of that shape need: the book of its receipts with a part for each hart, one for the console and
+/// one for the boot; the book of what is in doubt with one for the console and one for the harts; and room for each hart's end.
+fn provide(alloc: Global, shape: &Shape) -> Result<Provisions, AllocError>
+    ensures { IfOk result (λ p. (parts_of p.book ≡ shape.now.harts + 2) × (parts_of p.doubts ≡ 2)
+        × (vec_len p.room ≡ 0) × (shape.now.harts ≤ vec_capacity p.room)) }
 {
     let book = NewBook::new(alloc, shape.harts() + 2)?;
     let doubts = NewBook::new(alloc, 2)?;
     let halt = Halt::new(alloc)?;
-    Ok((book, doubts, halt))
+    let room = Vec::with_capacity(alloc, shape.harts() as usize)?;
+    Ok(Provisions {
+        book,
+        doubts,
+        halt,
+        lock: OnceLock::new(),
+        room,
+    })
 }
 
 /// What the program does between the reading of its files and the writing of the disk's: formats the disk
@@ -566,28 +542,23 @@ pub fn session<R: Threads + Wait + Sync, D: Disk + Drop + Send, I: Read + Drop, 
     };
     let shape = board.shape();
     let parts = board.into_parts();
-    match new_books(alloc, &shape) {
-        Ok((book, doubts, halt)) => {
-            let booted = BootedBoard {
-                parts,
-                shape,
-                book,
-                doubts,
-                halt,
-            };
-            let lock = OnceLock::new();
-            let turns = options.turns;
-            run_board::<D, Brand, R, I, W>(rt, alloc, booted, turns, lock, streams)
-        }
-        Err(_) => {
-            let BoardParts {
-                harts: _,
-                seats: _,
-                tables: _,
-                bus: _,
-                store,
-            } = parts;
-            unbegun(alloc, disk_at_once(store), Refusal::Memory, streams)
-        }
-    }
+    let BoardParts {
+        harts,
+        seats,
+        tables,
+        bus,
+        store,
+    } = parts;
+    let on = HartsOn {
+        harts,
+        seats,
+        doze: bus.doze,
+        turns: options.turns,
+    };
+    let hardware = Hardware { shape, tables, bus };
+    let Ok(provisions) = provide(alloc, &hardware.shape) else {
+        drop((hardware, on));
+        return unbegun(alloc, disk_at_once(store), Refusal::Memory, streams);
+    };
+    run_board::<D, Brand, R, I, W>(rt, alloc, store, hardware, on, provisions, streams)
 }

@@ -1,8 +1,10 @@
 //! The lines of a report.
 
-ghost use Rattle.std.specs.Prelude.{◌≡◌, ◌++◌, Some, IfOk};
+ghost use Rattle.std.specs.Prelude.{◌≡◌, ◌++◌, Some};
+ghost use Rattle.std.specs.Fmt.{WritesOnOk, decimal};
 ghost use Rattle.script_lang.specs.Lines.{mode_text};
 ghost use Rattle.report_lines.specs.Texts.{line_text};
+ghost use lib.Chars.{codes};
 
 use board_model::{BootMode, ConsoleCommand, Durable};
 use examined::InspectionText;
@@ -59,20 +61,28 @@ pub struct Answer {
     pub line: Printed,
 }
 
-#[derive(Drop)]
-struct ModeName(BootMode);
-
-impl fmt::Display for ModeName {
-    ghost output = { λ m. Some (mode_text m.0) };
-
-    fn fmt<W: fmt::Write>(&self, f: &mut fmt::Formatter<W>) -> fmt::Result {
-        match self.0 {
-            BootMode::Fresh => f.write_str("fresh"),
-            BootMode::Keep => f.write_str("keep"),
-            BootMode::Discard => f.write_str("discard"),
-            BootMode::Resume => f.write_str("resume"),
-        }
+/// The word of a mode.
+fn mode_name(mode: BootMode) -> &'static str
+    ensures { result.now ≡ mode_text mode }
+{
+    match mode {
+        BootMode::Fresh => "fresh",
+        BootMode::Keep => "keep",
+        BootMode::Discard => "discard",
+        BootMode::Resume => "resume",
     }
+}
+
+/// `WORD ok N` or `WORD refused N`: `how` is the word in the middle.
+fn write_numbered<W: fmt::Write>(
+    f: &mut fmt::Formatter<W>,
+    word: &str,
+    how: &str,
+    n: u32,
+) -> fmt::Result
+    ensures { WritesOnOk W.write_str_gives f.old result (word.now ++ codes " " ++ how.now ++ codes " " ++ decimal n) f.new }
+{
+    write!(f, "{word} {how} {n}")
 }
 
 impl fmt::Display for Printed {
@@ -84,34 +94,27 @@ impl fmt::Display for Printed {
                 write!(f, "board {harts}/{pages}/{lanes} sectors {sectors}")
             }
             Printed::Formatted => f.write_str("format ok"),
-            Printed::FormatRefused(n) => write!(f, "format refused {n}"),
-            Printed::On(mode) => {
-                let name = ModeName(mode);
-                write!(f, "on {name}")
-            }
-            Printed::OnRefused(n) => write!(f, "on refused {n}"),
-            Printed::Acknowledged(command, n) => {
-                let word = command.word();
-                write!(f, "{word} ok {n}")
-            }
+            Printed::FormatRefused(n) => write_numbered(f, "format", "refused", n),
+            Printed::On(mode) => write!(f, "on {}", mode_name(mode)),
+            Printed::OnRefused(n) => write_numbered(f, "on", "refused", n),
+            Printed::Acknowledged(command, n) => write_numbered(f, command.word(), "ok", n),
             Printed::CommandRefused(command, n) => {
-                let word = command.word();
-                write!(f, "{word} refused {n}")
+                write_numbered(f, command.word(), "refused", n)
             }
             Printed::Cut => f.write_str("cut"),
             Printed::Armed => f.write_str("armed"),
             Printed::PowerLost => f.write_str("power lost"),
             Printed::Busy => f.write_str("busy"),
             Printed::Off => f.write_str("off"),
-            Printed::Shown(shown) => write!(f, "{shown}"),
+            Printed::Shown(shown) => fmt::Display::fmt(&shown, f),
             Printed::Poked => f.write_str("poked"),
             Printed::Inspected(inspection) => {
                 let text = InspectionText(inspection);
                 write!(f, "inspect {text}")
             }
-            Printed::InspectRefused(n) => write!(f, "inspect refused {n}"),
+            Printed::InspectRefused(n) => write_numbered(f, "inspect", "refused", n),
             Printed::Woken => f.write_str("wake ok"),
-            Printed::WakeRefused(n) => write!(f, "wake refused {n}"),
+            Printed::WakeRefused(n) => write_numbered(f, "wake", "refused", n),
         }
     }
 }

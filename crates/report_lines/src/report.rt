@@ -1,9 +1,9 @@
 //! A report: what writes its lines, and counts them.
 
-ghost use Rattle.std.specs.Prelude.{◌≡◌, ◌≢◌, ◌⊎◌, ◌++◌, ◌∷◌, [], ◌<◌, ◌^◌, IfErr, OnOk};
+ghost use Rattle.std.specs.Prelude.{◌≡◌, ◌≢◌, ◌⊎◌, ◌<◌, ◌^◌, IfErr, OnOk};
 ghost use Rattle.std.specs.Io.KnownBytes.{Appends};
 ghost use Rattle.std.specs.IoError.{error_kind};
-ghost use Rattle.report_lines.specs.Texts.{answer_text, found_line, line_text};
+ghost use Rattle.report_lines.specs.Texts.{answer_text, found_line};
 ghost use Rattle.report_lines.specs.Counts.{Adds};
 
 use crate::printed::{Answer, Printed};
@@ -32,36 +32,23 @@ pub fn unwritten(error: io::Error) -> Refusal
     }
 }
 
-/// Writes what an open found.
-fn write_found<W: Write>(out: &mut W, found: &Option<Durable>) -> Result<(), Refusal>
+/// Writes the line of what an open found, where one did.
+fn write_found<W: Write>(out: &mut W, found: &Option<Durable>) -> io::Result<()>
     ensures ok { OnOk result (Appends (W.contents out.old) (W.contents out.new) (found_line found.now)) }
-    ensures err { IfErr result (λ e. (e ≡ Refusal.Output) ⊎ (e ≡ Refusal.Memory)) }
 {
     match *found {
         None => Ok(()),
-        Some(durable) => {
-            let state = StateText(durable);
-            writeln!(out, "found {state}").map_err(unwritten)
-        }
+        Some(durable) => writeln!(out, "found {}", StateText(durable)),
     }
-}
-
-/// Writes a line and its end.
-fn write_line<W: Write>(out: &mut W, line: Printed) -> Result<(), Refusal>
-    ensures ok { OnOk result (Appends (W.contents out.old) (W.contents out.new) (line_text line ++ 10 ∷ [])) }
-    ensures err { IfErr result (λ e. (e ≡ Refusal.Output) ⊎ (e ≡ Refusal.Memory)) }
-{
-    writeln!(out, "{line}").map_err(unwritten)
 }
 
 /// Writes the lines of an answer.
 #[tactic(auto, using(crate::proofs::Written::appended))]
-fn write_answer<W: Write>(out: &mut W, answer: &Answer) -> Result<(), Refusal>
+fn write_answer<W: Write>(out: &mut W, answer: &Answer) -> io::Result<()>
     ensures ok { OnOk result (Appends (W.contents out.old) (W.contents out.new) (answer_text answer.now)) }
-    ensures err { IfErr result (λ e. (e ≡ Refusal.Output) ⊎ (e ≡ Refusal.Memory)) }
 {
     write_found(out, &answer.found)?;
-    write_line(out, answer.line)
+    writeln!(out, "{}", answer.line)
 }
 
 /// Writes the lines of an answer (docs/SCRIPT.md, "The report"), counts them, and keeps the state that was found, where one was. The report
@@ -74,7 +61,7 @@ pub fn add<W: Write>(out: &mut W, report: &mut Report, answer: &Answer) -> Resul
     ensures ok { OnOk result (Adds (W.contents out.old) (W.contents out.new) report.old report.new answer.now) }
     ensures err { IfErr result (λ e. (e ≡ Refusal.Output) ⊎ (e ≡ Refusal.Memory)) }
 {
-    write_answer(out, answer)?;
+    write_answer(out, answer).map_err(unwritten)?;
     report.lines += 1;
     if let Some(durable) = answer.found {
         report.lines += 1;
