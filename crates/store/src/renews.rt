@@ -33,8 +33,8 @@ fn renewed<D: Disk>(disk: &mut D, found: FoundRecord, next: &Record) -> Result<F
 {
     match commit(disk, found.side, next) {
         Ok(()) => Ok(FoundRecord {
-            side: found.side.other(),
             record: *next,
+            side: found.side.other(),
             ..found
         }),
         Err(_) => Err(Refusal::Device),
