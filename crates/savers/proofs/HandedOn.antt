@@ -1,5 +1,5 @@
 -- Lanes and savers go from one list to another, one after another.
-use Rattle.std.proofs.Common.{◌≡◌, ◌∙◌, inl, inr, suc, false, ℕ, ◌+◌, ◌*◌, ◌<◌, ◌≤◌, List, [], ◌∷◌, ◌++◌, length, map, flat_map, get_or, take, drop, slice_index, slice_set, sym, ap, subst, append_assoc, arith}
+use Rattle.std.proofs.Common.{◌≡◌, ◌∙◌, inl, inr, suc, true, false, ℕ, ◌+◌, ◌*◌, ◌<◌, ◌≤◌, List, [], ◌∷◌, ◌++◌, length, map, flat_map, get_or, take, drop, slice_index, slice_set, sym, ap, subst, append_assoc, arith}
 use Rattle.std.specs.Prelude.{All, ◌==◌}
 use Rattle.std.proofs.lemmas.Bool.{cases_eq}
 use Rattle.std.proofs.lemmas.Bool.Decides.{nat_tests}
@@ -13,6 +13,9 @@ use Rattle.savers.specs.declared.view.TicketView.{TicketView}
 -- ---- the first is taken from a list
 pub some_left : (n k : ℕ) → n ≡ k → false ≡ (n == 0) → 0 < k
 some_left n k is not = grind (arith, nat_tests)
+
+pub none_left : (n k : ℕ) → n ≡ k → true ≡ (n == 0) → k ≡ 0
+none_left n k is none = grind (arith, nat_tests)
 
 module _ {S : Type 0} where
   pub first_and_rest : (xs rest : List S) (x : S) → 0 < length xs → x ≡ get_or xs 0 x → rest ≡ drop 1 xs → xs ≡ x ∷ rest
