@@ -1,9 +1,9 @@
 -- Lanes and savers go from one list to another, one after another.
-use Rattle.std.proofs.Common.{◌≡◌, ◌∙◌, inl, inr, suc, true, false, ℕ, ◌+◌, ◌*◌, ◌<◌, ◌≤◌, List, [], ◌∷◌, ◌++◌, length, map, flat_map, get_or, take, drop, slice_index, slice_set, sym, ap, subst, append_assoc, arith}
+use Rattle.std.proofs.Common.{◌≡◌, ◌∙◌, refl, inl, inr, zero, suc, true, false, ℕ, ◌+◌, ◌*◌, ◌<◌, ◌≤◌, List, [], ◌∷◌, ◌++◌, length, map, flat_map, get_or, take, drop, slice_index, slice_set, sym, ap, subst, append_assoc, arith}
 use Rattle.std.specs.Prelude.{All, ◌==◌}
 use Rattle.std.proofs.lemmas.Bool.{cases_eq}
 use Rattle.std.proofs.lemmas.Bool.Decides.{nat_tests}
-use Rattle.std.proofs.lemmas.List.{length_push, length-append, take_at, map_push, get_or_push, get_or_append_left, get_or-set_same, get_or-set_other}
+use Rattle.std.proofs.lemmas.List.{length_push, length-append, append-nil, nil_from_length, take_at, map_push, get_or_push, get_or_append_left, get_or-set_same, get_or-set_other}
 use Rattle.disk.specs.Facts.{LaneFacts}
 use Rattle.savers.specs.Draws.{share_of, draws_each, together}
 use Rattle.savers.specs.Jobs.{drawn_by, lane_of}
@@ -40,6 +40,9 @@ module _ {S : Type 0} where
     | inr not ↦ (let less : k < length before = omega (arith, lt, pushed_one before now x is, not) in
       subst P (sym (ap (λ (l : List S). get_or l k d) is ∙ get_or_append_left before (x ∷ []) d k less)) (each k d less))
   ]
+
+  pub at_both : (P : S → S → Type 0) (a b x y : S) → a ≡ x → b ≡ y → P a b → P x y
+  at_both P a b x y is to p = subst (λ (s : S). P x s) to (subst (λ (s : S). P s b) is p)
 
   -- a list is lent as a slice, and is what the slice has become
   module _ (new old items : List S) (n : ℕ) (as_many : length new ≡ length old) (value : old ≡ items) (long : n ≡ length items) where
@@ -104,3 +107,18 @@ pub others_kept : (counts : List ℕ) (at n m filled : ℕ) → at ≡ n → m �
 others_kept counts at n m filled is more none i le =
     let past : i ≡ at → ⊥ = λ e. omega (arith, e, is, more, le) in
     get_or-set_other counts at i filled 0 past ∙ none i (omega (arith, more, le))
+
+-- ---- no saver is given back yet, and all are
+pub none_counted : (i : ℕ) → slice_index (0 ∷ 0 ∷ 0 ∷ 0 ∷ []) i ≡ 0
+none_counted zero = refl
+none_counted (suc zero) = refl
+none_counted (suc (suc zero)) = refl
+none_counted (suc (suc (suc zero))) = refl
+none_counted (suc (suc (suc (suc i)))) = refl
+
+pub all_moved : {S F : Type 0} (h : List S → List F) (before all : List F) (xs : List S) → h [] ≡ [] → length xs ≡ 0 → before ++ h xs ≡ all → before ≡ all
+all_moved {S} {F} h before all xs empty none whole =
+    sym (append-nil before)
+    ∙ ap (λ (l : List F). before ++ l) (sym empty)
+    ∙ ap (λ (l : List S). before ++ h l) (sym (nil_from_length xs none))
+    ∙ whole

@@ -1,7 +1,28 @@
-use Rattle.std.proofs.Common.{◌≡◌, ◌≤◌, ◌<◌, ◌+◌, ◌∙◌, ◌∷◌, ℕ, length, refl, sym, arith, length-set}
-use Rattle.savers.specs.Jobs.{IsSeated, lane_of}
-use Rattle.savers.proofs.HandedOn.{some_left, first_and_rest, of_first, of_rest, one_less, pushed_one, facts_moved, shares_joined, drawn_joined, rest_moved, counts_moved, others_kept}
+use Rattle.std.proofs.Common.{◌≡◌, ◌<◌, ◌+◌, ◌∙◌, ◌++◌, ℕ, List, length, map, flat_map, get_or, refl, ap, arith, length-set}
+use Rattle.savers.specs.Jobs.{IsSeated, drawn_by, lane_of}
+use Rattle.savers.proofs.HandedOn.{some_left, first_and_rest, of_first, of_rest, none_left, one_less, pushed_one, facts_moved, shares_joined, drawn_joined, rest_moved, counts_moved, others_kept, none_counted, all_moved}
 use Rattle.savers.proofs.seating.take_back.Goals as goal
+
+pub loop-savers-init : goal.loop-savers-init
+loop-savers-init g c =
+    let facts = g.L.Lane.lane_facts in
+    let savers = c.args.savers.items in
+    let empty = c.requires.empty in
+    let none : length c.args.lanes.now.items ≡ 0 = ap (λ (l : List g.row.L.Denot). length l) empty in
+    record {
+      seat = c.requires.seat;
+      left = omega (arith, c.requires.left, ap (λ (l : List ℕ). length l) c.requires.drawn);
+      drawn = ap (λ (l : List ℕ). l ++ flat_map drawn_by savers) c.requires.drawn;
+      lanes = ap (λ (l : List g.row.L.Denot). map facts l ++ map (lane_of facts) savers) empty;
+      seated = c.requires.seated;
+      many = omega (arith, none);
+      few = c.requires.few;
+      room = omega (arith, none, c.requires.room);
+      rest = λ i d. (let same : length c.args.lanes.now.items + i ≡ i = omega (arith, none) in ap (λ (k : ℕ). get_or savers k d) same);
+      four = refl;
+      counts = λ i d lt. absurd (omega (arith, none, lt));
+      others = λ i le. none_counted i;
+    }
 
 pub loop-savers-preserved : goal.loop-savers-preserved
 loop-savers-preserved g c =
@@ -36,3 +57,28 @@ loop-savers-preserved g c =
       counts = counts_moved savers rest saver split all c.loop-savers.counts c.len.result (length before) (length now) at more fits so_far.rest so_far.counts;
       others = others_kept c.loop-savers.counts c.len.result (length before) (length now) saver.filled at more so_far.others;
     }
+
+pub returns-clause-whole : goal.returns-clause-whole
+returns-clause-whole g c =
+    omega (arith, c.loop-savers.invariant.left, none_left c.loop-savers.savers.len (length c.loop-savers.savers.items) c.loop-savers.savers.ok.0 c.loop-savers-test.ensures)
+
+pub returns-clause-drawn : goal.returns-clause-drawn
+returns-clause-drawn g c =
+    all_moved (flat_map drawn_by) c.loop-savers.seat.me.0.drawn (flat_map drawn_by c.args.savers.items) c.loop-savers.savers.items refl
+    (none_left c.loop-savers.savers.len (length c.loop-savers.savers.items) c.loop-savers.savers.ok.0 c.loop-savers-test.ensures) c.loop-savers.invariant.drawn
+
+pub returns-clause-lanes : goal.returns-clause-lanes
+returns-clause-lanes g c =
+    let facts = g.L.Lane.lane_facts in
+    all_moved (map (lane_of facts)) (map facts c.loop-savers.lanes.items) (map (lane_of facts) c.args.savers.items) c.loop-savers.savers.items refl
+    (none_left c.loop-savers.savers.len (length c.loop-savers.savers.items) c.loop-savers.savers.ok.0 c.loop-savers-test.ensures) c.loop-savers.invariant.lanes
+
+pub returns-clause-counts : goal.returns-clause-counts
+returns-clause-counts g c i d lt =
+    let none = none_left c.loop-savers.savers.len (length c.loop-savers.savers.items) c.loop-savers.savers.ok.0 c.loop-savers-test.ensures in
+    c.loop-savers.invariant.counts i d (omega (arith, lt, none, c.loop-savers.invariant.many))
+
+pub returns-clause-others : goal.returns-clause-others
+returns-clause-others g c i le =
+    let none = none_left c.loop-savers.savers.len (length c.loop-savers.savers.items) c.loop-savers.savers.ok.0 c.loop-savers-test.ensures in
+    c.loop-savers.invariant.others i (omega (arith, le, none, c.loop-savers.invariant.many))
