@@ -76,10 +76,10 @@ module _ (size : Size) (memory : List ℕ) (serial : ℕ) where
       → AreFilled size memory serial after (n + 1) now
   filled_more drawn after number n before now is many small torn stands filled p lt = elim (cases_eq p n) [
     | inl here ↦ subst (λ (q : ℕ). (slice_index after q < size.pages) × PageStands memory now q (slice_index after q) serial) (sym here)
-      (subst (λ (page : ℕ). (page < size.pages) × PageStands memory now n page serial) (last_at drawn after number n is many) (small, stands))
+        (subst (λ (page : ℕ). (page < size.pages) × PageStands memory now n page serial) (last_at drawn after number n is many) (small, stands))
     | inr not ↦ (let less : p < n = omega (arith, lt, not) in
-      let was = drawn_more drawn after number n before is many filled p less in
-      (was.0, stands_on memory n p (slice_index after p) serial before now less torn was.1))
+        let was = drawn_more drawn after number n before is many filled p less in
+        (was.0, stands_on memory n p (slice_index after p) serial before now less torn was.1))
   ]
 
   -- a number past the last page was drawn

@@ -4,19 +4,19 @@ use Rattle.std.specs.Prelude.{All, ◌==◌}
 use Rattle.std.proofs.lemmas.Bool.{cases_eq}
 use Rattle.std.proofs.lemmas.Bool.Decides.{nat_tests}
 use Rattle.std.proofs.lemmas.List.{length_push, length-append, append-nil, nil_from_length, take_at, map_push, get_or_push, get_or_append_left, get_or-set_same, get_or-set_other}
-use Rattle.disk.specs.Facts.{LaneFacts}
 use Rattle.savers.specs.Draws.{share_of, draws_each, together}
-use Rattle.savers.specs.Jobs.{drawn_by, lane_of}
+use Rattle.savers.specs.Jobs.{drawn_by}
 use Rattle.savers.specs.declared.saver.Saver.{Saver}
 use Rattle.savers.specs.declared.view.TicketView.{TicketView}
 
--- ---- the first is taken from a list
+-- ---- what a test of a count says
 pub some_left : (n k : ℕ) → n ≡ k → false ≡ (n == 0) → 0 < k
 some_left n k is not = grind (arith, nat_tests)
 
 pub none_left : (n k : ℕ) → n ≡ k → true ≡ (n == 0) → k ≡ 0
 none_left n k is none = grind (arith, nat_tests)
 
+-- ---- the first is taken from a list, and one is put at the end of another
 module _ {S : Type 0} where
   pub first_and_rest : (xs rest : List S) (x : S) → 0 < length xs → x ≡ get_or xs 0 x → rest ≡ drop 1 xs → xs ≡ x ∷ rest
   first_and_rest [] rest x some is others = absurd (omega arith)
@@ -38,9 +38,10 @@ module _ {S : Type 0} where
   all_pushed P before now x is each here k d lt = elim (cases_eq k (length before)) [
     | inl last ↦ subst P (sym (ap (λ (l : List S). get_or l k d) is ∙ get_or_push before x d k (sym last))) here
     | inr not ↦ (let less : k < length before = omega (arith, lt, pushed_one before now x is, not) in
-      subst P (sym (ap (λ (l : List S). get_or l k d) is ∙ get_or_append_left before (x ∷ []) d k less)) (each k d less))
+        subst P (sym (ap (λ (l : List S). get_or l k d) is ∙ get_or_append_left before (x ∷ []) d k less)) (each k d less))
   ]
 
+  -- what holds of two values holds of those that are equal to them
   pub at_both : (P : S → S → Type 0) (a b x y : S) → a ≡ x → b ≡ y → P a b → P x y
   at_both P a b x y is to p = subst (λ (s : S). P x s) to (subst (λ (s : S). P s b) is p)
 
@@ -96,10 +97,10 @@ module _ {L : Type 0} (savers rest : List (Saver L)) (saver : Saver L) (split : 
       → (i : ℕ) (d : Saver L) → i < m → slice_index (slice_set counts at saver.filled) i ≡ (get_or all i d).filled
   counts_moved all counts at n m is more fits each before i d lt = elim (cases_eq i n) [
     | inl here ↦ (let same : at ≡ i = is ∙ sym here in
-      let start : i ≡ n + 0 = omega (arith, here) in
-      ap (λ (k : ℕ). slice_index (slice_set counts k saver.filled) i) same
-      ∙ get_or-set_same counts i saver.filled 0 (omega (arith, here, fits))
-      ∙ ap (λ (s : Saver L). s.filled) (sym (ap (λ (k : ℕ). get_or all k d) start ∙ each 0 d ∙ ap (λ (l : List (Saver L)). get_or l 0 d) split)))
+        let start : i ≡ n + 0 = omega (arith, here) in
+        ap (λ (k : ℕ). slice_index (slice_set counts k saver.filled) i) same
+        ∙ get_or-set_same counts i saver.filled 0 (omega (arith, here, fits))
+        ∙ ap (λ (s : Saver L). s.filled) (sym (ap (λ (k : ℕ). get_or all k d) start ∙ each 0 d ∙ ap (λ (l : List (Saver L)). get_or l 0 d) split)))
     | inr not ↦ get_or-set_other counts at i saver.filled 0 (λ e. not (e ∙ is)) ∙ before i d (omega (arith, lt, more, not))
   ]
 

@@ -1,4 +1,4 @@
-use Rattle.std.proofs.Common.{◌∙◌, List, map, refl, sym, ap, arith}
+use Rattle.std.proofs.Common.{List, map, ap, arith}
 use Rattle.disk.specs.Facts.{lane_failures}
 use Rattle.savers.proofs.HandedOn.{some_left, none_left}
 use Rattle.savers.proofs.Jobs.{stay_put}
