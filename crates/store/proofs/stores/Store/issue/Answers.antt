@@ -111,3 +111,40 @@ returns-in-Err-InDoubt-clause-answered g c =
     let s = c.args.self.now in
     refused_so _ _ _ _ (inr (inl (refl, c.requires.reaches, life_is _ _ _ _ _ _ _ _ did.found did.journal_still (ap (λ (x : Change). Some x) did.change) refl))) did.any_moment
     (did.either s.kept.known (c.commit.ensures.commits.doubt (c.in-Err-InDoubt.is ∙ ap Err c.in-Err-InDoubt.field-0-is) s.shape s.current did.up did.range)) c.in-Err-InDoubt.ensures.called.cause.err (omega (arith, c.in-Err-InDoubt.ensures.called.failures.err))
+
+-- ---- whatever is answered
+pub returns-in-Ok-clause-stays : goal.returns-in-Ok-clause-stays
+returns-in-Ok-clause-stays g c = record { board = refl; length = c.commit.ensures.called.content.as_long; none_out = ap (λ (l : Lent). l.lanes) c.commit.ensures.called.lent ∙ c.args.self.now.kept.none_out; no_fewer = c.commit.ensures.no_fewer; opened = refl }
+
+pub returns-in-Ok-clause-memory : goal.returns-in-Ok-clause-memory
+returns-in-Ok-clause-memory g c = refl
+
+pub returns-in-Err-Unchanged-clause-stays : goal.returns-in-Err-Unchanged-clause-stays
+returns-in-Err-Unchanged-clause-stays g c = record { board = refl; length = c.commit.ensures.called.content.as_long; none_out = ap (λ (l : Lent). l.lanes) c.commit.ensures.called.lent ∙ c.args.self.now.kept.none_out; no_fewer = c.commit.ensures.no_fewer; opened = refl }
+
+pub returns-in-Err-Unchanged-clause-memory : goal.returns-in-Err-Unchanged-clause-memory
+returns-in-Err-Unchanged-clause-memory g c = refl
+
+pub returns-in-Err-InDoubt-clause-stays : goal.returns-in-Err-InDoubt-clause-stays
+returns-in-Err-InDoubt-clause-stays g c = record { board = refl; length = c.commit.ensures.called.content.as_long; none_out = ap (λ (l : Lent). l.lanes) c.commit.ensures.called.lent ∙ c.args.self.now.kept.none_out; no_fewer = c.commit.ensures.no_fewer; opened = refl }
+
+pub returns-in-Err-InDoubt-clause-memory : goal.returns-in-Err-InDoubt-clause-memory
+returns-in-Err-InDoubt-clause-memory g c = refl
+
+pub returns-in-Ok-clause-few : goal.returns-in-Ok-clause-few
+returns-in-Ok-clause-few g c = tt
+
+pub returns-in-Ok-clause-calls : goal.returns-in-Ok-clause-calls
+returns-in-Ok-clause-calls g c = c.in-Ok.ensures.called.calls.ok
+
+pub returns-in-Err-Unchanged-clause-few : goal.returns-in-Err-Unchanged-clause-few
+returns-in-Err-Unchanged-clause-few g c = inl refl
+
+pub returns-in-Err-Unchanged-clause-calls : goal.returns-in-Err-Unchanged-clause-calls
+returns-in-Err-Unchanged-clause-calls g c = tt
+
+pub returns-in-Err-InDoubt-clause-few : goal.returns-in-Err-InDoubt-clause-few
+returns-in-Err-InDoubt-clause-few g c = inr refl
+
+pub returns-in-Err-InDoubt-clause-calls : goal.returns-in-Err-InDoubt-clause-calls
+returns-in-Err-InDoubt-clause-calls g c = tt
