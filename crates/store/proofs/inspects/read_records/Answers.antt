@@ -1,4 +1,4 @@
-use Rattle.std.proofs.Common.{◌∙◌, Ok, Err, arith}
+use Rattle.std.proofs.Common.{◌∙◌, Ok, arith}
 use Rattle.std.proofs.lemmas.Result.{err_from_is_err_and}
 use Rattle.disk.specs.Calls.{MakesCalls}
 use Rattle.disk.specs.Facts.{Content, Facts, Stays}

@@ -148,3 +148,43 @@ returns-in-Err-InDoubt-clause-few g c = inr refl
 
 pub returns-in-Err-InDoubt-clause-calls : goal.returns-in-Err-InDoubt-clause-calls
 returns-in-Err-InDoubt-clause-calls g c = tt
+
+-- what stays of the store, where nothing was committed
+pub invariant_of-self-in-Err-Unchanged-clause-plain : goal.invariant_of-self-in-Err-Unchanged-clause-plain
+invariant_of-self-in-Err-Unchanged-clause-plain g c = c.args.self.now.plain
+
+pub invariant_of-self-in-Err-Unchanged-clause-same_image : goal.invariant_of-self-in-Err-Unchanged-clause-same_image
+invariant_of-self-in-Err-Unchanged-clause-same_image g c = c.args.self.now.same_image
+
+pub invariant_of-self-in-Err-Unchanged-clause-room : goal.invariant_of-self-in-Err-Unchanged-clause-room
+invariant_of-self-in-Err-Unchanged-clause-room g c = c.args.self.now.room
+
+pub invariant_of-self-in-Err-Unchanged-clause-few : goal.invariant_of-self-in-Err-Unchanged-clause-few
+invariant_of-self-in-Err-Unchanged-clause-few g c = c.args.self.now.few
+
+pub invariant_of-self-in-Err-Unchanged-clause-counted : goal.invariant_of-self-in-Err-Unchanged-clause-counted
+invariant_of-self-in-Err-Unchanged-clause-counted g c = omega (arith, c.args.self.now.counted, c.commit.ensures.no_fewer)
+
+pub invariant_of-self-in-Err-InDoubt-clause-plain : goal.invariant_of-self-in-Err-InDoubt-clause-plain
+invariant_of-self-in-Err-InDoubt-clause-plain g c = c.args.self.now.plain
+
+pub invariant_of-self-in-Err-InDoubt-clause-same_image : goal.invariant_of-self-in-Err-InDoubt-clause-same_image
+invariant_of-self-in-Err-InDoubt-clause-same_image g c = c.args.self.now.same_image
+
+pub invariant_of-self-in-Err-InDoubt-clause-room : goal.invariant_of-self-in-Err-InDoubt-clause-room
+invariant_of-self-in-Err-InDoubt-clause-room g c = c.args.self.now.room
+
+pub invariant_of-self-in-Err-InDoubt-clause-few : goal.invariant_of-self-in-Err-InDoubt-clause-few
+invariant_of-self-in-Err-InDoubt-clause-few g c = c.args.self.now.few
+
+pub invariant_of-self-in-Err-InDoubt-clause-counted : goal.invariant_of-self-in-Err-InDoubt-clause-counted
+invariant_of-self-in-Err-InDoubt-clause-counted g c = omega (arith, c.args.self.now.counted, c.commit.ensures.no_fewer)
+
+pub invariant_of-self-in-Err-Unchanged-clause-doubted : goal.invariant_of-self-in-Err-Unchanged-clause-doubted
+invariant_of-self-in-Err-Unchanged-clause-doubted g c = of_no_doubt _ c.args.self.now.doubt c.requires.up
+
+pub invariant_of-self-in-Err-Unchanged-clause-failed : goal.invariant_of-self-in-Err-Unchanged-clause-failed
+invariant_of-self-in-Err-Unchanged-clause-failed g c = of_no_doubt _ c.args.self.now.doubt c.requires.up
+
+pub invariant_of-self-in-Err-Unchanged-clause-allowed : goal.invariant_of-self-in-Err-Unchanged-clause-allowed
+invariant_of-self-in-Err-Unchanged-clause-allowed g c = of_no_doubt _ c.args.self.now.doubt c.requires.up

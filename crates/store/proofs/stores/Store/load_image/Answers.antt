@@ -81,7 +81,7 @@ returns-in_err-read_area-clause-stops g c =
     let p = err_from_is_err_and c.from_residual.result c.from_residual.ensures.1 in
     rw (p.1, p.2) c.in_err-read_area.ensures.read.stops
 
--- what an answer does not tell of
+-- the other clauses
 pub returns-then-pages-clause-loads : goal.returns-then-pages-clause-loads
 returns-then-pages-clause-loads g c = tt
 
