@@ -6,7 +6,7 @@ use Rattle.board_model.specs.Shapes.{Size, area_sectors_of}
 use Rattle.board_model.specs.Views.{change_of, durable_of}
 use Rattle.board_model.proofs.Steps.{ByCommand, Drops, Keeps, by_command}
 use Rattle.board_model.specs.declared.durable.Command.{Command}
-use Rattle.disk.specs.Facts.{Content, Facts, Torn, Passes, LeavesSince}
+use Rattle.disk.specs.Facts.{Content, Facts, sector, Torn, Passes, LeavesSince}
 use Rattle.disk.specs.Moments.{leaves_none, leaves_more}
 use Rattle.layout.specs.Superblocks.{IsSuperblock}
 use Rattle.layout.specs.Records.{selected_by, IsRecord}
@@ -15,7 +15,7 @@ use Rattle.layout.specs.declared.saved.Saved.{Saved}
 use Rattle.layout.specs.declared.records.Record.{Record}
 use Rattle.store.specs.Entries.{is_change, drop_image}
 use Rattle.store.specs.Taken.{are_taken}
-use Rattle.store.specs.Standing.{image_of, state_of, memory_in, Selects, StandsFor}
+use Rattle.store.specs.Standing.{image_of, state_of, memory_in, selected, live_sector, Selects, StandsFor}
 use Rattle.store.specs.Commits.{SameImage, IsUp}
 use Rattle.board_model.specs.declared.durable.Entry.{Entry}
 use Rattle.board_model.specs.declared.durable.Entry.TheVariants as entries
@@ -61,6 +61,8 @@ pub record Frees (a b : Facts) (size : Size) (opened current : Record) (journal 
   pub heads : durable_of (state_of size opened b.content) ≡ durable_of (state_of size opened a.content)
   pub now : fold (state_of size opened b.content) (told (memory_in size current a.content) journal) ≡ now_by a size opened current journal
   pub any_moment : LeavesSince a b (λ c. StandsFor c size (now_by a size opened current journal))
+  pub selected_still : selected b.content ≡ selected a.content
+  pub live_still : live_sector b.content ≡ live_sector a.content
 
 module _ (a b : Facts) (size : Size) (side : ℕ) (opened current : Record) (journal : List Entry) (area : ℕ) (known : side < 2) (two : area < 2)
     (free : (saved : Saved) → current.image ≡ Some saved → (area ≡ 0 → saved.area ≡ 0 → ⊥) × (area ≡ 1 → saved.area ≡ 1 → ⊥))
@@ -104,6 +106,15 @@ module _ (a b : Facts) (size : Size) (side : ℕ) (opened current : Record) (jou
   free_heads : durable_of (state_of size opened b.content) ≡ durable_of (state_of size opened a.content)
   free_heads = durable_same size opened b.content ∙ sym (durable_same size opened a.content)
 
+  -- the gate, and the record that it selects
+  free_selected : selected b.content ≡ selected a.content
+  free_selected = ap selected_by (content.before 1 (omega arith))
+
+  free_live : live_sector b.content ≡ live_sector a.content
+  free_live =
+      let gate : selected a.content ≡ side = (up a.content may_keep).selects.gate in
+      ap (λ (k : ℕ). sector b.content (2 + k)) free_selected ∙ content.before (2 + selected a.content) (omega (arith, known, gate))
+
   -- the table of commands refuses none of the journal, as before
   pub free_legal : are_taken (state_of size opened a.content) (told (memory_in size current a.content) journal) ≡ true → are_taken (state_of size opened b.content) (told (memory_in size current b.content) journal) ≡ true
   free_legal legal =
@@ -141,4 +152,4 @@ module _ (a b : Facts) (size : Size) (side : ℕ) (opened current : Record) (jou
           (stands_for size side current a.content y (record { selects = still_selects x y torn chosen.selects; image = image_then size current.image a.content x y chosen.image (clear x y torn) })))
 
       pub frees : ((x : Content) → a.since a.moment x → a.may_leave x) → Frees a b size opened current journal
-      frees only_now = record { journal_still = free_told; heads = free_heads; now = free_fold; any_moment = free_moment only_now }
+      frees only_now = record { journal_still = free_told; heads = free_heads; now = free_fold; any_moment = free_moment only_now; selected_still = free_selected; live_still = free_live }

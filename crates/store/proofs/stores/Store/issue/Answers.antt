@@ -111,3 +111,80 @@ returns-in-Err-InDoubt-clause-answered g c =
     let s = c.args.self.now in
     refused_so _ _ _ _ (inr (inl (refl, c.requires.reaches, life_is _ _ _ _ _ _ _ _ did.found did.journal_still (ap (λ (x : Change). Some x) did.change) refl))) did.any_moment
     (did.either s.kept.known (c.commit.ensures.commits.doubt (c.in-Err-InDoubt.is ∙ ap Err c.in-Err-InDoubt.field-0-is) s.shape s.current did.up did.range)) c.in-Err-InDoubt.ensures.called.cause.err (omega (arith, c.in-Err-InDoubt.ensures.called.failures.err))
+
+-- ---- whatever is answered
+pub returns-in-Ok-clause-stays : goal.returns-in-Ok-clause-stays
+returns-in-Ok-clause-stays g c = record { board = refl; length = c.commit.ensures.called.content.as_long; none_out = ap (λ (l : Lent). l.lanes) c.commit.ensures.called.lent ∙ c.args.self.now.kept.none_out; no_fewer = c.commit.ensures.no_fewer; opened = refl }
+
+pub returns-in-Ok-clause-memory : goal.returns-in-Ok-clause-memory
+returns-in-Ok-clause-memory g c = refl
+
+pub returns-in-Err-Unchanged-clause-stays : goal.returns-in-Err-Unchanged-clause-stays
+returns-in-Err-Unchanged-clause-stays g c = record { board = refl; length = c.commit.ensures.called.content.as_long; none_out = ap (λ (l : Lent). l.lanes) c.commit.ensures.called.lent ∙ c.args.self.now.kept.none_out; no_fewer = c.commit.ensures.no_fewer; opened = refl }
+
+pub returns-in-Err-Unchanged-clause-memory : goal.returns-in-Err-Unchanged-clause-memory
+returns-in-Err-Unchanged-clause-memory g c = refl
+
+pub returns-in-Err-InDoubt-clause-stays : goal.returns-in-Err-InDoubt-clause-stays
+returns-in-Err-InDoubt-clause-stays g c = record { board = refl; length = c.commit.ensures.called.content.as_long; none_out = ap (λ (l : Lent). l.lanes) c.commit.ensures.called.lent ∙ c.args.self.now.kept.none_out; no_fewer = c.commit.ensures.no_fewer; opened = refl }
+
+pub returns-in-Err-InDoubt-clause-memory : goal.returns-in-Err-InDoubt-clause-memory
+returns-in-Err-InDoubt-clause-memory g c = refl
+
+pub returns-in-Ok-clause-few : goal.returns-in-Ok-clause-few
+returns-in-Ok-clause-few g c = tt
+
+pub returns-in-Ok-clause-calls : goal.returns-in-Ok-clause-calls
+returns-in-Ok-clause-calls g c = c.in-Ok.ensures.called.calls.ok
+
+pub returns-in-Err-Unchanged-clause-few : goal.returns-in-Err-Unchanged-clause-few
+returns-in-Err-Unchanged-clause-few g c = inl refl
+
+pub returns-in-Err-Unchanged-clause-calls : goal.returns-in-Err-Unchanged-clause-calls
+returns-in-Err-Unchanged-clause-calls g c = tt
+
+pub returns-in-Err-InDoubt-clause-few : goal.returns-in-Err-InDoubt-clause-few
+returns-in-Err-InDoubt-clause-few g c = inr refl
+
+pub returns-in-Err-InDoubt-clause-calls : goal.returns-in-Err-InDoubt-clause-calls
+returns-in-Err-InDoubt-clause-calls g c = tt
+
+-- what stays of the store, where nothing was committed
+pub invariant_of-self-in-Err-Unchanged-clause-plain : goal.invariant_of-self-in-Err-Unchanged-clause-plain
+invariant_of-self-in-Err-Unchanged-clause-plain g c = c.args.self.now.plain
+
+pub invariant_of-self-in-Err-Unchanged-clause-same_image : goal.invariant_of-self-in-Err-Unchanged-clause-same_image
+invariant_of-self-in-Err-Unchanged-clause-same_image g c = c.args.self.now.same_image
+
+pub invariant_of-self-in-Err-Unchanged-clause-room : goal.invariant_of-self-in-Err-Unchanged-clause-room
+invariant_of-self-in-Err-Unchanged-clause-room g c = c.args.self.now.room
+
+pub invariant_of-self-in-Err-Unchanged-clause-few : goal.invariant_of-self-in-Err-Unchanged-clause-few
+invariant_of-self-in-Err-Unchanged-clause-few g c = c.args.self.now.few
+
+pub invariant_of-self-in-Err-Unchanged-clause-counted : goal.invariant_of-self-in-Err-Unchanged-clause-counted
+invariant_of-self-in-Err-Unchanged-clause-counted g c = omega (arith, c.args.self.now.counted, c.commit.ensures.no_fewer)
+
+pub invariant_of-self-in-Err-InDoubt-clause-plain : goal.invariant_of-self-in-Err-InDoubt-clause-plain
+invariant_of-self-in-Err-InDoubt-clause-plain g c = c.args.self.now.plain
+
+pub invariant_of-self-in-Err-InDoubt-clause-same_image : goal.invariant_of-self-in-Err-InDoubt-clause-same_image
+invariant_of-self-in-Err-InDoubt-clause-same_image g c = c.args.self.now.same_image
+
+pub invariant_of-self-in-Err-InDoubt-clause-room : goal.invariant_of-self-in-Err-InDoubt-clause-room
+invariant_of-self-in-Err-InDoubt-clause-room g c = c.args.self.now.room
+
+pub invariant_of-self-in-Err-InDoubt-clause-few : goal.invariant_of-self-in-Err-InDoubt-clause-few
+invariant_of-self-in-Err-InDoubt-clause-few g c = c.args.self.now.few
+
+pub invariant_of-self-in-Err-InDoubt-clause-counted : goal.invariant_of-self-in-Err-InDoubt-clause-counted
+invariant_of-self-in-Err-InDoubt-clause-counted g c = omega (arith, c.args.self.now.counted, c.commit.ensures.no_fewer)
+
+pub invariant_of-self-in-Err-Unchanged-clause-doubted : goal.invariant_of-self-in-Err-Unchanged-clause-doubted
+invariant_of-self-in-Err-Unchanged-clause-doubted g c = of_no_doubt _ c.args.self.now.doubt c.requires.up
+
+pub invariant_of-self-in-Err-Unchanged-clause-failed : goal.invariant_of-self-in-Err-Unchanged-clause-failed
+invariant_of-self-in-Err-Unchanged-clause-failed g c = of_no_doubt _ c.args.self.now.doubt c.requires.up
+
+pub invariant_of-self-in-Err-Unchanged-clause-allowed : goal.invariant_of-self-in-Err-Unchanged-clause-allowed
+invariant_of-self-in-Err-Unchanged-clause-allowed g c = of_no_doubt _ c.args.self.now.doubt c.requires.up

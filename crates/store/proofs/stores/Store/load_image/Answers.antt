@@ -1,4 +1,4 @@
-use Rattle.std.proofs.Common.{◌≡◌, ◌∙◌, ◌≤◌, Err, Some, None, length, map, true, sym, ap, subst, arith, rules}
+use Rattle.std.proofs.Common.{◌≡◌, ◌∙◌, ◌≤◌, Err, Some, None, length, map, true, refl, sym, ap, subst, arith, rules}
 use Rattle.std.proofs.lemmas.Result.{err_from_is_err_and}
 use Rattle.board_model.specs.Durable.{refusal_of, after, fold}
 use Rattle.board_model.specs.Shapes.{ram_bytes_of}
@@ -80,3 +80,106 @@ pub returns-in_err-read_area-clause-stops : goal.returns-in_err-read_area-clause
 returns-in_err-read_area-clause-stops g c =
     let p = err_from_is_err_and c.from_residual.result c.from_residual.ensures.1 in
     rw (p.1, p.2) c.in_err-read_area.ensures.read.stops
+
+-- the other clauses
+pub returns-then-pages-clause-loads : goal.returns-then-pages-clause-loads
+returns-then-pages-clause-loads g c = tt
+
+pub returns-then-pages-clause-untouched : goal.returns-then-pages-clause-untouched
+returns-then-pages-clause-untouched g c = λ not_device not_bad. (refl, refl)
+
+pub returns-then-pages-clause-length : goal.returns-then-pages-clause-length
+returns-then-pages-clause-length g c = refl
+
+pub returns-then-pages-clause-life : goal.returns-then-pages-clause-life
+returns-then-pages-clause-life g c = refl
+
+pub returns-then-pages-clause-unsynced : goal.returns-then-pages-clause-unsynced
+returns-then-pages-clause-unsynced g c = refl
+
+pub returns-then-pages-clause-no_failure : goal.returns-then-pages-clause-no_failure
+returns-then-pages-clause-no_failure g c = tt
+
+pub returns-then-pages-clause-calls : goal.returns-then-pages-clause-calls
+returns-then-pages-clause-calls g c = tt
+
+pub returns-then-pages-clause-stops : goal.returns-then-pages-clause-stops
+returns-then-pages-clause-stops g c = tt
+
+pub returns-then-pages-clause-memory : goal.returns-then-pages-clause-memory
+returns-then-pages-clause-memory g c = refl
+
+pub returns-in_default-clause-loads : goal.returns-in_default-clause-loads
+returns-in_default-clause-loads g c = tt
+
+pub returns-in_default-clause-untouched : goal.returns-in_default-clause-untouched
+returns-in_default-clause-untouched g c = λ not_device not_bad. (refl, refl)
+
+pub returns-in_default-clause-length : goal.returns-in_default-clause-length
+returns-in_default-clause-length g c = refl
+
+pub returns-in_default-clause-life : goal.returns-in_default-clause-life
+returns-in_default-clause-life g c = refl
+
+pub returns-in_default-clause-unsynced : goal.returns-in_default-clause-unsynced
+returns-in_default-clause-unsynced g c = refl
+
+pub returns-in_default-clause-no_failure : goal.returns-in_default-clause-no_failure
+returns-in_default-clause-no_failure g c = tt
+
+pub returns-in_default-clause-calls : goal.returns-in_default-clause-calls
+returns-in_default-clause-calls g c = tt
+
+pub returns-in_default-clause-stops : goal.returns-in_default-clause-stops
+returns-in_default-clause-stops g c = tt
+
+pub returns-in_default-clause-memory : goal.returns-in_default-clause-memory
+returns-in_default-clause-memory g c = refl
+
+pub returns-in_err-read_area-clause-loads : goal.returns-in_err-read_area-clause-loads
+returns-in_err-read_area-clause-loads g c = let p = err_from_is_err_and c.from_residual.result c.from_residual.ensures.1 in rw p.1 tt
+
+pub returns-in_err-read_area-clause-length : goal.returns-in_err-read_area-clause-length
+returns-in_err-read_area-clause-length g c = c.read_area.ensures.length
+
+pub returns-in_err-read_area-clause-unsynced : goal.returns-in_err-read_area-clause-unsynced
+returns-in_err-read_area-clause-unsynced g c = c.read_area.ensures.read.unsynced
+
+pub returns-in_err-read_area-clause-no_failure : goal.returns-in_err-read_area-clause-no_failure
+returns-in_err-read_area-clause-no_failure g c = let p = err_from_is_err_and c.from_residual.result c.from_residual.ensures.1 in rw p.1 tt
+
+pub returns-in_err-read_area-clause-calls : goal.returns-in_err-read_area-clause-calls
+returns-in_err-read_area-clause-calls g c = let p = err_from_is_err_and c.from_residual.result c.from_residual.ensures.1 in rw p.1 tt
+
+pub returns-in_err-read_area-clause-memory : goal.returns-in_err-read_area-clause-memory
+returns-in_err-read_area-clause-memory g c = refl
+
+pub returns-clause-refused : goal.returns-clause-refused
+returns-clause-refused g c = tt
+
+pub returns-clause-untouched : goal.returns-clause-untouched
+returns-clause-untouched g c = tt
+
+pub returns-clause-length : goal.returns-clause-length
+returns-clause-length g c = c.read_area.ensures.length
+
+pub returns-clause-unsynced : goal.returns-clause-unsynced
+returns-clause-unsynced g c = c.read_area.ensures.read.unsynced
+
+pub returns-clause-no_failure : goal.returns-clause-no_failure
+returns-clause-no_failure g c = let did = c.in_ok-read_area.ensures.read in (did.no_failure, did.unmoved)
+
+pub returns-clause-calls : goal.returns-clause-calls
+returns-clause-calls g c = c.in_ok-read_area.ensures.read.calls
+
+pub returns-clause-stops : goal.returns-clause-stops
+returns-clause-stops g c = tt
+
+pub returns-clause-memory : goal.returns-clause-memory
+returns-clause-memory g c = refl
+
+pub returns-in_err-read_area-clause-stays : goal.returns-in_err-read_area-clause-stays
+returns-in_err-read_area-clause-stays g c = let did = c.read_area.ensures.read in record { board = refl; length = ap (λ (d : Content). length d) did.content; none_out = did.none_out; no_fewer = did.no_fewer; opened = refl }
+
+pub returns-clause-stays : goal.returns-clause-stays
+returns-clause-stays g c = let did = c.read_area.ensures.read in record { board = refl; length = ap (λ (d : Content). length d) did.content; none_out = did.none_out; no_fewer = did.no_fewer; opened = refl }
