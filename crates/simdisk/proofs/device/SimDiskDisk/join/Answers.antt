@@ -1,4 +1,4 @@
-use Rattle.std.proofs.Common.{◌≡◌, ◌∙◌, ◌+◌, ◌*◌, ◌≤◌, ℕ, List, length, map, ap, sym, subst, refl, arith, rules}
+use Rattle.std.proofs.Common.{◌≡◌, ◌∙◌, ◌+◌, ◌*◌, ◌≤◌, ℕ, List, length, map, ap, sym, subst, refl, arith}
 use Rattle.disk.specs.Facts.{Content, Lent, Joined, counted, lane_at, lane_failures}
 use Rattle.simdisk.specs.Lanes.{lane_view, newest_view, lane_state}
 use Rattle.simdisk.specs.LaneStates.{CameBack, CountsLanes}
