@@ -1,4 +1,5 @@
-use Rattle.std.proofs.Common.{◌∷◌, [], refl, rules}
+use Rattle.std.proofs.Common.{◌∷◌, [], refl, arith, rules}
+use Rattle.std.proofs.lemmas.Grind.{common_steps}
 use Rattle.disk.specs.WriteLog.{lent_piece, synced}
 use Rattle.simdisk.specs.History.{log_of}
 use Rattle.simdisk.specs.Views.{lent_of}
@@ -30,3 +31,6 @@ returns-clause-called c =
       cause = search rules;
       gone = search rules;
     }
+
+pub invariant_of-self-2-clause-noted : goal.invariant_of-self-2-clause-noted
+invariant_of-self-2-clause-noted c = grind (arith, common_steps)

@@ -59,3 +59,10 @@ returns-clause-fills c within =
     let is : c.put_bytes.new.sector ≡ poked k c.args.offset c.args.bytes.now s.content.items = read_so s.content.items k c.args.offset c.args.bytes.now c.index.result.now c.put_bytes.new.sector within.0 c.index.ensures c.put_bytes.ensures in
     let anew : r' ≡ poked_log k (poked k c.args.offset c.args.bytes.now s.content.items) r = rw (← is) c.in_ok-set_sector.ensures.log in
     fills_poked k (poked k c.args.offset c.args.bytes.now s.content.items) r r' anew (rw (← s.agrees.as_long) within.0) (fits_synced s.history)
+
+pub returns-clause-log : goal.returns-clause-log
+returns-clause-log c within =
+    let s = c.args.self.now in
+    let k = c.args.sector in
+    let is : c.put_bytes.new.sector ≡ poked k c.args.offset c.args.bytes.now s.content.items = read_so s.content.items k c.args.offset c.args.bytes.now c.index.result.now c.put_bytes.new.sector within.0 c.index.ensures c.put_bytes.ensures in
+    rw (← is) c.in_ok-set_sector.ensures.log
