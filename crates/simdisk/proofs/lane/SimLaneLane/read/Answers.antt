@@ -43,7 +43,7 @@ returns-clause-newest c = refl
 
 pub returns-clause-called : goal.returns-clause-called
 returns-clause-called c = record {
-      ok = ((λ fails. true≢false (sym (c.if-strikes.ensures.due.1 fails))), c.if-strikes.ensures.counts refl, (c.if-strikes.ensures.waits refl).1);
-      err = tt;
-      calls = c.saturating_add-self.ensures;
-    }
+  ok = ((λ fails. true≢false (sym (c.if-strikes.ensures.due.1 fails))), c.if-strikes.ensures.counts refl, (c.if-strikes.ensures.waits refl).1);
+  err = tt;
+  calls = c.saturating_add-self.ensures;
+}
