@@ -1,28 +1,7 @@
-use Rattle.std.proofs.Common.{◌≡◌, ◌≢◌, ℕ, ◌+◌, ◌<◌, eq-eqb, ne_eqb, arith, refl, sym, ◌∙◌}
-use mathlib.Core.Logic.{dite}
-use native.Mathlib.Decide.{ℕ_discrete}
-use Rattle.std.specs.Int.{bit_at}
-use Rattle.hsm.specs.Calls.{state_in_word}
-use Rattle.hsm.specs.declared.state.State.TheVariants as codes
+use Rattle.std.proofs.Common.{◌<◌, arith, refl, sym, ◌∙◌}
 use Rattle.hsm.specs.Views.{state_in}
 use Rattle.hsm.proofs.Copying.{read_as, settled_is}
 use Rattle.hsm.proofs.standings.settled_hart.Goals as goal
-
--- where the claim and the entry of a hart are even, no start of it is pending
-even : (h found : ℕ) → bit_at found h ≡ bit_at found (16 + h) → state_in_word h found ≡ codes.StartPending → ⊥
-even h found same pends = dite (ℕ_discrete (bit_at found h) 0)
-    (λ zero. let is : state_in_word h found ≡ codes.Stopped = rw (eq-eqb (bit_at found h) 0 zero) refl in let clash : codes.Stopped ≡ codes.StartPending = sym is ∙ pends in absurd (cc))
-    (λ one.
-    let out : bit_at found (16 + h) ≢ 0 = λ zero. one (same ∙ zero) in
-    dite (ℕ_discrete (bit_at found (24 + h)) 0)
-    (λ zero.
-    let is : state_in_word h found ≡ codes.Started = rw (ne_eqb (bit_at found h) 0 one, ne_eqb (bit_at found (16 + h)) 0 out, eq-eqb (bit_at found (24 + h)) 0 zero) refl in
-    let clash : codes.Started ≡ codes.StartPending = sym is ∙ pends in
-    absurd (cc))
-    (λ set.
-    let is : state_in_word h found ≡ codes.Suspended = rw (ne_eqb (bit_at found h) 0 one, ne_eqb (bit_at found (16 + h)) 0 out, ne_eqb (bit_at found (24 + h)) 0 set) refl in
-    let clash : codes.Suspended ≡ codes.StartPending = sym is ∙ pends in
-    absurd (cc)))
 
 pub returns-in_default : goal.returns-in_default
 returns-in_default c =
@@ -52,9 +31,3 @@ peek-found-requires-clause-seat c = c.requires.seat
 
 pub loop-number-init : goal.loop-number-init
 loop-number-init c = λ k lt. absurd (omega (arith, lt))
-
-pub unreachable-requires : goal.unreachable-requires
-unreachable-requires c =
-    let even_one = c.peek-found.ensures.settled in
-    even even_one.0 c.peek-found.result even_one.2
-    (c.loop-number.invariant even_one.0 (omega (arith, even_one.1, c.requires.harts, c.loop-number-test.false, c.from-number-end.ensures, c.harts.ensures.value)))
