@@ -1,9 +1,9 @@
 -- A table that is made of another's states, hart by hart.
-use Rattle.std.proofs.Common.{◌≡◌, ◌≢◌, ℕ, ◌<◌, ◌≤◌, Bool, true, true≢false, if◌then◌else◌, eqb, refl, sym, ap, ◌∙◌, subst, arith, eq-eqb, ne_eqb, List, None, Some, Option, MatchOption, MatchBool, IsSome, IsTrue, ◌↔◌}
+use Rattle.std.proofs.Common.{◌≡◌, ◌≢◌, ℕ, ◌+◌, ◌<◌, ◌≤◌, ⊎_elim, Bool, true, true≢false, if◌then◌else◌, eqb, refl, sym, ap, ◌∙◌, subst, arith, eq-eqb, ne_eqb, List, None, Some, Option, MatchOption, MatchBool, IsSome, IsTrue, ◌↔◌}
 use mathlib.Core.Logic.{dite}
 use native.Mathlib.Decide.{ℕ_discrete}
 use Rattle.std.specs.Option.{IfNone}
-use Rattle.std.proofs.lemmas.Bool.{le-ltb}
+use Rattle.std.proofs.lemmas.Bool.{le-ltb, lt-ltb, cases_lt}
 use Rattle.tallies.specs.Notes.{numbers}
 use Rattle.tallies.specs.Seats.{numbers_from}
 use Rattle.tallies.proofs.Seatings.{at_all, map_all}
@@ -210,3 +210,48 @@ opens harts first old c all shown stood = record {
   where
     stage : (h : ℕ) → (if eqb h first then Running else Out) ≡ rest_stage (opening_states first h)
     stage h = dite (ℕ_discrete h first) (λ e. rw (eq-eqb h first e) refl) (λ ne. rw (ne_eqb h first ne) refl)
+
+module _ (first : ℕ) (states : ℕ → HartState) where
+  pub so_far_below : (n k : ℕ) → k ≢ first → k < n → so_far first n states k ≡ states k
+  so_far_below n k ne lt = rw (ne_eqb k first ne, lt-ltb k n lt) refl
+
+  -- one hart more says nothing new of the others
+  pub so_far_next : (n k : ℕ) → k ≢ n → so_far first n states k ≡ so_far first (n + 1) states k
+  so_far_next n k ne = ⊎_elim
+      (λ lt. rw (lt-ltb k n lt, lt-ltb k (n + 1) (omega (arith, lt))) refl)
+      (λ le. rw (le-ltb k n le, le-ltb k (n + 1) (omega (arith, le, ne))) refl)
+      (cases_lt k n)
+
+-- the first hart is passed over
+pub passes_first : (harts first n : ℕ) (old c : HartSeatView) → n ≡ first → IsMade harts first n old c → IsMade harts first (n + 1) old c
+passes_first harts first n old c is made = record {
+  rests = made.rests;
+  numbered = made.numbered;
+  states = λ k lt. dite (ℕ_discrete k first)
+      (λ e. made.states k lt ∙ (so_far_first first (state_in old) n k e ∙ sym (so_far_first first (state_in old) (n + 1) k e)))
+      (λ ne. made.states k lt ∙ so_far_next first (state_in old) n k (λ e. ne (e ∙ is)));
+}
+
+-- a hart that is not the first comes to its state
+pub made_next : (harts harts' first n : ℕ) (x : HartState) (old c c' : HartSeatView) → harts' ≡ harts → n ≢ first → x ≡ state_in old n → IsMade harts first n old c → Becomes harts' n x c c' → IsMade harts first (n + 1) old c'
+made_next harts harts' first n x old c c' same other is made becomes = record {
+  rests = subst (λ (m : ℕ). IsAtRest m c') same becomes.rests;
+  numbered = becomes.numbered ∙ made.numbered;
+  states = λ k lt. becomes.states k (subst (λ (m : ℕ). k < m) (sym same) lt) ∙ dite (ℕ_discrete k n)
+      (λ e.
+      let below : k < n + 1 = omega (arith, e) in
+      let miss : k ≢ first = λ f. other (sym e ∙ f) in
+      here n (λ _. x) (state_in c) k e ∙ (is ∙ (ap (state_in old) (sym e) ∙ sym (so_far_below first (state_in old) (n + 1) k miss below))))
+      (λ ne. elsewhere n (λ _. x) (state_in c) k ne ∙ (made.states k lt ∙ so_far_next first (state_in old) n k ne));
+}
+
+-- the first hart comes to its state last
+pub made_last : (harts harts' first n : ℕ) (x : HartState) (old c c' : HartSeatView) → harts' ≡ harts → harts ≤ n → x ≡ state_in old first → IsMade harts first n old c → Becomes harts' first x c c' → (k : ℕ) → k < harts → state_in c' k ≡ state_in old k
+made_last harts harts' first n x old c c' same all is made becomes k lt = becomes.states k (subst (λ (m : ℕ). k < m) (sym same) lt) ∙ dite (ℕ_discrete k first)
+    (λ e. here first (λ _. x) (state_in c) k e ∙ (is ∙ ap (state_in old) (sym e)))
+    (λ ne. elsewhere first (λ _. x) (state_in c) k ne ∙ (made.states k lt ∙ so_far_below first (state_in old) n k ne (omega (arith, lt, all))))
+
+-- the same, of other names
+pub made_at : (harts harts' first n n' : ℕ) (old old' c : HartSeatView) → harts ≡ harts' → n ≡ n' → old ≡ old' → IsMade harts first n old c → IsMade harts' first n' old' c
+made_at harts harts' first n n' old old' c same at is made =
+    subst (λ (m : ℕ). IsMade m first n' old' c) same (subst (λ (k : ℕ). IsMade harts first k old' c) at (subst (λ (d : HartSeatView). IsMade harts first n d c) is made))

@@ -19,6 +19,9 @@ use Rattle.hsm.proofs.Stages.{at_outside, not_pending}
 pub unarmed : (h found : ℕ) → bit_at found (8 + h) ≢ 1 → is_ready h found ≡ false
 unarmed h found n = rw (ne_eqb (bit_at found (8 + h)) 1 n) refl
 
+pub armed_ready : (h found : ℕ) → bit_at found (8 + h) ≡ 1 → bit_at found (16 + h) ≡ 0 → is_ready h found ≡ true
+armed_ready h found one zero = rw (eq-eqb (bit_at found (8 + h)) 1 one, eq-eqb (bit_at found (16 + h)) 0 zero) refl
+
 pub gone_in : (h found : ℕ) → bit_at found (16 + h) ≢ 0 → is_ready h found ≡ false
 gone_in h found n = rw (ne_eqb (bit_at found (16 + h)) 0 n) (nil (eqb (bit_at found (8 + h)) 1))
   where

@@ -10,3 +10,4 @@ pub mod Walks
 pub mod Arms
 pub mod Copying
 pub mod Comparing
+pub mod Causes

@@ -4,7 +4,6 @@ use Rattle.std.proofs.Math.Bool.{true-or, false-or, or-true}
 use Rattle.std.proofs.lemmas.List.{length-take-le, length-map, take_more, flat_map_more}
 use Rattle.std.proofs.lemmas.Bool.{cases_lt, cond-true, cond-false, lt-ltb, le-ltb, le-leb, lt-leb}
 use Rattle.std.specs.List.{flat_map}
-use Rattle.disk.specs.Facts.{sector}
 use Rattle.simdisk.specs.declared.patch.Patch.{Patch}
 use Rattle.simdisk.specs.Views.{piece, pieces}
 use Rattle.disk.specs.WriteLog.{Piece, ranges, Untouched, AreWithin}

@@ -1,12 +1,13 @@
-use Rattle.std.proofs.Common.{◌≡◌, ℕ, ◌+◌, ◌*◌, ◌<◌, false, None, arith}
+use Rattle.std.proofs.Common.{◌≡◌, refl, sym, subst, ℕ, ◌+◌, ◌*◌, ◌<◌, false, None, arith}
+use Rattle.std.specs.Int.{bit_at}
 use Rattle.hsm_steps.specs.declared.view.Stage.TheVariants.{Out, Ready, Addressed, Loaded, Running}
 use Rattle.hsm_steps.specs.declared.view.Action.TheVariants.{Looked, Read, Entered}
 use Rattle.tallies.specs.Notes.{HasNoted}
 use Rattle.hsm_steps.specs.States.{HartState, Shows, change_at, entry, begin}
-use Rattle.hsm.specs.Calls.{is_ready}
+use Rattle.hsm.specs.Calls.{is_ready, FindsNone, EntersAs}
 use Rattle.hsm.proofs.Alone.{Goes, goes, goes_on}
 use Rattle.hsm.proofs.Bits.{set_bit, clear_bit}
-use Rattle.hsm.proofs.Entering.{unarmed, gone_in, stays_out, gets_ready, enters_none, enters_some}
+use Rattle.hsm.proofs.Entering.{unarmed, armed_ready, gone_in, stays_out, gets_ready, enters_none, enters_some}
 use Rattle.hsm.proofs.calls.try_enter.Goals.{After-poll-found, Then-not-contains, Then-contains, Else-contains, After-read_address-site, After-read_opaque-opaque, After-enter}
 use Rattle.hsm.proofs.calls.try_enter.Goals as goal
 
@@ -43,6 +44,15 @@ waits_alone : (c : After-poll-found) → is_ready c.args.by c.poll-found.result 
 waits_alone c z states shown =
     enters_none c.args.table.now.table.shared.key.harts c.args.by c.poll-found.result c.args.seat.me.0 c.poll-found.new.seat.me.0 c.poll-found.ensures.told z c.requires.acts c.requires.by c.poll-found.ensures.tells states shown
 
+waits_steps : (c : After-poll-found) → is_ready c.args.by c.poll-found.result ≡ false → FindsNone c.args.by c.args.seat.me.0.harts c.poll-found.new.seat.me.0.harts
+waits_steps c z = (c.poll-found.result, z, stays_out c.args.by c.poll-found.result c.args.seat.me.0 c.poll-found.new.seat.me.0 c.poll-found.ensures.told z)
+
+pub returns-then-not-contains-clause-steps : goal.returns-then-not-contains-clause-steps
+returns-then-not-contains-clause-steps c = let at = goal.at.returns-then-not-contains-clause-steps c in waits_steps at.After-poll-found (not_armed at.Then-not-contains)
+
+pub returns-then-contains-clause-steps : goal.returns-then-contains-clause-steps
+returns-then-contains-clause-steps c = let at = goal.at.returns-then-contains-clause-steps c in waits_steps at.After-poll-found (entered at.Then-contains)
+
 pub returns-then-not-contains-clause-stands : goal.returns-then-not-contains-clause-stands
 returns-then-not-contains-clause-stands c = let at = goal.at.returns-then-not-contains-clause-stands c in (waits at.After-poll-found (not_armed at.Then-not-contains)).own
 
@@ -62,15 +72,21 @@ pub returns-then-contains-clause-alone : goal.returns-then-contains-clause-alone
 returns-then-contains-clause-alone c = let at = goal.at.returns-then-contains-clause-alone c in waits_alone at.After-poll-found (entered at.Then-contains)
 
 -- ---- it did: two loads and the entry
-looked : (c : Else-contains) → HasNoted c.args.by Ready (Looked c.poll-found.result) c.args.seat.me.0.harts c.poll-found.new.seat.me.0.harts
-looked c =
-    let h = c.args.by in
-    let found = c.poll-found.result in
+-- what it found of the two bits
+armed : (c : Else-contains) → bit_at c.poll-found.result (8 + c.args.by) ≡ 1
+armed c =
     let few = c.args.table.now.few in
-    let lt : h < 8 = let own = c.requires.by in omega arith in
-    let armed = set_bit c.contains.result c.armed_in.result h found (8 + h) c.contains.ensures (c.armed_in.ensures h lt) c.if-not-contains.false in
-    let out = clear_bit c.contains-2.result c.entered_in.result h found (16 + h) c.contains-2.ensures (c.entered_in.ensures h lt) c.if-contains.false in
-    gets_ready h found c.args.seat.me.0 c.poll-found.new.seat.me.0 c.poll-found.ensures.told armed out
+    let lt : c.args.by < 8 = let own = c.requires.by in omega arith in
+    set_bit c.contains.result c.armed_in.result c.args.by c.poll-found.result (8 + c.args.by) c.contains.ensures (c.armed_in.ensures c.args.by lt) c.if-not-contains.false
+
+waiting : (c : Else-contains) → bit_at c.poll-found.result (16 + c.args.by) ≡ 0
+waiting c =
+    let few = c.args.table.now.few in
+    let lt : c.args.by < 8 = let own = c.requires.by in omega arith in
+    clear_bit c.contains-2.result c.entered_in.result c.args.by c.poll-found.result (16 + c.args.by) c.contains-2.ensures (c.entered_in.ensures c.args.by lt) c.if-contains.false
+
+looked : (c : Else-contains) → HasNoted c.args.by Ready (Looked c.poll-found.result) c.args.seat.me.0.harts c.poll-found.new.seat.me.0.harts
+looked c = gets_ready c.args.by c.poll-found.result c.args.seat.me.0 c.poll-found.new.seat.me.0 c.poll-found.ensures.told (armed c) (waiting c)
 
 ready : (c : Else-contains) → Goes c.args.by Ready c.args.seat.me.0 c.poll-found.new.seat.me.0
 ready c = goes c.args.table.now.table.shared.key.harts c.args.by Out Ready (Looked c.poll-found.result) c.args.seat.me.0 c.poll-found.new.seat.me.0 (looked c) c.requires.acts
@@ -120,3 +136,64 @@ returns-clause-alone c = λ states shown.
     rw same
     (enters_some c.args.table.now.table.shared.key.harts c.args.by c.poll-found.result a c.read_opaque-opaque.result c.args.seat.me.0 c.poll-found.new.seat.me.0 c.read_address-site.new.seat.me.0 c.read_opaque-opaque.new.seat.me.0 c.enter.new.seat.me.0
     (looked at.Else-contains) c.read_address-site.ensures.told c.read_opaque-opaque.ensures.told c.enter.ensures.told c.requires.acts c.enter.ensures.open states shown)
+
+pub poll-found-requires-clause-named : goal.poll-found-requires-clause-named
+poll-found-requires-clause-named c = (refl, refl)
+
+pub poll-found-requires-clause-seat : goal.poll-found-requires-clause-seat
+poll-found-requires-clause-seat c = c.requires.seat
+
+pub poll-found-requires-clause-acts : goal.poll-found-requires-clause-acts
+poll-found-requires-clause-acts c = c.requires.acts
+
+pub returns-then-not-contains-clause-seat : goal.returns-then-not-contains-clause-seat
+returns-then-not-contains-clause-seat c = c.poll-found.ensures.seat
+
+pub returns-then-contains-clause-seat : goal.returns-then-contains-clause-seat
+returns-then-contains-clause-seat c = c.poll-found.ensures.seat
+
+pub read_address-site-requires-clause-named : goal.read_address-site-requires-clause-named
+read_address-site-requires-clause-named c = refl
+
+pub read_address-site-requires-clause-seat : goal.read_address-site-requires-clause-seat
+read_address-site-requires-clause-seat c = c.poll-found.ensures.seat
+
+pub read_address-site-requires-clause-by : goal.read_address-site-requires-clause-by
+read_address-site-requires-clause-by c = c.requires.by
+
+pub read_opaque-opaque-requires-clause-named : goal.read_opaque-opaque-requires-clause-named
+read_opaque-opaque-requires-clause-named c = (refl, refl)
+
+pub read_opaque-opaque-requires-clause-seat : goal.read_opaque-opaque-requires-clause-seat
+read_opaque-opaque-requires-clause-seat c = c.read_address-site.ensures.seat
+
+pub read_opaque-opaque-requires-clause-by : goal.read_opaque-opaque-requires-clause-by
+read_opaque-opaque-requires-clause-by c = c.requires.by
+
+pub enter-requires-clause-named : goal.enter-requires-clause-named
+enter-requires-clause-named c = (refl, refl, refl, refl)
+
+pub enter-requires-clause-seat : goal.enter-requires-clause-seat
+enter-requires-clause-seat c = c.read_opaque-opaque.ensures.seat
+
+pub enter-requires-clause-by : goal.enter-requires-clause-by
+enter-requires-clause-by c = c.requires.by
+
+pub returns-clause-seat : goal.returns-clause-seat
+returns-clause-seat c = c.enter.ensures.seat
+
+pub returns-clause-steps : goal.returns-clause-steps
+returns-clause-steps c =
+    let at = goal.at.returns-clause-steps c in
+    let same : c.unwrap-address.result ≡ c.read_address-site.result = (rw c.unwrap-address.ensures at c.new.ensures.some).0 in
+    subst (λ (a : ℕ). EntersAs c.args.by c.args.seat.me.0.harts a c.read_opaque-opaque.result c.enter.new.seat.me.0.harts) (sym same) (
+      c.poll-found.result,
+      c.poll-found.new.seat.me.0.harts,
+      c.read_address-site.new.seat.me.0.harts,
+      c.read_opaque-opaque.new.seat.me.0.harts,
+      armed_ready c.args.by c.poll-found.result (armed at.Else-contains) (waiting at.Else-contains),
+      looked at.Else-contains,
+      c.read_address-site.ensures.told,
+      c.read_opaque-opaque.ensures.told,
+      c.enter.ensures.told,
+    )

@@ -1,4 +1,4 @@
-use Rattle.std.proofs.Common.{◌<◌, arith, sym, ◌∙◌}
+use Rattle.std.proofs.Common.{◌<◌, arith, refl, sym, ◌∙◌}
 use Rattle.hsm.specs.Views.{state_in}
 use Rattle.hsm.proofs.Copying.{read_as, settled_is}
 use Rattle.hsm.proofs.standings.settled_hart.Goals as goal
@@ -22,3 +22,12 @@ returns-in_default c =
       hart = lt;
       settled = settled_is x (λ e. c.in_default.not-StartPending (named_so ∙ sym e));
     }
+
+pub peek-found-requires-clause-named : goal.peek-found-requires-clause-named
+peek-found-requires-clause-named c = refl
+
+pub peek-found-requires-clause-seat : goal.peek-found-requires-clause-seat
+peek-found-requires-clause-seat c = c.requires.seat
+
+pub loop-number-init : goal.loop-number-init
+loop-number-init c = λ k lt. absurd (omega (arith, lt))

@@ -1,6 +1,5 @@
-use Rattle.std.proofs.Common.{◌≡◌, ◌∙◌, ◌+◌, ◌*◌, ◌<◌, ◌++◌, ◌∷◌, [], ℕ, length, map, take, drop, refl, sym, ap, rules, arith, Bool, true}
+use Rattle.std.proofs.Common.{◌≡◌, ◌∙◌, ◌+◌, ◌-◌, ◌*◌, ◌<◌, ◌++◌, ◌∷◌, [], ℕ, length, map, take, drop, refl, sym, ap, rules, arith, Bool, true}
 use Rattle.std.proofs.lemmas.List.{map-append, places}
-use Rattle.std.proofs.lemmas.Grind.{common_steps}
 use Rattle.disk.specs.Facts.{Content, LaneFacts, sector}
 use Rattle.simdisk.specs.Lanes.{lane_view, lane_state}
 use Rattle.simdisk.specs.Views.{last_of}
@@ -23,10 +22,11 @@ loop-lane-preserved c =
     let last = last_of c.in_ok-last_in.field-0 held in
     let x : LaneFacts = record { content = held; failures = 0; first = start; calls = c.no_call-log.result.kept.calls } in
     let y : LaneState = record { newest = last; armed = faults.armed; cut = faults.cut; calls = 0 } in
-    let held_is : held ≡ take c.args.each (drop start c.args.content.now) = grind (arith, common_steps) in
+    let span : start + c.args.each - start ≡ c.args.each = omega arith in
+    let held_is : held ≡ take c.args.each (drop start c.args.content.now) = c.in_ok-copy_of.ensures ∙ ap (λ (k : ℕ). take k (drop start c.args.content.now)) span in
     let in_step : c.stays_in_step-as_read.result ≡ true → written ≡ held =
     λ is. ap (λ (k : Content). take c.args.each (drop start k)) (c.requires.in_step (c.stays_in_step-as_read.ensures.now is)) ∙ sym held_is in
-    let value : last ≡ written = value_of c.in_ok-last_in.field-0 _ written held c.stays_in_step-as_read.result c.in_ok-last_in.ensures.value (grind (arith, common_steps)) in_step in
+    let value : last ≡ written = value_of c.in_ok-last_in.field-0 _ written held c.stays_in_step-as_read.result c.in_ok-last_in.ensures.value (ap (λ (k : ℕ). take k (drop start c.args.newest.now)) span) in_step in
     let long : length held ≡ c.args.each = search (rules, places, arith) in
     let same : (j : ℕ) → j < c.args.each → sector held j ≡ sector c.args.content.now (start + j) = λ j lt. search (rules, places, arith) in
     let lent : IsLent c.args.first c.args.each n c.args.newest.now c.args.faults.armed c.args.faults.cut y = record { written = value; arms = c.of_lane-faults.ensures.0; power = c.of_lane-faults.ensures.1; none = refl } in

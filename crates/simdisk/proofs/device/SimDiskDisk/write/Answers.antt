@@ -1,10 +1,11 @@
-use Rattle.std.proofs.Common.{◌≡◌, ◌∙◌, ◌++◌, ◌∷◌, [], ℕ, ◌*◌, ◌<◌, length, ap, sym, rules}
+use Rattle.std.proofs.Common.{◌≡◌, ◌∙◌, ◌++◌, ◌∷◌, [], ℕ, ◌*◌, ◌<◌, length, ap, sym, refl, inl, true≢false, arith}
 use Rattle.disk.specs.Facts.{Content, Lent, Passes, Torn}
 use Rattle.disk.specs.WriteLog.{laid_over, newest, ranges, sim_facts, synced}
 use Rattle.simdisk.specs.Views.{pieces, lent_of, IsLatest}
 use Rattle.simdisk.specs.History.{log_of}
 use Rattle.simdisk.specs.Latest.{latest_of}
 use Rattle.disk.proofs.Ranges.{agrees_write, agrees_push}
+use Rattle.simdisk.proofs.Causes.{strikes_cause, waits_same, runs, called_once}
 use Rattle.simdisk.proofs.Notes.{newest_more, ranges_written, last_push, apart_lent}
 use Rattle.disk.proofs.Stretches.{passes_range}
 use Rattle.simdisk.proofs.device.SimDiskDisk.write.Goals.{In-Ok}
@@ -45,8 +46,8 @@ invariant_of-self-then-strikes c =
       newest = newest_with noted (latest_of c.write_failed.new.self s.content.items) (rw (← c.deref-then-strikes.ensures.value) c.write_failed.ensures.written);
       room = rw (← c.deref-then-strikes.ensures.value) c.write_failed.ensures.as_long;
       agrees = rw (c.in-Ok.ensures.synced, more noted) (agrees_push (synced (log_of s.history)) (ranges (pieces s.history.written.items)) (c.args.first, length c.args.sectors.now) s.content.items s.agrees);
-      few = search rules;
-      few_calls = search rules;
+      few = omega (arith, c.failed-then-strikes.ensures);
+      few_calls = omega (arith, c.saturating_add-self.ensures);
       within = s.within;
       noted = lent_stays noted;
     }
@@ -54,7 +55,16 @@ invariant_of-self-then-strikes c =
 pub returns-then-strikes-clause-called : goal.returns-then-strikes-clause-called
 returns-then-strikes-clause-called c =
     let crash = torn (goal.at.returns-then-strikes-clause-called c).In-Ok in
-    record { content = search rules; crash = crash _ _ _ _ _ _ _; lent = search rules; calls = search rules; failures = search rules; cause = search rules; gone = search rules }
+    let s = c.args.self.now in
+    record {
+      content = record { as_long = refl; before = λ k lt. refl; after = λ k le. refl };
+      crash = crash _ _ _ _ _ _ _;
+      lent = refl;
+      calls = record { ok = tt; err = called_once s.calls c.saturating_add-self.result c.saturating_add-self.ensures };
+      failures = record { ok = tt; err = c.failed-then-strikes.ensures };
+      cause = record { ok = tt; err = strikes_cause s.faults c.strikes.new.self s.refused s.past.kept.armings (c.if-strikes.ensures.strikes refl) };
+      gone = tt;
+    }
 
 pub invariant_of-self-2 : goal.invariant_of-self-2
 invariant_of-self-2 c =
@@ -67,7 +77,7 @@ invariant_of-self-2 c =
       room = rw elsewhere.as_long (c.write.ensures.as_long (length s.content.items) s.room);
       agrees = rw (c.in-Ok.ensures.synced, more noted) (agrees_write (synced (log_of s.history)) (ranges (pieces s.history.written.items)) c.args.first (length c.args.sectors.now) s.content.items c.overwrite.new.content.items s.agrees elsewhere);
       few = s.few;
-      few_calls = search rules;
+      few_calls = omega (arith, c.saturating_add-self.ensures);
       within = rw elsewhere.as_long s.within;
       noted = lent_stays noted;
     }
@@ -75,4 +85,55 @@ invariant_of-self-2 c =
 pub returns-clause-called : goal.returns-clause-called
 returns-clause-called c =
     let crash = torn (goal.at.returns-clause-called c).In-Ok in
-    record { content = search rules; crash = crash _ _ _ _ _ _ _; lent = search rules; calls = search rules; failures = search rules; cause = search rules; gone = search rules }
+    let s = c.args.self.now in
+    record {
+      content = c.overwrite.ensures.written.elsewhere;
+      crash = crash _ _ _ _ _ _ _;
+      lent = refl;
+      calls = record { ok = c.saturating_add-self.ensures; err = tt };
+      failures = record { ok = refl; err = tt };
+      cause = record { ok = waits_same s.faults c.strikes.new.self s.refused s.past.kept.armings (c.if-strikes.ensures.waits refl); err = tt };
+      gone = runs s.faults.cut (λ cut. true≢false (sym (c.if-strikes.ensures.due.1 (inl cut))));
+    }
+
+pub returns-then-strikes-clause-written : goal.returns-then-strikes-clause-written
+returns-then-strikes-clause-written c = tt
+
+pub returns-then-strikes-clause-stays : goal.returns-then-strikes-clause-stays
+returns-then-strikes-clause-stays c = refl
+
+pub returns-then-strikes-clause-log : goal.returns-then-strikes-clause-log
+returns-then-strikes-clause-log c = tt
+
+pub returns-then-strikes-clause-due : goal.returns-then-strikes-clause-due
+returns-then-strikes-clause-due c = tt
+
+pub returns-then-strikes-clause-early : goal.returns-then-strikes-clause-early
+returns-then-strikes-clause-early c = inl (c.if-strikes.ensures.due.0 refl)
+
+pub returns-then-strikes-clause-counts : goal.returns-then-strikes-clause-counts
+returns-then-strikes-clause-counts c = λ calm. absurd (calm (c.if-strikes.ensures.due.0 refl))
+
+pub overwrite-requires : goal.overwrite-requires
+overwrite-requires c = c.requires.within
+
+pub returns-clause-written : goal.returns-clause-written
+returns-clause-written c = c.overwrite.ensures.written
+
+pub returns-clause-stays : goal.returns-clause-stays
+returns-clause-stays c = tt
+
+pub returns-clause-log_failed : goal.returns-clause-log_failed
+returns-clause-log_failed c = tt
+
+pub returns-clause-due : goal.returns-clause-due
+returns-clause-due c = (λ fails. true≢false (sym (c.if-strikes.ensures.due.1 fails)))
+
+pub returns-clause-early : goal.returns-clause-early
+returns-clause-early c = tt
+
+pub returns-clause-counts : goal.returns-clause-counts
+returns-clause-counts c = λ calm. c.if-strikes.ensures.counts refl
+
+pub returns-clause-spared : goal.returns-clause-spared
+returns-clause-spared c = tt

@@ -1,8 +1,8 @@
-use Rattle.std.proofs.Common.{◌≡◌, ◌∙◌, ◌<◌, ◌∷◌, [], List, ℕ, length, get_or, ap, sym, arith, rules}
+use Rattle.std.proofs.Common.{◌≡◌, ◌∙◌, ◌<◌, ◌∷◌, [], List, ℕ, length, get_or, ap, refl, subst, sym, arith, rules}
 use Rattle.std.proofs.lemmas.List.{get_or_default}
 use Rattle.disk.specs.Facts.{Content}
 use Rattle.simdisk.specs.declared.fill.Fill.TheVariants.{New}
-use Rattle.simdisk.specs.History.{log_of}
+use Rattle.simdisk.specs.History.{log_of, Stands}
 use Rattle.simdisk.specs.Latest.{latest_of}
 use Rattle.simdisk.specs.Pokes.{bytes_put, poked, poked_log}
 use Rattle.disk.specs.WriteLog.{laid_over, synced}
@@ -59,3 +59,34 @@ returns-clause-fills c within =
     let is : c.put_bytes.new.sector ≡ poked k c.args.offset c.args.bytes.now s.content.items = read_so s.content.items k c.args.offset c.args.bytes.now c.index.result.now c.put_bytes.new.sector within.0 c.index.ensures c.put_bytes.ensures in
     let anew : r' ≡ poked_log k (poked k c.args.offset c.args.bytes.now s.content.items) r = rw (← is) c.in_ok-set_sector.ensures.log in
     fills_poked k (poked k c.args.offset c.args.bytes.now s.content.items) r r' anew (rw (← s.agrees.as_long) within.0) (fits_synced s.history)
+
+pub returns-clause-log : goal.returns-clause-log
+returns-clause-log c within =
+    let s = c.args.self.now in
+    let k = c.args.sector in
+    let is : c.put_bytes.new.sector ≡ poked k c.args.offset c.args.bytes.now s.content.items = read_so s.content.items k c.args.offset c.args.bytes.now c.index.result.now c.put_bytes.new.sector within.0 c.index.ensures c.put_bytes.ensures in
+    rw (← is) c.in_ok-set_sector.ensures.log
+
+pub returns-clause-lent : goal.returns-clause-lent
+returns-clause-lent c = refl
+
+pub returns-clause-as_long : goal.returns-clause-as_long
+returns-clause-as_long c = c.overwrite.ensures.written.elsewhere.as_long
+
+pub returns-clause-armed : goal.returns-clause-armed
+returns-clause-armed c = refl
+
+pub returns-clause-refused : goal.returns-clause-refused
+returns-clause-refused c = tt
+
+pub returns-in_err-set_sector-clause-lent : goal.returns-in_err-set_sector-clause-lent
+returns-in_err-set_sector-clause-lent c = refl
+
+pub returns-in_err-set_sector-clause-as_long : goal.returns-in_err-set_sector-clause-as_long
+returns-in_err-set_sector-clause-as_long c = refl
+
+pub returns-in_err-set_sector-clause-armed : goal.returns-in_err-set_sector-clause-armed
+returns-in_err-set_sector-clause-armed c = refl
+
+pub set_sector-requires-clause-stands : goal.set_sector-requires-clause-stands
+set_sector-requires-clause-stands c = subst (λ (k : Content). Stands k c.args.self.now.history) (sym c.deref.ensures.value) c.args.self.now.stands
