@@ -67,9 +67,9 @@ mod programs;
 #[cfg(test)]
 mod race;
 #[cfg(test)]
-mod runs;
+mod registers;
 #[cfg(test)]
-mod sbi;
+mod runs;
 #[cfg(test)]
 mod script_faults;
 #[cfg(test)]
