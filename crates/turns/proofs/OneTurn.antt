@@ -1,18 +1,19 @@
 -- A whole turn with the one seat of all harts.
-use Rattle.std.proofs.Common.{◌≡◌, ℕ, Bool, List, refl, ap, ◌∙◌, subst}
+use Rattle.std.proofs.Common.{◌≡◌, ℕ, ◌<◌, Bool, List, refl, sym, ap, ◌∙◌, subst}
 use Rattle.board_model.specs.Shapes.{Size}
 use Rattle.hart.specs.State.{ArchState, started as fresh}
 use Rattle.hart.specs.Means.{Steps}
 use Rattle.hart.specs.declared.Outcome.{Outcome}
+use Rattle.sbi_calls.specs.declared.tables.Tables.{Tables}
 use Rattle.sbi_calls.specs.declared.tables.Seats.{Seats}
 use Rattle.sbi_calls.specs.declared.words.Turned.{Turned}
 use Rattle.sbi_calls.specs.declared.words.Did.TheVariants as dids
 use Rattle.sbi_calls.specs.declared.words.Turned.TheVariants.{Made}
 use Rattle.turns.specs.declared.readies.Ready.{Ready}
 use Rattle.turns.specs.declared.readies.Ready.TheVariants as readies
-use Rattle.sbi_calls.specs.Both.{known}
+use Rattle.sbi_calls.specs.Both.{known, GivesBack}
 use Rattle.turns.specs.Own.{BeginsOwn, FinishesOwn, TurnOwn}
-use Rattle.turns.specs.Turns.{RestsAs, turn_begun, BeginsAlone, FinishesAlone, TurnAs, TurnsAlone, moment}
+use Rattle.turns.specs.Turns.{Rests, RestsAs, turn_begun, BeginsAlone, FinishesAlone, TurnAs, TurnsAlone, moment}
 
 -- how a turn of the hart begins: its own steps, and with the one seat of all harts
 pub record Comes (size : Size) (s : ArchState) (b c : Seats) (r : Ready) : Type 0 where
@@ -28,6 +29,16 @@ comes size s n by b c r q e f is own alone = record {
 
 pub rests_as : (by id : ℕ) (r q : Ready) (s : Seats) → r ≡ q → by ≡ id → RestsAs by r s → RestsAs id q s
 rests_as by id r q s e f x = subst (λ (k : ℕ). RestsAs k q s) f (subst (λ (p : Ready). RestsAs by p s) e x)
+
+pub gives_as : (t : Tables) (by id : ℕ) (s s' : Seats) → by ≡ id → GivesBack t by s s' → GivesBack t id s s'
+gives_as t by id s s' e g = subst (λ (k : ℕ). GivesBack t k s s') e g
+
+pub rests_by : (by id : ℕ) (s : Seats) → by ≡ id → Rests id s → Rests by s
+rests_by by id s e r = subst (λ (k : ℕ). Rests k s) (sym e) r
+
+-- the hart of the board is one of the tables
+pub is_low : (by id n harts : ℕ) → by ≡ id → harts ≡ n → id < n → by < harts
+is_low by id n harts e f lt = subst (λ (k : ℕ). k < harts) (sym e) (subst (λ (m : ℕ). id < m) (sym f) lt)
 
 -- ---- a whole turn by its own steps, and with the one seat of all harts
 abbrev pub Turns : Size → ArchState → List ℕ → ArchState → List ℕ → Seats → Seats → Turned → Type 0

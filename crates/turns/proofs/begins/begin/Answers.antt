@@ -6,7 +6,6 @@ use Rattle.hsm_steps.specs.States.{HartState}
 use Rattle.hsm_steps.specs.Seating.{harts_in}
 use Rattle.hsm.specs.Views.{listed}
 use Rattle.hsm.specs.declared.state.State.{State as Code}
-use Rattle.hsm.specs.declared.state.State.TheVariants as codes
 use Rattle.sbi_calls.specs.Both.{harts_of_both, known, views, IsTable}
 use Rattle.turns.specs.declared.readies.Ready.TheVariants as readies
 use Rattle.turns.specs.Turns.{begun_by}
@@ -116,3 +115,36 @@ returns-in-StartPending-clause-own c =
     let mid = known (record { harts = c.status-harts.result.0; pending = c.args.seats.pending }) in
     let P : Code → Type 0 = λ x. GoesOwn c.args.by x mid (known c.enter.result.0) c.enter.result.1 in
     (step.0, mid, (step.2, refl), subst P (sym c.in-StartPending.is ∙ step.1) c.enter.ensures.own)
+
+pub status-harts-requires-clause-seat : goal.status-harts-requires-clause-seat
+status-harts-requires-clause-seat c = c.requires.seats.0
+
+pub status-harts-requires-clause-hart : goal.status-harts-requires-clause-hart
+status-harts-requires-clause-hart c = c.requires.by
+
+pub look-seats-requires-clause-seats : goal.look-seats-requires-clause-seats
+look-seats-requires-clause-seats c = (c.status-harts.ensures.seat, c.requires.seats.1)
+
+pub look-seats-requires-clause-by : goal.look-seats-requires-clause-by
+look-seats-requires-clause-by c = c.requires.by
+
+pub look-seats-requires-clause-sits : goal.look-seats-requires-clause-sits
+look-seats-requires-clause-sits c = c.requires.rests.1
+
+pub wake-requires-clause-seats : goal.wake-requires-clause-seats
+wake-requires-clause-seats c = (c.status-harts.ensures.seat, c.requires.seats.1)
+
+pub wake-requires-clause-by : goal.wake-requires-clause-by
+wake-requires-clause-by c = c.requires.by
+
+pub enter-requires-clause-seats : goal.enter-requires-clause-seats
+enter-requires-clause-seats c = (c.status-harts.ensures.seat, c.requires.seats.1)
+
+pub enter-requires-clause-by : goal.enter-requires-clause-by
+enter-requires-clause-by c = c.requires.by
+
+pub returns-in-Suspended-clause-rests : goal.returns-in-Suspended-clause-rests
+returns-in-Suspended-clause-rests c = c.wake.ensures.rests
+
+pub returns-in-StartPending-clause-rests : goal.returns-in-StartPending-clause-rests
+returns-in-StartPending-clause-rests c = c.enter.ensures.rests

@@ -33,3 +33,21 @@ returns-clause-alone c = λ t are out.
       entered.0 ∙ entered_ready c.args.by t y out,
       subst (λ (x : TableState). IsTable (harts_of_both c.args.tables.now) c.enter_taken.result.0 x) (entered_table c.args.by t y out) entered.1,
     )
+
+pub take-seats-requires-clause-seats : goal.take-seats-requires-clause-seats
+take-seats-requires-clause-seats c = c.requires.seats
+
+pub take-seats-requires-clause-by : goal.take-seats-requires-clause-by
+take-seats-requires-clause-by c = c.requires.by
+
+pub take-seats-requires-clause-sits : goal.take-seats-requires-clause-sits
+take-seats-requires-clause-sits c = c.requires.acts.1
+
+pub enter_taken-requires-clause-seats : goal.enter_taken-requires-clause-seats
+enter_taken-requires-clause-seats c = c.take-seats.ensures.gives.seats
+
+pub enter_taken-requires-clause-by : goal.enter_taken-requires-clause-by
+enter_taken-requires-clause-by c = c.requires.by
+
+pub returns-clause-rests : goal.returns-clause-rests
+returns-clause-rests c = c.enter_taken.ensures.rests

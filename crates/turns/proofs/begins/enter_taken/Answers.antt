@@ -36,3 +36,12 @@ pub returns-in-Some-clause-own : goal.returns-in-Some-clause-own
 returns-in-Some-clause-own c =
     let P : Option (ℕ × ℕ) → Type 0 = λ e. MatchOption e (FindsNone c.args.by (harts_in c.args.seats.harts) (harts_in c.try_enter-harts.result.0)) (λ x. EntersAs c.args.by (harts_in c.args.seats.harts) x.0 x.1 (harts_in c.try_enter-harts.result.0)) in
     (subst P c.in-Some.is c.try_enter-harts.ensures.steps, refl)
+
+pub try_enter-harts-requires-clause-seat : goal.try_enter-harts-requires-clause-seat
+try_enter-harts-requires-clause-seat c = c.requires.seats.0
+
+pub try_enter-harts-requires-clause-acts : goal.try_enter-harts-requires-clause-acts
+try_enter-harts-requires-clause-acts c = c.requires.acts.0
+
+pub try_enter-harts-requires-clause-by : goal.try_enter-harts-requires-clause-by
+try_enter-harts-requires-clause-by c = c.requires.by

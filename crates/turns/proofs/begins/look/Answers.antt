@@ -12,3 +12,12 @@ returns-clause-alone c = λ t are.
 
 pub returns-clause-own : goal.returns-clause-own
 returns-clause-own c = let step = c.pending-pending.ensures.steps in (refl, step.0, step.1, step.2)
+
+pub pending-pending-requires-clause-seat : goal.pending-pending-requires-clause-seat
+pending-pending-requires-clause-seat c = c.requires.seats.1
+
+pub pending-pending-requires-clause-acts : goal.pending-pending-requires-clause-acts
+pending-pending-requires-clause-acts c = c.requires.sits
+
+pub returns-clause-harts : goal.returns-clause-harts
+returns-clause-harts c = refl

@@ -14,3 +14,12 @@ returns-clause-alone c = λ t are.
 
 pub returns-clause-own : goal.returns-clause-own
 returns-clause-own c = (refl, c.take-pending.result.1, c.take-pending.ensures.steps)
+
+pub take-pending-requires-clause-seat : goal.take-pending-requires-clause-seat
+take-pending-requires-clause-seat c = c.requires.seats.1
+
+pub take-pending-requires-clause-acts : goal.take-pending-requires-clause-acts
+take-pending-requires-clause-acts c = c.requires.sits
+
+pub returns-clause-harts : goal.returns-clause-harts
+returns-clause-harts c = refl

@@ -44,3 +44,21 @@ returns-then-wakes-clause-own c =
 
 pub returns-else-wakes-clause-own : goal.returns-else-wakes-clause-own
 returns-else-wakes-clause-own c = subst (λ (b : Bool). LooksOwn c.args.by (known c.args.seats) (known c.look-seats.result.0) b) c.if-wakes.false c.look-seats.ensures.own
+
+pub look-seats-requires-clause-seats : goal.look-seats-requires-clause-seats
+look-seats-requires-clause-seats c = c.requires.seats
+
+pub look-seats-requires-clause-by : goal.look-seats-requires-clause-by
+look-seats-requires-clause-by c = c.requires.by
+
+pub look-seats-requires-clause-sits : goal.look-seats-requires-clause-sits
+look-seats-requires-clause-sits c = c.requires.acts.1
+
+pub wake-harts-requires-clause-seat : goal.wake-harts-requires-clause-seat
+wake-harts-requires-clause-seat c = c.look-seats.ensures.gives.seats.0
+
+pub wake-harts-requires-clause-by : goal.wake-harts-requires-clause-by
+wake-harts-requires-clause-by c = c.requires.by
+
+pub returns-else-wakes-clause-gives : goal.returns-else-wakes-clause-gives
+returns-else-wakes-clause-gives c = c.look-seats.ensures.gives

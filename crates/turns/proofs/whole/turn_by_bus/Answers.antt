@@ -1,11 +1,12 @@
-use Rattle.std.proofs.Common.{sym, ◌∙◌, subst, ◌<◌, ℕ}
+use Rattle.std.proofs.Common.{refl, sym, ap, ◌∙◌, subst, ◌<◌, ℕ}
+use Rattle.hart.specs.State.{ArchState}
 use Rattle.hsm_steps.specs.declared.view.Stage.TheVariants.{Running}
 use Rattle.sbi_calls.specs.Both.{GivesBack, Acts}
 use Rattle.turns.specs.declared.readies.Ready.TheVariants as readies
 use Rattle.turns.specs.Turns.{Rests}
 use Rattle.turns.proofs.Asking.{asks}
 use Rattle.turns.proofs.Begun.{gives_then}
-use Rattle.turns.proofs.OneTurn.{rests_as, comes, entered, idle_turn, woke_turn, enters_turn, steps_turn}
+use Rattle.turns.proofs.OneTurn.{rests_as, rests_by, gives_as, is_low, comes, entered, idle_turn, woke_turn, enters_turn, steps_turn}
 use Rattle.turns.proofs.whole.turn_by_bus.Goals as goal
 
 -- ---- a step leaves the hart's number
@@ -74,3 +75,45 @@ returns-in-Steps-clause-turns g c =
     let step = c.step-outcome.ensures in
     let turned = steps_turn c.args.shape.now c.args.hart.now c.step-outcome.new.hart c.finish.new.hart step.0 step.1 c.args.seats c.begin-seats.result.0 c.finish.result.0 c.in-Steps.pending c.step-outcome.result c.finish.result.1 began step.4 c.finish.ensures.own c.finish.ensures.alone in
     (step.0, step.1, step.2, step.3, turned.0, turned.1)
+
+pub begin-seats-requires-clause-seats : goal.begin-seats-requires-clause-seats
+begin-seats-requires-clause-seats g c = c.requires.seats
+
+pub begin-seats-requires-clause-by : goal.begin-seats-requires-clause-by
+begin-seats-requires-clause-by g c = is_low c.id.result c.args.hart.now.id _ _ c.id.ensures c.requires.tables c.requires.hart
+
+pub begin-seats-requires-clause-rests : goal.begin-seats-requires-clause-rests
+begin-seats-requires-clause-rests g c = rests_by c.id.result c.args.hart.now.id c.args.seats c.id.ensures c.requires.rests
+
+pub finish-requires-clause-tables : goal.finish-requires-clause-tables
+finish-requires-clause-tables g c = c.requires.tables
+
+pub finish-requires-clause-seats : goal.finish-requires-clause-seats
+finish-requires-clause-seats g c = c.begin-seats.ensures.gives.seats
+
+pub returns-in-Idle-clause-id : goal.returns-in-Idle-clause-id
+returns-in-Idle-clause-id g c = refl
+
+pub returns-in-Woke-clause-id : goal.returns-in-Woke-clause-id
+returns-in-Woke-clause-id g c = refl
+
+pub returns-in-Enters-clause-id : goal.returns-in-Enters-clause-id
+returns-in-Enters-clause-id g c = ap (λ (s : ArchState). s.id) c.fresh.ensures ∙ c.id-in-Enters.ensures
+
+pub returns-in-Idle-clause-gives : goal.returns-in-Idle-clause-gives
+returns-in-Idle-clause-gives g c = gives_as c.args.tables.now c.id.result c.args.hart.now.id c.args.seats c.begin-seats.result.0 c.id.ensures c.begin-seats.ensures.gives
+
+pub returns-in-Woke-clause-gives : goal.returns-in-Woke-clause-gives
+returns-in-Woke-clause-gives g c = gives_as c.args.tables.now c.id.result c.args.hart.now.id c.args.seats c.begin-seats.result.0 c.id.ensures c.begin-seats.ensures.gives
+
+pub returns-in-Enters-clause-gives : goal.returns-in-Enters-clause-gives
+returns-in-Enters-clause-gives g c = gives_as c.args.tables.now c.id.result c.args.hart.now.id c.args.seats c.begin-seats.result.0 c.id.ensures c.begin-seats.ensures.gives
+
+pub returns-in-Idle-clause-rests : goal.returns-in-Idle-clause-rests
+returns-in-Idle-clause-rests g c = rests_as c.id.result c.args.hart.now.id c.begin-seats.result.1 _ c.begin-seats.result.0 c.in-Idle.is c.id.ensures c.begin-seats.ensures.rests
+
+pub returns-in-Woke-clause-rests : goal.returns-in-Woke-clause-rests
+returns-in-Woke-clause-rests g c = rests_as c.id.result c.args.hart.now.id c.begin-seats.result.1 _ c.begin-seats.result.0 c.in-Woke.is c.id.ensures c.begin-seats.ensures.rests
+
+pub returns-in-Enters-clause-rests : goal.returns-in-Enters-clause-rests
+returns-in-Enters-clause-rests g c = rests_as c.id.result c.args.hart.now.id c.begin-seats.result.1 _ c.begin-seats.result.0 c.in-Enters.is c.id.ensures c.begin-seats.ensures.rests
