@@ -1,5 +1,5 @@
 -- Tables that show what those of a machine show.
-use Rattle.std.proofs.Common.{◌≡◌, ◌≢◌, ℕ, ◌<◌, ◌≤◌, List, Option, Some, None, IfSome, refl, sym, ap, ◌∙◌, subst, inl, inr, arith, eq-eqb, ne_eqb}
+use Rattle.std.proofs.Common.{◌≡◌, ◌≢◌, ℕ, true, false, true≢false, ◌<◌, ◌≤◌, List, Option, Some, None, IfSome, refl, sym, ap, ◌∙◌, subst, inl, inr, arith, eq-eqb, ne_eqb}
 use Rattle.std.proofs.lemmas.Bool.{lt-ltb, le-ltb}
 use mathlib.Core.Logic.{dite}
 use native.Mathlib.Decide.{ℕ_discrete, dec_le}
@@ -106,3 +106,7 @@ module _ (one : IsOneList) (set : IsOneSet) (harts : ℕ) (t : Tables) (old s : 
     shows = subst (λ (l : TableState). IsTable harts s l) (sym copy_shown) is;
     rests = λ h lt. rest_copied harts h doze (state_in (harts_known old) h) s lt (stood h lt) (is.1.1.0 h lt);
   }
+
+-- ---- they are not the same
+pub not_same : {P : Type 0} → false ≡ true → P
+not_same {P} e = absurd (true≢false (sym e))

@@ -1,5 +1,5 @@
 -- What a hart of a machine does, with the one seat of all harts.
-use Rattle.std.proofs.Common.{◌≡◌, ◌≢◌, ℕ, ◌<◌, Bool, List, Option, Some, None, sym, ap, ◌∙◌, subst}
+use Rattle.std.proofs.Common.{◌≡◌, ◌≢◌, ℕ, ◌<◌, Bool, List, Option, Some, None, IsSome, refl, sym, ap, ◌∙◌, subst, arith, vec_len}
 use Rattle.std.specs.Prelude.{length, get_or, slice_set}
 use Rattle.std.proofs.lemmas.List.{length-set, get_or-set_other, get_or_default}
 use Rattle.std.proofs.lemmas.Grind.{get_or-set_at}
@@ -14,7 +14,7 @@ use Rattle.ipi.specs.Ledger.{PendingSeatView as Pairs}
 use Rattle.ipi.specs.Views.{pairs_in, ArePairs}
 use Rattle.sbi_calls.specs.declared.tables.Tables.{Tables}
 use Rattle.sbi_calls.specs.declared.tables.Seats.{Seats}
-use Rattle.sbi_calls.specs.Both.{TableState, IsTable, GivesBack, harts_known, pair_crew}
+use Rattle.sbi_calls.specs.Both.{TableState, AreTablesOf, harts_of_both, IsTable, GivesBack, harts_known, pair_crew}
 use Rattle.turns.specs.Turns.{Moment, moment, Rests}
 use Rattle.susp.specs.Dozes.{doze_of}
 use Rattle.susp.specs.declared.buses.Doze.{Doze}
@@ -162,3 +162,46 @@ module _ {a : Inside} {s : Seats} {i id : ℕ} {x : ArchState} (found : Finds a 
       left Does a.bus.doze one set done same gives
       (subst (λ (o : Option Doze). RestsBy o x.id s') (sym (doze_found ∙ awake)) rests)
       (λ k below miss. others_rest (doze_of k a.bus.doze) x.id k a.tables s s' gives miss (seats_found.rests k below))
+
+-- ---- the seats are in their place
+pub seats_there : (size : Size) (harts : List ArchState) (t : Tables) (os o : Option Seats) (doze : Option Doze) → IsHeld size harts t os doze → o ≡ os → IsSome o
+seats_there size harts t None o doze held e = absurd held.seats
+seats_there size harts t (Some s) o doze held e = subst (λ (x : Option Seats). IsSome x) (sym e) refl
+
+-- and others that show as much are put there
+pub held_with : (size : Size) (harts : List ArchState) (t : Tables) (os : Option Seats) (s : Seats) (doze : Option Doze) → IsHeld size harts t os doze → AreWhole size.harts t s doze → IsHeld size harts t (Some s) doze
+held_with size harts t os s doze held whole = record { long = held.long; numbered = held.numbered; tables = held.tables; seats = whole }
+
+pub shows_with : (a : Inside) (old : Machine) (s s' : Seats) → shown_as a ≡ old → a.seats ≡ Some s → shown_by a.shape.harts s' ≡ shown_by a.shape.harts s
+    → ◌≡◌ {A = Machine} (record { size = a.shape; memory = a.bus.ram; doze = a.bus.doze; harts = a.harts.items; table = shown_by a.shape.harts s' }) old
+shows_with a old s s' view taken same =
+    ap (λ (l : TableState). let m : Machine = record { size = a.shape; memory = a.bus.ram; doze = a.bus.doze; harts = a.harts.items; table = l } in m) (same ∙ ap (table_of a.shape.harts) (sym taken)) ∙ view
+
+-- a hart of the machine is in the list of its harts
+pub in_place : (a : Inside) (old : Machine) (place id : ℕ) → shown_as a ≡ old → place ≡ id → id < length old.harts → place < vec_len a.harts
+in_place a old place id view at low =
+    let within : id < length a.harts.items = subst (λ (m : Machine). id < length m.harts) (sym view) low in
+    omega (arith, at, within, a.harts.ok.0)
+
+-- ---- a copy holds what the machine holds
+module _ (a : Inside) (old : Machine) (s all : Seats) (harts : List ArchState) (view : shown_as a ≡ old) (taken : a.seats ≡ Some s) (same : harts ≡ a.harts.items) where
+  pub copy_held : (t : Tables) → IsHeld a.shape a.harts.items a.tables a.seats a.bus.doze → AreTablesOf a.shape t → AreWhole a.shape.harts t all a.bus.doze → IsHeld a.shape harts t (Some all) a.bus.doze
+  copy_held t held are whole = record {
+    long = ap (λ (l : List ArchState). length l) same ∙ held.long;
+    numbered = subst AreNumbered (sym same) held.numbered;
+    tables = are;
+    seats = whole;
+  }
+
+  pub copy_shows : (ram : List ℕ) → ram ≡ a.bus.ram → shown_by a.shape.harts all ≡ shown_by a.shape.harts s
+      → ◌≡◌ {A = Machine} (record { size = a.shape; memory = ram; doze = a.bus.doze; harts = harts; table = shown_by a.shape.harts all }) old
+  copy_shows ram alike shows =
+      ap (λ (m : List ℕ). let x : Machine = record { size = a.shape; memory = m; doze = a.bus.doze; harts = harts; table = shown_by a.shape.harts all } in x) alike
+      ∙ (ap (λ (hs : List ArchState). let x : Machine = record { size = a.shape; memory = a.bus.ram; doze = a.bus.doze; harts = hs; table = shown_by a.shape.harts all } in x) same
+      ∙ shows_with a old s all view taken shows)
+
+-- and one of the tables
+pub by_table : (a : Inside) (old : Machine) (id : ℕ) → shown_as a ≡ old → IsHeld a.shape a.harts.items a.tables a.seats a.bus.doze → id < length old.harts → id < harts_of_both a.tables
+by_table a old id view held low =
+    let within : id < length a.harts.items = subst (λ (m : Machine). id < length m.harts) (sym view) low in
+    subst (λ (n : ℕ). id < n) (held.long ∙ sym held.tables) within

@@ -1,7 +1,7 @@
 -- Turns in a row by one look.
-use Rattle.std.proofs.Common.{◌≡◌, ℕ, zero, suc, ◌+◌, ◌<◌, Bool, true, false, List, Option, Some, None, refl, sym, ap, ◌∙◌, subst, inl, inr, arith}
+use Rattle.std.proofs.Common.{◌≡◌, ℕ, zero, suc, ◌+◌, ◌<◌, Bool, true, false, List, [], ◌∷◌, ◌++◌, take, get_or, Option, Some, None, refl, sym, ap, ◌∙◌, subst, inl, inr, arith}
 use Rattle.std.specs.Prelude.{length}
-use Rattle.std.proofs.lemmas.List.{get_or-set_same, set-set, set-get_or, length-set}
+use Rattle.std.proofs.lemmas.List.{get_or-set_same, set-set, set-get_or, length-set, take_more}
 use Rattle.hart.specs.State.{ArchState, never_started, started as fresh}
 use Rattle.sbi_calls.specs.declared.words.Turned.{Turned}
 use Rattle.sbi_calls.specs.declared.words.Did.TheVariants.{Next}
@@ -72,3 +72,8 @@ rows_as_many h (suc n) old new word p =
       | inl x ↦ turns_as_many h old new word x.1
       | inr x ↦ rows_as_many h n x.0 new word x.2 ∙ turns_as_many h old x.0 (Made Next) x.1
     ]
+
+-- ---- one hart more is copied
+pub copied_more : (copies now harts : List ArchState) (n : ℕ) (x : ArchState) → now ≡ copies ++ x ∷ [] → copies ≡ take n harts → n < length harts → x ≡ get_or harts n x → now ≡ take (n + 1) harts
+copied_more copies now harts n x is was lt at =
+    is ∙ (ap (λ (l : List ArchState). l ++ x ∷ []) was ∙ (ap (λ (y : ArchState). take n harts ++ y ∷ []) at ∙ sym (take_more harts n x lt)))

@@ -39,3 +39,12 @@ returns-in_default c = record {
   id = refl;
   alone = λ m. not_made_alone c.args.shape.now _ c.id-by.result c.args.hart.now _ m c.args.seats c.status-harts.result.0 c.status-harts.result.1 c.requires.tables c.id-by.ensures c.in_default.not-Started c.status-harts.ensures.alone;
 }
+
+pub status-harts-requires-clause-seat : goal.status-harts-requires-clause-seat
+status-harts-requires-clause-seat c = c.requires.seats.0
+
+pub finish-seats-requires-clause-tables : goal.finish-seats-requires-clause-tables
+finish-seats-requires-clause-tables c = c.requires.tables
+
+pub finish-seats-requires-clause-seats : goal.finish-seats-requires-clause-seats
+finish-seats-requires-clause-seats c = (c.status-harts.ensures.seat, c.requires.seats.1)

@@ -15,3 +15,9 @@ returns-in-None-clause-asks c = call_asks c.args.id c.args.call _ _ _ c.requires
 
 pub returns-in-None-clause-harts : goal.returns-in-None-clause-harts
 returns-in-None-clause-harts c = calls_as_many c.args.id c.args.call _ _ _ (returns-in-None-clause-calls c)
+
+pub own_call-requires-clause-hart : goal.own_call-requires-clause-hart
+own_call-requires-clause-hart c = c.requires
+
+pub own_call-requires-clause-awake : goal.own_call-requires-clause-awake
+own_call-requires-clause-awake c = sym c.dozes.ensures ∙ c.in-None.is

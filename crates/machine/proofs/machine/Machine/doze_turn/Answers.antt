@@ -10,7 +10,7 @@ use Rattle.machine.specs.Held.{RestsBy, shown_by}
 use Rattle.machine.specs.Machine.{Machine}
 use Rattle.machine.specs.Turns.{DozeTurn, resumed, with_moment}
 use Rattle.machine.proofs.Owners.{of_no_other}
-use Rattle.machine.proofs.Holding.{Action, shown_as, Finds, Left, finds, seats_found, rests_found, number_found, low_number, others_rest, left}
+use Rattle.machine.proofs.Holding.{Action, shown_as, Finds, Left, finds, seats_there, in_place, seats_found, rests_found, number_found, low_number, others_rest, left}
 use Rattle.machine.proofs.machine.Machine.doze_turn.Goals.{After-index_mut, After-one_set}
 use Rattle.machine.proofs.machine.Machine.doze_turn.Goals as goal
 
@@ -68,3 +68,12 @@ returns c =
     let turn : DozeTurn true d id c.args.self.now new (Made Resumed) = (subst (λ (m : Machine). new ≡ resumed d id m) c.self.view_is same, refl) in
     let is : true ≡ d.woken = not_not d.woken c.if-not-doze.false in
     subst (λ (b : Bool). DozeTurn b d id c.args.self.now new (Made Resumed)) is turn
+
+pub unwrap-seats-requires : goal.unwrap-seats-requires
+unwrap-seats-requires c = let i = c.self.inside in seats_there i.shape i.harts.items i.tables i.seats c.take.result i.bus.doze c.self.invariant c.take.ensures.value
+
+pub index_mut-requires : goal.index_mut-requires
+index_mut-requires c = in_place c.self.inside c.args.self.now c.index.result c.args.id c.self.view_is c.index.ensures.value c.requires.hart
+
+pub resume-seats-requires-clause-seats : goal.resume-seats-requires-clause-seats
+resume-seats-requires-clause-seats c = (seats_found (found (goal.at.resume-seats-requires-clause-seats c).After-index_mut)).seats

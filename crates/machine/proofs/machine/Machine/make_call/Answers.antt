@@ -6,7 +6,7 @@ use Rattle.machine.specs.Machine.{Machine}
 use Rattle.hsm_steps.specs.declared.view.Stage.TheVariants.{Running, Quiet}
 use Rattle.machine.specs.Held.{shown_by, stage_left}
 use Rattle.machine.specs.Durables.{StandsAtCall, HeldOf, MakesCall}
-use Rattle.machine.proofs.Holding.{Action, shown_as, Finds, Left, finds, seats_found, low_number, one_shown, left}
+use Rattle.machine.proofs.Holding.{Action, shown_as, Finds, Left, finds, seats_there, in_place, seats_found, low_number, one_shown, left}
 use Rattle.machine.proofs.Fallen.{stands_still}
 use Rattle.sbi_calls.specs.Both.{TableState}
 use Rattle.sbi.specs.Helds.{HeldAlone}
@@ -92,3 +92,12 @@ returns-clause-makes g c =
     let l = did g at.After-one_set (found g at.After-index_mut) (stands g at.After-index_mut) in
     let new : Machine = record { size = c.self.inside.shape; memory = c.make_held-seats.new.bus.ram; doze = c.make_held-seats.new.bus.doze; harts = slice_set c.self.inside.harts.items c.index.result c.make_held-seats.new.hart; table = shown_by c.self.inside.shape.harts c.make_held-seats.result.0 } in
     subst (λ (m : Machine). MakesCall c.args.id m new c.args.store.now c.make_held-seats.new.store c.make_held-seats.result.1) c.self.view_is (c.make_held-seats.new.bus.doze, l.after, l.did, l.made)
+
+pub unwrap-seats-requires : goal.unwrap-seats-requires
+unwrap-seats-requires g c = let i = c.self.inside in seats_there i.shape i.harts.items i.tables i.seats c.take.result i.bus.doze c.self.invariant c.take.ensures.value
+
+pub index_mut-requires : goal.index_mut-requires
+index_mut-requires g c = in_place c.self.inside c.args.self.now c.index.result c.args.id c.self.view_is c.index.ensures.value c.requires.hart
+
+pub make_held-seats-requires-clause-seats : goal.make_held-seats-requires-clause-seats
+make_held-seats-requires-clause-seats g c κs within = (seats_found (found g (goal.at.make_held-seats-requires-clause-seats g c).After-index_mut)).seats

@@ -2,7 +2,7 @@ use Rattle.std.proofs.Common.{None, sym, ◌∙◌, ◌≡◌, subst}
 use Rattle.susp.specs.Dozes.{doze_of}
 use Rattle.machine.specs.Turns.{CallOf, calling}
 use Rattle.machine.specs.Machine.{Machine}
-use Rattle.machine.proofs.Holding.{Finds, Left, finds, seat_rests, left_own, done_by}
+use Rattle.machine.proofs.Holding.{Finds, Left, finds, seats_there, in_place, seats_found, low_number, seat_rests, left_own, done_by}
 use Rattle.machine.proofs.machine.Machine.own_call.Goals.{After-index_mut, After-one_set}
 use Rattle.machine.proofs.machine.Machine.own_call.Goals as goal
 
@@ -26,3 +26,18 @@ invariant_of-self c = let at = goal.at.invariant_of-self c in (did at.After-one_
 
 pub returns : goal.returns
 returns c = let at = goal.at.returns c in done_by (λ size a b. CallOf size (calling a.hart c.args.call) a b c.call_in_place-seats.result.1) _ _ _ _ _ _ _ c.self.view_is (did at.After-one_set (found at.After-index_mut))
+
+pub unwrap-seats-requires : goal.unwrap-seats-requires
+unwrap-seats-requires c = let i = c.self.inside in seats_there i.shape i.harts.items i.tables i.seats c.take.result i.bus.doze c.self.invariant c.take.ensures.value
+
+pub index_mut-requires : goal.index_mut-requires
+index_mut-requires c = in_place c.self.inside c.args.self.now c.index.result c.args.id c.self.view_is c.index.ensures.value c.requires.hart
+
+pub call_in_place-seats-requires-clause-tables : goal.call_in_place-seats-requires-clause-tables
+call_in_place-seats-requires-clause-tables c = c.self.invariant.tables
+
+pub call_in_place-seats-requires-clause-seats : goal.call_in_place-seats-requires-clause-seats
+call_in_place-seats-requires-clause-seats c = (seats_found (found (goal.at.call_in_place-seats-requires-clause-seats c).After-index_mut)).seats
+
+pub call_in_place-seats-requires-clause-hart : goal.call_in_place-seats-requires-clause-hart
+call_in_place-seats-requires-clause-hart c = low_number (found (goal.at.call_in_place-seats-requires-clause-hart c).After-index_mut)

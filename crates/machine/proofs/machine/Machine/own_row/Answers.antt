@@ -2,7 +2,7 @@ use Rattle.std.proofs.Common.{None, sym, ◌∙◌, ◌≡◌, subst}
 use Rattle.susp.specs.Dozes.{doze_of}
 use Rattle.turns.specs.Many.{RowOf}
 use Rattle.machine.specs.Machine.{Machine}
-use Rattle.machine.proofs.Holding.{Finds, Left, finds, seat_rests, left_own, done_by}
+use Rattle.machine.proofs.Holding.{Finds, Left, finds, seats_there, in_place, seats_found, low_number, seat_rests, left_own, done_by}
 use Rattle.machine.proofs.machine.Machine.own_row.Goals.{After-index_mut, After-one_set}
 use Rattle.machine.proofs.machine.Machine.own_row.Goals as goal
 
@@ -26,3 +26,24 @@ invariant_of-self c = let at = goal.at.invariant_of-self c in (did at.After-one_
 
 pub returns-clause-row : goal.returns-clause-row
 returns-clause-row c = let at = goal.at.returns-clause-row c in done_by (λ size a b. RowOf size c.turns_by_one_look-seats.result.1 a b c.turns_by_one_look-seats.result.2) _ _ _ _ _ _ _ c.self.view_is (did at.After-one_set (found at.After-index_mut))
+
+pub unwrap-seats-requires : goal.unwrap-seats-requires
+unwrap-seats-requires c = let i = c.self.inside in seats_there i.shape i.harts.items i.tables i.seats c.take.result i.bus.doze c.self.invariant c.take.ensures.value
+
+pub index_mut-requires : goal.index_mut-requires
+index_mut-requires c = in_place c.self.inside c.args.self.now c.index.result c.args.id c.self.view_is c.index.ensures.value c.requires.hart
+
+pub turns_by_one_look-seats-requires-clause-tables : goal.turns_by_one_look-seats-requires-clause-tables
+turns_by_one_look-seats-requires-clause-tables c = c.self.invariant.tables
+
+pub turns_by_one_look-seats-requires-clause-seats : goal.turns_by_one_look-seats-requires-clause-seats
+turns_by_one_look-seats-requires-clause-seats c = (seats_found (found (goal.at.turns_by_one_look-seats-requires-clause-seats c).After-index_mut)).seats
+
+pub turns_by_one_look-seats-requires-clause-hart : goal.turns_by_one_look-seats-requires-clause-hart
+turns_by_one_look-seats-requires-clause-hart c = low_number (found (goal.at.turns_by_one_look-seats-requires-clause-hart c).After-index_mut)
+
+pub turns_by_one_look-seats-requires-clause-some : goal.turns_by_one_look-seats-requires-clause-some
+turns_by_one_look-seats-requires-clause-some c = c.requires.some
+
+pub returns-clause-range : goal.returns-clause-range
+returns-clause-range c = c.turns_by_one_look-seats.ensures.range

@@ -5,7 +5,7 @@ use Rattle.susp.specs.Dozes.{doze_of}
 use Rattle.turns.specs.Turns.{has_pending}
 use Rattle.machine.specs.Machine.{Machine}
 use Rattle.machine.proofs.Owners.{sits_by}
-use Rattle.machine.proofs.Holding.{all_seats}
+use Rattle.machine.proofs.Holding.{all_seats, seats_there, by_table}
 use Rattle.machine.proofs.Looks.{held_still, shows_still, found_it, stand_same}
 use Rattle.machine.proofs.machine.Machine.pending.Goals as goal
 
@@ -35,3 +35,12 @@ look-seats-requires-clause-sits c =
     let whole = all_seats i.shape i.harts.items i.tables i.seats c.unwrap-seats.result i.bus.doze c.self.invariant (sym c.take.ensures.value ∙ c.unwrap-seats.ensures) in
     let within : c.args.id < length i.harts.items = subst (λ (m : Machine). c.args.id < length m.harts) (sym c.self.view_is) c.requires in
     sits_by (doze_of c.args.id i.bus.doze) c.args.id c.unwrap-seats.result (whole.rests c.args.id (subst (λ (n : ℕ). c.args.id < n) c.self.invariant.long within))
+
+pub unwrap-seats-requires : goal.unwrap-seats-requires
+unwrap-seats-requires c = let i = c.self.inside in seats_there i.shape i.harts.items i.tables i.seats c.take.result i.bus.doze c.self.invariant c.take.ensures.value
+
+pub look-seats-requires-clause-seats : goal.look-seats-requires-clause-seats
+look-seats-requires-clause-seats c = let i = c.self.inside in (all_seats i.shape i.harts.items i.tables i.seats c.unwrap-seats.result i.bus.doze c.self.invariant (sym c.take.ensures.value ∙ c.unwrap-seats.ensures)).seats
+
+pub look-seats-requires-clause-by : goal.look-seats-requires-clause-by
+look-seats-requires-clause-by c = by_table c.self.inside c.args.self.now c.args.id c.self.view_is c.self.invariant c.requires

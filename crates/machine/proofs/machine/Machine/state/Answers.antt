@@ -6,7 +6,7 @@ use Rattle.hsm.specs.Calls.{named}
 use Rattle.hsm.specs.Views.{listed}
 use Rattle.machine.specs.Machine.{Machine, status_at}
 use Rattle.machine.proofs.Owners.{seated_by}
-use Rattle.machine.proofs.Holding.{all_seats}
+use Rattle.machine.proofs.Holding.{all_seats, seats_there, by_table}
 use Rattle.machine.proofs.Looks.{held_still, shows_still, found_it}
 use Rattle.machine.proofs.machine.Machine.state.Goals as goal
 
@@ -36,3 +36,12 @@ see-seats-requires-clause-sits c =
     let whole = all_seats i.shape i.harts.items i.tables i.seats c.unwrap-seats.result i.bus.doze c.self.invariant (sym c.take.ensures.value ∙ c.unwrap-seats.ensures) in
     let within : c.args.id < length i.harts.items = subst (λ (m : Machine). c.args.id < length m.harts) (sym c.self.view_is) c.requires in
     seated_by (doze_of c.args.id i.bus.doze) c.args.id c.unwrap-seats.result (whole.rests c.args.id (subst (λ (n : ℕ). c.args.id < n) c.self.invariant.long within))
+
+pub unwrap-seats-requires : goal.unwrap-seats-requires
+unwrap-seats-requires c = let i = c.self.inside in seats_there i.shape i.harts.items i.tables i.seats c.take.result i.bus.doze c.self.invariant c.take.ensures.value
+
+pub see-seats-requires-clause-seats : goal.see-seats-requires-clause-seats
+see-seats-requires-clause-seats c = let i = c.self.inside in (all_seats i.shape i.harts.items i.tables i.seats c.unwrap-seats.result i.bus.doze c.self.invariant (sym c.take.ensures.value ∙ c.unwrap-seats.ensures)).seats
+
+pub see-seats-requires-clause-by : goal.see-seats-requires-clause-by
+see-seats-requires-clause-by c = by_table c.self.inside c.args.self.now c.args.id c.self.view_is c.self.invariant c.requires

@@ -21,3 +21,15 @@ returns-in-Some-clause-harts c = turns_as_many c.args.id _ _ _ (returns-in-Some-
 
 pub returns-in-None-clause-harts : goal.returns-in-None-clause-harts
 returns-in-None-clause-harts c = turns_as_many c.args.id _ _ _ (returns-in-None-clause-turns c)
+
+pub doze_turn-requires-clause-hart : goal.doze_turn-requires-clause-hart
+doze_turn-requires-clause-hart c = c.requires
+
+pub doze_turn-requires-clause-dozes : goal.doze_turn-requires-clause-dozes
+doze_turn-requires-clause-dozes c = sym c.dozes.ensures ∙ c.in-Some.is
+
+pub own_turn-requires-clause-hart : goal.own_turn-requires-clause-hart
+own_turn-requires-clause-hart c = c.requires
+
+pub own_turn-requires-clause-awake : goal.own_turn-requires-clause-awake
+own_turn-requires-clause-awake c = sym c.dozes.ensures ∙ c.in-None.is

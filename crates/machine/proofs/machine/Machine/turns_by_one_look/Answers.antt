@@ -20,3 +20,21 @@ returns-in-Some-clause-harts c = rows_as_many c.args.id 1 _ _ _ (returns-in-Some
 
 pub returns-in-None-clause-harts : goal.returns-in-None-clause-harts
 returns-in-None-clause-harts c = rows_as_many c.args.id _ _ _ _ (returns-in-None-clause-row c)
+
+pub doze_turn-requires-clause-hart : goal.doze_turn-requires-clause-hart
+doze_turn-requires-clause-hart c = c.requires.hart
+
+pub doze_turn-requires-clause-dozes : goal.doze_turn-requires-clause-dozes
+doze_turn-requires-clause-dozes c = sym c.dozes.ensures ∙ c.in-Some.is
+
+pub own_row-requires-clause-hart : goal.own_row-requires-clause-hart
+own_row-requires-clause-hart c = c.requires.hart
+
+pub own_row-requires-clause-awake : goal.own_row-requires-clause-awake
+own_row-requires-clause-awake c = sym c.dozes.ensures ∙ c.in-None.is
+
+pub own_row-requires-clause-some : goal.own_row-requires-clause-some
+own_row-requires-clause-some c = c.requires.some
+
+pub returns-in-None-clause-range : goal.returns-in-None-clause-range
+returns-in-None-clause-range c = c.own_row.ensures.range
