@@ -1,8 +1,9 @@
 -- Tables that show what those of a machine show.
-use Rattle.std.proofs.Common.{◌≡◌, ◌≢◌, ℕ, true, false, true≢false, ◌<◌, ◌≤◌, List, Option, Some, None, IfSome, refl, sym, ap, ◌∙◌, subst, inl, inr, arith, eq-eqb, ne_eqb}
+use Rattle.std.proofs.Common.{◌≡◌, ◌≢◌, ℕ, true, false, true≢false, ◌<◌, ◌≤◌, List, Option, Some, None, IfSome, refl, sym, ap, ◌∙◌, subst, inl, inr, arith, tests, rules, eqb, not, ◌&&◌, eq-eqb, ne_eqb}
 use Rattle.std.proofs.lemmas.Bool.{lt-ltb, le-ltb}
 use mathlib.Core.Logic.{dite}
 use native.Mathlib.Decide.{ℕ_discrete, dec_le}
+use Rattle.board_model.specs.Shapes.{Size}
 use Rattle.hsm_steps.specs.declared.view.Stage.{Stage}
 use Rattle.hsm_steps.specs.declared.view.Stage.TheVariants.{Quiet}
 use Rattle.hsm_steps.specs.Words.{HartView, HartSeatView}
@@ -110,3 +111,7 @@ module _ (one : IsOneList) (set : IsOneSet) (harts : ℕ) (t : Tables) (old s : 
 -- ---- they are not the same
 pub not_same : {P : Type 0} → false ≡ true → P
 not_same {P} e = absurd (true≢false (sym e))
+
+-- sizes that a comparison finds the same
+pub one_size : (a b : Size) → false ≡ not (eqb a.harts b.harts && (eqb a.pages b.pages && eqb a.lanes b.lanes)) → a ≡ b
+one_size a b e = search (tests, rules, e)

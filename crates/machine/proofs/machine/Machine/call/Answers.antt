@@ -1,4 +1,4 @@
-use Rattle.std.proofs.Common.{Some, None, refl, sym, ◌∙◌, subst}
+use Rattle.std.proofs.Common.{None, refl, sym, ◌∙◌, subst}
 use Rattle.machine.specs.Machine.{hart_at}
 use Rattle.machine.specs.Turns.{CallBy, calling}
 use Rattle.machine.proofs.Asking.{call_asks, calls_as_many}

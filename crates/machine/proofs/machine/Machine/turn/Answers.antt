@@ -1,4 +1,4 @@
-use Rattle.std.proofs.Common.{Some, None, sym, ◌∙◌, subst}
+use Rattle.std.proofs.Common.{sym, ◌∙◌, subst}
 use Rattle.machine.specs.Turns.{TurnBy}
 use Rattle.machine.proofs.Asking.{turn_asks}
 use Rattle.machine.proofs.Rows.{turns_as_many}
