@@ -1,15 +1,36 @@
-use Rattle.std.proofs.Common.{All, rules, sym, subst}
-use Rattle.std.proofs.lemmas.List.Elements.{All-push}
+use Rattle.std.proofs.Common.{◌∙◌, vec_len, vec_capacity}
+use Rattle.std.specs.Vec.Iter.{into_iter_len}
 use Rattle.hart_threads.specs.Seated.{IsSeated}
+use Rattle.hart_threads.proofs.Ending.{all_pushed, one_begun, one_given, one_left, has_room, all_begun, same_number}
 use Rattle.hart_threads.proofs.drives.works_of.Goals as goal
 
 pub loop-acting-preserved : goal.loop-acting-preserved
 loop-acting-preserved g c =
     let i = c.loop-acting.invariant in (
-      search rules,
-      search rules,
-      search rules,
+      one_begun (vec_len c.loop-acting.works) (into_iter_len c.loop-acting.acting-iterator) (vec_len c.args.all) (vec_len c.push_reserved.new.self) (into_iter_len c.next.new.self) i.0 c.push_reserved.ensures.len c.in-Some.ensures.steps.1,
+      same_number (vec_capacity c.push_reserved.new.self) (vec_capacity c.loop-acting.works) (vec_len c.args.all) c.push_reserved.ensures.capacity i.1,
+      one_given (vec_len c.loop-acting.parts) (into_iter_len c.loop-acting.acting-iterator) (vec_len c.next_part-part.new.parts) (into_iter_len c.next.new.self) i.2 c.next_part-part.ensures.rest c.in-Some.ensures.steps.1,
       c.next_part-part.ensures.fresh,
-      subst (λ ws. All (λ w. IsSeated w.board.tables.now w.acting.hart.id w.acting.seats w.acting.doze) ws) (sym c.push_reserved.ensures.items)
-          (All-push (λ w. IsSeated w.board.tables.now w.acting.hart.id w.acting.seats w.acting.doze) c.loop-acting.works.items _ i.4 c.known_begun.ensures.seated),
+      all_pushed (λ w. IsSeated w.board.tables.now w.acting.hart.id w.acting.seats w.acting.doze) c.loop-acting.works.items c.push_reserved.new.self.items _ c.push_reserved.ensures.items i.4 c.known_begun.ensures.seated,
     )
+
+pub next_part-part-requires-clause-some : goal.next_part-part-requires-clause-some
+next_part-part-requires-clause-some g c = one_left (vec_len c.loop-acting.parts) (into_iter_len c.loop-acting.acting-iterator) (into_iter_len c.next.new.self) c.loop-acting.invariant.2 c.in-Some.ensures.steps.1
+
+pub next_part-part-requires-clause-fresh : goal.next_part-part-requires-clause-fresh
+next_part-part-requires-clause-fresh g c = c.loop-acting.invariant.3
+
+pub push_reserved-requires : goal.push_reserved-requires
+push_reserved-requires g c = has_room (vec_len c.loop-acting.works) (into_iter_len c.loop-acting.acting-iterator) (vec_len c.args.all) (vec_capacity c.loop-acting.works) (into_iter_len c.next.new.self) c.loop-acting.invariant.0 c.loop-acting.invariant.1 c.in-Some.ensures.steps.1
+
+pub returns-clause-all : goal.returns-clause-all
+returns-clause-all g c = all_begun (vec_len c.loop-acting.works) (into_iter_len c.loop-acting.acting-iterator) (vec_len c.args.all) c.loop-acting.invariant.0 c.in-None.ensures.steps.0
+
+pub returns-clause-none : goal.returns-clause-none
+returns-clause-none g c = c.loop-acting.invariant.2 ∙ c.in-None.ensures.steps.0
+
+pub returns-clause-seated : goal.returns-clause-seated
+returns-clause-seated g c = c.loop-acting.invariant.4
+
+pub returns-clause-fresh : goal.returns-clause-fresh
+returns-clause-fresh g c = c.loop-acting.invariant.3

@@ -1,3 +1,4 @@
+use Rattle.std.proofs.Common.{refl}
 use Rattle.sbi_abi.specs.Calls.{call_of}
 use Rattle.sbi_calls.specs.Both.{known}
 use Rattle.hart_threads.specs.Threads.{seated}
@@ -21,3 +22,45 @@ pub returns-in-Made-clause-once : goal.returns-in-Made-clause-once
 returns-in-Made-clause-once g c = λ looks.
     let l = c.args.local in
     made_comes c.args.board.shape.now (seated c.args.hart.now (known l.seats) l.doze looks l.refused) c.args.turned c.in-Made.did c.in-Made.is
+
+pub call_locked-requires-clause-tables : goal.call_locked-requires-clause-tables
+call_locked-requires-clause-tables g c κs within = c.requires.tables
+
+pub call_locked-requires-clause-seats : goal.call_locked-requires-clause-seats
+call_locked-requires-clause-seats g c κs within = c.requires.seats
+
+pub call_locked-requires-clause-hart : goal.call_locked-requires-clause-hart
+call_locked-requires-clause-hart g c κs within = c.requires.hart
+
+pub call_locked-requires-clause-board : goal.call_locked-requires-clause-board
+call_locked-requires-clause-board g c κs within = c.requires.board
+
+pub call_locked-requires-clause-acts : goal.call_locked-requires-clause-acts
+call_locked-requires-clause-acts g c κs within = c.requires.asks c.in-Durable.is
+
+pub call_locked-requires-clause-free : goal.call_locked-requires-clause-free
+call_locked-requires-clause-free g c κs within = c.requires.free
+
+pub returns-in-Durable-clause-free : goal.returns-in-Durable-clause-free
+returns-in-Durable-clause-free g c = c.call_locked.ensures.free
+
+pub returns-in-Durable-clause-gives : goal.returns-in-Durable-clause-gives
+returns-in-Durable-clause-gives g c = c.call_locked.ensures.gives
+
+pub returns-in-Durable-clause-id : goal.returns-in-Durable-clause-id
+returns-in-Durable-clause-id g c = c.call_locked.ensures.id
+
+pub returns-in-Durable-clause-noted : goal.returns-in-Durable-clause-noted
+returns-in-Durable-clause-noted g c = c.call_locked.ensures.noted
+
+pub returns-in-Made-clause-free : goal.returns-in-Made-clause-free
+returns-in-Made-clause-free g c = c.requires.free
+
+pub returns-in-Made-clause-stands : goal.returns-in-Made-clause-stands
+returns-in-Made-clause-stands g c = c.requires.rests
+
+pub returns-in-Made-clause-id : goal.returns-in-Made-clause-id
+returns-in-Made-clause-id g c = refl
+
+pub returns-in-Made-clause-noted : goal.returns-in-Made-clause-noted
+returns-in-Made-clause-noted g c = refl

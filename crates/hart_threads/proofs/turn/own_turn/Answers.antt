@@ -39,3 +39,27 @@ returns-clause-once g c = λ looks.
     let t = c.turn_by_bus-seats in
     let turn = t.ensures.turns in
     (turn.0, turn.1, t.result.1, seated t.new.hart (known t.result.0) None looks c.args.local.refused, turn.4, c.came_of-end.ensures.once looks, refl, refl, turn.2, turn.3, refl)
+
+pub turn_by_bus-seats-requires-clause-tables : goal.turn_by_bus-seats-requires-clause-tables
+turn_by_bus-seats-requires-clause-tables g c = c.requires.tables
+
+pub turn_by_bus-seats-requires-clause-seats : goal.turn_by_bus-seats-requires-clause-seats
+turn_by_bus-seats-requires-clause-seats g c = c.requires.seated.0
+
+pub turn_by_bus-seats-requires-clause-rests : goal.turn_by_bus-seats-requires-clause-rests
+turn_by_bus-seats-requires-clause-rests g c = c.requires.seated.2
+
+pub came_of-end-requires-clause-tables : goal.came_of-end-requires-clause-tables
+came_of-end-requires-clause-tables g c κs within = c.requires.tables
+
+pub came_of-end-requires-clause-board : goal.came_of-end-requires-clause-board
+came_of-end-requires-clause-board g c κs within = c.requires.board
+
+pub came_of-end-requires-clause-seats : goal.came_of-end-requires-clause-seats
+came_of-end-requires-clause-seats g c κs within = c.turn_by_bus-seats.ensures.gives.seats
+
+pub returns-clause-free : goal.returns-clause-free
+returns-clause-free g c = c.came_of-end.ensures.free
+
+pub returns-clause-noted : goal.returns-clause-noted
+returns-clause-noted g c = c.came_of-end.ensures.noted
