@@ -70,8 +70,11 @@ once_more n m k e f = omega (arith, e, f)
 pub asked_before : (n m k : ℕ) → k ≡ m + 1 → m ≡ n → n ≤ k
 asked_before n m k e f = omega (arith, e, f)
 
-pub few_still : (looks made turns most : ℕ) → looks ≤ made → made < turns → turns ≤ most → looks < most
-few_still looks made turns most few within range = omega (arith, few, within, range)
+pub few_still : (looks made turns : ℕ) → looks ≤ made → made < turns → turns < 18446744073709551616 → looks < 18446744073709551615
+few_still looks made turns few within range = omega (arith, few, within, range)
+
+pub few_asked : (asked made turns : ℕ) → asked ≡ made → made < turns → turns < 18446744073709551616 → asked < 18446744073709551615
+few_asked asked made turns few within range = omega (arith, few, within, range)
 
 -- ---- what holds of what the hart has holds of what its end says that it has
 pub as_it_was : {L : Type 0} {l l' : L} → l' ≡ l → (P : L → Type 0) → P l → P l'

@@ -9,7 +9,7 @@ use Rattle.hart_threads.specs.Seated.{IsSeated, StandsAfterTurn, StandsAfter}
 use Rattle.hart_threads.specs.Threads.{seated, TurnsOn}
 use Rattle.hart_threads.specs.declared.loops.Why.TheVariants as whys
 use Rattle.hart_threads.proofs.Looping.{gives_none, rests_on, stands_over, one_more, ended_life, kept_part}
-use Rattle.hart_threads.proofs.Ending.{closed_not_life, closed_not_gate, closed_not_turns, gate_not_life, gate_not_closed, gate_not_turns, life_not_closed, life_not_gate, life_not_turns, turns_not_life, turns_not_closed, turns_not_gate, as_often, once_more, asked_before, as_it_was, as_both_were, seated_as, said_so, turn_told, none_noted, one_noted}
+use Rattle.hart_threads.proofs.Ending.{few_still, few_asked, closed_not_life, closed_not_gate, closed_not_turns, gate_not_life, gate_not_closed, gate_not_turns, life_not_closed, life_not_gate, life_not_turns, turns_not_life, turns_not_closed, turns_not_gate, as_often, once_more, asked_before, as_it_was, as_both_were, seated_as, said_so, turn_told, none_noted, one_noted}
 use Rattle.hart_threads.proofs.loops.hart_loop.Goals as goal
 
 pub loop-made-init : goal.loop-made-init
@@ -251,3 +251,9 @@ returns-clause-once g c =
     said_so c.args.board.shape.now g.J.Journal.memory (g.G.Gate.answers gate by) (g.G.Gate.hears gate by) c.args.turns c.args.turns _ begun now _ whys.Turns _ None _
     (seated_as e.hart.0 e.hart.1 e.hart.2 (λ s x k. seated s (known x.seats) x.doze k x.refused)) e.end.0 e.end.1 e.end.2
     (subst (λ (n : ℕ). TurnsOn c.args.board.shape.now g.J.Journal.memory (g.G.Gate.answers gate by) (g.G.Gate.hears gate by) n begun now) all c.loop-made.invariant.turns, refl, refl)
+
+pub look-requires-clause-few : goal.look-requires-clause-few
+look-requires-clause-few g c κs within = few_asked c.loop-made.run.asked c.loop-made.made c.args.turns c.loop-made.invariant.asked c.loop-made-test.true c.ranges.turns.fits
+
+pub whole_turn-end-requires-clause-few : goal.whole_turn-end-requires-clause-few
+whole_turn-end-requires-clause-few g c κs within = few_still c.loop-made.run.looks.made c.loop-made.made c.args.turns c.loop-made.invariant.few c.loop-made-test.true c.ranges.turns.fits
