@@ -6,7 +6,7 @@ use Rattle.store.specs.Views.{doubt_of, journal_of}
 use Rattle.store.specs.Asked.{Asked}
 use Rattle.std.specs.Prelude.{is_some}
 use Rattle.shared_store.specs.Legal.{MayAnswer}
-use Rattle.shared_store.specs.Doubts.{noted_if, newly_down}
+use Rattle.shared_store.specs.Doubts.{noted_if}
 use Rattle.shared_store.proofs.Doubting.{asked_turns, ok_stays, still_noted, told_on}
 use Rattle.shared_store.proofs.Naming.{asked_named, asked_may, begins_on, begins_still}
 use Rattle.board_model.specs.declared.durable.Entry.{Entry}
