@@ -1,6 +1,8 @@
 -- What a call of the disk does, by the calls of its device.
-use Rattle.std.proofs.Common.{◌≡◌, ◌∙◌, refl, sym, ap, subst, ℕ, ◌+◌, ◌<◌, ◌≤◌, false, List, [], ◌∷◌, ◌++◌, length, get_or, arith, Result, Ok, Err, OnOk, OnErr}
+use Rattle.std.proofs.Common.{◌≡◌, ◌∙◌, refl, sym, ap, subst, ℕ, ◌+◌, ◌<◌, ◌≤◌, true, false, List, [], ◌∷◌, ◌++◌, length, get_or, arith, Result, Ok, Err, OnOk, OnErr}
+use Rattle.std.proofs.lemmas.Bool.Decides.{nat_tests}
 use Rattle.disk.specs.FaultState.{FaultState, Caused}
+use Rattle.std.specs.Prelude.{◌==◌}
 use Rattle.disk.specs.Calls.{MakesCalls}
 use Rattle.disk.specs.Facts.{Content, Facts, LaneFacts, Lent, Counts, IsFresh, Joined, Only, Passes, Stays, Torn, Written, counted, nothing, lent_sectors}
 use Rattle.disk.specs.WriteLog.{Piece, WriteLog, AgreesOutside, AreWithin, laid_over, lent_piece, more_written, more_synced, new_log, ranges, synced}
@@ -18,6 +20,36 @@ length_nil (w ∷ ws) is = absurd (omega (arith, is))
 -- ---- a call of the device alone
 pub device_cached : {T E : Type 0} (ws : List Waiting) (log : WriteLog) (a b : Facts) (f g : FaultState) (r : Result T E) → IsCached ws log a → MakesCalls 1 Stays a b f g r → IsCached ws log b
 device_cached ws log a b f g r cached m = cached_on ws log a b Stays cached m.crash (λ x y is. agrees_none (ranges log.written) x y is) (agrees_none (ranges log.written) a.content b.content m.content) m.lent
+
+pub device_called : {T E : Type 0} (ws : List Waiting) (log : WriteLog) (i j : ℕ) (a b : Facts) (f g : FaultState) (r : Result T E) → j ≡ counted i 1 → MakesCalls 1 Stays a b f g r
+    → MakesCalls 1 Stays (facts_of ws log i a) (facts_of ws log j b) f g r
+device_called ws log i j a b f g r is m = record {
+  content = ap (λ (x : Content). shown ws x) m.content;
+  crash = stays_over (shown ws a.content) (shown ws b.content) log i j a b;
+  lent = m.lent;
+  calls = counts_one i j r is;
+  failures = m.failures;
+  cause = m.cause;
+  gone = m.gone;
+}
+
+-- an error is handed on as another
+pub other_error : {T E U F : Type 0} (n : ℕ) (step : Content → Content → Type 0) (a b : Facts) (f g : FaultState) (e : E) (r : F) → MakesCalls {T = T} {E = E} n step a b f g (Err e) → MakesCalls {T = U} {E = F} n step a b f g (Err r)
+other_error n step a b f g e r m = record {
+  content = m.content;
+  crash = m.crash;
+  lent = m.lent;
+  calls = record { ok = tt; err = m.calls.err };
+  failures = record { ok = tt; err = m.failures.err };
+  cause = record { ok = tt; err = m.cause.err };
+  gone = tt;
+}
+
+pub none_waits : (ws : List Waiting) → ws ≡ [] → 0 < length ws → ⊥
+none_waits ws none lt = omega (arith, lt, ap (λ (us : List Waiting). length us) none)
+
+pub waits_none : (ws : List Waiting) (n : ℕ) → n ≡ length ws → true ≡ (n == 0) → ws ≡ []
+waits_none ws n long none = length_nil ws (grind (arith, nat_tests))
 
 -- ---- what waits was handed on
 pub handed_cached : {T E : Type 0} (ws : List Waiting) (log : WriteLog) (a b : Facts) (f g : FaultState) (r : Result T E) → IsCached ws log a → HandsOn ws a b f g r → IsCached ws log b
@@ -131,6 +163,9 @@ module _ {T E : Type 0} (ws ws' : List Waiting) (log : WriteLog) (i j : ℕ) (a 
 
     pub synced_none : IsCached [] log c
     synced_none = cached_none log c (device_cached ws log b c g h r (handed_cached ws log a b f g (Ok v) cached handed) m).kept
+
+    pub synced_so : MakesCalls {T = U} {E = F} 1 Stays (facts_of ws log i a) (facts_of ws' log j c) f h r
+    synced_so = synced_called log (stays_over (shown ws a.content) (shown ws' c.content) log i j a c)
 
 -- all of it
 pub sync_ok : {T E U F : Type 0} (ws ws' : List Waiting) (log log' : WriteLog) (i j : ℕ) (a b c : Facts) (f g h : FaultState) (v : T) (u : U) → IsCached ws log a → j ≡ counted i 1 → ws' ≡ [] → HandsOn {T = T} {E = E} ws a b f g (Ok v)

@@ -1,5 +1,5 @@
 -- A table that is made of another's pairs, pair by pair.
-use Rattle.std.proofs.Common.{◌≡◌, ◌↔◌, ℕ, ◌+◌, ◌<◌, ◌≤◌, Bool, false, IsTrue, List, [], map, get_or, sym, ap, ◌∙◌, arith}
+use Rattle.std.proofs.Common.{◌≡◌, ◌↔◌, ℕ, ◌+◌, ◌<◌, ◌≤◌, Bool, false, true≢false, IsTrue, IfSome, Option, Some, List, [], map, get_or, sym, ap, subst, ◌∙◌, arith}
 use Rattle.std.specs.Int.{bit_at}
 use Rattle.std.proofs.lemmas.Nat.Bits.{bit_at-lt}
 use Rattle.std.proofs.lemmas.List.{get_or_past, length-map}
@@ -10,6 +10,7 @@ use Rattle.tallies.specs.Notes.{numbers}
 use Rattle.tallies.proofs.Seatings.{at_all, length_from, map_all}
 use Rattle.ipi.specs.Ledger.{PendingSeatView, raised, taken}
 use Rattle.board_model.specs.HartSets.{Has}
+use Rattle.ipi.specs.Pairs.{Shows}
 use Rattle.ipi.specs.Views.{pair_in, pairs_in, pair_at, ArePairs}
 use Rattle.ipi.specs.Copies.{IsMade}
 use Rattle.ipi.proofs.Computed.{lt_told, one_set, same_bool, in_range, shows_as, shows_seen, whole_of}
@@ -55,3 +56,25 @@ module _ (harts : ℕ) (old c : PendingSeatView) (shows : ArePairs harts old (pa
 
   pub ends : ArePairs harts c (pairs_in harts old)
   ends = (shows.0, shows_as harts c (pair_in c) (pair_at (pairs_in harts old)) same_pair (shows_seen harts c (whole_of harts c made.numbered)))
+
+-- ---- hart by hart
+pub hart_of : (r : Option ℕ) (h n harts : ℕ) → r ≡ Some h → IfSome r (λ x. (x ≡ n) × (n < harts)) → (h ≡ n) × (n < harts)
+hart_of r h n harts is some = subst (λ (o : Option ℕ). IfSome o (λ x. (x ≡ n) × (n < harts))) is some
+
+pub hart_below : (r : Option ℕ) (h n harts all : ℕ) → r ≡ Some h → IfSome r (λ x. (x ≡ n) × (n < harts)) → all ≡ harts → h < all
+hart_below r h n harts all is some same = (let at = hart_of r h n harts is some in omega (arith, at.0, at.1, same))
+
+-- nothing is pending yet
+pub made_none : (harts all : ℕ) (old c : PendingSeatView) → numbers c.harts ≡ numbers_from 0 all → all ≡ harts → Shows harts c (λ _ _. false) → IsMade harts 0 0 old c
+made_none harts all old c numbered same shows =
+    let none : (s t : ℕ) → pair_in c s t ≡ false = (λ s t. same_bool (pair_in c s t) false (λ p. (shows.1 s t).1 ((lt_told (taken s t c) (raised s t c)).0 p)) (λ f. absurd (true≢false (sym f)))) in record {
+      numbered = numbered ∙ ap (λ (n : ℕ). numbers_from 0 n) same;
+      rows = λ s t _ lt. absurd (omega (arith, lt));
+      row = λ s lt. absurd (omega (arith, lt));
+      rest = λ s _. none s 0;
+      none = λ s t _. none s t;
+    }
+
+-- so many rows are made of one view, and of another that is the same
+pub made_at : (harts k t : ℕ) (old new c : PendingSeatView) → t ≡ k → new ≡ old → IsMade harts k 0 old c → IsMade harts t 0 new c
+made_at harts k t old new c is same made = subst (λ (j : ℕ). IsMade harts j 0 new c) (sym is) (subst (λ (d : PendingSeatView). IsMade harts k 0 d c) (sym same) made)

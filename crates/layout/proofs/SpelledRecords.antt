@@ -1,5 +1,5 @@
 -- What stands in a record is what was put there.
-use Rattle.std.proofs.Common.{◌≡◌, ◌∙◌, ℕ, ◌+◌, ◌^◌, ◌<◌, ◌≤◌, List, [], ◌∷◌, ◌++◌, Option, Some, None, length, slice_index, replicate, refl, ap, append_assoc, arith}
+use Rattle.std.proofs.Common.{◌≡◌, ◌∙◌, ℕ, ◌+◌, ◌^◌, ◌<◌, ◌≤◌, List, [], ◌∷◌, ◌++◌, Option, Some, None, length, slice_index, replicate, refl, ap, append_assoc, arith, Bool, true, false, true≢false, sym}
 use Rattle.board_model.specs.Shapes.{Size}
 use Rattle.board_model.specs.Views.{reason_number}
 use Rattle.board_model.specs.declared.durable.Reason.{Reason}
@@ -86,6 +86,21 @@ record_is r version slot reason next image trial v a b c d t =
   where
     made : Version → ℕ → Reason → ℕ → Option Saved → Option Trial → Record
     made version slot reason next image trial = record { version = version; slot = slot; reason = reason; next = next; image = image; trial = trial }
+
+-- what is answered is one thing
+abbrev is_there : {A : Type 0} → Option A → Bool
+is_there None = false
+is_there (Some x) = true
+
+pub never_none : {A : Type 0} (o : Option A) (x : A) → o ≡ None → o ≡ Some x → ⊥
+never_none o x none some = true≢false (sym (ap is_there some) ∙ ap is_there none)
+
+abbrev of_some : {A : Type 0} → A → Option A → A
+of_some d None = d
+of_some d (Some x) = x
+
+pub same_some : {A : Type 0} (o : Option A) (x y : A) → o ≡ Some x → o ≡ Some y → x ≡ y
+same_some o x y a b = ap (of_some x) (sym a ∙ b)
 
 pub absent : (image : Option Saved) → presence_of image ≡ 0 → image ≡ None
 absent None is = refl

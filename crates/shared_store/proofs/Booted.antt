@@ -1,11 +1,12 @@
 -- The commands that a boot issued are noted, one after another, for the boot's part.
-use Rattle.std.proofs.Common.{◌≡◌, ◌∙◌, ◌⊎◌, ⊎_elim, ℕ, suc, ◌+◌, ◌<◌, ◌≤◌, List, [], ◌∷◌, ◌++◌, length, get_or, drop, sym, ap, arith}
-use Rattle.std.proofs.lemmas.List.{append_assoc, drop_more}
+use Rattle.std.proofs.Common.{◌≡◌, ◌∙◌, ◌⊎◌, ⊎_elim, ℕ, suc, ◌+◌, ◌-◌, ◌<◌, ◌≤◌, List, [], ◌∷◌, ◌++◌, length, get_or, take, drop, refl, sym, ap, subst, arith}
+use Rattle.std.proofs.lemmas.List.{append_assoc, append-nil, drop_more, length-drop, nil_from_length, take_at}
 use Rattle.board_model.specs.Durable.{Change}
 use Rattle.board_model.specs.Views.{change_in, entry_of}
 use Rattle.board_model.specs.declared.durable.Entry.{Entry}
 use Rattle.tallies.specs.Logs.{Log}
 use Rattle.tallies.specs.Books.{entries_of}
+use Rattle.shared_store.specs.Legal.{BeginsWith}
 use Rattle.shared_store.specs.Noted.{boot_told, entries_in, told_on}
 use Rattle.board_model.proofs.Steps.{entry_of_change}
 
@@ -42,3 +43,26 @@ one_noted journal k log told who e memory n lt is =
 -- the place after so many is past the journal's end
 pub none_left : (place count many : ℕ) → (place ≡ 0) ⊎ (many < place) → place ≡ count + 1 → count ≤ many → count ≡ many
 none_left place count many past is within = ⊎_elim (λ none. absurd (omega (arith, none, is))) (λ lt. omega (arith, lt, is, within)) past
+
+pub none_noted : (journal : List Change) (log : Log Entry) (told : List (ℕ × Entry)) → log ≡ [] → told ≡ [] → AreNoted journal 0 log told
+none_noted journal log told nothing none =
+    subst (λ (l : Log Entry). AreNoted journal 0 l told) (sym nothing)
+    (subst (λ (t : List (ℕ × Entry)). AreNoted journal 0 [] t) (sym none) (record { tied = refl; receipts = refl; long = refl; many = refl; within = omega arith }))
+
+module _ (journal : List Change) (k : ℕ) (log : Log Entry) (told : List (ℕ × Entry)) (n : AreNoted journal k log told) (all : k ≡ length journal) where
+  done : drop k journal ≡ []
+  done = nil_from_length (drop k journal) (length-drop k journal ∙ (let none : length journal - k ≡ 0 = omega (arith, all) in none))
+
+  pub all_tied : entries_in journal ≡ entries_of log
+  all_tied = sym n.tied ∙ ap (λ (cs : List Change). entries_of log ++ entries_in cs) done ∙ append-nil (entries_of log)
+
+  pub all_told : told ≡ boot_told journal
+  all_told = ap (λ (cs : List Change). told_on cs told) (sym done) ∙ n.receipts
+
+-- a life's journal that is what its boot issued
+pub begins_same : (issued journal : List Change) → journal ≡ issued → BeginsWith issued journal
+begins_same issued journal is = ap (λ (l : List Change). take (length issued) l) (is ∙ sym (append-nil issued)) ∙ take_at issued [] (length issued) refl
+
+-- as many as there may be were counted
+pub all_counted : (count many : ℕ) → 4096 ≤ count → many ≤ 4096 → count ≤ many → count ≡ many
+all_counted count many most few within = omega (arith, most, few, within)

@@ -7,7 +7,6 @@ use Rattle.board_model.specs.Shapes.{Size}
 use Rattle.board_model.specs.Views.{change_in, change_of, entry_of}
 use Rattle.board_model.proofs.Steps.{entry_of_change, entry_of_command}
 use Rattle.board_model.specs.declared.durable.Command.{Command}
-use Rattle.board_model.specs.declared.durable.Command.TheVariants as commands
 use Rattle.board_model.specs.declared.durable.Entry.{Entry}
 use Rattle.board_model.specs.declared.durable.Entry.TheVariants as entries
 use Rattle.board_model.specs.declared.durable.Reason.{Reason}

@@ -1,24 +1,20 @@
 use Rattle.std.proofs.Common.{◌≡◌, ◌∙◌, ℕ, Some, ap, sym, subst, arith}
 use Rattle.layout.specs.Records.{IsSaved}
-use Rattle.layout.proofs.SpelledRecords.{version_in, slot_in, reason_in, presence_in, next_in, image_in, record_is, absent, present, presence_few}
+use Rattle.layout.proofs.SpelledRecords.{version_in, slot_in, reason_in, presence_in, next_in, image_in, record_is, absent, present, presence_few, never_none, same_some}
 use Rattle.layout.proofs.records.record_in.Goals as goal
 use Rattle.layout.proofs.records.record_in.Goals.{in-0, in-1+in_ok-saved_in-in-1}
 
 pub returns-in_err-version-clause-exact : goal.returns-in_err-version-clause-exact
 returns-in_err-version-clause-exact c r is =
     let found = c.version_of.ensures.exact r.version (c.u32_at.ensures ∙ version_in c.args.shape.now r c.args.sector.now is) in
-    let was = c.in_err-version.was in
-    cc
+    absurd (never_none _ _ c.in_err-version.was found)
 
 pub returns-in_err-trial-clause-exact : goal.returns-in_err-trial-clause-exact
 returns-in_err-trial-clause-exact c r is =
     let size = c.args.shape.now in
     let found = c.version_of.ensures.exact r.version (c.u32_at.ensures ∙ version_in size r c.args.sector.now is) in
-    let versioned = c.in_ok-version.was in
-    let version : c.in_ok-version.version ≡ r.version = cc in
-    let stands = c.trial_in.ensures.exact r size is version in
-    let was = c.in_err-trial.was in
-    cc
+    let stands = c.trial_in.ensures.exact r size is (same_some _ _ _ c.in_ok-version.was found) in
+    absurd (never_none _ _ c.in_err-trial.was stands)
 
 pub returns-in_err-slot-clause-exact : goal.returns-in_err-slot-clause-exact
 returns-in_err-slot-clause-exact c r is =
@@ -28,8 +24,7 @@ returns-in_err-slot-clause-exact c r is =
 pub returns-in_err-reason-clause-exact : goal.returns-in_err-reason-clause-exact
 returns-in_err-reason-clause-exact c r is =
     let found = c.reason_of.ensures.exact r.reason (c.u32_at-3.ensures ∙ reason_in c.args.shape.now r c.args.sector.now is) in
-    let was = c.in_err-reason.was in
-    cc
+    absurd (never_none _ _ c.in_err-reason.was found)
 
 pub returns-in_err-saved_in-in-1-clause-exact : goal.returns-in_err-saved_in-in-1-clause-exact
 returns-in_err-saved_in-in-1-clause-exact c r is =
@@ -38,8 +33,7 @@ returns-in_err-saved_in-in-1-clause-exact c r is =
     let some = present r.image (sym (presence_in size r c.args.sector.now is) ∙ sym c.u32_at-4.ensures ∙ c.in-1.is) in
     let saved = image_in size r c.args.sector.now some.0 is some.1 in
     let found = c.saved_in.ensures.exact some.0 (subst (λ (n : ℕ). IsSaved size n some.0) (sym next) saved.0) saved.1 in
-    let was = c.in_err-saved_in-in-1.was in
-    cc
+    absurd (never_none _ _ c.in_err-saved_in-in-1.was found)
 
 pub returns-in_default-clause-exact : goal.returns-in_default-clause-exact
 returns-in_default-clause-exact c r is =
@@ -54,8 +48,7 @@ returns-clause-exact c r is =
     let slot : c.in_ok-slot.slot ≡ r.slot = c.in_ok-slot.ensures.some.0 ∙ c.u32_at-2.ensures ∙ slot_in size r sector is in
     let reason : c.in_ok-reason.reason ≡ r.reason =
     (let found = c.reason_of.ensures.exact r.reason (c.u32_at-3.ensures ∙ reason_in size r sector is) in
-    let was = c.in_ok-reason.was in
-    cc) in
+    same_some _ _ _ c.in_ok-reason.was found) in
     let next : c.u64_at-next.result ≡ r.next = c.u64_at-next.ensures ∙ next_in size r sector is in
     let presence = sym (presence_in size r sector is) ∙ sym c.u32_at-4.ensures in
     let image : c.match-u32_at.image ≡ r.image =
@@ -71,10 +64,8 @@ returns-clause-exact c r is =
     ] in
     let version : c.in_ok-version.version ≡ r.version =
     (let found = c.version_of.ensures.exact r.version (c.u32_at.ensures ∙ version_in size r sector is) in
-    let was = c.in_ok-version.was in
-    cc) in
+    same_some _ _ _ c.in_ok-version.was found) in
     let trial : c.in_ok-trial.trial ≡ r.trial =
     (let found = c.trial_in.ensures.exact r size is version in
-    let was = c.in_ok-trial.was in
-    cc) in
+    same_some _ _ _ c.in_ok-trial.was found) in
     ap Some (record_is r _ _ _ _ _ _ version slot reason next image trial)

@@ -1,11 +1,12 @@
-use Rattle.std.proofs.Common.{◌∙◌, ◌&&◌, ℕ, Bool, Ok, Err, List, ap, length, arith, refl, sym}
+use Rattle.std.proofs.Common.{◌∙◌, ◌&&◌, ℕ, Bool, Ok, Err, List, [], ap, length, arith, refl, subst, sym}
 use Rattle.board_model.specs.Durable.{Change}
 use Rattle.board_model.specs.Views.{change_of}
 use Rattle.store.specs.Lives.{Applied}
 use Rattle.store.specs.Views.{doubt_of, journal_of}
 use Rattle.store.specs.Asked.{Asked}
 use Rattle.std.specs.Prelude.{is_some}
-use Rattle.shared_store.specs.Doubts.{noted_if, newly_down}
+use Rattle.shared_store.specs.Legal.{MayAnswer}
+use Rattle.shared_store.specs.Doubts.{noted_if}
 use Rattle.shared_store.proofs.Doubting.{asked_turns, ok_stays, still_noted, told_on}
 use Rattle.shared_store.proofs.Naming.{asked_named, asked_may, begins_on, begins_still}
 use Rattle.board_model.specs.declared.durable.Entry.{Entry}
@@ -71,3 +72,35 @@ returns-in-Ok-clause-noted g c =
     let place = number (journal_of old.store) old.keeper.log c.in-Ok.receipt old.tied did.1.1 in
     c.note-part.ensures.part ∙ ap (λ k. told_after k (entries.Command c.args.command) c.args.part) (sym place ∙ sym c.number.ensures)
     ∙ ap (λ (t : ℕ × Entry). told_after t.0 t.1 c.args.part) (sym c.new.ensures)
+
+pub returns-in-Ok-clause-asked : goal.returns-in-Ok-clause-asked
+returns-in-Ok-clause-asked g c =
+    let old = c.args.self.now in
+    let asked : Asked Applied old.store (change_of c.args.command) (Ok c.in-Ok.receipt) c.apply.new.self = c.in-Ok.ensures.asked in
+    subst (λ (k : ℕ). Asked Applied old.store (change_of c.args.command) (Ok k) c.apply.new.self) (sym (ap (λ (t : ℕ × Entry). t.0) c.new.ensures ∙ c.number.ensures)) asked
+
+pub returns-in-Ok-clause-may : goal.returns-in-Ok-clause-may
+returns-in-Ok-clause-may g c =
+    let old = c.args.self.now in
+    let asked : Asked Applied old.store (change_of c.args.command) (Ok c.in-Ok.receipt) c.apply.new.self = c.in-Ok.ensures.asked in
+    subst (λ (k : ℕ). MayAnswer g.J.Journal.found (change_of c.args.command) (Ok k)) (sym (ap (λ (t : ℕ × Entry). t.0) c.new.ensures ∙ c.number.ensures))
+    (asked_may g.J.Journal.found g.J.Journal.size old.store c.apply.new.self (change_of c.args.command) (Ok c.in-Ok.receipt) (doubt_of old.store) refl old.named asked)
+
+pub returns-in-Ok-clause-told : goal.returns-in-Ok-clause-told
+returns-in-Ok-clause-told g c = ap (λ (t : ℕ × Entry). t.1) c.new.ensures
+
+pub returns-in-Ok-clause-heard : goal.returns-in-Ok-clause-heard
+returns-in-Ok-clause-heard g c = refl
+
+pub returns-in-Err-clause-asked : goal.returns-in-Err-clause-asked
+returns-in-Err-clause-asked g c = c.in-Err.ensures.asked
+
+pub returns-in-Err-clause-noted : goal.returns-in-Err-clause-noted
+returns-in-Err-clause-noted g c = refl
+
+pub new-requires : goal.new-requires
+new-requires g c =
+    let old = c.args.self.now in
+    let asked : Asked Applied old.store (change_of c.args.command) (Ok c.in-Ok.receipt) c.apply.new.self = c.in-Ok.ensures.asked in
+    let may = asked_may g.J.Journal.found g.J.Journal.size old.store c.apply.new.self (change_of c.args.command) (Ok c.in-Ok.receipt) (doubt_of old.store) refl old.named asked in
+    (may.0, [], may.1, c.number.ensures ∙ may.2, omega (arith, c.number.ensures, may.3))
