@@ -3,3 +3,4 @@ pub mod Pieces
 pub mod Chunked
 pub mod Placing
 pub mod Windowed
+pub mod Exits
