@@ -2,3 +2,5 @@ pub mod HandedOn
 pub mod Pieces
 pub mod Chunked
 pub mod Placing
+pub mod Windowed
+pub mod Exits

@@ -1,5 +1,5 @@
 -- What a command does, put together from its steps.
-use Rattle.std.proofs.Common.{◌≡◌, ◌∙◌, inl, inr, ℕ, ◌+◌, ◌-◌, ◌<◌, arith, length, Result, Ok, Err, None, OnOk, IfErr, IsErrOf, ◌⊎◌, refl, sym, ap, subst, false}
+use Rattle.std.proofs.Common.{◌≡◌, ◌∙◌, inl, inr, ⊎_elim, Option, Some, option_map, ℕ, ◌+◌, ◌-◌, ◌<◌, arith, length, Result, Ok, Err, None, OnOk, IfErr, IsErrOf, ◌⊎◌, refl, sym, ap, subst, false}
 use Rattle.std.specs.Result.{MatchResult}
 use Rattle.board_model.specs.Durable.{DurableState, Change, after, refusal_of}
 use Rattle.board_model.specs.Shapes.{Size}
@@ -14,6 +14,7 @@ use Rattle.layout.specs.declared.records.Record.{Record}
 use Rattle.layout.specs.declared.records.Version.TheVariants.{Two}
 use Rattle.layout.proofs.SpelledRecords.{version_in}
 use Rattle.store.specs.Commits.{IsUp}
+use Rattle.store.specs.declared.doubts.Doubt.{Doubt}
 use Rattle.store.specs.Leaves.{LeavesOnly, LeavesEither, StandsForEither, WroteACommand}
 use Rattle.store.specs.Lives.{Life, now_of, Reaches, Applied, Suspended, IsReseen}
 use Rattle.store.specs.Opens.{CausedRefusal}
@@ -143,3 +144,13 @@ pub not_of_memory : (r : Result ℕ Refusal) → IfErr r (λ e. (e ≡ Device) �
 not_of_memory (Ok n) few is = let no : ⊥ = cc in no
 not_of_memory (Err e) (inl f) is = let g : Memory ≡ Device = sym (the_error e Memory is) ∙ f in let no : ⊥ = cc in no
 not_of_memory (Err e) (inr f) is = let g : Memory ≡ Down = sym (the_error e Memory is) ∙ f in let no : ⊥ = cc in no
+
+-- a command that was issued is refused by the disk alone
+pub by_disk : (r : Result ℕ Refusal) (P : Type 0) → IfErr r (λ e. (e ≡ Device) ⊎ (e ≡ Down)) → IfErr r (λ e. (e ≡ Device → ⊥) → (e ≡ Down → ⊥) → (e ≡ Memory → ⊥) → P)
+by_disk (Ok n) P few = tt
+by_disk (Err e) P few = λ device down memory. absurd (⊎_elim device down few)
+
+-- nothing is in doubt
+pub none_doubted : (f : Doubt → Change) (doubt : Option Doubt) (d : Change) → doubt ≡ None → option_map f doubt ≡ Some d → ⊥
+none_doubted f None d none is = cc
+none_doubted f (Some x) d none is = cc

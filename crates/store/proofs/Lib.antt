@@ -22,3 +22,4 @@ pub mod Inspecting
 pub mod Taken
 pub mod Called
 pub mod Alone
+pub mod Exits

@@ -1,5 +1,6 @@
 use Rattle.std.proofs.Common.{arith, length, ap, length-drop}
 use Rattle.bench_orders.proofs.Parts.{left_behind, part_placed}
+use Rattle.std.proofs.lemmas.Result.{IfOk-from_err}
 use Rattle.bench_orders.proofs.led_orders.led.Goals as goal
 
 pub loop-rest-preserved : goal.loop-rest-preserved
@@ -12,3 +13,6 @@ loop-rest-preserved c =
       order = part_placed c.args.lines.now made rest new count c.loop-rest.invariant.order c.in_ok-count.ensures.added;
       few = omega (arith, c.loop-rest.invariant.few, ap length (left_behind rest count), length-drop count rest);
     }
+
+pub returns-in_err-count : goal.returns-in_err-count
+returns-in_err-count c = IfOk-from_err c.from_residual.result _ c.from_residual.ensures.0

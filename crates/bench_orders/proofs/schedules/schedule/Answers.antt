@@ -3,6 +3,7 @@ use Rattle.std.proofs.lemmas.Grind.{common_steps}
 use Rattle.bench_orders.specs.Drawn.{drawn_from}
 use Rattle.bench_orders.specs.Orders.{IsOrderFor}
 use Rattle.bench_orders.proofs.Parts.{part_added, part_few}
+use Rattle.std.proofs.lemmas.Result.{IfOk-from_err}
 use Rattle.bench_orders.proofs.schedules.schedule.Goals as goal
 
 pub loop-rest-preserved : goal.loop-rest-preserved
@@ -19,3 +20,12 @@ pub returns-clause-drawn : goal.returns-clause-drawn
 returns-clause-drawn g c =
     let order : IsOrderFor c.args.lines.now c.loop-rest.made.items = grind (arith, common_steps) in
     drawn_from (g.R.Rng.stream c.args.rng.now) c.args.fronts.now c.args.lines.now c.loop-rest.made.items order
+
+pub returns-in_err-count-clause-order : goal.returns-in_err-count-clause-order
+returns-in_err-count-clause-order g c = IfOk-from_err c.from_residual.result _ c.from_residual.ensures.0
+
+pub returns-in_err-count-clause-few : goal.returns-in_err-count-clause-few
+returns-in_err-count-clause-few g c = IfOk-from_err c.from_residual.result _ c.from_residual.ensures.0
+
+pub returns-in_err-count-clause-drawn : goal.returns-in_err-count-clause-drawn
+returns-in_err-count-clause-drawn g c = IfOk-from_err c.from_residual.result _ c.from_residual.ensures.0

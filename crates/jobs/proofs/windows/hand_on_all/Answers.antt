@@ -1,5 +1,7 @@
 use Rattle.std.proofs.Common.{◌≡◌, ◌+◌, subst, arith}
 use Rattle.jobs.proofs.HandedOn.{handed_both}
+use Rattle.std.proofs.lemmas.Result.{IfOk-from_err}
+use Rattle.jobs.proofs.Exits.{err_exit}
 use Rattle.jobs.proofs.windows.hand_on_all.Goals as goal
 
 pub run_window-requires-clause-has : goal.run_window-requires-clause-has
@@ -15,3 +17,9 @@ loop-done-preserved g c =
       few = omega (arith, c.min-size.ensures);
       handed = handed_both (g.T.Task.is_row c.args.task.now) g.S.Sink.takes c.args.first c.loop-done.done c.min-size.result _ _ _ i.handed c.in_ok-run_window.ensures.handed;
     }
+
+pub returns-in_err-run_window-clause-handed : goal.returns-in_err-run_window-clause-handed
+returns-in_err-run_window-clause-handed g c = IfOk-from_err c.from_residual.result _ c.from_residual.ensures.0
+
+pub returns-in_err-run_window-clause-refused : goal.returns-in_err-run_window-clause-refused
+returns-in_err-run_window-clause-refused g c = err_exit _ c.from_residual.result c.in_err-run_window.field-0.0 c.from_residual.ensures.1 c.in_err-run_window.ensures.refused

@@ -1,5 +1,5 @@
 use Rattle.std.proofs.Common.{◌≡◌, subst}
-use Rattle.std.proofs.lemmas.Result.{err_from_is_err_and}
+use Rattle.std.proofs.lemmas.Result.{err_from_is_err_and, IfOk-from_err}
 use Rattle.disk.specs.Facts.{Content}
 use Rattle.store.specs.Standing.{selected, live_sector, other_sector}
 use Rattle.store.specs.Inspects.{IsImageSeen}
@@ -64,3 +64,6 @@ returns-clause-inspected g c =
       other = parses size records.other (other_sector content) c.parse_record-other.result c.is_ok-2.result other c.is_ok-2.ensures.value c.parse_record-other.ensures.ok c.parse_record-other.ensures.exact;
       image = subst (λ (d : Content). IsImageSeen size d c.in_ok-image.image) c.read_records.ensures.called.content c.in_ok-image.ensures.seen;
     }
+
+pub returns-in_err-image-clause-inspected : goal.returns-in_err-image-clause-inspected
+returns-in_err-image-clause-inspected g c = IfOk-from_err c.from_residual.result _ c.from_residual.ensures.0

@@ -14,6 +14,7 @@ use Rattle.store.proofs.Inspecting.{inspect_calls}
 use Rattle.store.proofs.Loading.{none_read}
 use Rattle.store.proofs.inspects.inspect.Given.{Over}
 use Rattle.store.proofs.inspects.inspect.Goals.{After-examine}
+use Rattle.std.proofs.lemmas.Result.{IfOk-from_err}
 use Rattle.store.proofs.inspects.inspect.Goals as goal
 
 -- the disk of that shape is a board's
@@ -138,3 +139,9 @@ returns-in_default-clause-cause g c = c.in_default.ensures.called.cause.err
 
 pub returns-in_default-clause-calls : goal.returns-in_default-clause-calls
 returns-in_default-clause-calls g c = λ some. sector_failed _ _ _ c.in_default.ensures.called.calls.err
+
+pub returns-in_err-shape-clause-inspected : goal.returns-in_err-shape-clause-inspected
+returns-in_err-shape-clause-inspected g c = IfOk-from_err c.from_residual.result _ c.from_residual.ensures.0
+
+pub returns-in_err-shape-clause-no_failure : goal.returns-in_err-shape-clause-no_failure
+returns-in_err-shape-clause-no_failure g c = IfOk-from_err c.from_residual.result _ c.from_residual.ensures.0

@@ -1,5 +1,5 @@
 use Rattle.std.proofs.Common.{◌∙◌, Ok, arith}
-use Rattle.std.proofs.lemmas.Result.{err_from_is_err_and}
+use Rattle.std.proofs.lemmas.Result.{err_from_is_err_and, IfOk-from_err}
 use Rattle.disk.specs.Calls.{MakesCalls}
 use Rattle.disk.specs.Facts.{Content, Facts, Stays}
 use Rattle.disk.specs.FaultState.{FaultState}
@@ -43,3 +43,30 @@ returns-then-number-eq0-clause-called g c = all_read _ _ _ _ _ _ _ _ _ _ _ _ c.i
 
 pub returns-else-number-eq0-clause-called : goal.returns-else-number-eq0-clause-called
 returns-else-number-eq0-clause-called g c = all_read _ _ _ _ _ _ _ _ _ _ _ _ c.in_ok-read_sector.ensures.called c.in_ok-first.ensures.called c.in_ok-second.ensures.called
+
+pub returns-in_err-read_sector-clause-gate : goal.returns-in_err-read_sector-clause-gate
+returns-in_err-read_sector-clause-gate g c = IfOk-from_err c.from_residual.result _ c.from_residual.ensures.0
+
+pub returns-in_err-read_sector-clause-live : goal.returns-in_err-read_sector-clause-live
+returns-in_err-read_sector-clause-live g c = IfOk-from_err c.from_residual.result _ c.from_residual.ensures.0
+
+pub returns-in_err-read_sector-clause-other : goal.returns-in_err-read_sector-clause-other
+returns-in_err-read_sector-clause-other g c = IfOk-from_err c.from_residual.result _ c.from_residual.ensures.0
+
+pub returns-in_err-first-clause-gate : goal.returns-in_err-first-clause-gate
+returns-in_err-first-clause-gate g c = IfOk-from_err c.from_residual-in_err-first.result _ c.from_residual-in_err-first.ensures.0
+
+pub returns-in_err-first-clause-live : goal.returns-in_err-first-clause-live
+returns-in_err-first-clause-live g c = IfOk-from_err c.from_residual-in_err-first.result _ c.from_residual-in_err-first.ensures.0
+
+pub returns-in_err-first-clause-other : goal.returns-in_err-first-clause-other
+returns-in_err-first-clause-other g c = IfOk-from_err c.from_residual-in_err-first.result _ c.from_residual-in_err-first.ensures.0
+
+pub returns-in_err-second-clause-gate : goal.returns-in_err-second-clause-gate
+returns-in_err-second-clause-gate g c = IfOk-from_err c.from_residual-in_err-second.result _ c.from_residual-in_err-second.ensures.0
+
+pub returns-in_err-second-clause-live : goal.returns-in_err-second-clause-live
+returns-in_err-second-clause-live g c = IfOk-from_err c.from_residual-in_err-second.result _ c.from_residual-in_err-second.ensures.0
+
+pub returns-in_err-second-clause-other : goal.returns-in_err-second-clause-other
+returns-in_err-second-clause-other g c = IfOk-from_err c.from_residual-in_err-second.result _ c.from_residual-in_err-second.ensures.0

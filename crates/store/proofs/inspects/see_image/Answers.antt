@@ -1,4 +1,4 @@
-use Rattle.std.proofs.Common.{◌≡◌, ◌≢◌, ◌∙◌, ℕ, Result, Ok, Err, Some, List, [], OnOk, IfErr, length, refl, sym, ap, subst, arith, rules}
+use Rattle.std.proofs.Common.{◌≡◌, ◌≢◌, ◌∙◌, ℕ, Result, Ok, Err, Some, List, [], OnOk, IfErr, length, refl, sym, ap, subst, arith}
 use Rattle.std.specs.Prelude.{IfOk, IsErrOf}
 use Rattle.std.proofs.Math.ListN.{length-replicate}
 use Rattle.std.proofs.lemmas.Result.{err_from_is_err_and}
@@ -71,7 +71,7 @@ pub returns-clause-seen : goal.returns-clause-seen
 returns-clause-seen g c =
     let size = c.args.shape.now in
     let content = (g.D.Disk.facts c.args.disk.now).content in
-    let has : c.in-Ok.record.image ≡ Some c.in-Some.saved = search rules in
+    let has : c.in-Ok.record.image ≡ Some c.in-Some.saved = c.in-Some.is in
     let long : length c.read_area-read.new.ram ≡ ram_bytes_of size = c.read_area-read.ensures.length ∙ ap (λ (m : List ℕ). length m) c.in_ok-ram.ensures.zeros ∙ length-replicate _ _ in
     rw c.seen.ensures
     (seen_image size content c.in-Some.saved c.read_area-read.new.ram c.read_area-read.result (keeps_image size content c.args.live.now c.in-Ok.record c.in-Some.saved c.in-Ok.is has c.requires.live)
@@ -122,7 +122,7 @@ pub returns-in_err-ram-clause-refused : goal.returns-in_err-ram-clause-refused
 returns-in_err-ram-clause-refused g c =
     let p = err_from_is_err_and c.from_residual.result c.from_residual.ensures.1 in
     let a = g.D.Disk.facts c.args.disk.now in
-    let has : c.in-Ok.record.image ≡ Some c.in-Some.saved = search rules in
+    let has : c.in-Ok.record.image ≡ Some c.in-Some.saved = c.in-Some.is in
     rw (p.1, p.2)
     (refused_memory c.args.shape.now a a (Err c.in_err-ram.field-0.0) c.in_err-ram.field-0.0 c.in-Some.saved refl c.in_err-ram.ensures.refused c.requires.board
     (keeps_image c.args.shape.now a.content c.args.live.now c.in-Ok.record c.in-Some.saved c.in-Ok.is has c.requires.live))
@@ -135,3 +135,6 @@ returns-in_err-ram-clause-reads_alone g c = none_read _ (g.met.D.Disk.only_now _
 
 pub returns-in_err-ram-clause-unsynced : goal.returns-in_err-ram-clause-unsynced
 returns-in_err-ram-clause-unsynced g c = refl
+
+pub read_area-read-requires-clause-ram : goal.read_area-read-requires-clause-ram
+read_area-read-requires-clause-ram g c κs within = ap (λ (m : List ℕ). length m) c.in_ok-ram.ensures.zeros ∙ length-replicate _ _

@@ -1,5 +1,5 @@
 use Rattle.std.proofs.Common.{◌∙◌, ℕ, refl, sym, ap, subst, rules}
-use Rattle.std.proofs.lemmas.Result.{err_from_is_err_and}
+use Rattle.std.proofs.lemmas.Result.{err_from_is_err_and, IfOk-from_err}
 use Rattle.disk.specs.Facts.{Lent, counted}
 use Rattle.layout.specs.Records.{IsInRange}
 use Rattle.layout.specs.declared.records.Record.{Record}
@@ -62,3 +62,6 @@ returns-in_err-kept-in-One-clause-calls g c start made =
     let p = err_from_is_err_and c.from_residual.result c.from_residual.ensures.1 in
     let f = c.args.found in
     rw p.1 (calls_stop start _ _ _ made c.in_err-kept-in-One.ensures.called.calls.err (calls_of f.shape f.side f.record One _ (c.requires.keeps.up refl _ (g.met.D.Disk.may_keep _)).selects c.in-One.is))
+
+pub returns-in_err-kept-in-One-clause-kept : goal.returns-in_err-kept-in-One-clause-kept
+returns-in_err-kept-in-One-clause-kept g c = IfOk-from_err c.from_residual.result _ c.from_residual.ensures.0

@@ -1,6 +1,6 @@
-use Rattle.std.proofs.Common.{◌≡◌, ◌∙◌, ◌⊎◌, ◌≤◌, ℕ, Option, Some, None, option_map, Result, Ok, Err, OnOk, IfErr, refl, sym, ap, subst, ⊎_elim, rules, arith}
-use Rattle.std.proofs.lemmas.Result.{err_from_is_err_and}
-use Rattle.board_model.specs.Durable.{Change, Suspend}
+use Rattle.std.proofs.Common.{◌≡◌, ◌∙◌, ◌≤◌, ℕ, option_map, Result, Ok, Err, OnOk, refl, sym, ap, subst, ⊎_elim, rules, arith}
+use Rattle.std.proofs.lemmas.Result.{err_from_is_err_and, IfOk-from_err}
+use Rattle.board_model.specs.Durable.{Suspend}
 use Rattle.board_model.specs.declared.durable.Durable.{Durable}
 use Rattle.board_model.specs.declared.refusal.Refusal.{Refusal}
 use Rattle.board_model.specs.declared.refusal.Refusal.TheVariants.{Device, Down, Memory}
@@ -14,16 +14,10 @@ use Rattle.store.specs.Standing.{state_of}
 use Rattle.board_model.specs.Shapes.{Size}
 use Rattle.store.specs.Views.{life_of, found_state, now_state, view_of}
 use Rattle.store.proofs.Suspending.{now_still}
-use Rattle.store.proofs.Answering.{refused_up, then_issued, unwritten, the_error, not_of_memory}
-use Rattle.store.specs.declared.doubts.Doubt.{Doubt}
+use Rattle.store.proofs.Answering.{refused_up, then_issued, unwritten, the_error, not_of_memory, by_disk, none_doubted}
 use Rattle.store.proofs.Found.{none_in_doubt, doubt_or_none}
 use Rattle.store.proofs.States.{up_leaves}
 use Rattle.store.proofs.stores.Store.suspend.Goals as goal
-
--- nothing is in doubt
-none_doubted : (f : Doubt → Change) (doubt : Option Doubt) (d : Change) → doubt ≡ None → option_map f doubt ≡ Some d → ⊥
-none_doubted f None d none is = cc
-none_doubted f (Some x) d none is = cc
 
 -- what a refusal to write the area is, and is not
 not_written : (a b : Facts) (m n : FaultState) (e : Refusal) → WriteRefused a m e b n → (e ≡ Device → ⊥) → (e ≡ Memory → ⊥) → ⊥
@@ -44,11 +38,6 @@ not_down a b m n e is why = subst (λ (f : Refusal). WriteRefused a m f b n) is 
 
 same_error : (r : Result Durable Refusal) (e f : Refusal) → r ≡ Err e → r ≡ Err f → ◌≡◌ {A = Result ℕ Refusal} (Err e) (Err f)
 same_error r e f is also = let same : e ≡ f = cc in ap Err same
-
--- a command that was issued is refused by the disk alone
-by_disk : (r : Result ℕ Refusal) (P : Type 0) → IfErr r (λ e. (e ≡ Device) ⊎ (e ≡ Down)) → IfErr r (λ e. (e ≡ Device → ⊥) → (e ≡ Down → ⊥) → (e ≡ Memory → ⊥) → P)
-by_disk (Ok n) P few = tt
-by_disk (Err e) P few = λ device down memory. absurd (⊎_elim device down few)
 
 five_calls : (r : Result ℕ Refusal) (a b c : ℕ) → b ≡ counted a 1 → OnOk r (c ≡ counted b 4) → OnOk r (c ≡ counted a 5)
 five_calls (Ok n) a b c one four = omega (arith, one, four)
@@ -134,3 +123,6 @@ returns-clause-early g c = λ is. absurd (not_of_memory c.issue.result c.issue.e
 pub returns-in-Err-clause-early : goal.returns-in-Err-clause-early
 returns-in-Err-clause-early g c = λ is.
     called_none (g.D.Disk.facts c.args.self.now.disk) (g.D.Disk.facts c.write_free.new.self.disk) (g.D.Disk.fault_state c.args.self.now.disk) (g.D.Disk.fault_state c.write_free.new.self.disk) c.in-Err.refusal (the_error _ _ is) c.in-Err.ensures.writes.refused
+
+pub returns-in_err-durable-clause-calls : goal.returns-in_err-durable-clause-calls
+returns-in_err-durable-clause-calls g c = IfOk-from_err c.from_residual.result _ c.from_residual.ensures.0
