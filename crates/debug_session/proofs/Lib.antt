@@ -12,3 +12,4 @@ pub mod Backs
 pub mod Withins
 pub mod Others
 pub mod Turns
+pub mod Nexts
