@@ -13,3 +13,4 @@ pub mod Withins
 pub mod Others
 pub mod Turns
 pub mod Nexts
+pub mod Exits

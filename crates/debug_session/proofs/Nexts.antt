@@ -1,5 +1,5 @@
 -- One turn more of a row, and how that goes on.
-use Rattle.std.proofs.Common.{◌≡◌, ◌<◌, ◌+◌, ◌^◌, inl, inr, ◌∙◌, ℕ, Bool, true, false, not, true≢false, List, Option, Some, None, refl, sym, ap, subst, arith}
+use Rattle.std.proofs.Common.{◌≡◌, ◌<◌, ◌≤◌, ◌+◌, ◌^◌, inl, inr, ◌∙◌, ℕ, Bool, true, false, not, true≢false, List, Option, Some, None, refl, sym, ap, subst, arith}
 use Rattle.sbi.specs.Words.{ends}
 use Rattle.machine.specs.Machine.{Machine}
 use Rattle.bench_live.specs.declared.rows.TurnRow.{TurnRow}
@@ -70,3 +70,9 @@ then_stands h points row rows.Off all m is goes stands = absurd (true≢false (s
 then_stands h points row (rows.Made n word) all m is goes stands =
     subst (λ (x : TurnRow). HasHalted h points x m) (sym is) (inl (refl, inr stands))
 then_stands h points row (rows.Lost n) all m is goes stands = absurd (true≢false (sym goes))
+
+-- as many as may be made
+pub all_made : (most made : ℕ) (row : TurnRow) → made ≡ made_in row → most ≤ made → IsWithin most row → made_in row ≡ most
+all_made most made rows.Off is all within = omega (arith, is, all)
+all_made most made (rows.Made n word) is all within = omega (arith, is, all, within)
+all_made most made (rows.Lost n) is all within = omega (arith, is, all, within)
