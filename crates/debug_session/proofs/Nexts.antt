@@ -1,5 +1,5 @@
 -- One turn more of a row, and how that goes on.
-use Rattle.std.proofs.Common.{◌≡◌, ◌<◌, ◌≤◌, ◌+◌, ◌^◌, inl, inr, ◌∙◌, ℕ, Bool, true, false, not, true≢false, List, Option, Some, None, refl, sym, ap, subst, arith}
+use Rattle.std.proofs.Common.{◌≡◌, ◌<◌, ◌≤◌, ◌+◌, ◌^◌, inl, inr, ◌∙◌, ℕ, Bool, true, false, not, true≢false, List, Option, None, refl, sym, ap, subst, arith}
 use Rattle.sbi.specs.Words.{ends}
 use Rattle.machine.specs.Machine.{Machine}
 use Rattle.bench_live.specs.declared.rows.TurnRow.{TurnRow}

@@ -1,4 +1,4 @@
-use Rattle.std.proofs.Common.{◌≡◌, ◌<◌, ℕ, Option, sym, subst, inl}
+use Rattle.std.proofs.Common.{◌≡◌, ◌<◌, ℕ, Option, sym, subst}
 use Rattle.std.specs.Prelude.{IfSome, replicate}
 use Rattle.board_model.specs.Shapes.{Size}
 use Rattle.bench_live.specs.Pasts.{singles}
@@ -10,7 +10,6 @@ use Rattle.debug_session.specs.Backs.{FoundIn, IsRowPast}
 use Rattle.debug_session.specs.Firsts.{one_turn}
 use Rattle.debug_session.proofs.Backs.{other_passed, row_past}
 use Rattle.debug_session.proofs.Firsts.{ok_more}
-use Rattle.debug_session.proofs.Exits.{err_exit}
 use Rattle.debug_session.proofs.back.last_halt_of.Goals as goal
 
 pub returns-in-Turn-clause-row : goal.returns-in-Turn-clause-row

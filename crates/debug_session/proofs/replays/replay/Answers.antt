@@ -1,4 +1,4 @@
-use Rattle.std.proofs.Common.{◌≡◌, nat_eq, sym, ◌∙◌, subst, true≢false}
+use Rattle.std.proofs.Common.{nat_eq, sym, ◌∙◌, subst, true≢false}
 use Rattle.std.proofs.lemmas.Bool.{eqb-true}
 use Rattle.report_lines.specs.declared.printed.Answer.{Answer}
 use Rattle.bench_report.specs.Bench.{Bench}
@@ -8,7 +8,6 @@ use Rattle.script_lang.specs.declared.line.Line.{Line}
 use Rattle.debug_session.specs.Ats.{GoesOnBy}
 use Rattle.debug_session.specs.Lives.{Shows}
 use Rattle.debug_session.proofs.Timelines.{goes_by}
-use Rattle.debug_session.proofs.Exits.{err_exit}
 use Rattle.debug_session.proofs.replays.replay.Goals as goal
 
 pub returns-then-goes_on-clause-moves : goal.returns-then-goes_on-clause-moves

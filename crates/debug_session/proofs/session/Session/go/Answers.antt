@@ -1,4 +1,3 @@
-use Rattle.std.proofs.Common.{refl}
 use Rattle.debug_session.proofs.session.Session.go.Goals as goal
 
 pub returns-clause-size : goal.returns-clause-size

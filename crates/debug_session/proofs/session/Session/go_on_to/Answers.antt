@@ -1,6 +1,5 @@
 use Rattle.std.proofs.lemmas.Result.{on_ok_weaker}
 use Rattle.debug_session.proofs.Turns.{left_few}
-use Rattle.std.proofs.Common.{refl}
 use Rattle.debug_session.proofs.session.Session.go_on_to.Goals as goal
 
 pub returns-clause-went : goal.returns-clause-went
