@@ -12,3 +12,5 @@ pub mod Backs
 pub mod Withins
 pub mod Others
 pub mod Turns
+pub mod Nexts
+pub mod Exits

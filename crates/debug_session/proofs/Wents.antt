@@ -1,24 +1,25 @@
 -- Turns that became part of a history, one command after another.
-use Rattle.std.proofs.Common.{◌≡◌, ◌≤◌, ◌+◌, ◌-◌, inl, inr, ℕ, zero, suc, Bool, true, false, List, [], ◌∷◌, ◌++◌, Option, Some, None, length, refl, sym, ap, ◌∙◌, subst, append_assoc, arith}
+use Rattle.std.proofs.Common.{◌≡◌, ◌⊎◌, ⊎_elim, true≢false, ◌≤◌, ◌+◌, ◌-◌, inl, inr, ℕ, zero, suc, Bool, true, false, List, [], ◌∷◌, ◌++◌, Option, Some, None, length, refl, sym, ap, ◌∙◌, subst, append_assoc, arith}
 use Rattle.std.specs.Prelude.{All, replicate}
 use Rattle.std.proofs.lemmas.List.{append-nil, length-append, length-replicate}
 use Rattle.std.proofs.lemmas.List.Elements.{All-append, All-cons, All-head, All-nil, All-tail}
 use Rattle.board_model.specs.Shapes.{Size}
+use Rattle.machine.specs.Machine.{Machine}
 use Rattle.script_lang.specs.declared.line.Line.{Line}
 use Rattle.script_lang.specs.declared.line.Line.TheVariants as lines
 use Rattle.bench_live.specs.Pasts.{moments}
 use Rattle.bench_live.specs.declared.rows.TurnRow.{TurnRow}
 use Rattle.bench_live.specs.declared.rows.TurnRow.TheVariants as rows
-use Rattle.bench_live.specs.Rows.{IsWithin, made_in}
+use Rattle.bench_live.specs.Rows.{IsWithin, is_off, made_in}
 use Rattle.debug_session.specs.declared.timeline.Timeline.{Timeline}
 use Rattle.bench_report.specs.Bench.{Bench}
 use Rattle.debug_session.specs.Passes.{GoesTo, Passes}
-use Rattle.debug_session.specs.Ats.{IsAt}
-use Rattle.debug_session.specs.Lives.{machine_of, pc_in}
+use Rattle.debug_session.specs.Ats.{IsAt, MadeTurns}
+use Rattle.debug_session.specs.Lives.{HasHalted, machine_of, pc_in, stands_in}
 use Rattle.debug_session.specs.declared.forth.RoundPart.{RoundPart}
 use Rattle.debug_session.specs.declared.halts.HaltReason.{HaltReason}
 use Rattle.debug_session.specs.declared.halts.HaltReason.TheVariants as halts
-use Rattle.debug_session.specs.Firsts.{Stretched}
+use Rattle.debug_session.specs.Firsts.{Stretched, halt_after}
 use Rattle.debug_session.specs.Steps.{EndsStep, IsStep, IsTurnOf, Went, halt_step}
 use Rattle.debug_session.specs.Withins.{HaltsBy, MadeOne}
 
@@ -133,3 +134,19 @@ pub part_more : (May : ℕ → Type 0) (h was before left whole : ℕ) (size : S
     → (k : ℕ) × (left + k ≡ before) × Went (λ x. x ≡ h) k size mid last → (n : ℕ) × (left + n ≡ whole) × Went May n size first last
 part_more May h was before left whole size first mid last may same (n, e, one) (k, f, two) =
     (n + k, omega (arith, same, e, f), went_more May (λ x. x ≡ h) n k size first mid last (λ x is. subst May (sym is) may) one two)
+
+-- ---- a row of turns that was made
+pub left_same : (May : ℕ → Type 0) (now was whole : ℕ) (size : Size) (first last : Timeline) → now ≡ was → (n : ℕ) × (was + n ≡ whole) × Went May n size first last → (n : ℕ) × (now + n ≡ whole) × Went May n size first last
+left_same May now was whole size first last same (n, e, went) = (n, omega (arith, same, e), went)
+
+off_why : (h most : ℕ) (points : List ℕ) (row : TurnRow) (rests : Bool) (m : Option Machine) → (rests ≡ false → (made_in row ≡ most) ⊎ HasHalted h points row m) → is_off row ≡ true → rests ≡ false → (most ≡ 0) ⊎ (pc_in h m ≡ None)
+off_why h most points rows.Off rests m why off e =
+    ⊎_elim (λ all. inl (sym all)) (λ halted. ⊎_elim (λ x. absurd (true≢false x.0)) (λ none. inr none) halted) (why e)
+off_why h most points (rows.Made n word) rests m why off e = absurd (true≢false (sym off))
+off_why h most points (rows.Lost n) rests m why off e = absurd (true≢false (sym off))
+
+pub stretched : (size : Size) (h most made : ℕ) (points : List ℕ) (row : TurnRow) (rests : Bool) (halt : Option HaltReason) (old new : Timeline) → MadeTurns size h points row rests old new → IsWithin most row
+    → (rests ≡ false → (made_in row ≡ most) ⊎ HasHalted h points row (machine_of new.bench)) → made ≡ made_in row → halt ≡ halt_after row rests (stands_in points (pc_in h (machine_of new.bench)))
+    → Stretched size h most points made rests halt old new
+stretched size h most made points row rests halt old new turns within why count is =
+    (row, turns, count, within, off_why h most points row rests (machine_of new.bench) why, is)

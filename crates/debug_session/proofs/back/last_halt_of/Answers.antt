@@ -35,3 +35,27 @@ pub returns-in_ok-replay-in_default-clause-found : goal.returns-in_ok-replay-in_
 returns-in_ok-replay-in_default-clause-found g c = λ b shows.
     let did = c.in_ok-replay-in_default.ensures.moves b shows in
     (did.1, other_passed c.args.setting.now.shape.now c.args.stops.now c.args.line.now b did.1 c.in_default.not-Turn (did.0, did.2), did.3)
+
+pub last_halt_in-requires-clause-sound : goal.last_halt_in-requires-clause-sound
+last_halt_in-requires-clause-sound g c κs within = c.requires.sound
+
+pub replay-requires-clause-sound : goal.replay-requires-clause-sound
+replay-requires-clause-sound g c κs within = c.requires.sound
+
+pub replay-requires-clause-range : goal.replay-requires-clause-range
+replay-requires-clause-range g c κs within = c.requires.range
+
+pub returns-in-Turn-clause-sound : goal.returns-in-Turn-clause-sound
+returns-in-Turn-clause-sound g c = c.last_halt_in.ensures.sound
+
+pub returns-in-Turn-clause-refused : goal.returns-in-Turn-clause-refused
+returns-in-Turn-clause-refused g c = c.last_halt_in.ensures.refused
+
+pub returns-in_ok-replay-in_default-clause-row : goal.returns-in_ok-replay-in_default-clause-row
+returns-in_ok-replay-in_default-clause-row g c = tt
+
+pub returns-in_ok-replay-in_default-clause-refused : goal.returns-in_ok-replay-in_default-clause-refused
+returns-in_ok-replay-in_default-clause-refused g c = tt
+
+pub returns-in_ok-replay-in_default-clause-sound : goal.returns-in_ok-replay-in_default-clause-sound
+returns-in_ok-replay-in_default-clause-sound g c = c.in_ok-replay-in_default.ensures.sound

@@ -7,6 +7,8 @@ use Rattle.debug_session.specs.declared.halts.HaltReason.TheVariants as halts
 use Rattle.debug_session.specs.Backs.{IsEnd}
 use Rattle.debug_session.specs.Steps.{MakesNone}
 use Rattle.debug_session.proofs.Backs.{end_first, end_found, some_more}
+use Rattle.std.proofs.lemmas.Result.{IfOk-from_err}
+use Rattle.debug_session.proofs.Exits.{err_exit}
 use Rattle.debug_session.proofs.back.place_back.Goals as goal
 
 pub returns-in-Some-clause-end : goal.returns-in-Some-clause-end
@@ -30,3 +32,39 @@ returns-in-None-clause-end g c =
     let same = c.lines.ensures in
     some_more c.first_turn.result (λ place. IsPlace place.stop.hart place.line place.turns past) (λ place. (place.turns ≡ 0) × (place.stop.halt ≡ halts.Begin) × All MakesNone (take place.line past)) (λ place. IsEnd size stops place past begin)
     (subst P same c.first_turn.ensures.some) (subst Q same c.first_turn.ensures.first) (λ place at first. end_first size stops place past begin had.0 at first.0 first.1 first.2 had.1)
+
+pub last_halt-requires-clause-ranges : goal.last_halt-requires-clause-ranges
+last_halt-requires-clause-ranges g c κs within = c.requires.ranges
+
+pub returns-in_default-clause-place : goal.returns-in_default-clause-place
+returns-in_default-clause-place g c = tt
+
+pub returns-in_default-clause-end : goal.returns-in_default-clause-end
+returns-in_default-clause-end g c = tt
+
+pub returns-in_default-clause-none : goal.returns-in_default-clause-none
+returns-in_default-clause-none g c = tt
+
+pub returns-in_default-clause-refused : goal.returns-in_default-clause-refused
+returns-in_default-clause-refused g c = tt
+
+pub returns-in-Some-clause-none : goal.returns-in-Some-clause-none
+returns-in-Some-clause-none g c = tt
+
+pub returns-in-Some-clause-refused : goal.returns-in-Some-clause-refused
+returns-in-Some-clause-refused g c = tt
+
+pub returns-in-None-clause-refused : goal.returns-in-None-clause-refused
+returns-in-None-clause-refused g c = tt
+
+pub returns-in_err-found-clause-place : goal.returns-in_err-found-clause-place
+returns-in_err-found-clause-place g c = IfOk-from_err c.from_residual.result _ c.from_residual.ensures.0
+
+pub returns-in_err-found-clause-end : goal.returns-in_err-found-clause-end
+returns-in_err-found-clause-end g c = IfOk-from_err c.from_residual.result _ c.from_residual.ensures.0
+
+pub returns-in_err-found-clause-none : goal.returns-in_err-found-clause-none
+returns-in_err-found-clause-none g c = IfOk-from_err c.from_residual.result _ c.from_residual.ensures.0
+
+pub returns-in_err-found-clause-refused : goal.returns-in_err-found-clause-refused
+returns-in_err-found-clause-refused g c = err_exit _ c.from_residual.result c.in_err-found.field-0.0 c.from_residual.ensures.1 c.in_err-found.ensures.refused

@@ -1,4 +1,4 @@
-use Rattle.std.proofs.Common.{◌≡◌, List, ℕ, Option, sym, ap, ◌∙◌, subst}
+use Rattle.std.proofs.Common.{◌≡◌, List, ℕ, Option, sym, ap, ◌∙◌, subst, arith}
 use Rattle.machine.specs.Machine.{Machine}
 use Rattle.bench_live.specs.Rows.{row_answer}
 use Rattle.debug_session.specs.Lives.{Shows, machine_of, pc_in, stands_in}
@@ -10,6 +10,8 @@ use Rattle.debug_session.specs.declared.halts.HaltReason.{HaltReason}
 use Rattle.debug_session.specs.Backs.{IsSeen}
 use Rattle.debug_session.proofs.Backs.{is_seen}
 use Rattle.debug_session.proofs.Firsts.{touched_along}
+use Rattle.std.proofs.lemmas.Result.{IfOk-from_err}
+use Rattle.debug_session.proofs.Exits.{err_exit}
 use Rattle.debug_session.proofs.back.seen_back.Goals as goal
 
 pub returns-clause-seen : goal.returns-clause-seen
@@ -32,3 +34,21 @@ returns-clause-seen g c = λ size b shows.
     let told = touched_along size stops h (machine_of was) (machine_of now) load _ touched b new c.in_ok-before.ensures.seen seen_was seen_now (subst L same c.next_load-load.ensures.loads) c.first_touched-touched.ensures in
     let P : Option HaltReason → Type 0 = λ halt. IsSeen halt stops h b new in
     (new, ((row_answer h c.turns.result, did.2), subst P (sym c.halt_back.ensures) (is_seen size stops h b new c.stands_at-stands.result touched stands told)), did.3)
+
+pub turns-requires-clause-some : goal.turns-requires-clause-some
+turns-requires-clause-some g c κs within = omega arith
+
+pub returns-clause-sound : goal.returns-clause-sound
+returns-clause-sound g c = c.turns.ensures.sound
+
+pub returns-clause-refused : goal.returns-clause-refused
+returns-clause-refused g c = tt
+
+pub returns-in_err-before-clause-seen : goal.returns-in_err-before-clause-seen
+returns-in_err-before-clause-seen g c = IfOk-from_err c.from_residual.result _ c.from_residual.ensures.0
+
+pub returns-in_err-before-clause-sound : goal.returns-in_err-before-clause-sound
+returns-in_err-before-clause-sound g c = IfOk-from_err c.from_residual.result _ c.from_residual.ensures.0
+
+pub returns-in_err-before-clause-refused : goal.returns-in_err-before-clause-refused
+returns-in_err-before-clause-refused g c = err_exit _ c.from_residual.result c.in_err-before.field-0.0 c.from_residual.ensures.1 c.in_err-before.ensures.refused

@@ -8,3 +8,12 @@ returns-in-Ok-clause-place c =
     let found = c.in-Ok.ensures.found in
     let less : c.loop-i.i < length c.args.lines.now = search rules in
     place_at p.0 c.loop-i.i p.1 found.0 c.args.lines.now c.index-lines-i.result less (sym c.index-lines-i.is ∙ found.1) found.2
+
+pub returns-in-Ok-clause-none : goal.returns-in-Ok-clause-none
+returns-in-Ok-clause-none c = tt
+
+pub returns-clause-place : goal.returns-clause-place
+returns-clause-place c = tt
+
+pub returns-clause-behind : goal.returns-clause-behind
+returns-clause-behind c = tt

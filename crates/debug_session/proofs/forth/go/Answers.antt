@@ -1,6 +1,8 @@
 use Rattle.std.proofs.Common.{None, Some, ◌≡◌, ℕ, Bool, List, true, false, slice_index_or, refl, sym, ap, ◌∙◌, add-zero, arith}
-use Rattle.debug_session.proofs.Firsts.{halt_then, no_halt, none_along}
-use Rattle.debug_session.proofs.Wents.{left_went, part_more, went_none}
+use Rattle.debug_session.proofs.Firsts.{halt_then, no_halt, none_along, other_halt}
+use Rattle.debug_session.proofs.Wents.{left_went, part_more, went_none, left_same}
+use Rattle.std.proofs.lemmas.Result.{IfOk-from_err}
+use Rattle.debug_session.proofs.Exits.{err_exit}
 use Rattle.debug_session.proofs.forth.go.Goals as goal
 
 pub parts-init : goal.parts-init
@@ -38,3 +40,63 @@ returns-clause-went g c = left_went (λ h. slice_index_or c.args.round.harts h f
 
 pub returns-in-Some-2-clause-first : goal.returns-in-Some-2-clause-first
 returns-in-Some-2-clause-first g c = halt_then c.args.setting.now.shape.now c.args.stops.now c.args.first c.in-Some.hart c.in_ok-halt.field-0 (Some c.in-Some-2.halt) c.args.timeline.now c.parts.timeline c.round_part.new.timeline c.in-Some-2.is c.parts.invariant.first c.in_ok-halt.ensures.first
+
+pub returns-then-harts-round-clause-first : goal.returns-then-harts-round-clause-first
+returns-then-harts-round-clause-first g c = other_halt c.args.setting.now.shape.now c.args.stops.now c.args.first c.args.first _ c.args.timeline.now c.parts.timeline refl c.parts.invariant.first
+
+pub returns-clause-first : goal.returns-clause-first
+returns-clause-first g c = other_halt c.args.setting.now.shape.now c.args.stops.now c.args.first c.args.first _ c.args.timeline.now c.parts.timeline refl c.parts.invariant.first
+
+pub returns-then-swap-clause-first : goal.returns-then-swap-clause-first
+returns-then-swap-clause-first g c = other_halt c.args.setting.now.shape.now c.args.stops.now c.args.first c.in-Some.hart _ c.args.timeline.now c.parts.timeline refl c.parts.invariant.first
+
+pub returns-then-harts-round-clause-there : goal.returns-then-harts-round-clause-there
+returns-then-harts-round-clause-there g c = c.requires.first
+
+pub returns-clause-there : goal.returns-clause-there
+returns-clause-there g c = c.requires.first
+
+pub returns-then-swap-clause-there : goal.returns-then-swap-clause-there
+returns-then-swap-clause-there g c = c.in-Some.ensures.hart.0
+
+pub returns-in-Some-2-clause-there : goal.returns-in-Some-2-clause-there
+returns-in-Some-2-clause-there g c = c.in-Some.ensures.hart.0
+
+pub returns-then-harts-round-clause-refused : goal.returns-then-harts-round-clause-refused
+returns-then-harts-round-clause-refused g c = tt
+
+pub returns-clause-refused : goal.returns-clause-refused
+returns-clause-refused g c = tt
+
+pub returns-then-swap-clause-refused : goal.returns-then-swap-clause-refused
+returns-then-swap-clause-refused g c = tt
+
+pub returns-in-Some-2-clause-refused : goal.returns-in-Some-2-clause-refused
+returns-in-Some-2-clause-refused g c = tt
+
+pub next-requires : goal.next-requires
+next-requires g c = record { few = omega (arith, c.if-harts-round.false, c.harts.ensures.range) }
+
+pub returns-then-swap-clause-went : goal.returns-then-swap-clause-went
+returns-then-swap-clause-went g c = left_went (λ h. slice_index_or c.args.round.harts h false ≡ true) c.next.new.self.left c.args.round.left c.args.setting.now.shape.now c.args.timeline.now c.parts.timeline (left_same (λ h. slice_index_or c.args.round.harts h false ≡ true) c.next.new.self.left c.parts.round.left c.args.round.left c.args.setting.now.shape.now c.args.timeline.now c.parts.timeline c.next.ensures.left c.parts.invariant.went)
+
+pub parts-preserved-in_default : goal.parts-preserved-in_default
+parts-preserved-in_default g c = record { went = left_same (λ h. slice_index_or c.args.round.harts h false ≡ true) c.next.new.self.left c.parts.round.left c.args.round.left c.args.setting.now.shape.now c.args.timeline.now c.parts.timeline c.next.ensures.left c.parts.invariant.went; first = c.parts.invariant.first; harts = c.next.ensures.harts ∙ c.parts.invariant.harts; resting = omega (arith, c.next.ensures.resting, c.if-harts-round.false, c.harts.ensures.range) }
+
+pub round_part-requires-clause-at : goal.round_part-requires-clause-at
+round_part-requires-clause-at g c κs within = c.parts.invariant.went.2.at
+
+pub round_part-requires-clause-hart : goal.round_part-requires-clause-hart
+round_part-requires-clause-hart g c κs within = c.in-Some.ensures.hart.0
+
+pub returns-in_err-halt-clause-went : goal.returns-in_err-halt-clause-went
+returns-in_err-halt-clause-went g c = IfOk-from_err c.from_residual.result _ c.from_residual.ensures.0
+
+pub returns-in_err-halt-clause-first : goal.returns-in_err-halt-clause-first
+returns-in_err-halt-clause-first g c = IfOk-from_err c.from_residual.result _ c.from_residual.ensures.0
+
+pub returns-in_err-halt-clause-there : goal.returns-in_err-halt-clause-there
+returns-in_err-halt-clause-there g c = IfOk-from_err c.from_residual.result _ c.from_residual.ensures.0
+
+pub returns-in_err-halt-clause-refused : goal.returns-in_err-halt-clause-refused
+returns-in_err-halt-clause-refused g c = err_exit _ c.from_residual.result c.in_err-halt.field-0.0 c.from_residual.ensures.1 c.in_err-halt.ensures.refused

@@ -4,6 +4,8 @@ use Rattle.debug_session.specs.Firsts.{Stretched, seen_in}
 use Rattle.debug_session.proofs.Firsts.{tells_on, untouched, watched_halts}
 use Rattle.debug_session.proofs.Wents.{few_of, went_of}
 use Rattle.debug_session.proofs.Withins.{made_one}
+use Rattle.std.proofs.lemmas.Result.{IfOk-from_err}
+use Rattle.debug_session.proofs.Exits.{err_exit}
 use Rattle.debug_session.proofs.forth.loading_turn.Goals as goal
 
 pub returns-clause-went : goal.returns-clause-went
@@ -36,3 +38,42 @@ returns-clause-tells g c = λ some none.
     let told = c.touched_behind-touched.ensures in
     tells_on (machine_of c.args.timeline.now.bench) (machine_of c.stretch.new.timeline.bench) c.args.load.now c.args.stops.now.watches.items (seen_in c.args.before.now.items) c.requires.tells
     (sym (told.told some) ∙ untouched c.in_ok-part.part.halt c.touched_behind-touched.result (sym c.halt_seen-halt.ensures ∙ none))
+
+pub stretch-requires-clause-at : goal.stretch-requires-clause-at
+stretch-requires-clause-at g c κs within = c.requires.at
+
+pub stretch-requires-clause-hart : goal.stretch-requires-clause-hart
+stretch-requires-clause-hart g c κs within = c.requires.hart
+
+pub returns-clause-at : goal.returns-clause-at
+returns-clause-at g c = c.in_ok-part.ensures.at
+
+pub returns-clause-begins : goal.returns-clause-begins
+returns-clause-begins g c = c.stretch.ensures.begins
+
+pub returns-in_err-part-clause-begins : goal.returns-in_err-part-clause-begins
+returns-in_err-part-clause-begins g c = c.stretch.ensures.begins
+
+pub returns-clause-refused : goal.returns-clause-refused
+returns-clause-refused g c = tt
+
+pub returns-in_err-part-clause-at : goal.returns-in_err-part-clause-at
+returns-in_err-part-clause-at g c = IfOk-from_err c.from_residual.result _ c.from_residual.ensures.0
+
+pub returns-in_err-part-clause-went : goal.returns-in_err-part-clause-went
+returns-in_err-part-clause-went g c = IfOk-from_err c.from_residual.result _ c.from_residual.ensures.0
+
+pub returns-in_err-part-clause-first : goal.returns-in_err-part-clause-first
+returns-in_err-part-clause-first g c = IfOk-from_err c.from_residual.result _ c.from_residual.ensures.0
+
+pub returns-in_err-part-clause-one : goal.returns-in_err-part-clause-one
+returns-in_err-part-clause-one g c = IfOk-from_err c.from_residual.result _ c.from_residual.ensures.0
+
+pub returns-in_err-part-clause-made : goal.returns-in_err-part-clause-made
+returns-in_err-part-clause-made g c = IfOk-from_err c.from_residual.result _ c.from_residual.ensures.0
+
+pub returns-in_err-part-clause-tells : goal.returns-in_err-part-clause-tells
+returns-in_err-part-clause-tells g c = IfOk-from_err c.from_residual.result _ c.from_residual.ensures.0
+
+pub returns-in_err-part-clause-refused : goal.returns-in_err-part-clause-refused
+returns-in_err-part-clause-refused g c = err_exit _ c.from_residual.result c.in_err-part.field-0.0 c.from_residual.ensures.1 c.in_err-part.ensures.refused

@@ -1,4 +1,4 @@
-use Rattle.std.proofs.Common.{Some, sym, subst}
+use Rattle.std.proofs.Common.{Some, sym, subst, refl}
 use Rattle.debug_session.specs.declared.halts.HaltReason.{HaltReason}
 use Rattle.debug_session.specs.Firsts.{TellsTouched, ToHalt, seen_in}
 use Rattle.debug_session.specs.Lives.{machine_of}
@@ -6,6 +6,8 @@ use Rattle.debug_session.specs.declared.debugged.DebuggedBench.{DebuggedBench}
 use Rattle.debug_session.specs.Steps.{IsStep}
 use Rattle.debug_session.proofs.Firsts.{step_halts, tells_seen}
 use Rattle.debug_session.proofs.Wents.{step_of}
+use Rattle.std.proofs.lemmas.Result.{IfOk-from_err}
+use Rattle.debug_session.proofs.Exits.{err_exit}
 use Rattle.debug_session.proofs.forth.step.Goals as goal
 
 pub returns-clause-step : goal.returns-clause-step
@@ -26,3 +28,57 @@ watched_turn-requires-clause-tells g c κs within =
     let before = seen_in c.in_ok-before.before.items in
     let P : DebuggedBench → Type 0 = λ b. TellsTouched (machine_of b) watches before in
     subst P c.bench.ensures (tells_seen (machine_of c.bench.result.now) watches before c.in_ok-before.ensures.seen)
+
+pub watched_turn-requires-clause-at : goal.watched_turn-requires-clause-at
+watched_turn-requires-clause-at g c κs within = c.requires.at
+
+pub watched_turn-requires-clause-hart : goal.watched_turn-requires-clause-hart
+watched_turn-requires-clause-hart g c κs within = c.requires.hart
+
+pub returns-clause-at : goal.returns-clause-at
+returns-clause-at g c = c.in_ok-part.ensures.at
+
+pub returns-clause-there : goal.returns-clause-there
+returns-clause-there g c = refl
+
+pub returns-clause-begins : goal.returns-clause-begins
+returns-clause-begins g c = c.watched_turn.ensures.begins
+
+pub returns-clause-refused : goal.returns-clause-refused
+returns-clause-refused g c = tt
+
+pub returns-in_err-part-clause-begins : goal.returns-in_err-part-clause-begins
+returns-in_err-part-clause-begins g c = c.watched_turn.ensures.begins
+
+pub returns-in_err-before-clause-begins : goal.returns-in_err-before-clause-begins
+returns-in_err-before-clause-begins g c = refl
+
+pub returns-in_err-before-clause-at : goal.returns-in_err-before-clause-at
+returns-in_err-before-clause-at g c = IfOk-from_err c.from_residual.result _ c.from_residual.ensures.0
+
+pub returns-in_err-before-clause-step : goal.returns-in_err-before-clause-step
+returns-in_err-before-clause-step g c = IfOk-from_err c.from_residual.result _ c.from_residual.ensures.0
+
+pub returns-in_err-before-clause-first : goal.returns-in_err-before-clause-first
+returns-in_err-before-clause-first g c = IfOk-from_err c.from_residual.result _ c.from_residual.ensures.0
+
+pub returns-in_err-before-clause-there : goal.returns-in_err-before-clause-there
+returns-in_err-before-clause-there g c = IfOk-from_err c.from_residual.result _ c.from_residual.ensures.0
+
+pub returns-in_err-before-clause-refused : goal.returns-in_err-before-clause-refused
+returns-in_err-before-clause-refused g c = err_exit _ c.from_residual.result c.in_err-before.field-0.0 c.from_residual.ensures.1 c.in_err-before.ensures.refused
+
+pub returns-in_err-part-clause-at : goal.returns-in_err-part-clause-at
+returns-in_err-part-clause-at g c = IfOk-from_err c.from_residual-in_err-part.result _ c.from_residual-in_err-part.ensures.0
+
+pub returns-in_err-part-clause-step : goal.returns-in_err-part-clause-step
+returns-in_err-part-clause-step g c = IfOk-from_err c.from_residual-in_err-part.result _ c.from_residual-in_err-part.ensures.0
+
+pub returns-in_err-part-clause-first : goal.returns-in_err-part-clause-first
+returns-in_err-part-clause-first g c = IfOk-from_err c.from_residual-in_err-part.result _ c.from_residual-in_err-part.ensures.0
+
+pub returns-in_err-part-clause-there : goal.returns-in_err-part-clause-there
+returns-in_err-part-clause-there g c = IfOk-from_err c.from_residual-in_err-part.result _ c.from_residual-in_err-part.ensures.0
+
+pub returns-in_err-part-clause-refused : goal.returns-in_err-part-clause-refused
+returns-in_err-part-clause-refused g c = err_exit _ c.from_residual-in_err-part.result c.in_err-part.field-0.0 c.from_residual-in_err-part.ensures.1 c.in_err-part.ensures.refused

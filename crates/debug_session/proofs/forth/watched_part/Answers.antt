@@ -4,6 +4,8 @@ use Rattle.debug_session.specs.Lives.{machine_of}
 use Rattle.debug_session.specs.declared.debugged.DebuggedBench.{DebuggedBench}
 use Rattle.debug_session.proofs.Firsts.{halt_more, halt_then, no_halt, none_of, tells_seen}
 use Rattle.debug_session.proofs.Wents.{went_more, went_none}
+use Rattle.std.proofs.lemmas.Result.{IfOk-from_err}
+use Rattle.debug_session.proofs.Exits.{err_exit}
 use Rattle.debug_session.proofs.forth.watched_part.Goals as goal
 
 pub loop-sum-init : goal.loop-sum-init
@@ -30,3 +32,54 @@ loop-sum-preserved g c = record {
 
 pub returns-then-is_some-clause-first : goal.returns-then-is_some-clause-first
 returns-then-is_some-clause-first g c = halt_more c.args.setting.now.shape.now c.args.stops.now c.args.hart c.args.hart c.in_ok-part.part.halt c.args.timeline.now c.loop-sum.timeline c.watched_turn.new.timeline c.loop-sum.invariant.first c.in_ok-part.ensures.first
+
+pub watched_turn-requires-clause-at : goal.watched_turn-requires-clause-at
+watched_turn-requires-clause-at g c κs within = c.loop-sum.invariant.went.at
+
+pub watched_turn-requires-clause-hart : goal.watched_turn-requires-clause-hart
+watched_turn-requires-clause-hart g c κs within = c.requires.hart
+
+pub watched_turn-requires-clause-tells : goal.watched_turn-requires-clause-tells
+watched_turn-requires-clause-tells g c κs within = c.loop-sum.invariant.tells
+
+pub returns-then-is_some-clause-few : goal.returns-then-is_some-clause-few
+returns-then-is_some-clause-few g c = omega (arith, c.loop-sum-test.true, c.in_ok-part.ensures.one)
+
+pub returns-then-is_some-clause-refused : goal.returns-then-is_some-clause-refused
+returns-then-is_some-clause-refused g c = tt
+
+pub returns-clause-went : goal.returns-clause-went
+returns-clause-went g c = c.loop-sum.invariant.went
+
+pub returns-clause-first : goal.returns-clause-first
+returns-clause-first g c = c.loop-sum.invariant.first
+
+pub returns-clause-few : goal.returns-clause-few
+returns-clause-few g c = c.loop-sum.invariant.few
+
+pub returns-clause-refused : goal.returns-clause-refused
+returns-clause-refused g c = tt
+
+pub returns-in_err-before-clause-went : goal.returns-in_err-before-clause-went
+returns-in_err-before-clause-went g c = IfOk-from_err c.from_residual.result _ c.from_residual.ensures.0
+
+pub returns-in_err-before-clause-first : goal.returns-in_err-before-clause-first
+returns-in_err-before-clause-first g c = IfOk-from_err c.from_residual.result _ c.from_residual.ensures.0
+
+pub returns-in_err-before-clause-few : goal.returns-in_err-before-clause-few
+returns-in_err-before-clause-few g c = IfOk-from_err c.from_residual.result _ c.from_residual.ensures.0
+
+pub returns-in_err-before-clause-refused : goal.returns-in_err-before-clause-refused
+returns-in_err-before-clause-refused g c = err_exit _ c.from_residual.result c.in_err-before.field-0.0 c.from_residual.ensures.1 c.in_err-before.ensures.refused
+
+pub returns-in_err-part-clause-went : goal.returns-in_err-part-clause-went
+returns-in_err-part-clause-went g c = IfOk-from_err c.from_residual-in_err-part.result _ c.from_residual-in_err-part.ensures.0
+
+pub returns-in_err-part-clause-first : goal.returns-in_err-part-clause-first
+returns-in_err-part-clause-first g c = IfOk-from_err c.from_residual-in_err-part.result _ c.from_residual-in_err-part.ensures.0
+
+pub returns-in_err-part-clause-few : goal.returns-in_err-part-clause-few
+returns-in_err-part-clause-few g c = IfOk-from_err c.from_residual-in_err-part.result _ c.from_residual-in_err-part.ensures.0
+
+pub returns-in_err-part-clause-refused : goal.returns-in_err-part-clause-refused
+returns-in_err-part-clause-refused g c = err_exit _ c.from_residual-in_err-part.result c.in_err-part.field-0.0 c.from_residual-in_err-part.ensures.1 c.in_err-part.ensures.refused

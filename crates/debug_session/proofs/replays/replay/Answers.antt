@@ -1,5 +1,5 @@
-use Rattle.std.proofs.Common.{◌≡◌, nat_eq, sym, ◌∙◌, subst, arith}
-use Rattle.std.proofs.lemmas.Bool.Decides.{nat_tests}
+use Rattle.std.proofs.Common.{nat_eq, sym, ◌∙◌, subst, true≢false}
+use Rattle.std.proofs.lemmas.Bool.{eqb-true}
 use Rattle.report_lines.specs.declared.printed.Answer.{Answer}
 use Rattle.bench_report.specs.Bench.{Bench}
 use Rattle.bench_report.specs.Steps.{Moves}
@@ -17,7 +17,7 @@ returns-then-goes_on-clause-moves g c = λ b shows.
     let h = c.in-Turn.hart in
     let n = c.in-Turn.count in
     let did = row.ensures.reported size b shows in
-    let goes = goes_by size h n row.result b did.0 (nat_eq c.made.result n) (λ e. sym c.goes_on.ensures ∙ c.if-goes_on.true) (λ e. (let same : c.made.result ≡ n = grind (arith, nat_tests) in sym c.made.ensures ∙ same)) did.1 in
+    let goes = goes_by size h n row.result b did.0 (nat_eq c.made.result n) (λ e. sym c.goes_on.ensures ∙ c.if-goes_on.true) (λ e. sym c.made.ensures ∙ eqb-true c.made.result n e) did.1 in
     let P : Line → Type 0 = λ line. (x : Answer) × (x' : Bench) × Moves size line b x x' × Shows size x' row.new.self × GoesOnBy size (nat_eq c.made.result n) line b x' in
     subst P (sym c.in-Turn.is) (row_answer h row.result, did.0, did.2, did.3, goes)
 
@@ -28,6 +28,27 @@ returns-else-goes_on-clause-moves g c = λ b shows.
     let h = c.in-Turn.hart in
     let n = c.in-Turn.count in
     let did = row.ensures.reported size b shows in
-    let goes = goes_by size h n row.result b did.0 c.goes_on.result (λ e. sym c.goes_on.ensures ∙ e) (λ e. absurd (let never : ⊥ = cc (e, c.if-goes_on.false) in never)) did.1 in
+    let goes = goes_by size h n row.result b did.0 c.goes_on.result (λ e. sym c.goes_on.ensures ∙ e) (λ e. absurd (true≢false (sym e ∙ c.if-goes_on.false))) did.1 in
     let P : Line → Type 0 = λ line. (x : Answer) × (x' : Bench) × Moves size line b x x' × Shows size x' row.new.self × GoesOnBy size c.goes_on.result line b x' in
     subst P (sym c.in-Turn.is) (row_answer h row.result, did.0, did.2, did.3, goes)
+
+pub turns-row-requires-clause-sound : goal.turns-row-requires-clause-sound
+turns-row-requires-clause-sound g c κs within = c.requires.sound
+
+pub run-requires-clause-range : goal.run-requires-clause-range
+run-requires-clause-range g c κs within = c.requires.range
+
+pub run-requires-clause-sound : goal.run-requires-clause-sound
+run-requires-clause-sound g c κs within = c.requires.sound
+
+pub returns-then-goes_on-clause-sound : goal.returns-then-goes_on-clause-sound
+returns-then-goes_on-clause-sound g c = c.turns-row.ensures.sound
+
+pub returns-then-goes_on-clause-refused : goal.returns-then-goes_on-clause-refused
+returns-then-goes_on-clause-refused g c = tt
+
+pub returns-else-goes_on-clause-sound : goal.returns-else-goes_on-clause-sound
+returns-else-goes_on-clause-sound g c = c.turns-row.ensures.sound
+
+pub returns-else-goes_on-clause-refused : goal.returns-else-goes_on-clause-refused
+returns-else-goes_on-clause-refused g c = tt

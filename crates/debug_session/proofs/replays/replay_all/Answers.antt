@@ -9,6 +9,8 @@ use Rattle.script_lang.specs.declared.line.Line.{Line}
 use Rattle.debug_session.specs.Ats.{GoesOnBy}
 use Rattle.debug_session.specs.Lives.{Shows}
 use Rattle.debug_session.proofs.Timelines.{Left, again_more}
+use Rattle.std.proofs.lemmas.Result.{IfOk-from_err}
+use Rattle.debug_session.proofs.Exits.{err_exit}
 use Rattle.debug_session.proofs.replays.replay_all.Goals as goal
 
 pub loop-line-init : goal.loop-line-init
@@ -34,3 +36,24 @@ returns-clause-left g c = λ begins shows.
     let P : List Line → Type 0 = λ xs. (b : Bench) × Left c.args.setting.now.shape.now begins xs c.loop-line.joins c.loop-line.bench b in
     let left = subst P (take_all c.loop-line.line-index c.args.lines.now (omega (arith, c.loop-line-test.false))) (c.loop-line.invariant.left begins shows) in
     (left.0, left.1.0, left.1.1, left.1.2)
+
+pub replay-requires-clause-sound : goal.replay-requires-clause-sound
+replay-requires-clause-sound g c κs within = c.loop-line.invariant.sound
+
+pub returns-clause-sound : goal.returns-clause-sound
+returns-clause-sound g c = c.loop-line.invariant.sound
+
+pub returns-clause-refused : goal.returns-clause-refused
+returns-clause-refused g c = tt
+
+pub returns-in_err-joins-clause-left : goal.returns-in_err-joins-clause-left
+returns-in_err-joins-clause-left g c = IfOk-from_err c.from_residual.result _ c.from_residual.ensures.0
+
+pub returns-in_err-joins-clause-sound : goal.returns-in_err-joins-clause-sound
+returns-in_err-joins-clause-sound g c = IfOk-from_err c.from_residual.result _ c.from_residual.ensures.0
+
+pub returns-in_err-joins-clause-fill : goal.returns-in_err-joins-clause-fill
+returns-in_err-joins-clause-fill g c = IfOk-from_err c.from_residual.result _ c.from_residual.ensures.0
+
+pub returns-in_err-joins-clause-refused : goal.returns-in_err-joins-clause-refused
+returns-in_err-joins-clause-refused g c = err_exit _ c.from_residual.result c.in_err-joins.field-0.0 c.from_residual.ensures.1 c.in_err-joins.ensures.refused

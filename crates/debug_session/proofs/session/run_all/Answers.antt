@@ -2,6 +2,8 @@ use Rattle.std.proofs.Common.{List, [], ◌∷◌, ◌++◌, sym, ap, ◌∙◌,
 use Rattle.std.specs.Vec.Iter.{into_iter_items}
 use Rattle.script_lang.specs.declared.line.Line.{Line}
 use Rattle.debug_session.proofs.Places.{noted_more}
+use Rattle.std.proofs.lemmas.Result.{IfOk-from_err}
+use Rattle.debug_session.proofs.Exits.{err_exit}
 use Rattle.debug_session.proofs.session.run_all.Goals as goal
 
 pub loop-line-preserved : goal.loop-line-preserved
@@ -14,3 +16,27 @@ loop-line-preserved g c =
       begins = did.begins ∙ was.begins;
       rest = append_assoc c.loop-line.yielded (c.in-Some.line ∷ []) (into_iter_items c.next.new.self) ∙ ap (λ (xs : List Line). c.loop-line.yielded ++ xs) (sym c.in-Some.ensures.steps.0) ∙ was.rest;
     }
+
+pub line-requires-clause-at : goal.line-requires-clause-at
+line-requires-clause-at g c κs within = c.loop-line.invariant.at
+
+pub returns-clause-at : goal.returns-clause-at
+returns-clause-at g c = c.loop-line.invariant.at
+
+pub returns-clause-begins : goal.returns-clause-begins
+returns-clause-begins g c = c.loop-line.invariant.begins
+
+pub returns-clause-refused : goal.returns-clause-refused
+returns-clause-refused g c = tt
+
+pub returns-in_err-line-clause-at : goal.returns-in_err-line-clause-at
+returns-in_err-line-clause-at g c = IfOk-from_err c.from_residual.result _ c.from_residual.ensures.0
+
+pub returns-in_err-line-clause-noted : goal.returns-in_err-line-clause-noted
+returns-in_err-line-clause-noted g c = IfOk-from_err c.from_residual.result _ c.from_residual.ensures.0
+
+pub returns-in_err-line-clause-begins : goal.returns-in_err-line-clause-begins
+returns-in_err-line-clause-begins g c = IfOk-from_err c.from_residual.result _ c.from_residual.ensures.0
+
+pub returns-in_err-line-clause-refused : goal.returns-in_err-line-clause-refused
+returns-in_err-line-clause-refused g c = err_exit _ c.from_residual.result c.in_err-line.field-0.0 c.from_residual.ensures.1 c.in_err-line.ensures.refused

@@ -7,3 +7,24 @@ returns-clause-went g c =
     on_ok_weaker c.go_few.result
     (λ did. (let less = left_few _ _ did.0 _ c.args.turns _ did.1 c.turns_left-most.ensures c.lines.ensures in (did.0, less.0, less.1, did.2)))
     c.go_few.ensures.went
+
+pub returns-clause-size : goal.returns-clause-size
+returns-clause-size g c = c.go_few.ensures.size
+
+pub returns-clause-stops : goal.returns-clause-stops
+returns-clause-stops g c = c.go_few.ensures.stops
+
+pub returns-clause-plan : goal.returns-clause-plan
+returns-clause-plan g c = c.go_few.ensures.plan
+
+pub returns-clause-first : goal.returns-clause-first
+returns-clause-first g c = c.go_few.ensures.first
+
+pub returns-clause-refused : goal.returns-clause-refused
+returns-clause-refused g c = c.go_few.ensures.refused
+
+pub go_few-requires-clause-at : goal.go_few-requires-clause-at
+go_few-requires-clause-at g c κs within = c.requires.at
+
+pub go_few-requires-clause-first : goal.go_few-requires-clause-first
+go_few-requires-clause-first g c κs within = c.requires.first

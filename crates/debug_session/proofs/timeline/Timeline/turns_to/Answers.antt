@@ -1,9 +1,11 @@
-use Rattle.std.proofs.Common.{sym, ◌∙◌}
+use Rattle.std.proofs.Common.{sym, ◌∙◌, refl}
 use Rattle.bench_report.specs.Bench.{Bench}
 use Rattle.simdisk.specs.declared.fill.Fill.TheVariants as fills
 use Rattle.debug_session.specs.Lives.{Rests}
 use Rattle.debug_session.specs.Passes.{GoesTo}
 use Rattle.debug_session.proofs.Timelines.{row_left}
+use Rattle.std.proofs.lemmas.Result.{IfOk-from_err}
+use Rattle.debug_session.proofs.Exits.{err_exit}
 use Rattle.debug_session.proofs.timeline.Timeline.turns_to.Goals as goal
 
 pub returns-clause-at : goal.returns-clause-at
@@ -35,3 +37,39 @@ returns-clause-made g c =
       grew = note.moments;
       busy = row.ensures.busy;
     }
+
+pub turns_to-row-requires-clause-most : goal.turns_to-row-requires-clause-most
+turns_to-row-requires-clause-most g c κs within = c.requires.most
+
+pub turns_to-row-requires-clause-sound : goal.turns_to-row-requires-clause-sound
+turns_to-row-requires-clause-sound g c κs within = c.requires.at.sound
+
+pub returns-in_err-self-clause-begins : goal.returns-in_err-self-clause-begins
+returns-in_err-self-clause-begins g c = refl
+
+pub returns-clause-begins : goal.returns-clause-begins
+returns-clause-begins g c = refl
+
+pub returns-clause-refused : goal.returns-clause-refused
+returns-clause-refused g c = tt
+
+pub returns-clause-within : goal.returns-clause-within
+returns-clause-within g c = c.turns_to-row.ensures.range
+
+pub returns-clause-why : goal.returns-clause-why
+returns-clause-why g c = λ e. c.turns_to-row.ensures.why e c.args.setting.now.shape.now c.requires.at.left.0 c.requires.at.left.1.2
+
+pub returns-in_err-self-clause-at : goal.returns-in_err-self-clause-at
+returns-in_err-self-clause-at g c = IfOk-from_err c.from_residual.result _ c.from_residual.ensures.0
+
+pub returns-in_err-self-clause-made : goal.returns-in_err-self-clause-made
+returns-in_err-self-clause-made g c = IfOk-from_err c.from_residual.result _ c.from_residual.ensures.0
+
+pub returns-in_err-self-clause-within : goal.returns-in_err-self-clause-within
+returns-in_err-self-clause-within g c = IfOk-from_err c.from_residual.result _ c.from_residual.ensures.0
+
+pub returns-in_err-self-clause-why : goal.returns-in_err-self-clause-why
+returns-in_err-self-clause-why g c = IfOk-from_err c.from_residual.result _ c.from_residual.ensures.0
+
+pub returns-in_err-self-clause-refused : goal.returns-in_err-self-clause-refused
+returns-in_err-self-clause-refused g c = err_exit _ c.from_residual.result c.in_err-self.field-0.0 c.from_residual.ensures.1 c.in_err-self.ensures.refused

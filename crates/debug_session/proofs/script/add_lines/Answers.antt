@@ -1,0 +1,19 @@
+use Rattle.std.proofs.Common.{◌∙◌, ap, List, ◌++◌, sym}
+use Rattle.std.specs.Prelude.{string_bytes}
+use Rattle.script_lang.specs.declared.line.Line.{Line}
+use Rattle.debug_session.specs.Texts.{lines_text}
+use Rattle.std.proofs.lemmas.List.{take_all, append-nil}
+use Rattle.std.proofs.lemmas.Result.{IfOk-from_err}
+use Rattle.debug_session.proofs.script.add_lines.Goals as goal
+
+pub returns : goal.returns
+returns c = c.loop-line.invariant ∙ ap (λ (xs : List Line). string_bytes c.args.text.now ++ lines_text xs) (take_all c.loop-line.line-index c.args.lines.now c.loop-line-test.false)
+
+pub loop-line-init : goal.loop-line-init
+loop-line-init c = sym (append-nil (string_bytes c.args.text.now))
+
+pub returns-in_err-more : goal.returns-in_err-more
+returns-in_err-more c = IfOk-from_err c.from_residual.result _ c.from_residual.ensures.0
+
+pub returns-in_err-push_str : goal.returns-in_err-push_str
+returns-in_err-push_str c = IfOk-from_err c.from_residual-in_err-push_str.result _ c.from_residual-in_err-push_str.ensures.0

@@ -1,0 +1,28 @@
+use Rattle.debug_session.proofs.session.Session.go.Goals as goal
+
+pub returns-clause-size : goal.returns-clause-size
+returns-clause-size g c = c.go_few.ensures.size
+
+pub returns-clause-stops : goal.returns-clause-stops
+returns-clause-stops g c = c.go_few.ensures.stops
+
+pub returns-clause-plan : goal.returns-clause-plan
+returns-clause-plan g c = c.go_few.ensures.plan
+
+pub returns-clause-first : goal.returns-clause-first
+returns-clause-first g c = c.go_few.ensures.first
+
+pub returns-clause-there : goal.returns-clause-there
+returns-clause-there g c = c.go_few.ensures.there
+
+pub returns-clause-went : goal.returns-clause-went
+returns-clause-went g c = c.go_few.ensures.went
+
+pub returns-clause-refused : goal.returns-clause-refused
+returns-clause-refused g c = c.go_few.ensures.refused
+
+pub go_few-requires-clause-at : goal.go_few-requires-clause-at
+go_few-requires-clause-at g c κs within = c.requires.at
+
+pub go_few-requires-clause-first : goal.go_few-requires-clause-first
+go_few-requires-clause-first g c κs within = c.requires.first

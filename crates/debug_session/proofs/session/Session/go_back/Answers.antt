@@ -1,0 +1,29 @@
+use Rattle.std.proofs.Common.{refl}
+use Rattle.debug_session.proofs.session.Session.go_back.Goals as goal
+
+pub returns-clause-size : goal.returns-clause-size
+returns-clause-size g c = refl
+
+pub returns-clause-stops : goal.returns-clause-stops
+returns-clause-stops g c = refl
+
+pub returns-clause-plan : goal.returns-clause-plan
+returns-clause-plan g c = refl
+
+pub returns-clause-at : goal.returns-clause-at
+returns-clause-at g c = c.go_back.ensures.at
+
+pub returns-clause-there : goal.returns-clause-there
+returns-clause-there g c = c.go_back.ensures.there
+
+pub returns-clause-back : goal.returns-clause-back
+returns-clause-back g c = c.go_back.ensures.back
+
+pub returns-clause-refused : goal.returns-clause-refused
+returns-clause-refused g c = c.go_back.ensures.refused
+
+pub go_back-requires-clause-at : goal.go_back-requires-clause-at
+go_back-requires-clause-at g c κs within = c.requires.at
+
+pub go_back-requires-clause-hart : goal.go_back-requires-clause-hart
+go_back-requires-clause-hart g c κs within = c.requires.hart

@@ -1,0 +1,29 @@
+use Rattle.std.proofs.Common.{refl}
+use Rattle.debug_session.proofs.session.Session.go_few.Goals as goal
+
+pub returns-clause-size : goal.returns-clause-size
+returns-clause-size g c = refl
+
+pub returns-clause-stops : goal.returns-clause-stops
+returns-clause-stops g c = refl
+
+pub returns-clause-plan : goal.returns-clause-plan
+returns-clause-plan g c = refl
+
+pub returns-clause-first : goal.returns-clause-first
+returns-clause-first g c = c.go.ensures.first
+
+pub returns-clause-there : goal.returns-clause-there
+returns-clause-there g c = c.go.ensures.there
+
+pub returns-clause-went : goal.returns-clause-went
+returns-clause-went g c = c.go.ensures.went
+
+pub returns-clause-refused : goal.returns-clause-refused
+returns-clause-refused g c = c.go.ensures.refused
+
+pub go-requires-clause-at : goal.go-requires-clause-at
+go-requires-clause-at g c κs within = c.requires.at
+
+pub go-requires-clause-first : goal.go-requires-clause-first
+go-requires-clause-first g c κs within = c.requires.first

@@ -1,0 +1,26 @@
+use Rattle.std.proofs.Common.{refl}
+use Rattle.debug_session.proofs.session.Session.go_to.Goals as goal
+
+pub returns-clause-size : goal.returns-clause-size
+returns-clause-size g c = refl
+
+pub returns-clause-stops : goal.returns-clause-stops
+returns-clause-stops g c = refl
+
+pub returns-clause-plan : goal.returns-clause-plan
+returns-clause-plan g c = refl
+
+pub returns-clause-at : goal.returns-clause-at
+returns-clause-at g c = c.go_to.ensures.at
+
+pub returns-clause-went : goal.returns-clause-went
+returns-clause-went g c = c.go_to.ensures.went
+
+pub returns-clause-refused : goal.returns-clause-refused
+returns-clause-refused g c = c.go_to.ensures.refused
+
+pub returns-clause-begins : goal.returns-clause-begins
+returns-clause-begins g c = c.go_to.ensures.begins
+
+pub go_to-requires-clause-at : goal.go_to-requires-clause-at
+go_to-requires-clause-at g c κs within = c.requires.at

@@ -1,0 +1,52 @@
+use Rattle.std.proofs.Common.{refl}
+use Rattle.std.proofs.lemmas.Result.{IfOk-from_err}
+use Rattle.debug_session.proofs.Exits.{err_exit}
+use Rattle.debug_session.proofs.session.Session.step_back.Goals as goal
+
+pub returns-in_err-found-clause-size : goal.returns-in_err-found-clause-size
+returns-in_err-found-clause-size g c = refl
+
+pub returns-in_err-found-clause-stops : goal.returns-in_err-found-clause-stops
+returns-in_err-found-clause-stops g c = refl
+
+pub returns-in_err-found-clause-plan : goal.returns-in_err-found-clause-plan
+returns-in_err-found-clause-plan g c = refl
+
+pub returns-in_err-found-clause-begins : goal.returns-in_err-found-clause-begins
+returns-in_err-found-clause-begins g c = c.step_back.ensures.begins
+
+pub returns-clause-size : goal.returns-clause-size
+returns-clause-size g c = refl
+
+pub returns-clause-stops : goal.returns-clause-stops
+returns-clause-stops g c = refl
+
+pub returns-clause-plan : goal.returns-clause-plan
+returns-clause-plan g c = refl
+
+pub returns-clause-begins : goal.returns-clause-begins
+returns-clause-begins g c = c.step_back.ensures.begins
+
+pub step_back-requires-clause-at : goal.step_back-requires-clause-at
+step_back-requires-clause-at g c κs within = c.requires.at
+
+pub returns-clause-at : goal.returns-clause-at
+returns-clause-at g c = c.in_ok-found.ensures.at
+
+pub returns-clause-there : goal.returns-clause-there
+returns-clause-there g c = c.requires.hart
+
+pub returns-clause-refused : goal.returns-clause-refused
+returns-clause-refused g c = tt
+
+pub returns-in_err-found-clause-at : goal.returns-in_err-found-clause-at
+returns-in_err-found-clause-at g c = IfOk-from_err c.from_residual.result _ c.from_residual.ensures.0
+
+pub returns-in_err-found-clause-back : goal.returns-in_err-found-clause-back
+returns-in_err-found-clause-back g c = IfOk-from_err c.from_residual.result _ c.from_residual.ensures.0
+
+pub returns-in_err-found-clause-there : goal.returns-in_err-found-clause-there
+returns-in_err-found-clause-there g c = IfOk-from_err c.from_residual.result _ c.from_residual.ensures.0
+
+pub returns-in_err-found-clause-refused : goal.returns-in_err-found-clause-refused
+returns-in_err-found-clause-refused g c = err_exit _ c.from_residual.result c.in_err-found.field-0.0 c.from_residual.ensures.1 c.in_err-found.ensures.refused
