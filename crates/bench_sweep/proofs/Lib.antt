@@ -25,3 +25,4 @@ pub mod Nth
 pub mod ShownRows
 pub mod Crews
 pub mod Along
+pub mod Exits

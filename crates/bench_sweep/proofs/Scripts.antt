@@ -1,9 +1,12 @@
 -- Scripts that no bench runs.
-use Rattle.std.proofs.Common.{◌≡◌, ℕ, List, Result, Ok, sym, ◌∙◌, subst}
+use Rattle.std.proofs.Common.{◌≡◌, ◌⊎◌, ℕ, List, Result, Ok, Err, inl, inr, ⊎_elim, sym, ◌∙◌, subst}
+use Rattle.std.specs.Result.{IsErrAnd}
 use Rattle.board_model.specs.declared.refusal.Refusal.{Refusal}
-use Rattle.script_lang.specs.Scripts.{script_of, Script}
+use Rattle.board_model.specs.declared.refusal.Refusal.TheVariants.{Memory}
+use Rattle.script_lang.specs.Scripts.{script_of, Script, Fails}
 use Rattle.script_lang.specs.declared.line.Line.{Line}
 use Rattle.bench_sweep.specs.Swept.{IsNotPlain, NoBenchRuns}
+use Rattle.bench_sweep.proofs.Exits.{err_is}
 
 -- a script with such lines
 pub unswept : (script : List ℕ) (said : Script) (lines : List Line) → script_of script ≡ Ok said → lines ≡ said.lines → IsNotPlain lines → NoBenchRuns script
@@ -17,3 +20,23 @@ swept script said other lines is also same runs none =
     let P : List Line → Type 0 = λ ls. IsNotPlain ls in
     let Q : Script → Type 0 = λ s. IsNotPlain s.lines in
     absurd (runs (subst P (sym same) (subst Q one none)))
+
+-- a script that is read has no fault
+pub no_fault : {A : Type 0} (script : List ℕ) (said : Script) (e : Refusal) → script_of script ≡ Ok said → script_of script ≡ Err e → A
+no_fault script said e is fault =
+    let both : ◌≡◌ {A = Result Script Refusal} (Ok said) (Err e) = sym is ∙ fault in
+    let no : ⊥ = cc in
+    absurd no
+
+-- of one that has a fault that is told, or memory was refused
+pub fault_told : {T : Type 0} (script : List ℕ) (r : Result T Refusal) (said e : Refusal) → IsErrAnd r (λ y. y ≡ said) → Fails said (script_of script) → script_of script ≡ Err e → (r ≡ Err e) ⊎ (r ≡ Err Memory)
+fault_told script r said e is fails fault = ⊎_elim
+    (λ memory. inr (err_is r said Memory is memory))
+    (λ told.
+    let both : ◌≡◌ {A = Result Script Refusal} (Err said) (Err e) = sym told ∙ fault in
+    let one : said ≡ e = cc in
+    inl (err_is r said e is one))
+    fails
+
+pub memory_told : {T : Type 0} (script : List ℕ) (r : Result T Refusal) (fail : Refusal) (said : Script) → IsErrAnd r (λ y. y ≡ fail) → Fails fail (script_of script) → script_of script ≡ Ok said → r ≡ Err Memory
+memory_told script r fail said is fails read = ⊎_elim (λ memory. err_is r fail Memory is memory) (λ told. no_fault script said fail read told) fails

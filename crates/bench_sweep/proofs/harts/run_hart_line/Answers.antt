@@ -1,4 +1,4 @@
-use Rattle.std.proofs.Common.{None, Some}
+use Rattle.std.proofs.Common.{None, Some, refl}
 use Rattle.bench_report.specs.declared.power.Power.TheVariants.{On}
 use Rattle.bench_sweep.proofs.Turned.{line_off, line_on}
 use Rattle.bench_sweep.proofs.harts.run_hart_line.Goals as goal
@@ -15,3 +15,33 @@ pub returns-in-Ok-Some-clause-goes : goal.returns-in-Ok-Some-clause-goes
 returns-in-Ok-Some-clause-goes g c = λ size b slots r.
     line_on size c.args.line.now b c.args.power c.after.result c.in-On.board c.run_in_place.new.board c.in-Ok-Some.field-0 (Some c.in-Ok-Some.word) slots c.args.ledger.now c.run_in_place.new.ledger c.requires.of_harts c.run_in_place.ensures.resumed c.in-On.is c.in-Ok-Some.field-0-is
     (λ n at. c.after.ensures.reported size n at) (λ x at follows. c.in-Ok-Some.ensures.goes size x at follows) r
+
+pub returns-in-Err-clause-goes : goal.returns-in-Err-clause-goes
+returns-in-Err-clause-goes g c = tt
+
+pub returns-in-Err-clause-resumed : goal.returns-in-Err-clause-resumed
+returns-in-Err-clause-resumed g c = c.run_in_place.ensures.resumed
+
+pub returns-in-Off-clause-memory : goal.returns-in-Off-clause-memory
+returns-in-Off-clause-memory g c = tt
+
+pub returns-in-Off-clause-resumed : goal.returns-in-Off-clause-resumed
+returns-in-Off-clause-resumed g c = refl
+
+pub returns-in-Ok-None-clause-memory : goal.returns-in-Ok-None-clause-memory
+returns-in-Ok-None-clause-memory g c = tt
+
+pub returns-in-Ok-None-clause-resumed : goal.returns-in-Ok-None-clause-resumed
+returns-in-Ok-None-clause-resumed g c = c.run_in_place.ensures.resumed
+
+pub returns-in-Ok-Some-clause-memory : goal.returns-in-Ok-Some-clause-memory
+returns-in-Ok-Some-clause-memory g c = tt
+
+pub returns-in-Ok-Some-clause-resumed : goal.returns-in-Ok-Some-clause-resumed
+returns-in-Ok-Some-clause-resumed g c = c.run_in_place.ensures.resumed
+
+pub run_in_place-requires-clause-of_harts : goal.run_in_place-requires-clause-of_harts
+run_in_place-requires-clause-of_harts g c κs within = c.requires.of_harts
+
+pub run_in_place-requires-clause-range : goal.run_in_place-requires-clause-range
+run_in_place-requires-clause-range g c κs within = c.requires.range

@@ -5,6 +5,8 @@ use Rattle.machine.specs.Shows.{HasHart}
 use Rattle.bench_report.specs.Views.{machine_in}
 use Rattle.bench_sweep.specs.Lines.{TurnsMany}
 use Rattle.bench_sweep.proofs.Turned.{hart_line, turn_line, turn_lacks}
+use Rattle.std.proofs.lemmas.Result.{IfOk-from_err}
+use Rattle.bench_sweep.proofs.Exits.{err_exit}
 use Rattle.bench_sweep.proofs.harts.turn_in_place.Goals as goal
 
 pub returns-then-not-has-clause-goes : goal.returns-then-not-has-clause-goes
@@ -22,3 +24,21 @@ returns-clause-goes g c = λ size b was told.
     let has : HasHart (machine_in c.args.board.now) h = subst H c.machine.ensures (c.has.ensures.0 c.if-not-has.false) in
     hart_line size b (lines.Turn h count) (lines.Turn h count) refl (TurnsMany h count b word) word c.turn_many.new.board c.turn_many.new.ledger
     (λ n turns. turn_line size b c.args.board.now h count word n has was turns) (c.in_ok-word.ensures.goes size b was told)
+
+pub returns-in_err-word-clause-goes : goal.returns-in_err-word-clause-goes
+returns-in_err-word-clause-goes g c = IfOk-from_err c.from_residual.result _ c.from_residual.ensures.0
+
+pub returns-in_err-word-clause-memory : goal.returns-in_err-word-clause-memory
+returns-in_err-word-clause-memory g c = err_exit _ c.from_residual.result c.in_err-word.field-0.0 c.from_residual.ensures.1 c.in_err-word.ensures.memory
+
+pub returns-in_err-word-clause-resumed : goal.returns-in_err-word-clause-resumed
+returns-in_err-word-clause-resumed g c = c.turn_many.ensures.resumed
+
+pub returns-then-not-has-clause-memory : goal.returns-then-not-has-clause-memory
+returns-then-not-has-clause-memory g c = tt
+
+pub returns-then-not-has-clause-resumed : goal.returns-then-not-has-clause-resumed
+returns-then-not-has-clause-resumed g c = refl
+
+pub turn_many-requires-clause-some : goal.turn_many-requires-clause-some
+turn_many-requires-clause-some g c κs within = c.requires.some

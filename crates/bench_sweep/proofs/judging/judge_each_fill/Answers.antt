@@ -4,6 +4,8 @@ use Rattle.simdisk.specs.declared.fill.Fill.TheVariants.{Byte, Alternating, Old}
 use Rattle.bench_sweep.specs.Swept.{cell}
 use Rattle.bench_sweep.proofs.Rowed.{judged_none, judged_more, judged_as}
 use Rattle.bench_sweep.proofs.Written.{map_more}
+use Rattle.std.proofs.lemmas.Result.{IfOk-from_err}
+use Rattle.bench_sweep.proofs.Exits.{err_exit}
 use Rattle.bench_sweep.proofs.judging.judge_each_fill.Goals as goal
 
 pub loop-fill-init : goal.loop-fill-init
@@ -23,3 +25,39 @@ returns-clause-judged g c = λ b r.
     judged_more _ _ _ _ _
     (judged_as _ _ _ _ (ap (λ (k : ℕ). map (λ (fill : Fill). cell c.args.point.caller c.args.point.number (Some fill)) (take k (Byte 0 ∷ Byte 255 ∷ Alternating ∷ Old ∷ []))) all) (c.loop-fill.invariant b r))
     (c.in_ok-judge_last.ensures.kept b r)
+
+pub judge_last-requires-clause-lines : goal.judge_last-requires-clause-lines
+judge_last-requires-clause-lines g c κs within = c.requires.lines
+
+pub judge_last-requires-clause-sits : goal.judge_last-requires-clause-sits
+judge_last-requires-clause-sits g c κs within = c.requires.sits
+
+pub judge_run-requires-clause-lines : goal.judge_run-requires-clause-lines
+judge_run-requires-clause-lines g c κs within = c.requires.lines
+
+pub judge_run-requires-clause-sits : goal.judge_run-requires-clause-sits
+judge_run-requires-clause-sits g c κs within = c.requires.sits
+
+pub judge_settled-requires-clause-lines : goal.judge_settled-requires-clause-lines
+judge_settled-requires-clause-lines g c κs within = c.requires.lines
+
+pub judge_settled-requires-clause-sits : goal.judge_settled-requires-clause-sits
+judge_settled-requires-clause-sits g c κs within = c.requires.sits
+
+pub returns-in_err-judge_last-clause-judged : goal.returns-in_err-judge_last-clause-judged
+returns-in_err-judge_last-clause-judged g c = IfOk-from_err c.from_residual-in_err-judge_last.result _ c.from_residual-in_err-judge_last.ensures.0
+
+pub returns-in_err-judge_last-clause-refused : goal.returns-in_err-judge_last-clause-refused
+returns-in_err-judge_last-clause-refused g c = err_exit _ c.from_residual-in_err-judge_last.result c.in_err-judge_last.field-0.0 c.from_residual-in_err-judge_last.ensures.1 c.in_err-judge_last.ensures.refused
+
+pub returns-in_err-judge_run-clause-judged : goal.returns-in_err-judge_run-clause-judged
+returns-in_err-judge_run-clause-judged g c = IfOk-from_err c.from_residual.result _ c.from_residual.ensures.0
+
+pub returns-in_err-judge_run-clause-refused : goal.returns-in_err-judge_run-clause-refused
+returns-in_err-judge_run-clause-refused g c = err_exit _ c.from_residual.result c.in_err-judge_run.field-0.0 c.from_residual.ensures.1 c.in_err-judge_run.ensures.refused
+
+pub returns-then-is_settled-clause-judged : goal.returns-then-is_settled-clause-judged
+returns-then-is_settled-clause-judged g c = c.judge_settled.ensures.judged
+
+pub returns-then-is_settled-clause-refused : goal.returns-then-is_settled-clause-refused
+returns-then-is_settled-clause-refused g c = c.judge_settled.ensures.refused

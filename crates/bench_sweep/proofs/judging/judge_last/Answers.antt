@@ -10,6 +10,8 @@ use Rattle.bench_sweep.specs.Recovers.{compared}
 use Rattle.bench_sweep.specs.Reports.{cut_content}
 use Rattle.bench_sweep.proofs.Compared.{nothing_over, nothing_told}
 use Rattle.bench_sweep.proofs.Left.{left_by}
+use Rattle.std.proofs.lemmas.Result.{IfOk-from_err}
+use Rattle.bench_sweep.proofs.Exits.{err_exit, err_said}
 use Rattle.bench_sweep.proofs.judging.judge_last.Goals as goal
 
 pub count_run-requires : goal.count_run-requires
@@ -38,3 +40,27 @@ returns-clause-kept g c = λ b r.
       runs = did.runs;
       right = did.right;
     }
+
+pub judge_run-judged-requires-clause-lines : goal.judge_run-judged-requires-clause-lines
+judge_run-judged-requires-clause-lines g c κs within = c.requires.lines
+
+pub judge_run-judged-requires-clause-sits : goal.judge_run-judged-requires-clause-sits
+judge_run-judged-requires-clause-sits g c κs within = c.requires.sits
+
+pub returns-in_err-left-clause-kept : goal.returns-in_err-left-clause-kept
+returns-in_err-left-clause-kept g c = IfOk-from_err c.from_residual.result _ c.from_residual.ensures.0
+
+pub returns-in_err-left-clause-refused : goal.returns-in_err-left-clause-refused
+returns-in_err-left-clause-refused g c = err_exit _ c.from_residual.result c.in_err-left.field-0.0 c.from_residual.ensures.1 c.in_err-left.ensures.refused
+
+pub returns-in_err-push-clause-kept : goal.returns-in_err-push-clause-kept
+returns-in_err-push-clause-kept g c = IfOk-from_err c.from_residual-in_err-push.result _ c.from_residual-in_err-push.ensures.0
+
+pub returns-in_err-push-clause-refused : goal.returns-in_err-push-clause-refused
+returns-in_err-push-clause-refused g c = err_said _ _ c.from_residual-in_err-push.result c.from_residual-in_err-push.ensures.1 (λ y is. is)
+
+pub returns-then-not-is_empty-clause-kept : goal.returns-then-not-is_empty-clause-kept
+returns-then-not-is_empty-clause-kept g c = c.judge_run-judged.ensures.kept
+
+pub returns-then-not-is_empty-clause-refused : goal.returns-then-not-is_empty-clause-refused
+returns-then-not-is_empty-clause-refused g c = c.judge_run-judged.ensures.refused

@@ -8,6 +8,8 @@ use Rattle.simdisk.specs.declared.fill.Fill.{Fill}
 use Rattle.bench_sweep.specs.Recovers.{compared}
 use Rattle.bench_sweep.specs.Reports.{cut_content, ToldOver}
 use Rattle.bench_sweep.proofs.Left.{left_by}
+use Rattle.std.proofs.lemmas.Result.{IfOk-from_err}
+use Rattle.bench_sweep.proofs.Exits.{err_exit, err_said}
 use Rattle.bench_sweep.proofs.judging.judge_run.Goals as goal
 
 pub count_run-requires : goal.count_run-requires
@@ -41,3 +43,33 @@ returns-clause-kept g c = λ b r.
       runs = did.runs;
       right = did.right;
     }
+
+pub recovered-requires-clause-lines : goal.recovered-requires-clause-lines
+recovered-requires-clause-lines g c κs within = c.requires.lines
+
+pub recovered-requires-clause-sits : goal.recovered-requires-clause-sits
+recovered-requires-clause-sits g c κs within = c.requires.sits
+
+pub returns-in_err-left-clause-kept : goal.returns-in_err-left-clause-kept
+returns-in_err-left-clause-kept g c = IfOk-from_err c.from_residual-in_err-left.result _ c.from_residual-in_err-left.ensures.0
+
+pub returns-in_err-left-clause-refused : goal.returns-in_err-left-clause-refused
+returns-in_err-left-clause-refused g c = err_exit _ c.from_residual-in_err-left.result c.in_err-left.field-0.0 c.from_residual-in_err-left.ensures.1 c.in_err-left.ensures.refused
+
+pub returns-in_err-off-clause-kept : goal.returns-in_err-off-clause-kept
+returns-in_err-off-clause-kept g c = IfOk-from_err c.from_residual.result _ c.from_residual.ensures.0
+
+pub returns-in_err-off-clause-refused : goal.returns-in_err-off-clause-refused
+returns-in_err-off-clause-refused g c = err_exit _ c.from_residual.result c.in_err-off.field-0.0 c.from_residual.ensures.1 c.in_err-off.ensures.refused
+
+pub returns-in_err-push-clause-kept : goal.returns-in_err-push-clause-kept
+returns-in_err-push-clause-kept g c = IfOk-from_err c.from_residual-in_err-push.result _ c.from_residual-in_err-push.ensures.0
+
+pub returns-in_err-push-clause-refused : goal.returns-in_err-push-clause-refused
+returns-in_err-push-clause-refused g c = err_said _ _ c.from_residual-in_err-push.result c.from_residual-in_err-push.ensures.1 (λ y is. is)
+
+pub returns-in_err-recovered-clause-kept : goal.returns-in_err-recovered-clause-kept
+returns-in_err-recovered-clause-kept g c = IfOk-from_err c.from_residual-in_err-recovered.result _ c.from_residual-in_err-recovered.ensures.0
+
+pub returns-in_err-recovered-clause-refused : goal.returns-in_err-recovered-clause-refused
+returns-in_err-recovered-clause-refused g c = err_exit _ c.from_residual-in_err-recovered.result c.in_err-recovered.field-0.0 c.from_residual-in_err-recovered.ensures.1 c.in_err-recovered.ensures.refused

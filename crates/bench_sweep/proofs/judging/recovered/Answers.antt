@@ -1,8 +1,9 @@
 use Rattle.std.proofs.Common.{◌≡◌, ◌∙◌, Some, ap, arith, length, refl}
 use Rattle.std.proofs.lemmas.Bool.Decides.{nat_tests}
-use Rattle.std.proofs.lemmas.Result.{IfOk-weaker}
+use Rattle.std.proofs.lemmas.Result.{IfOk-weaker, IfOk-from_err}
 use Rattle.bench_report.specs.Happens.{settled, unpowered}
 use Rattle.bench_sweep.proofs.Compared.{nothing_over, nothing_told, opened_as, told_of, told_over}
+use Rattle.bench_sweep.proofs.Exits.{err_exit}
 use Rattle.bench_sweep.proofs.judging.recovered.Goals as goal
 
 pub settled-requires : goal.settled-requires
@@ -37,3 +38,30 @@ returns-in_ok-settled-in-Some-clause-over g c = IfOk-weaker c.compare.result _ _
     let at = settled.ensures.settles size sits.0 sits.1 in
     told_over c.args.runner.now.recovery.own.now size _ _ differs refl (record { site = settled.settled; holds = settled.ensures.exact; sits = (_, at.left); tells = did })))
     c.compare.ensures.tells
+
+pub compare-requires-clause-lines : goal.compare-requires-clause-lines
+compare-requires-clause-lines g c κs within = c.requires.lines
+
+pub returns-in-None-clause-over : goal.returns-in-None-clause-over
+returns-in-None-clause-over g c = tt
+
+pub returns-in-None-clause-refused : goal.returns-in-None-clause-refused
+returns-in-None-clause-refused g c = refl
+
+pub returns-in-None-clause-tells : goal.returns-in-None-clause-tells
+returns-in-None-clause-tells g c = tt
+
+pub returns-in_err-settled-in-Some-clause-over : goal.returns-in_err-settled-in-Some-clause-over
+returns-in_err-settled-in-Some-clause-over g c = IfOk-from_err c.from_residual.result _ c.from_residual.ensures.0
+
+pub returns-in_err-settled-in-Some-clause-refused : goal.returns-in_err-settled-in-Some-clause-refused
+returns-in_err-settled-in-Some-clause-refused g c = err_exit _ c.from_residual.result c.in_err-settled-in-Some.field-0.0 c.from_residual.ensures.1 c.in_err-settled-in-Some.ensures.refused
+
+pub returns-in_err-settled-in-Some-clause-tells : goal.returns-in_err-settled-in-Some-clause-tells
+returns-in_err-settled-in-Some-clause-tells g c = IfOk-from_err c.from_residual.result _ c.from_residual.ensures.0
+
+pub returns-in_ok-settled-in-Some-clause-refused : goal.returns-in_ok-settled-in-Some-clause-refused
+returns-in_ok-settled-in-Some-clause-refused g c = c.compare.ensures.refused
+
+pub returns-then-is_empty-clause-refused : goal.returns-then-is_empty-clause-refused
+returns-then-is_empty-clause-refused g c = tt

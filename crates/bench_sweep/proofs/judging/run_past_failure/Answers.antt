@@ -6,6 +6,8 @@ use Rattle.bench_sweep.specs.Recovers.{compared}
 use Rattle.bench_sweep.proofs.Left.{unstruck}
 use Rattle.bench_sweep.proofs.Made.{past_failure}
 use Rattle.bench_sweep.proofs.Rowed.{judged_none, judged_more, judged_at}
+use Rattle.std.proofs.lemmas.Result.{IfOk-from_err}
+use Rattle.bench_sweep.proofs.Exits.{err_exit}
 use Rattle.bench_sweep.proofs.judging.run_past_failure.Goals as goal
 
 pub run_lines-requires-clause-calm : goal.run_lines-requires-clause-calm
@@ -36,3 +38,24 @@ returns-clause-judged g c = λ b l.
     judged_at Fails c.args.point.caller c.args.point.number _ _ _
     (λ row caller number is. past_failure size c.args.point b lines c.in_ok-went.went.count _ _ _ _ all ran left.0 left.1 left.2 (compared c.args.runner.now.recovery) row caller number is.is)
     (judged_more _ _ _ [] _ (judged_none _ _ none.rows none.runs none.right) (c.in_ok-judge_last.ensures.kept (off ran.bench) left.3))
+
+pub judge_last-requires-clause-lines : goal.judge_last-requires-clause-lines
+judge_last-requires-clause-lines g c κs within = c.requires.recovery
+
+pub returns-in_err-judge_last-clause-judged : goal.returns-in_err-judge_last-clause-judged
+returns-in_err-judge_last-clause-judged g c = IfOk-from_err c.from_residual-in_err-judge_last.result _ c.from_residual-in_err-judge_last.ensures.0
+
+pub returns-in_err-judge_last-clause-refused : goal.returns-in_err-judge_last-clause-refused
+returns-in_err-judge_last-clause-refused g c = err_exit _ c.from_residual-in_err-judge_last.result c.in_err-judge_last.field-0.0 c.from_residual-in_err-judge_last.ensures.1 c.in_err-judge_last.ensures.refused
+
+pub returns-in_err-left-clause-judged : goal.returns-in_err-left-clause-judged
+returns-in_err-left-clause-judged g c = IfOk-from_err c.from_residual-in_err-left.result _ c.from_residual-in_err-left.ensures.0
+
+pub returns-in_err-left-clause-refused : goal.returns-in_err-left-clause-refused
+returns-in_err-left-clause-refused g c = err_exit _ c.from_residual-in_err-left.result c.in_err-left.field-0.0 c.from_residual-in_err-left.ensures.1 c.in_err-left.ensures.refused
+
+pub returns-in_err-went-clause-judged : goal.returns-in_err-went-clause-judged
+returns-in_err-went-clause-judged g c = IfOk-from_err c.from_residual.result _ c.from_residual.ensures.0
+
+pub returns-in_err-went-clause-refused : goal.returns-in_err-went-clause-refused
+returns-in_err-went-clause-refused g c = err_exit _ c.from_residual.result c.in_err-went.field-0.0 c.from_residual.ensures.1 c.in_err-went.ensures.refused

@@ -1,10 +1,11 @@
 use Rattle.std.proofs.Common.{inl, inr, ⊎_elim}
 use Rattle.std.proofs.lemmas.List.Elements.{All-take}
-use Rattle.std.proofs.lemmas.Result.{err_from_is_err_and, on_ok_weaker}
+use Rattle.std.proofs.lemmas.Result.{err_from_is_err_and, on_ok_weaker, IfOk-from_err}
 use Rattle.bench_report.specs.Happens.{unpowered}
 use Rattle.script_lang.specs.Lines.{IsLineInRange}
 use Rattle.bench_sweep.specs.Shown.{run_cell}
 use Rattle.bench_sweep.proofs.ShownRows.{refused_so, shows_from, shows_none}
+use Rattle.bench_sweep.proofs.Exits.{err_exit}
 use Rattle.bench_sweep.proofs.shown.show_from.Goals as goal
 
 pub write_shown-requires-clause-back : goal.write_shown-requires-clause-back
@@ -32,3 +33,27 @@ returns-in_err-arming-clause-refused g c =
     let p = err_from_is_err_and c.from_residual-in_err-arming.result c.from_residual-in_err-arming.ensures.1 in
     let why = c.in_err-arming.ensures.refused in
     rw (p.1, p.2) (inr (inr (why.0, (λ b r. inr (record { run = run_cell c.in_ok-run.run'; has = c.in_ok-run.ensures.found b r; why = inl why.1 })))))
+
+pub count_armed-requires-clause-lines : goal.count_armed-requires-clause-lines
+count_armed-requires-clause-lines g c κs within = c.requires.lines
+
+pub count_armed-requires-clause-sits : goal.count_armed-requires-clause-sits
+count_armed-requires-clause-sits g c κs within = c.requires.sits
+
+pub find_run-requires-clause-lines : goal.find_run-requires-clause-lines
+find_run-requires-clause-lines g c κs within = c.requires.lines
+
+pub find_run-requires-clause-sits : goal.find_run-requires-clause-sits
+find_run-requires-clause-sits g c κs within = c.requires.sits
+
+pub returns-in_err-arming-clause-shown : goal.returns-in_err-arming-clause-shown
+returns-in_err-arming-clause-shown g c = IfOk-from_err c.from_residual-in_err-arming.result _ c.from_residual-in_err-arming.ensures.0
+
+pub returns-in_err-count-clause-refused : goal.returns-in_err-count-clause-refused
+returns-in_err-count-clause-refused g c = err_exit _ c.from_residual-in_err-count.result c.in_err-count.field-0.0 c.from_residual-in_err-count.ensures.1 (inl c.in_err-count.ensures.refused)
+
+pub returns-in_err-count-clause-shown : goal.returns-in_err-count-clause-shown
+returns-in_err-count-clause-shown g c = IfOk-from_err c.from_residual-in_err-count.result _ c.from_residual-in_err-count.ensures.0
+
+pub returns-in_err-run-clause-shown : goal.returns-in_err-run-clause-shown
+returns-in_err-run-clause-shown g c = IfOk-from_err c.from_residual.result _ c.from_residual.ensures.0

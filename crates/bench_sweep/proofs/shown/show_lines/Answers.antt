@@ -1,6 +1,6 @@
-use Rattle.std.proofs.Common.{List, refl, subst, take}
+use Rattle.std.proofs.Common.{List, refl, subst, take, inl}
 use Rattle.std.proofs.lemmas.List.Elements.{All-take}
-use Rattle.std.proofs.lemmas.Result.{on_ok_weaker}
+use Rattle.std.proofs.lemmas.Result.{on_ok_weaker, IfOk-from_err}
 use Rattle.script_lang.specs.Lines.{IsLineInRange}
 use Rattle.script_lang.specs.declared.line.Line.{Line}
 use Rattle.bench_report.specs.Happens.{off, unpowered}
@@ -9,6 +9,7 @@ use Rattle.bench_sweep.specs.Shown.{ShowsFrom, ShowsNone}
 use Rattle.bench_sweep.proofs.Made.{rest_is}
 use Rattle.bench_sweep.proofs.Reported.{swept_take, swept_drop}
 use Rattle.bench_sweep.proofs.ShownRows.{refused_so}
+use Rattle.bench_sweep.proofs.Exits.{err_exit}
 use Rattle.bench_sweep.proofs.shown.show_lines.Goals as goal
 
 pub show_from-requires-clause-lines : goal.show_from-requires-clause-lines
@@ -41,3 +42,12 @@ returns-clause-refused g c = refused_so c.show_from.result (λ did.
     let S : List Line → Type 0 = λ ls. ShowsNone c.args.wanted.bench c.args.setting.now.shape.now site.off.disk (unpowered begun.0) (take begin lines) ls c.args.behind.now c.args.wanted.number in
     record { begin = begin; first = begun.0; format = begun.1; origin = site.off.disk; stands = (Off site.off, begun.2.agrees, refl); none = subst S (rest_is begin lines) (did (off begun.0) begun.2) }))
     c.show_from.ensures.refused
+
+pub returns-in_err-begin-clause-refused : goal.returns-in_err-begin-clause-refused
+returns-in_err-begin-clause-refused g c = err_exit _ c.from_residual.result c.in_err-begin.field-0.0 c.from_residual.ensures.1 (inl c.in_err-begin.ensures.refused)
+
+pub returns-in_err-begin-clause-shown : goal.returns-in_err-begin-clause-shown
+returns-in_err-begin-clause-shown g c = IfOk-from_err c.from_residual.result _ c.from_residual.ensures.0
+
+pub show_from-requires-clause-behind : goal.show_from-requires-clause-behind
+show_from-requires-clause-behind g c κs within = c.requires.behind

@@ -1,9 +1,10 @@
-use Rattle.std.proofs.Common.{◌≡◌, ◌∙◌, ◌≤◌, List, All, length, ap, arith, subst, sym}
+use Rattle.std.proofs.Common.{◌≡◌, ◌∙◌, ◌≤◌, List, All, length, ap, arith, subst, sym, inl}
 use Rattle.std.proofs.lemmas.Bool.Decides.{nat_tests}
-use Rattle.std.proofs.lemmas.Result.{on_ok_weaker}
+use Rattle.std.proofs.lemmas.Result.{on_ok_weaker, IfOk-from_err}
 use Rattle.script_lang.specs.Lines.{FitsLine}
 use Rattle.script_lang.specs.declared.line.Line.{Line}
 use Rattle.bench_sweep.proofs.ShownRows.{row_in_range, wrote_script}
+use Rattle.bench_sweep.proofs.Exits.{err_said}
 use Rattle.bench_sweep.proofs.shown.write_shown.Goals as goal
 
 pub returns-clause-wrote : goal.returns-clause-wrote
@@ -20,3 +21,12 @@ returns-clause-wrote g c =
     (row_in_range size row.bench row.front.now row.back.now row.behind.now row.arming c.requires.front c.requires.arming c.requires.back c.requires.behind)
     (subst F (c.deref.ensures.value ∙ sym c.deref-2.ensures.value) c.fits.ensures) c.scripts_read_as_written.ensures)
     c.write_script.ensures.ok
+
+pub returns-in_err-lines-clause-refused : goal.returns-in_err-lines-clause-refused
+returns-in_err-lines-clause-refused g c = err_said _ _ c.from_residual.result c.from_residual.ensures.1 (λ y is. inl is)
+
+pub returns-in_err-lines-clause-wrote : goal.returns-in_err-lines-clause-wrote
+returns-in_err-lines-clause-wrote g c = IfOk-from_err c.from_residual.result _ c.from_residual.ensures.0
+
+pub returns-then-len-gt-MOST_LINES-clause-wrote : goal.returns-then-len-gt-MOST_LINES-clause-wrote
+returns-then-len-gt-MOST_LINES-clause-wrote g c = tt

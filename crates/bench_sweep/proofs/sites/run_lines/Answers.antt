@@ -9,6 +9,8 @@ use Rattle.bench_sweep.proofs.Ran.{ran_none, ran_more, ran_line, ran_calm}
 use Rattle.bench_sweep.proofs.Took.{took_more}
 use Rattle.bench_sweep.proofs.sites.run_lines.Given.{Over}
 use Rattle.bench_sweep.proofs.sites.run_lines.Goals.{After-stops, in-Command+in_ok-run_command-in-Command, in_default+in_ok-going-in_default}
+use Rattle.std.proofs.lemmas.Result.{IfOk-from_err}
+use Rattle.bench_sweep.proofs.Exits.{err_exit}
 use Rattle.bench_sweep.proofs.sites.run_lines.Goals as goal
 
 -- the line's step was made, whichever function ran it
@@ -114,3 +116,27 @@ returns-then-stops-clause-whole g c = λ until size b agrees calm. absurd (let n
 
 pub returns-clause-whole : goal.returns-clause-whole
 returns-clause-whole g c = λ until size b agrees calm. let i = c.loop-line.invariant in omega (arith, i.count, c.loop-line-test.false)
+
+pub returns-in_err-run_command-in-Command-clause-few : goal.returns-in_err-run_command-in-Command-clause-few
+returns-in_err-run_command-in-Command-clause-few g c = IfOk-from_err c.from_residual.result _ c.from_residual.ensures.0
+
+pub returns-in_err-run_command-in-Command-clause-ran : goal.returns-in_err-run_command-in-Command-clause-ran
+returns-in_err-run_command-in-Command-clause-ran g c = IfOk-from_err c.from_residual.result _ c.from_residual.ensures.0
+
+pub returns-in_err-run_command-in-Command-clause-refused : goal.returns-in_err-run_command-in-Command-clause-refused
+returns-in_err-run_command-in-Command-clause-refused g c = err_exit _ c.from_residual.result c.in_err-run_command-in-Command.field-0.0 c.from_residual.ensures.1 c.in_err-run_command-in-Command.ensures.refused
+
+pub returns-in_err-run_command-in-Command-clause-some : goal.returns-in_err-run_command-in-Command-clause-some
+returns-in_err-run_command-in-Command-clause-some g c = IfOk-from_err c.from_residual.result _ c.from_residual.ensures.0
+
+pub returns-in_err-run_command-in-Command-clause-stops : goal.returns-in_err-run_command-in-Command-clause-stops
+returns-in_err-run_command-in-Command-clause-stops g c = IfOk-from_err c.from_residual.result _ c.from_residual.ensures.0
+
+pub returns-in_err-run_command-in-Command-clause-took : goal.returns-in_err-run_command-in-Command-clause-took
+returns-in_err-run_command-in-Command-clause-took g c = IfOk-from_err c.from_residual.result _ c.from_residual.ensures.0
+
+pub returns-in_err-run_command-in-Command-clause-whole : goal.returns-in_err-run_command-in-Command-clause-whole
+returns-in_err-run_command-in-Command-clause-whole g c = IfOk-from_err c.from_residual.result _ c.from_residual.ensures.0
+
+pub returns-then-stops-clause-refused : goal.returns-then-stops-clause-refused
+returns-then-stops-clause-refused g c = tt

@@ -1,5 +1,5 @@
-use Rattle.std.proofs.Common.{◌≡◌, ◌∙◌, ◌+◌, ◌-◌, ◌≤◌, ◌<◌, ℕ, List, [], ap, subst, sym, arith, min}
-use Rattle.std.proofs.lemmas.Result.{on_ok_weaker}
+use Rattle.std.proofs.Common.{◌≡◌, ◌∙◌, ◌+◌, ◌-◌, ◌≤◌, ◌<◌, ℕ, List, [], ap, subst, sym, arith, min, inl}
+use Rattle.std.proofs.lemmas.Result.{on_ok_weaker, IfOk-from_err}
 use Rattle.bench_sweep.specs.Recovers.{compared}
 use Rattle.bench_sweep.specs.Reports.{IsOfCall, TakesPoint}
 use Rattle.bench_sweep.specs.Swept.{Spot, points_from}
@@ -8,6 +8,7 @@ use Rattle.jobs.proofs.Chunked.{chunks_handed}
 use Rattle.bench_sweep.proofs.Reported.{reports_as, reports_none}
 use Rattle.bench_sweep.proofs.Rowed.{all_points}
 use Rattle.bench_sweep.proofs.Written.{window_of_calls}
+use Rattle.bench_sweep.proofs.Exits.{err_exit}
 use Rattle.bench_sweep.proofs.sweeps.run_at_calls.Goals as goal
 
 pub hand_on_all-requires-clause-has : goal.hand_on_all-requires-clause-has
@@ -51,3 +52,21 @@ returns-then-from-to-clause-wrote g c = λ b r.
     let is : [] ≡ window within.from within.to (points_from calls.caller (calls.made + 1) calls.count) =
     ap (λ (n : ℕ). points_from calls.caller (calls.made + first + 1) n) none ∙ window_of_calls calls.caller calls.made calls.count within.from within.to within.order c.requires.numbers in
     reports_as _ _ _ _ _ _ _ is (reports_none _ _ _ _)
+
+pub marks_of-requires-clause-few : goal.marks_of-requires-clause-few
+marks_of-requires-clause-few g c κs within = c.requires.few
+
+pub marks_of-requires-clause-lines : goal.marks_of-requires-clause-lines
+marks_of-requires-clause-lines g c κs within = c.requires.lines
+
+pub marks_of-requires-clause-sits : goal.marks_of-requires-clause-sits
+marks_of-requires-clause-sits g c κs within = c.requires.sits
+
+pub returns-in_err-marks-clause-refused : goal.returns-in_err-marks-clause-refused
+returns-in_err-marks-clause-refused g c = err_exit _ c.from_residual.result c.in_err-marks.field-0.0 c.from_residual.ensures.1 (inl c.in_err-marks.ensures.refused)
+
+pub returns-in_err-marks-clause-wrote : goal.returns-in_err-marks-clause-wrote
+returns-in_err-marks-clause-wrote g c = IfOk-from_err c.from_residual.result _ c.from_residual.ensures.0
+
+pub returns-then-from-to-clause-refused : goal.returns-then-from-to-clause-refused
+returns-then-from-to-clause-refused g c = tt

@@ -1,4 +1,4 @@
-use Rattle.std.proofs.Common.{◌∙◌, List, arith, subst, sym}
+use Rattle.std.proofs.Common.{◌∙◌, List, arith, subst, sym, refl}
 use Rattle.std.proofs.lemmas.List.{take_all}
 use Rattle.script_lang.specs.declared.line.Line.{Line}
 use Rattle.bench_report.specs.Happens.{unpowered}
@@ -6,6 +6,8 @@ use Rattle.bench_sweep.specs.Took.{RunTook}
 use Rattle.bench_sweep.proofs.Left.{off_sits}
 use Rattle.bench_sweep.proofs.Made.{none_yet, sits_at, went_more, rest_is, ends_at, took_on}
 use Rattle.bench_sweep.proofs.Reported.{swept_take, swept_drop, stays_within}
+use Rattle.std.proofs.lemmas.Result.{IfOk-from_err}
+use Rattle.bench_sweep.proofs.Exits.{err_exit}
 use Rattle.bench_sweep.proofs.sweeps.run_plain.Goals as goal
 
 pub loop-from-init : goal.loop-from-init
@@ -48,3 +50,30 @@ returns-clause-took g c =
     let lines = c.args.runner.now.lines.now in
     let L : List Line → Type 0 = λ ls. RunTook c.args.runner.now.setting.shape.now ls c.args.begin.now.off.disk c.loop-from.site.off.disk in
     subst L (take_all c.loop-from.from lines (omega arith)) c.loop-from.invariant.took
+
+pub returns-in_err-count-clause-ends : goal.returns-in_err-count-clause-ends
+returns-in_err-count-clause-ends g c = IfOk-from_err c.from_residual-in_err-count.result _ c.from_residual-in_err-count.ensures.0
+
+pub returns-in_err-count-clause-refused : goal.returns-in_err-count-clause-refused
+returns-in_err-count-clause-refused g c = err_exit _ c.from_residual-in_err-count.result c.in_err-count.field-0.0 c.from_residual-in_err-count.ensures.1 c.in_err-count.ensures.refused
+
+pub returns-in_err-count-clause-took : goal.returns-in_err-count-clause-took
+returns-in_err-count-clause-took g c = IfOk-from_err c.from_residual-in_err-count.result _ c.from_residual-in_err-count.ensures.0
+
+pub returns-in_err-site-clause-ends : goal.returns-in_err-site-clause-ends
+returns-in_err-site-clause-ends g c = IfOk-from_err c.from_residual.result _ c.from_residual.ensures.0
+
+pub returns-in_err-site-clause-refused : goal.returns-in_err-site-clause-refused
+returns-in_err-site-clause-refused g c = err_exit _ c.from_residual.result c.in_err-site.field-0.0 c.from_residual.ensures.1 c.in_err-site.ensures.refused
+
+pub returns-in_err-site-clause-took : goal.returns-in_err-site-clause-took
+returns-in_err-site-clause-took g c = IfOk-from_err c.from_residual.result _ c.from_residual.ensures.0
+
+pub returns-then-refused-ne0-clause-ends : goal.returns-then-refused-ne0-clause-ends
+returns-then-refused-ne0-clause-ends g c = tt
+
+pub returns-then-refused-ne0-clause-refused : goal.returns-then-refused-ne0-clause-refused
+returns-then-refused-ne0-clause-refused g c = refl
+
+pub returns-then-refused-ne0-clause-took : goal.returns-then-refused-ne0-clause-took
+returns-then-refused-ne0-clause-took g c = tt

@@ -6,6 +6,8 @@ use Rattle.bench_sweep.specs.Took.{RunTook, disk_at}
 use Rattle.bench_sweep.proofs.Left.{calm_off}
 use Rattle.bench_sweep.proofs.Ran.{life_of}
 use Rattle.bench_sweep.proofs.Took.{took_since}
+use Rattle.std.proofs.lemmas.Result.{IfOk-from_err}
+use Rattle.bench_sweep.proofs.Exits.{err_exit}
 use Rattle.bench_sweep.proofs.sweeps.stretch_of.Goals as goal
 
 pub returns-clause-lives : goal.returns-clause-lives
@@ -35,3 +37,57 @@ returns-clause-took g c =
     let D : SimDisk → Type 0 = λ d. RunTook size lines begun d in
     took_since size lines c.args.site.now.off.disk begun _ (λ caller. ap (λ (d : SimDisk). calls_of caller d) c.from-plain.ensures.disk ∙ c.in_ok-copy.ensures.calls caller)
     (subst D (sym c.in_ok-next.ensures.disk) (c.in_ok-went.ensures.took (unpowered sits.0) calm))
+
+pub returns-in_err-copy-clause-few : goal.returns-in_err-copy-clause-few
+returns-in_err-copy-clause-few g c = IfOk-from_err c.from_residual.result _ c.from_residual.ensures.0
+
+pub returns-in_err-copy-clause-lives : goal.returns-in_err-copy-clause-lives
+returns-in_err-copy-clause-lives g c = IfOk-from_err c.from_residual.result _ c.from_residual.ensures.0
+
+pub returns-in_err-copy-clause-refused : goal.returns-in_err-copy-clause-refused
+returns-in_err-copy-clause-refused g c = err_exit _ c.from_residual.result c.in_err-copy.field-0.0 c.from_residual.ensures.1 c.in_err-copy.ensures.refused
+
+pub returns-in_err-copy-clause-sits : goal.returns-in_err-copy-clause-sits
+returns-in_err-copy-clause-sits g c = IfOk-from_err c.from_residual.result _ c.from_residual.ensures.0
+
+pub returns-in_err-copy-clause-some : goal.returns-in_err-copy-clause-some
+returns-in_err-copy-clause-some g c = IfOk-from_err c.from_residual.result _ c.from_residual.ensures.0
+
+pub returns-in_err-copy-clause-took : goal.returns-in_err-copy-clause-took
+returns-in_err-copy-clause-took g c = IfOk-from_err c.from_residual.result _ c.from_residual.ensures.0
+
+pub returns-in_err-next-clause-few : goal.returns-in_err-next-clause-few
+returns-in_err-next-clause-few g c = IfOk-from_err c.from_residual-in_err-next.result _ c.from_residual-in_err-next.ensures.0
+
+pub returns-in_err-next-clause-lives : goal.returns-in_err-next-clause-lives
+returns-in_err-next-clause-lives g c = IfOk-from_err c.from_residual-in_err-next.result _ c.from_residual-in_err-next.ensures.0
+
+pub returns-in_err-next-clause-refused : goal.returns-in_err-next-clause-refused
+returns-in_err-next-clause-refused g c = err_exit _ c.from_residual-in_err-next.result c.in_err-next.field-0.0 c.from_residual-in_err-next.ensures.1 c.in_err-next.ensures.refused
+
+pub returns-in_err-next-clause-sits : goal.returns-in_err-next-clause-sits
+returns-in_err-next-clause-sits g c = IfOk-from_err c.from_residual-in_err-next.result _ c.from_residual-in_err-next.ensures.0
+
+pub returns-in_err-next-clause-some : goal.returns-in_err-next-clause-some
+returns-in_err-next-clause-some g c = IfOk-from_err c.from_residual-in_err-next.result _ c.from_residual-in_err-next.ensures.0
+
+pub returns-in_err-next-clause-took : goal.returns-in_err-next-clause-took
+returns-in_err-next-clause-took g c = IfOk-from_err c.from_residual-in_err-next.result _ c.from_residual-in_err-next.ensures.0
+
+pub returns-in_err-went-clause-few : goal.returns-in_err-went-clause-few
+returns-in_err-went-clause-few g c = IfOk-from_err c.from_residual-in_err-went.result _ c.from_residual-in_err-went.ensures.0
+
+pub returns-in_err-went-clause-lives : goal.returns-in_err-went-clause-lives
+returns-in_err-went-clause-lives g c = IfOk-from_err c.from_residual-in_err-went.result _ c.from_residual-in_err-went.ensures.0
+
+pub returns-in_err-went-clause-refused : goal.returns-in_err-went-clause-refused
+returns-in_err-went-clause-refused g c = err_exit _ c.from_residual-in_err-went.result c.in_err-went.field-0.0 c.from_residual-in_err-went.ensures.1 c.in_err-went.ensures.refused
+
+pub returns-in_err-went-clause-sits : goal.returns-in_err-went-clause-sits
+returns-in_err-went-clause-sits g c = IfOk-from_err c.from_residual-in_err-went.result _ c.from_residual-in_err-went.ensures.0
+
+pub returns-in_err-went-clause-some : goal.returns-in_err-went-clause-some
+returns-in_err-went-clause-some g c = IfOk-from_err c.from_residual-in_err-went.result _ c.from_residual-in_err-went.ensures.0
+
+pub returns-in_err-went-clause-took : goal.returns-in_err-went-clause-took
+returns-in_err-went-clause-took g c = IfOk-from_err c.from_residual-in_err-went.result _ c.from_residual-in_err-went.ensures.0

@@ -1,4 +1,4 @@
-use Rattle.std.proofs.Common.{◌≡◌, ◌∙◌, ℕ, List, [], ◌∷◌, ◌++◌, take, length, refl, sym, ap, subst, arith}
+use Rattle.std.proofs.Common.{◌≡◌, ◌∙◌, ℕ, List, [], ◌∷◌, ◌++◌, take, length, refl, sym, ap, subst, arith, inl}
 use Rattle.std.proofs.lemmas.List.{take_more, length-take-le}
 use Rattle.std.specs.List.{AllZip}
 use Rattle.bench_sweep.specs.Points.{MadeCalls}
@@ -10,6 +10,8 @@ use Rattle.jobs.proofs.Pieces.{window_none, window_at, own_is}
 use Rattle.bench_sweep.proofs.Made.{zip_long, zip_more, zip_same}
 use Rattle.bench_sweep.proofs.Reported.{reports_none, reports_more, reports_as}
 use Rattle.bench_sweep.proofs.Written.{next_caller, total_more, all_long}
+use Rattle.bench_sweep.proofs.Exits.{err_exit}
+use Rattle.std.proofs.lemmas.Result.{IfOk-from_err}
 use Rattle.bench_sweep.proofs.sweeps.sweep_all_callers.Goals as goal
 
 pub loop-caller-init : goal.loop-caller-init
@@ -54,3 +56,39 @@ returns-clause-wrote g c = λ b r.
           ∙ window_at _ _ _ _ (all_points callers w.0) from to ∙ sym (own_is part (all_points callers w.0)))
           w.4,
     )
+
+pub returns-clause-refused : goal.returns-clause-refused
+returns-clause-refused g c = c.begin.ensures
+
+pub returns-in_err-all-clause-refused : goal.returns-in_err-all-clause-refused
+returns-in_err-all-clause-refused g c = err_exit _ c.from_residual.result c.in_err-all.field-0.0 c.from_residual.ensures.1 (inl c.in_err-all.ensures.refused)
+
+pub returns-in_err-all-clause-wrote : goal.returns-in_err-all-clause-wrote
+returns-in_err-all-clause-wrote g c = IfOk-from_err c.from_residual.result _ c.from_residual.ensures.0
+
+pub returns-in_err-calls-clause-refused : goal.returns-in_err-calls-clause-refused
+returns-in_err-calls-clause-refused g c = err_exit _ c.from_residual-in_err-calls.result c.in_err-calls.field-0.0 c.from_residual-in_err-calls.ensures.1 (inl c.in_err-calls.ensures.refused)
+
+pub returns-in_err-calls-clause-wrote : goal.returns-in_err-calls-clause-wrote
+returns-in_err-calls-clause-wrote g c = IfOk-from_err c.from_residual-in_err-calls.result _ c.from_residual-in_err-calls.ensures.0
+
+pub returns-in_err-made-clause-refused : goal.returns-in_err-made-clause-refused
+returns-in_err-made-clause-refused g c = err_exit _ c.from_residual-in_err-made.result c.in_err-made.field-0.0 c.from_residual-in_err-made.ensures.1 c.in_err-made.ensures.refused
+
+pub returns-in_err-made-clause-wrote : goal.returns-in_err-made-clause-wrote
+returns-in_err-made-clause-wrote g c = IfOk-from_err c.from_residual-in_err-made.result _ c.from_residual-in_err-made.ensures.0
+
+pub returns-then-made-calls-clause-refused : goal.returns-then-made-calls-clause-refused
+returns-then-made-calls-clause-refused g c = inl refl
+
+pub returns-then-made-calls-clause-wrote : goal.returns-then-made-calls-clause-wrote
+returns-then-made-calls-clause-wrote g c = tt
+
+pub sweep_caller-requires-clause-lines : goal.sweep_caller-requires-clause-lines
+sweep_caller-requires-clause-lines g c κs within = c.requires.lines
+
+pub sweep_caller-requires-clause-recovery : goal.sweep_caller-requires-clause-recovery
+sweep_caller-requires-clause-recovery g c κs within = c.requires.recovery
+
+pub sweep_caller-requires-clause-sits : goal.sweep_caller-requires-clause-sits
+sweep_caller-requires-clause-sits g c κs within = c.requires.sits

@@ -1,4 +1,4 @@
-use Rattle.std.proofs.Common.{arith, sym}
+use Rattle.std.proofs.Common.{arith, sym, inl}
 use Rattle.bench_report.specs.Happens.{unpowered}
 use Rattle.bench_sweep.specs.Recovers.{compared}
 use Rattle.bench_sweep.proofs.Left.{off_sits}
@@ -6,6 +6,8 @@ use Rattle.bench_sweep.proofs.Made.{none_yet, sits_at, went_more, rest_is, row_o
 use Rattle.bench_sweep.proofs.Reported.{reports_none, reports_more, reports_as, reports_weaker, swept_take, swept_drop, stays_within}
 use Rattle.jobs.proofs.Pieces.{window_none}
 use Rattle.bench_sweep.proofs.Written.{next_window}
+use Rattle.bench_sweep.proofs.Exits.{err_exit}
+use Rattle.std.proofs.lemmas.Result.{IfOk-from_err}
 use Rattle.bench_sweep.proofs.sweeps.sweep_caller.Goals as goal
 
 pub loop-from-init : goal.loop-from-init
@@ -57,3 +59,15 @@ loop-from-preserved g c =
       from = omega (arith, i.from, c.behind-left.ensures.from);
       to = omega (arith, i.to, c.behind-left.ensures.to);
     }
+
+pub returns-in-Err-clause-wrote : goal.returns-in-Err-clause-wrote
+returns-in-Err-clause-wrote g c = tt
+
+pub returns-in_err-site-clause-refused : goal.returns-in_err-site-clause-refused
+returns-in_err-site-clause-refused g c = err_exit _ c.from_residual.result c.in_err-site.field-0.0 c.from_residual.ensures.1 (inl c.in_err-site.ensures.refused)
+
+pub returns-in_err-site-clause-wrote : goal.returns-in_err-site-clause-wrote
+returns-in_err-site-clause-wrote g c = IfOk-from_err c.from_residual.result _ c.from_residual.ensures.0
+
+pub sweep_stretch-requires-clause-recovery : goal.sweep_stretch-requires-clause-recovery
+sweep_stretch-requires-clause-recovery g c κs within = c.requires.recovery
