@@ -1,3 +1,4 @@
+pub mod Alone
 pub mod Table
 pub mod KeptDisks
 pub mod Sides
