@@ -1,5 +1,5 @@
 -- What the clauses of a line say that speak of one kind of line alone.
-use Rattle.std.proofs.Common.{◌≡◌, ℕ, ◌<◌, ◌≤◌, List, length, Result, Ok, Err, OnErr, IfOk, sym, subst, arith}
+use Rattle.std.proofs.Common.{◌≡◌, ℕ, ◌<◌, ◌≤◌, List, length, Result, Ok, Err, OnErr, IfOk, sym, ap, subst, arith}
 use Rattle.board_model.specs.Shapes.{Size}
 use Rattle.board_model.specs.declared.refusal.Refusal.{Refusal}
 use Rattle.board_model.specs.declared.refusal.Refusal.TheVariants.{Memory}
@@ -9,7 +9,7 @@ use Rattle.script_lang.specs.declared.line.Line.TheVariants as lines
 use Rattle.machine.specs.declared.line.MachineLine.{MachineLine}
 use Rattle.report_lines.specs.declared.printed.Answer.{Answer}
 use Rattle.bench_report.specs.declared.power.Power.{Power}
-use Rattle.bench_report.specs.Agree.{ArmsIts, CutsIts, PokesIts, InspectsIts, StepsEnough}
+use Rattle.bench_report.specs.Agree.{is_struck, ArmsIts, CutsIts, PokesIts, InspectsIts, StepsEnough}
 
 module _ (line l : Line) where
   pub arms_by : (left : Power) → line ≡ l → ArmsIts l left → ArmsIts line left
@@ -45,3 +45,7 @@ some_turns size line h n is range = let made = subst (λ (x : Line). IsLineInRan
 
 pub few_bytes : (size : Size) (line : Line) (slot : ℕ) (bytes : List ℕ) → line ≡ lines.Payload slot bytes → IsLineInRange size line → length bytes ≤ 1024
 few_bytes size line slot bytes is range = (subst (λ (x : Line). IsLineInRange size x) is range).2
+
+-- a board that is matched
+pub struck_by : (power p : Power) → power ≡ p → is_struck p ≡ is_struck power
+struck_by power p is = sym (ap (λ (x : Power). is_struck x) is)
