@@ -1,5 +1,7 @@
 -- What the clauses of a line say that speak of one kind of line alone.
-use Rattle.std.proofs.Common.{◌≡◌, ℕ, ◌<◌, ◌≤◌, List, length, Result, Ok, Err, OnErr, IfOk, sym, ap, subst, arith}
+use Rattle.std.proofs.Common.{◌≡◌, ◌∙◌, ℕ, ◌<◌, ◌≤◌, List, length, Result, Ok, Err, OnErr, IfErr, IfOk, sym, ap, subst, arith}
+use Rattle.std.specs.Result.{IsErrAnd}
+use Rattle.std.proofs.lemmas.Result.{err_from_is_err_and}
 use Rattle.board_model.specs.Shapes.{Size}
 use Rattle.board_model.specs.declared.refusal.Refusal.{Refusal}
 use Rattle.board_model.specs.declared.refusal.Refusal.TheVariants.{Memory}
@@ -8,8 +10,9 @@ use Rattle.script_lang.specs.declared.line.Line.{Line}
 use Rattle.script_lang.specs.declared.line.Line.TheVariants as lines
 use Rattle.machine.specs.declared.line.MachineLine.{MachineLine}
 use Rattle.report_lines.specs.declared.printed.Answer.{Answer}
+use Rattle.simdisk.specs.declared.SimDisk.{SimDisk}
 use Rattle.bench_report.specs.declared.power.Power.{Power}
-use Rattle.bench_report.specs.Agree.{is_struck, ArmsIts, CutsIts, PokesIts, InspectsIts, StepsEnough}
+use Rattle.bench_report.specs.Agree.{is_struck, IsCopyOf, ArmsIts, CutsIts, PokesIts, InspectsIts, StepsEnough}
 
 module _ (line l : Line) where
   pub arms_by : (left : Power) → line ≡ l → ArmsIts l left → ArmsIts line left
@@ -49,3 +52,12 @@ few_bytes size line slot bytes is range = (subst (λ (x : Line). IsLineInRange s
 -- a board that is matched
 pub struck_by : (power p : Power) → power ≡ p → is_struck p ≡ is_struck power
 struck_by power p is = sym (ap (λ (x : Power). is_struck x) is)
+
+-- a copy of a board
+pub copies_at : (old new d e : SimDisk) → IsCopyOf old new → d ≡ old → e ≡ new → IsCopyOf d e
+copies_at old new d e copy is made = subst (λ (x : SimDisk). IsCopyOf x e) (sym is) (subst (λ (x : SimDisk). IsCopyOf old x) (sym made) copy)
+
+pub refused_as : {X : Type 0} (r : Result X Refusal) (e : Refusal) → IsErrAnd r (λ x. x ≡ e) → e ≡ Memory → IfErr r (λ x. x ≡ Memory)
+refused_as {X} r e is memory =
+    let p = err_from_is_err_and r is in
+    subst (λ (x : Result X Refusal). IfErr x (λ y. y ≡ Memory)) (sym p.1) (p.2 ∙ memory)
