@@ -24,7 +24,6 @@ use Rattle.report_lines.specs.declared.printed.Answer.{Answer}
 use Rattle.bench_report.specs.Views.{SimStore, SimBoard, store_in, machine_in, store_facts, store_fault_state}
 use Rattle.bench_report.specs.Bench.{BenchLife, Bench}
 use Rattle.bench_report.specs.Happens.{shows, on_with, has_machine}
-use Rattle.report_lines.specs.declared.printed.Printed.TheVariants as printed
 use Rattle.bench_report.specs.PowerOns.{FormatsOn, PowersOn}
 use Rattle.bench_report.specs.Examined.{InspectsOn, InspectStep}
 use Rattle.bench_report.specs.Steps.{Step, FormatStep, OnStep, CallReported, GuestCall, TurnStep, CallStep, ReadStep}

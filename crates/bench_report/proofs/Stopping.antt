@@ -1,5 +1,5 @@
 -- A run that stops before a board is made: its refusal, and no disk.
-use Rattle.std.proofs.Common.{◌≡◌, ◌∙◌, ◌⊎◌, List, ℕ, Option, None, Result, Ok, Err, IfOk, IfErr, MatchResult, inl, inr, refl, sym, ap, subst}
+use Rattle.std.proofs.Common.{◌≡◌, ◌∙◌, ◌⊎◌, None, Result, Err, IfOk, IfErr, MatchResult, inl, inr, refl, sym, ap, subst}
 use Rattle.std.specs.Option.{IfSome}
 use Rattle.std.specs.Result.{IsErrAnd}
 use Rattle.std.proofs.lemmas.Result.{err_from_is_err_and}
