@@ -334,3 +334,6 @@ turn_line-requires-clause-calm g c = λ κs within. c.requires.calm
 
 pub payload_line-requires : goal.payload_line-requires
 payload_line-requires g c = record { bytes = few_bytes c.args.setting.now.shape.now c.args.line.now c.in-Payload.slot c.in-Payload.bytes c.in-Payload.is c.requires.range }
+
+pub returns-in-Cut-clause-cuts : goal.returns-in-Cut-clause-cuts
+returns-in-Cut-clause-cuts g c = cuts_by c.args.line.now _ c.args.power c.cut.result c.in-Cut.is c.cut.ensures.exact
