@@ -1,3 +1,5 @@
+pub mod Alone
+pub mod Stopping
 pub mod Table
 pub mod KeptDisks
 pub mod Sides

@@ -1,6 +1,6 @@
 -- Lines that speak of memory and harts, or keep a payload, by what the code's board did.
 use Rattle.board_model.specs.declared.call_words.CallWords.{CallWords}
-use Rattle.std.proofs.Common.{◌≡◌, inl, slice_set, ℕ, List, length, Option, None, Some, Result, Ok, MatchResult, refl, sym, ◌∙◌, ap, subst}
+use Rattle.std.proofs.Common.{◌≡◌, inl, inr, slice_set, ℕ, List, length, Option, None, Some, Result, Ok, MatchResult, refl, sym, ◌∙◌, ap, subst}
 use Rattle.board_model.specs.declared.boot_mode.BootMode.{BootMode}
 use Rattle.board_model.specs.Shapes.{Size}
 use Rattle.board_model.specs.declared.refusal.Refusal.{Refusal}
@@ -24,7 +24,6 @@ use Rattle.report_lines.specs.declared.printed.Answer.{Answer}
 use Rattle.bench_report.specs.Views.{SimStore, SimBoard, store_in, machine_in, store_facts, store_fault_state}
 use Rattle.bench_report.specs.Bench.{BenchLife, Bench}
 use Rattle.bench_report.specs.Happens.{shows, on_with, has_machine}
-use Rattle.report_lines.specs.declared.printed.Printed.TheVariants as printed
 use Rattle.bench_report.specs.PowerOns.{FormatsOn, PowersOn}
 use Rattle.bench_report.specs.Examined.{InspectsOn, InspectStep}
 use Rattle.bench_report.specs.Steps.{Step, FormatStep, OnStep, CallReported, GuestCall, TurnStep, CallStep, ReadStep}
@@ -98,6 +97,14 @@ on_turns size b old new h n made word after was has turned agrees = by b.power w
 lacks : (size : Size) (b : Bench) (board : SimBoard) (h : ℕ) (p : Option BenchLife) → BoardIs size b.disk_state b.kept p board → (HasHart (machine_in board) h → ⊥) → (step : Option BenchLife → Type 0) → ((life : BenchLife) → (HasHart life.machine h → ⊥) → step (Some life)) → step p
 lacks size b board h None is not step then = absurd is
 lacks size b board h (Some life) is not step then = let P : Machine → Type 0 = λ m. HasHart m h → ⊥ in then life (subst P is.1 not)
+
+pub turn_lacks : (size : Size) (b : Bench) (board : SimBoard) (h n : ℕ) → OnIs size b board → (HasHart (machine_in board) h → ⊥) → StepsTo size b (On board) (TurnStep b.power h n b (shows shown.Off))
+turn_lacks size b board h n was not = (b, lacks size b board h b.power was.0 not (λ p. TurnStep p h n b (shows shown.Off) b) (λ life no. inr (no, refl, refl)), was, refl)
+
+pub call_lacks : (size : Size) (b : Bench) (board : SimBoard) (h : ℕ) (asked : CallWords) → OnIs size b board → (HasHart (machine_in board) h → ⊥)
+    → StepsTo size b (On board) (λ w. CallStep b.power h asked b (shows shown.Off) w × CountsNone (On board) b w)
+call_lacks size b board h asked was not =
+    (b, (lacks size b board h b.power was.0 not (λ p. CallStep p h asked b (shows shown.Off) b) (λ life no. inr (no, refl, refl)), λ had. refl), was, refl)
 
 -- a line of a call, by what the board did
 reported_as : (size : Size) (h : ℕ) (word : Word) (b : Bench) (n : Machine) (store : SimStore) (line : MachineLine) → Stands size word b n store → line ≡ made_line h (hart_at n h) word → CallReported h word b (shows line)

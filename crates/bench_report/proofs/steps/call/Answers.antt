@@ -1,10 +1,10 @@
-use Rattle.std.proofs.Common.{◌≡◌, Option, refl, sym, subst}
+use Rattle.std.proofs.Common.{◌≡◌, Option, true≢false, refl, sym, subst}
 use Rattle.machine.specs.Machine.{Machine, hart_at}
 use Rattle.sbi.specs.declared.words.Word.{Word}
 use Rattle.bench_report.specs.declared.power.Power.TheVariants.{On}
 use Rattle.bench_report.specs.Views.{machine_in}
 use Rattle.machine.specs.Shows.{HasHart, called_line}
-use Rattle.bench_report.proofs.Lines.{on_calls, Follows}
+use Rattle.bench_report.proofs.Lines.{on_calls, call_lacks, Follows}
 use Rattle.bench_report.proofs.steps.call.Goals as goal
 
 pub returns-in-None : goal.returns-in-None
@@ -28,3 +28,8 @@ returns-in-Some g c = λ size b h.
     let F : Option Word → Type 0 = λ o. Follows size b c.args.board new c.args.hart c.args.words c.call-said.result c.called-line.result c.after.result h has line o in
     on_calls size b c.args.board new c.args.hart c.args.words c.call-said.result c.called-line.result c.after.result h has line c.call-said.ensures.calls
     (subst F (sym c.in-Some.is) (λ x is. c.after.ensures.reported size x is, c.after.ensures.on))
+
+pub returns-then-not-has : goal.returns-then-not-has
+returns-then-not-has g c = λ size b h.
+    let P : Machine → Type 0 = λ m. HasHart m c.args.hart → ⊥ in
+    call_lacks size b c.args.board c.args.hart c.args.words h (subst P c.machine.ensures (λ has. true≢false (sym (c.if-not-has.ensures.1 has))))
