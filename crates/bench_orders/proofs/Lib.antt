@@ -4,5 +4,4 @@ pub mod Parts
 pub mod Preemptions
 pub mod SeenRows
 pub mod Texts
-pub mod Exits
 pub mod CopiedLines

@@ -25,4 +25,3 @@ pub mod Nth
 pub mod ShownRows
 pub mod Crews
 pub mod Along
-pub mod Exits

@@ -6,7 +6,7 @@ use Rattle.board_model.specs.declared.refusal.Refusal.TheVariants.{Memory}
 use Rattle.script_lang.specs.Scripts.{script_of, Script, Fails}
 use Rattle.script_lang.specs.declared.line.Line.{Line}
 use Rattle.bench_sweep.specs.Swept.{IsNotPlain, NoBenchRuns}
-use Rattle.bench_sweep.proofs.Exits.{err_is}
+use Rattle.board_model.proofs.Exits.{err_is}
 
 -- a script with such lines
 pub unswept : (script : List ℕ) (said : Script) (lines : List Line) → script_of script ≡ Ok said → lines ≡ said.lines → IsNotPlain lines → NoBenchRuns script

@@ -13,4 +13,3 @@ pub mod Withins
 pub mod Others
 pub mod Turns
 pub mod Nexts
-pub mod Exits

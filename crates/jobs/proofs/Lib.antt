@@ -3,4 +3,3 @@ pub mod Pieces
 pub mod Chunked
 pub mod Placing
 pub mod Windowed
-pub mod Exits

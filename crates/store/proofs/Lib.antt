@@ -22,4 +22,3 @@ pub mod Inspecting
 pub mod Taken
 pub mod Called
 pub mod Alone
-pub mod Exits

@@ -1,5 +1,5 @@
 use Rattle.std.proofs.lemmas.Result.{IfOk-from_err}
-use Rattle.bench_orders.proofs.Exits.{err_exit}
+use Rattle.board_model.proofs.Exits.{err_exit}
 use Rattle.bench_orders.proofs.scripts.write_lines.Goals as goal
 
 pub returns-in_err-write_line-clause-ok : goal.returns-in_err-write_line-clause-ok

@@ -3,7 +3,7 @@ use Rattle.bench_sweep.specs.Runs.{IsFormattedAt}
 use Rattle.bench_report.specs.Bench.{bench_with}
 use Rattle.bench_sweep.proofs.Begun.{begun_by, begins_more}
 use Rattle.std.proofs.lemmas.Result.{IfOk-from_err}
-use Rattle.bench_sweep.proofs.Exits.{err_exit}
+use Rattle.board_model.proofs.Exits.{err_exit}
 use Rattle.bench_sweep.proofs.begins.run_to_format.Goals as goal
 
 pub loop-line-init : goal.loop-line-init

@@ -1,7 +1,7 @@
 use Rattle.bench_sweep.proofs.Turned.{call_unmade, call_made}
 use Rattle.std.proofs.Common.{refl}
 use Rattle.std.proofs.lemmas.Result.{IfOk-from_err}
-use Rattle.bench_sweep.proofs.Exits.{err_exit}
+use Rattle.board_model.proofs.Exits.{err_exit}
 use Rattle.bench_sweep.proofs.harts.call_once.Goals as goal
 
 pub returns-in-None-clause-goes : goal.returns-in-None-clause-goes

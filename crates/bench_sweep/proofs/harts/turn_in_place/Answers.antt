@@ -6,7 +6,7 @@ use Rattle.bench_report.specs.Views.{machine_in}
 use Rattle.bench_sweep.specs.Lines.{TurnsMany}
 use Rattle.bench_sweep.proofs.Turned.{hart_line, turn_line, turn_lacks}
 use Rattle.std.proofs.lemmas.Result.{IfOk-from_err}
-use Rattle.bench_sweep.proofs.Exits.{err_exit}
+use Rattle.board_model.proofs.Exits.{err_exit}
 use Rattle.bench_sweep.proofs.harts.turn_in_place.Goals as goal
 
 pub returns-then-not-has-clause-goes : goal.returns-then-not-has-clause-goes

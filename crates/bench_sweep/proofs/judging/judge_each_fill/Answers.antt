@@ -5,7 +5,7 @@ use Rattle.bench_sweep.specs.Swept.{cell}
 use Rattle.bench_sweep.proofs.Rowed.{judged_none, judged_more, judged_as}
 use Rattle.bench_sweep.proofs.Written.{map_more}
 use Rattle.std.proofs.lemmas.Result.{IfOk-from_err}
-use Rattle.bench_sweep.proofs.Exits.{err_exit}
+use Rattle.board_model.proofs.Exits.{err_exit}
 use Rattle.bench_sweep.proofs.judging.judge_each_fill.Goals as goal
 
 pub loop-fill-init : goal.loop-fill-init

@@ -11,7 +11,7 @@ use Rattle.bench_sweep.specs.Reports.{cut_content}
 use Rattle.bench_sweep.proofs.Compared.{nothing_over, nothing_told}
 use Rattle.bench_sweep.proofs.Left.{left_by}
 use Rattle.std.proofs.lemmas.Result.{IfOk-from_err}
-use Rattle.bench_sweep.proofs.Exits.{err_exit, err_said}
+use Rattle.board_model.proofs.Exits.{err_exit, err_said}
 use Rattle.bench_sweep.proofs.judging.judge_last.Goals as goal
 
 pub count_run-requires : goal.count_run-requires

@@ -9,7 +9,7 @@ use Rattle.bench_sweep.specs.Recovers.{compared}
 use Rattle.bench_sweep.specs.Reports.{cut_content, ToldOver}
 use Rattle.bench_sweep.proofs.Left.{left_by}
 use Rattle.std.proofs.lemmas.Result.{IfOk-from_err}
-use Rattle.bench_sweep.proofs.Exits.{err_exit, err_said}
+use Rattle.board_model.proofs.Exits.{err_exit, err_said}
 use Rattle.bench_sweep.proofs.judging.judge_run.Goals as goal
 
 pub count_run-requires : goal.count_run-requires

@@ -3,7 +3,7 @@ use Rattle.std.proofs.lemmas.Bool.Decides.{nat_tests}
 use Rattle.std.proofs.lemmas.Result.{IfOk-weaker, IfOk-from_err}
 use Rattle.bench_report.specs.Happens.{settled, unpowered}
 use Rattle.bench_sweep.proofs.Compared.{nothing_over, nothing_told, opened_as, told_of, told_over}
-use Rattle.bench_sweep.proofs.Exits.{err_exit}
+use Rattle.board_model.proofs.Exits.{err_exit}
 use Rattle.bench_sweep.proofs.judging.recovered.Goals as goal
 
 pub settled-requires : goal.settled-requires

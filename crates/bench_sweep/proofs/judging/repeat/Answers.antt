@@ -1,6 +1,6 @@
 use Rattle.std.proofs.Common.{refl}
 use Rattle.std.proofs.lemmas.Result.{IfOk-from_err}
-use Rattle.bench_sweep.proofs.Exits.{err_said}
+use Rattle.board_model.proofs.Exits.{err_said}
 use Rattle.bench_sweep.proofs.judging.repeat.Goals as goal
 
 pub returns-clause-right : goal.returns-clause-right

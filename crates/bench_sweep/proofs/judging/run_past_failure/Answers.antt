@@ -7,7 +7,7 @@ use Rattle.bench_sweep.proofs.Left.{unstruck}
 use Rattle.bench_sweep.proofs.Made.{past_failure}
 use Rattle.bench_sweep.proofs.Rowed.{judged_none, judged_more, judged_at}
 use Rattle.std.proofs.lemmas.Result.{IfOk-from_err}
-use Rattle.bench_sweep.proofs.Exits.{err_exit}
+use Rattle.board_model.proofs.Exits.{err_exit}
 use Rattle.bench_sweep.proofs.judging.run_past_failure.Goals as goal
 
 pub run_lines-requires-clause-calm : goal.run_lines-requires-clause-calm

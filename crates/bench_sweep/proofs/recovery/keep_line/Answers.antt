@@ -1,5 +1,5 @@
 use Rattle.std.proofs.lemmas.Result.{IfOk-from_err}
-use Rattle.bench_sweep.proofs.Exits.{err_exit}
+use Rattle.board_model.proofs.Exits.{err_exit}
 use Rattle.std.proofs.Common.{refl}
 use Rattle.bench_sweep.proofs.recovery.keep_line.Goals as goal
 

@@ -3,7 +3,7 @@ use Rattle.std.proofs.lemmas.List.{take_all}
 use Rattle.script_lang.specs.declared.line.Line.{Line}
 use Rattle.bench_sweep.proofs.Left.{calm_off}
 use Rattle.bench_sweep.proofs.Looked.{Looked, looked_none, looked_more, recovers_of}
-use Rattle.bench_sweep.proofs.Exits.{err_exit}
+use Rattle.board_model.proofs.Exits.{err_exit}
 use Rattle.std.proofs.lemmas.Result.{IfOk-from_err}
 use Rattle.bench_sweep.proofs.recovery.looks_of.Goals as goal
 

@@ -1,5 +1,5 @@
 use Rattle.std.proofs.lemmas.Result.{IfOk-from_err}
-use Rattle.bench_sweep.proofs.Exits.{err_said}
+use Rattle.board_model.proofs.Exits.{err_said}
 use Rattle.std.proofs.Common.{inl}
 use Rattle.bench_sweep.proofs.recovery.recovery_lines.Goals as goal
 

@@ -1,5 +1,5 @@
 use Rattle.std.proofs.lemmas.Result.{IfOk-from_err}
-use Rattle.bench_sweep.proofs.Exits.{err_exit}
+use Rattle.board_model.proofs.Exits.{err_exit}
 use Rattle.bench_sweep.proofs.rows.write_row.Goals as goal
 
 pub returns-in_err-map_err-clause-ok : goal.returns-in_err-map_err-clause-ok

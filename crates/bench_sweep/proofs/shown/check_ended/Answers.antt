@@ -1,5 +1,5 @@
 use Rattle.std.proofs.lemmas.Result.{IfOk-from_err}
-use Rattle.bench_sweep.proofs.Exits.{err_exit}
+use Rattle.board_model.proofs.Exits.{err_exit}
 use Rattle.bench_sweep.proofs.shown.check_ended.Goals as goal
 
 pub returns-in_err-turn_off-in-Cuts-clause-ended : goal.returns-in_err-turn_off-in-Cuts-clause-ended

@@ -5,7 +5,7 @@ use Rattle.bench_report.specs.Happens.{unpowered}
 use Rattle.script_lang.specs.Lines.{IsLineInRange}
 use Rattle.bench_sweep.specs.Shown.{run_cell}
 use Rattle.bench_sweep.proofs.ShownRows.{refused_so, shows_from, shows_none}
-use Rattle.bench_sweep.proofs.Exits.{err_exit}
+use Rattle.board_model.proofs.Exits.{err_exit}
 use Rattle.bench_sweep.proofs.shown.show_from.Goals as goal
 
 pub write_shown-requires-clause-back : goal.write_shown-requires-clause-back

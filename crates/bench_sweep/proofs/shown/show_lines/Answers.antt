@@ -9,7 +9,7 @@ use Rattle.bench_sweep.specs.Shown.{ShowsFrom, ShowsNone}
 use Rattle.bench_sweep.proofs.Made.{rest_is}
 use Rattle.bench_sweep.proofs.Reported.{swept_take, swept_drop}
 use Rattle.bench_sweep.proofs.ShownRows.{refused_so}
-use Rattle.bench_sweep.proofs.Exits.{err_exit}
+use Rattle.board_model.proofs.Exits.{err_exit}
 use Rattle.bench_sweep.proofs.shown.show_lines.Goals as goal
 
 pub show_from-requires-clause-lines : goal.show_from-requires-clause-lines

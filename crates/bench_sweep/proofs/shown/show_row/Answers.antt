@@ -5,7 +5,7 @@ use Rattle.script_lang.specs.declared.line.Line.{Line}
 use Rattle.bench_sweep.specs.Shown.{IsBehind}
 use Rattle.bench_sweep.proofs.Scripts.{swept, unswept, no_fault, fault_told, memory_told}
 use Rattle.bench_sweep.proofs.ShownRows.{refused_row}
-use Rattle.bench_sweep.proofs.Exits.{err_exit, err_is}
+use Rattle.board_model.proofs.Exits.{err_exit, err_is}
 use Rattle.bench_sweep.proofs.shown.show_row.Goals as goal
 
 pub returns-in_err-behind-clause-plain : goal.returns-in_err-behind-clause-plain

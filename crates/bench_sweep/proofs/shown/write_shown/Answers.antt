@@ -4,7 +4,7 @@ use Rattle.std.proofs.lemmas.Result.{on_ok_weaker, IfOk-from_err}
 use Rattle.script_lang.specs.Lines.{FitsLine}
 use Rattle.script_lang.specs.declared.line.Line.{Line}
 use Rattle.bench_sweep.proofs.ShownRows.{row_in_range, wrote_script}
-use Rattle.bench_sweep.proofs.Exits.{err_said}
+use Rattle.board_model.proofs.Exits.{err_said}
 use Rattle.bench_sweep.proofs.shown.write_shown.Goals as goal
 
 pub returns-clause-wrote : goal.returns-clause-wrote

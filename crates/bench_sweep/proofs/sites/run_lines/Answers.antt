@@ -10,7 +10,7 @@ use Rattle.bench_sweep.proofs.Took.{took_more}
 use Rattle.bench_sweep.proofs.sites.run_lines.Given.{Over}
 use Rattle.bench_sweep.proofs.sites.run_lines.Goals.{After-stops, in-Command+in_ok-run_command-in-Command, in_default+in_ok-going-in_default}
 use Rattle.std.proofs.lemmas.Result.{IfOk-from_err}
-use Rattle.bench_sweep.proofs.Exits.{err_exit}
+use Rattle.board_model.proofs.Exits.{err_exit}
 use Rattle.bench_sweep.proofs.sites.run_lines.Goals as goal
 
 -- the line's step was made, whichever function ran it

@@ -8,7 +8,7 @@ use Rattle.jobs.proofs.Chunked.{chunks_handed}
 use Rattle.bench_sweep.proofs.Reported.{reports_as, reports_none}
 use Rattle.bench_sweep.proofs.Rowed.{all_points}
 use Rattle.bench_sweep.proofs.Written.{window_of_calls}
-use Rattle.bench_sweep.proofs.Exits.{err_exit}
+use Rattle.board_model.proofs.Exits.{err_exit}
 use Rattle.bench_sweep.proofs.sweeps.run_at_calls.Goals as goal
 
 pub hand_on_all-requires-clause-has : goal.hand_on_all-requires-clause-has

@@ -3,7 +3,7 @@ use Rattle.std.proofs.lemmas.Result.{IfOk-from_err}
 use Rattle.script_lang.specs.Views.{view}
 use Rattle.bench_sweep.proofs.Scripts.{swept, unswept, no_fault, fault_told, memory_told}
 use Rattle.bench_sweep.proofs.Written.{wrote_all}
-use Rattle.bench_sweep.proofs.Exits.{err_exit, err_is}
+use Rattle.board_model.proofs.Exits.{err_exit, err_is}
 use Rattle.bench_sweep.proofs.sweeps.run_bench.Goals as goal
 
 pub returns-clause-plain : goal.returns-clause-plain

@@ -1,7 +1,7 @@
 use Rattle.std.proofs.Common.{inl, inr, ⊎_elim, refl}
 use Rattle.std.proofs.lemmas.Result.{IfOk-from_err}
 use Rattle.script_lang.specs.Views.{view}
-use Rattle.bench_sweep.proofs.Exits.{err_said, err_exit}
+use Rattle.board_model.proofs.Exits.{err_said, err_exit}
 use Rattle.bench_sweep.proofs.Scripts.{unswept}
 use Rattle.bench_sweep.proofs.sweeps.run_bench_recovered.Goals as goal
 

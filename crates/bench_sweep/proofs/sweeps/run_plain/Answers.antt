@@ -7,7 +7,7 @@ use Rattle.bench_sweep.proofs.Left.{off_sits}
 use Rattle.bench_sweep.proofs.Made.{none_yet, sits_at, went_more, rest_is, ends_at, took_on}
 use Rattle.bench_sweep.proofs.Reported.{swept_take, swept_drop, stays_within}
 use Rattle.std.proofs.lemmas.Result.{IfOk-from_err}
-use Rattle.bench_sweep.proofs.Exits.{err_exit}
+use Rattle.board_model.proofs.Exits.{err_exit}
 use Rattle.bench_sweep.proofs.sweeps.run_plain.Goals as goal
 
 pub loop-from-init : goal.loop-from-init

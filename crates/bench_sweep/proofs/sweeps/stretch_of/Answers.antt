@@ -7,7 +7,7 @@ use Rattle.bench_sweep.proofs.Left.{calm_off}
 use Rattle.bench_sweep.proofs.Ran.{life_of}
 use Rattle.bench_sweep.proofs.Took.{took_since}
 use Rattle.std.proofs.lemmas.Result.{IfOk-from_err}
-use Rattle.bench_sweep.proofs.Exits.{err_exit}
+use Rattle.board_model.proofs.Exits.{err_exit}
 use Rattle.bench_sweep.proofs.sweeps.stretch_of.Goals as goal
 
 pub returns-clause-lives : goal.returns-clause-lives

@@ -10,7 +10,7 @@ use Rattle.jobs.proofs.Pieces.{window_none, window_at, own_is}
 use Rattle.bench_sweep.proofs.Made.{zip_long, zip_more, zip_same}
 use Rattle.bench_sweep.proofs.Reported.{reports_none, reports_more, reports_as}
 use Rattle.bench_sweep.proofs.Written.{next_caller, total_more, all_long}
-use Rattle.bench_sweep.proofs.Exits.{err_exit}
+use Rattle.board_model.proofs.Exits.{err_exit}
 use Rattle.std.proofs.lemmas.Result.{IfOk-from_err}
 use Rattle.bench_sweep.proofs.sweeps.sweep_all_callers.Goals as goal
 

@@ -4,7 +4,7 @@ use Rattle.report_lines.specs.declared.printed.Printed.{Printed}
 use Rattle.bench_sweep.specs.Made.{Recovers}
 use Rattle.bench_report.specs.Happens.{unpowered}
 use Rattle.bench_sweep.proofs.Made.{plain_run, uncut_run}
-use Rattle.bench_sweep.proofs.Exits.{err_exit}
+use Rattle.board_model.proofs.Exits.{err_exit}
 use Rattle.bench_sweep.proofs.sweeps.sweep_site.Goals as goal
 
 pub looks_of-requires-clause-sits : goal.looks_of-requires-clause-sits

@@ -2,7 +2,7 @@ use Rattle.std.proofs.Common.{inl, refl, inr}
 use Rattle.debug_session.proofs.Histories.{place_hart}
 use Rattle.debug_session.proofs.Backs.{went_back}
 use Rattle.std.proofs.lemmas.Result.{IfOk-from_err}
-use Rattle.debug_session.proofs.Exits.{err_exit}
+use Rattle.board_model.proofs.Exits.{err_exit}
 use Rattle.debug_session.proofs.back.go_back.Goals as goal
 
 pub returns-in_ok-go_back-in-Some-clause-there : goal.returns-in_ok-go_back-in-Some-clause-there

@@ -2,7 +2,7 @@ use Rattle.std.proofs.Common.{ℕ, List, subst}
 use Rattle.bench_report.specs.Bench.{bench_with}
 use Rattle.debug_session.specs.Lives.{Shows}
 use Rattle.std.proofs.lemmas.Result.{IfOk-from_err}
-use Rattle.debug_session.proofs.Exits.{err_exit}
+use Rattle.board_model.proofs.Exits.{err_exit}
 use Rattle.debug_session.proofs.back.last_halt.Goals as goal
 
 pub last_halt_along-way-requires-clause-shows : goal.last_halt_along-way-requires-clause-shows

@@ -12,7 +12,7 @@ use Rattle.debug_session.specs.declared.back.TurnPlace.{TurnPlace}
 use Rattle.debug_session.specs.Backs.{FoundIn, FoundOf, IsRowPast}
 use Rattle.debug_session.proofs.Backs.{found_line, later_at}
 use Rattle.std.proofs.lemmas.Result.{IfOk-from_err}
-use Rattle.debug_session.proofs.Exits.{err_exit}
+use Rattle.board_model.proofs.Exits.{err_exit}
 use Rattle.debug_session.proofs.back.last_halt_along.Goals as goal
 
 pub loop-number-init : goal.loop-number-init

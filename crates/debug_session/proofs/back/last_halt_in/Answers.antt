@@ -5,7 +5,7 @@ use Rattle.debug_session.specs.Backs.{FoundIn}
 use Rattle.debug_session.specs.Firsts.{one_turn}
 use Rattle.debug_session.proofs.Backs.{found_turn, later_within}
 use Rattle.std.proofs.lemmas.Result.{IfOk-from_err}
-use Rattle.debug_session.proofs.Exits.{err_exit}
+use Rattle.board_model.proofs.Exits.{err_exit}
 use Rattle.debug_session.proofs.back.last_halt_in.Goals as goal
 
 pub loop-k-init : goal.loop-k-init

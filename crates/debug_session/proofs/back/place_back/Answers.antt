@@ -8,7 +8,7 @@ use Rattle.debug_session.specs.Backs.{IsEnd}
 use Rattle.debug_session.specs.Steps.{MakesNone}
 use Rattle.debug_session.proofs.Backs.{end_first, end_found, some_more}
 use Rattle.std.proofs.lemmas.Result.{IfOk-from_err}
-use Rattle.debug_session.proofs.Exits.{err_exit}
+use Rattle.board_model.proofs.Exits.{err_exit}
 use Rattle.debug_session.proofs.back.place_back.Goals as goal
 
 pub returns-in-Some-clause-end : goal.returns-in-Some-clause-end

@@ -11,7 +11,7 @@ use Rattle.debug_session.specs.Backs.{IsSeen}
 use Rattle.debug_session.proofs.Backs.{is_seen}
 use Rattle.debug_session.proofs.Firsts.{touched_along}
 use Rattle.std.proofs.lemmas.Result.{IfOk-from_err}
-use Rattle.debug_session.proofs.Exits.{err_exit}
+use Rattle.board_model.proofs.Exits.{err_exit}
 use Rattle.debug_session.proofs.back.seen_back.Goals as goal
 
 pub returns-clause-seen : goal.returns-clause-seen

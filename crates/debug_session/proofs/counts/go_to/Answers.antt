@@ -3,7 +3,7 @@ use Rattle.script_lang.specs.declared.line.Line.{Line}
 use Rattle.debug_session.specs.Turns.{turns_made}
 use Rattle.debug_session.proofs.Turns.{went_to}
 use Rattle.std.proofs.lemmas.Result.{IfOk-from_err}
-use Rattle.debug_session.proofs.Exits.{err_exit}
+use Rattle.board_model.proofs.Exits.{err_exit}
 use Rattle.debug_session.proofs.counts.go_to.Goals as goal
 
 pub returns-clause-went : goal.returns-clause-went

@@ -2,7 +2,7 @@ use Rattle.std.proofs.Common.{None, Some, ◌≡◌, ℕ, Bool, List, true, fals
 use Rattle.debug_session.proofs.Firsts.{halt_then, no_halt, none_along, other_halt}
 use Rattle.debug_session.proofs.Wents.{left_went, part_more, went_none, left_same}
 use Rattle.std.proofs.lemmas.Result.{IfOk-from_err}
-use Rattle.debug_session.proofs.Exits.{err_exit}
+use Rattle.board_model.proofs.Exits.{err_exit}
 use Rattle.debug_session.proofs.forth.go.Goals as goal
 
 pub parts-init : goal.parts-init

@@ -5,7 +5,7 @@ use Rattle.debug_session.proofs.Firsts.{tells_on, untouched, watched_halts}
 use Rattle.debug_session.proofs.Wents.{few_of, went_of}
 use Rattle.debug_session.proofs.Withins.{made_one}
 use Rattle.std.proofs.lemmas.Result.{IfOk-from_err}
-use Rattle.debug_session.proofs.Exits.{err_exit}
+use Rattle.board_model.proofs.Exits.{err_exit}
 use Rattle.debug_session.proofs.forth.loading_turn.Goals as goal
 
 pub returns-clause-went : goal.returns-clause-went

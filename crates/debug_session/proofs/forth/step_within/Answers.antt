@@ -7,7 +7,7 @@ use Rattle.debug_session.proofs.Firsts.{halt_then, no_halt, other_halt, tells_se
 use Rattle.debug_session.proofs.Wents.{few_went, step_more, went_none}
 use Rattle.debug_session.proofs.Withins.{stayed_more, stayed_none, steps_asked, steps_halt, steps_idle, steps_out, steps_spent}
 use Rattle.std.proofs.lemmas.Result.{IfOk-from_err}
-use Rattle.debug_session.proofs.Exits.{err_exit}
+use Rattle.board_model.proofs.Exits.{err_exit}
 use Rattle.debug_session.proofs.forth.step_within.Goals as goal
 
 pub loop-done-init : goal.loop-done-init

@@ -1,6 +1,6 @@
 use Rattle.debug_session.proofs.Wents.{stretched}
 use Rattle.std.proofs.lemmas.Result.{IfOk-from_err}
-use Rattle.debug_session.proofs.Exits.{err_exit}
+use Rattle.board_model.proofs.Exits.{err_exit}
 use Rattle.debug_session.proofs.forth.stretch.Goals as goal
 
 pub turns_to-requires-clause-at : goal.turns_to-requires-clause-at

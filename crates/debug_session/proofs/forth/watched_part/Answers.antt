@@ -5,7 +5,7 @@ use Rattle.debug_session.specs.declared.debugged.DebuggedBench.{DebuggedBench}
 use Rattle.debug_session.proofs.Firsts.{halt_more, halt_then, no_halt, none_of, tells_seen}
 use Rattle.debug_session.proofs.Wents.{went_more, went_none}
 use Rattle.std.proofs.lemmas.Result.{IfOk-from_err}
-use Rattle.debug_session.proofs.Exits.{err_exit}
+use Rattle.board_model.proofs.Exits.{err_exit}
 use Rattle.debug_session.proofs.forth.watched_part.Goals as goal
 
 pub loop-sum-init : goal.loop-sum-init

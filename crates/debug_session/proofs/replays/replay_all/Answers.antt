@@ -10,7 +10,7 @@ use Rattle.debug_session.specs.Ats.{GoesOnBy}
 use Rattle.debug_session.specs.Lives.{Shows}
 use Rattle.debug_session.proofs.Timelines.{Left, again_more}
 use Rattle.std.proofs.lemmas.Result.{IfOk-from_err}
-use Rattle.debug_session.proofs.Exits.{err_exit}
+use Rattle.board_model.proofs.Exits.{err_exit}
 use Rattle.debug_session.proofs.replays.replay_all.Goals as goal
 
 pub loop-line-init : goal.loop-line-init

@@ -3,7 +3,7 @@ use Rattle.std.specs.Vec.Iter.{into_iter_items}
 use Rattle.script_lang.specs.declared.line.Line.{Line}
 use Rattle.debug_session.proofs.Places.{noted_more}
 use Rattle.std.proofs.lemmas.Result.{IfOk-from_err}
-use Rattle.debug_session.proofs.Exits.{err_exit}
+use Rattle.board_model.proofs.Exits.{err_exit}
 use Rattle.debug_session.proofs.session.run_all.Goals as goal
 
 pub loop-line-preserved : goal.loop-line-preserved

@@ -1,7 +1,7 @@
 use Rattle.std.proofs.Common.{◌≡◌, ◌+◌, subst, arith}
 use Rattle.jobs.proofs.HandedOn.{handed_both}
 use Rattle.std.proofs.lemmas.Result.{IfOk-from_err}
-use Rattle.jobs.proofs.Exits.{err_exit}
+use Rattle.board_model.proofs.Exits.{err_exit}
 use Rattle.jobs.proofs.windows.hand_on_all.Goals as goal
 
 pub run_window-requires-clause-has : goal.run_window-requires-clause-has

@@ -1,5 +1,5 @@
 use Rattle.std.proofs.lemmas.Result.{IfOk-from_err}
-use Rattle.bench_sweep.proofs.Exits.{err_exit}
+use Rattle.board_model.proofs.Exits.{err_exit}
 use Rattle.bench_sweep.proofs.chunks.RunsAtCalls.next_rows.Goals as goal
 
 pub run_to-requires-clause-sits : goal.run_to-requires-clause-sits

@@ -5,7 +5,7 @@ use Rattle.bench_sweep.proofs.Along.{along, came_again}
 use Rattle.bench_sweep.proofs.Made.{rest_is}
 use Rattle.bench_sweep.proofs.Reported.{swept_take, swept_drop}
 use Rattle.bench_sweep.proofs.Rowed.{judged_at}
-use Rattle.bench_sweep.proofs.Exits.{err_exit}
+use Rattle.board_model.proofs.Exits.{err_exit}
 use Rattle.bench_sweep.proofs.chunks.RunsAtCalls.rows_at.Goals as goal
 
 pub run_at_point-requires-clause-lines : goal.run_at_point-requires-clause-lines

@@ -6,7 +6,7 @@ use Rattle.bench_sweep.specs.Recovers.{compared}
 use Rattle.bench_sweep.specs.Reports.{IsOfCall}
 use Rattle.bench_sweep.specs.declared.judging.PointRows.{PointRows}
 use Rattle.bench_sweep.proofs.Along.{rows_more}
-use Rattle.bench_sweep.proofs.Exits.{err_exit}
+use Rattle.board_model.proofs.Exits.{err_exit}
 use Rattle.std.proofs.lemmas.Result.{IfOk-from_err}
 use Rattle.bench_sweep.proofs.chunks.RunsAtCalls.rows_of.Goals as goal
 

@@ -7,7 +7,7 @@ use Rattle.debug_session.specs.declared.stops.WatchKind.TheVariants as kinds
 use Rattle.debug_session.specs.Firsts.{seen_all, seen_by}
 use Rattle.debug_session.proofs.Firsts.{seen_more}
 use Rattle.std.proofs.lemmas.Result.{IfOk-from_err}
-use Rattle.debug_session.proofs.Exits.{err_said}
+use Rattle.board_model.proofs.Exits.{err_said}
 use Rattle.debug_session.proofs.stops.Stops.watched.Goals as goal
 
 pub loop-watch-preserved : goal.loop-watch-preserved

@@ -1,6 +1,6 @@
 use Rattle.std.proofs.Common.{refl}
 use Rattle.std.proofs.lemmas.Result.{IfOk-from_err}
-use Rattle.debug_session.proofs.Exits.{err_exit}
+use Rattle.board_model.proofs.Exits.{err_exit}
 use Rattle.debug_session.proofs.timeline.Timeline.again.Goals as goal
 
 pub returns-in_err-bench-clause-history : goal.returns-in_err-bench-clause-history

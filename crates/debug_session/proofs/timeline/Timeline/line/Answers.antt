@@ -1,6 +1,6 @@
 use Rattle.debug_session.proofs.Timelines.{ran_other}
 use Rattle.std.proofs.lemmas.Result.{IfOk-from_err}
-use Rattle.debug_session.proofs.Exits.{err_exit}
+use Rattle.board_model.proofs.Exits.{err_exit}
 use Rattle.debug_session.proofs.timeline.Timeline.line.Goals as goal
 
 pub returns-in_default-clause-ran : goal.returns-in_default-clause-ran

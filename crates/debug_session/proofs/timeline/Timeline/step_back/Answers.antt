@@ -3,7 +3,7 @@ use Rattle.std.specs.Bool.{MatchBool}
 use Rattle.bench_live.specs.Pasts.{IsRowCut}
 use Rattle.debug_session.proofs.Histories.{row_cut_ranges}
 use Rattle.std.proofs.lemmas.Result.{IfOk-from_err}
-use Rattle.debug_session.proofs.Exits.{err_exit}
+use Rattle.board_model.proofs.Exits.{err_exit}
 use Rattle.debug_session.proofs.timeline.Timeline.step_back.Goals as goal
 
 pub again-requires-clause-ranges : goal.again-requires-clause-ranges

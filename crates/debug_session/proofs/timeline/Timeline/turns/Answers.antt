@@ -6,7 +6,7 @@ use Rattle.script_lang.specs.declared.line.Line.TheVariants as lines
 use Rattle.simdisk.specs.declared.fill.Fill.TheVariants as fills
 use Rattle.debug_session.proofs.Timelines.{row_left}
 use Rattle.std.proofs.lemmas.Result.{IfOk-from_err}
-use Rattle.debug_session.proofs.Exits.{err_exit}
+use Rattle.board_model.proofs.Exits.{err_exit}
 use Rattle.debug_session.proofs.timeline.Timeline.turns.Goals as goal
 
 pub returns-clause-at : goal.returns-clause-at

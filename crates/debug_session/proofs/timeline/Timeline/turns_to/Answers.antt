@@ -5,7 +5,7 @@ use Rattle.debug_session.specs.Lives.{Rests}
 use Rattle.debug_session.specs.Passes.{GoesTo}
 use Rattle.debug_session.proofs.Timelines.{row_left}
 use Rattle.std.proofs.lemmas.Result.{IfOk-from_err}
-use Rattle.debug_session.proofs.Exits.{err_exit}
+use Rattle.board_model.proofs.Exits.{err_exit}
 use Rattle.debug_session.proofs.timeline.Timeline.turns_to.Goals as goal
 
 pub returns-clause-at : goal.returns-clause-at
