@@ -8,9 +8,3 @@ pub err_exit : {T E : Type 0} (Q : E → Type 0) (r : Result T E) (e : E) → Is
 err_exit {T} {E} Q r e is q =
     let p = err_from_is_err_and r is in
     subst (λ (x : Result T E). IfErr x Q) (sym p.1) (subst Q (sym p.2) q)
-
--- with one of which that is known
-pub err_said : {T E : Type 0} (Q R : E → Type 0) (r : Result T E) → IsErrAnd r R → ((y : E) → R y → Q y) → IfErr r Q
-err_said {T} {E} Q R r is so =
-    let p = err_from_is_err_and r is in
-    subst (λ (x : Result T E). IfErr x Q) (sym p.1) (so p.0 p.2)
