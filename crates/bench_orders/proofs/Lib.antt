@@ -3,5 +3,4 @@ pub mod Deals
 pub mod Parts
 pub mod Preemptions
 pub mod SeenRows
-pub mod Texts
 pub mod CopiedLines

@@ -2,4 +2,3 @@ pub mod Deals
 pub mod Orders
 pub mod Preempted
 pub mod Drawn
-pub mod Texts

@@ -1,5 +1,5 @@
 //! Orders of turns, right by how they are made: whatever is drawn, each hart gets its turns between two other lines. And how
-//! lines are copied, and written as a script.
+//! lines are copied.
 #![tactic(auto)]
 
 mod copies;
@@ -7,21 +7,17 @@ mod deal;
 mod draws;
 mod laws;
 mod led_orders;
-mod lines_fit;
 mod preempted;
 mod quotas;
 mod rows;
 mod schedules;
-mod scripts;
 
 pub use copies::copied_row;
 pub use laws::{
     orders_keep_lines, preemptions_add_one_line, preemptions_are_orders, rows_may_change,
 };
 pub use led_orders::{Slice, led};
-pub use lines_fit::{fits, shape_in_range};
 pub use preempted::{others_length, parted};
 pub use quotas::{Front, harts, total};
 pub use rows::is_turn;
 pub use schedules::{generator, schedule};
-pub use scripts::write_script;

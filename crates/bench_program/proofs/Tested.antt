@@ -4,7 +4,7 @@ use Rattle.std.proofs.lemmas.List.{append-nil, drop_more, take_all}
 use Rattle.std.specs.Io.KnownBytes.{Appends}
 use Rattle.std.specs.List.{starts_with}
 use Rattle.bench_program.specs.Taps.{failed_count, failed_lines, failed_text, last_behind, last_of_two, tells_apart}
-use Rattle.report_lines.proofs.Written.{appended}
+use Rattle.board_model.proofs.Written.{appended}
 
 -- ---- a line that tells of a difference
 here : (line : List ℕ) → starts_with nat_eq line (codes " own ") ≡ true → tells_apart line ≡ true

@@ -9,7 +9,7 @@ use Rattle.clap.specs.declared.error.kind.ErrorKind.{ErrorKind}
 use Rattle.clap.specs.declared.parser.matches.Found.{Found}
 use Rattle.clap.specs.declared.builder.value_parser.ValueParser.{ValueParser}
 use Rattle.clap.specs.declared.builder.value_parser.ValueParser.TheVariants.{NonEmptyString, Unsigned}
-use Rattle.script_lang.specs.Words.{number_of}
+use Rattle.script_lang.specs.Words.{number_of, seed_of}
 use Rattle.command_line.specs.Flags.{flag_rule}
 use Rattle.command_line.specs.Kinds.{no_work}
 use Rattle.command_line.specs.Options.{option_rule, path_named, path_rule, payload_paths, value_rule, with_payloads}
@@ -136,11 +136,6 @@ row_of word work = None
 abbrev pub bench_or_row : Option (List ℕ) → Option Work → Option Work
 bench_or_row None work = work
 bench_or_row (Some word) work = row_of word work
-
--- what schedules are drawn from: 1 if no word says it
-abbrev pub seed_of : Option (List ℕ) → Option ℕ
-seed_of None = Some 1
-seed_of (Some word) = number_of word
 
 abbrev pub show_number : ℕ → Option ℕ → Option Work
 show_number seed None = None

@@ -6,8 +6,7 @@ ghost use Rattle.std.specs.Io.KnownBytes.{Appends};
 ghost use Rattle.board_model.specs.declared.refusal.Refusal.TheVariants.{Memory, Output};
 ghost use Rattle.bench_program.specs.Taps.{counts_text, failed_count, failed_lines, failed_text, last_behind, last_of_two, tap_lines, tap_text, tells_apart, well_word};
 
-use board_model::Refusal;
-use report_lines::unwritten;
+use board_model::{Refusal, unwritten};
 use std::alloc::{AllocError, Global};
 use std::io::Write;
 
@@ -34,7 +33,7 @@ fn parts(alloc: Global, text: &[u8]) -> Result<Vec<&[u8]>, AllocError>
 }
 
 /// Writes a line that tells of a difference, as a test that failed.
-#[tactic(auto, using(report_lines::proofs::Written::appended))]
+#[tactic(auto, using(board_model::proofs::Written::appended))]
 fn write_failed<W: Write>(out: &mut W, number: u64, line: &[u8]) -> Result<(), Refusal>
     ensures ok { OnOk result (Appends (W.contents out.old) (W.contents out.new) (failed_text number line.now)) }
     ensures err { IfErr result (λ e. (e ≡ Memory) ⊎ (e ≡ Output)) }
@@ -100,7 +99,7 @@ fn well_word(well: bool) -> &'static str
 }
 
 /// Writes the last test, with the line of the counts, and the plan.
-#[tactic(auto, using(report_lines::proofs::Written::appended))]
+#[tactic(auto, using(board_model::proofs::Written::appended))]
 fn write_counts<W: Write>(out: &mut W, well: bool, number: u64, line: &[u8]) -> Result<(), Refusal>
     ensures ok { OnOk result (Appends (W.contents out.old) (W.contents out.new) (counts_text well number line.now)) }
     ensures err { IfErr result (λ e. (e ≡ Memory) ⊎ (e ≡ Output)) }

@@ -8,7 +8,7 @@ ghost use Rattle.clap.specs.declared.builder.value_parser.ValueParser.{ValuePars
 ghost use Rattle.command_line.specs.Kinds.{no_work};
 ghost use Rattle.command_line.specs.Parses.{AreParsed};
 ghost use Rattle.bench_sweep.specs.Swept.{whole};
-ghost use Rattle.bench_program.specs.Usage.{bench_or_row, number_up_to, count_rule, crew_rule, jobs_rule, part_between, part_named, parted, work_of_flags, schedules_named, preempt_or_show, preemptions_named, without_options, savers_of, sbibench, script_rule, seed_of, Flags, IsBounded, compare_or_show, quietly, tested, without_benches, with_manners, with_part, with_preemptions, with_quiet, with_schedules, with_recovery, with_tap, work_asked, work_by, work_without, AreApart, AreOptions, IsFlag, IsNamedBy, NamesConflict, NamesNoWork};
+ghost use Rattle.bench_program.specs.Usage.{bench_or_row, number_up_to, count_rule, crew_rule, jobs_rule, part_between, part_named, parted, work_of_flags, schedules_named, preempt_or_show, preemptions_named, without_options, savers_of, sbibench, script_rule, Flags, IsBounded, compare_or_show, quietly, tested, without_benches, with_manners, with_part, with_preemptions, with_quiet, with_schedules, with_recovery, with_tap, work_asked, work_by, work_without, AreApart, AreOptions, IsFlag, IsNamedBy, NamesConflict, NamesNoWork};
 
 use bench_schedules::{OrderBounds, SchedulePlan, Wanted};
 use bench_sweep::{BenchKind, SweepPlan, WantedRow};
@@ -20,7 +20,7 @@ use command_line::{
     flag, option, parse, path, path_given, payload_paths, program, release, with_payloads,
 };
 use jobs::Part;
-use script_lang::number;
+use script_lang::{number, seed_of};
 use std::alloc::{AllocError, Global};
 use std::convert::AsStr;
 
@@ -345,16 +345,6 @@ fn number_up_to(most: u64, word: &str) -> Option<u64>
         return None;
     }
     Some(number)
-}
-
-/// The seed that a word spells; 1 without a word.
-fn seed_of(word: Option<&str>) -> Option<u64>
-    ensures { result ≡ seed_of (option_map (λ s. s.now) word.entry) }
-{
-    match word {
-        None => Some(1),
-        Some(word) => number(word.as_bytes()),
-    }
 }
 
 /// The work over so many schedules of that seed: to compare them all, or to show or to shrink the one that a word names. None where

@@ -11,7 +11,7 @@ use Rattle.report_lines.specs.declared.printed.Answer.{Answer}
 use Rattle.report_lines.specs.declared.report.Report.{Report}
 use Rattle.report_lines.specs.Texts.{found_count, answer_text, report_text, line_count, found_states}
 use Rattle.report_lines.specs.Counts.{Adds, Reported}
-use Rattle.report_lines.proofs.Written.{appended}
+use Rattle.board_model.proofs.Written.{appended}
 
 text_more : (answers : List Answer) (a : Answer) → report_text (answers ++ a ∷ []) ≡ report_text answers ++ answer_text a
 text_more answers a = flat_map-append answer_text answers (a ∷ []) ∙ ap (λ z. report_text answers ++ z) (append-nil (answer_text a))

@@ -1,6 +1,6 @@
 -- The first line in which what is told of two answers is another.
 use Rattle.std.proofs.Common.{◌≡◌, ◌≢◌, ◌∙◌, ℕ, List, [], ◌∷◌, ◌++◌, Option, None, Some, MatchOption, get_or, refl, sym, ap, subst, arith, append_assoc}
-use Rattle.board_console.specs.Texts.{state_text}
+use Rattle.board_model.specs.Texts.{state_text}
 use Rattle.board_model.specs.declared.console_command.ConsoleCommand.TheVariants as commands
 use Rattle.board_model.specs.declared.durable.Durable.{Durable}
 use Rattle.machine.specs.declared.line.MachineLine.TheVariants as lines

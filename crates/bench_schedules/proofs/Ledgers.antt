@@ -5,7 +5,7 @@ use Rattle.jobs.specs.Handed.{AreRows}
 use Rattle.std.specs.Fmt.{decimal}
 use Rattle.std.specs.Io.KnownBytes.{Appends}
 use Rattle.script_lang.specs.Scripts.{Script}
-use Rattle.report_lines.proofs.Written.{appended, unwritten}
+use Rattle.board_model.proofs.Written.{appended, unwritten}
 use Rattle.report_lines.specs.declared.printed.Answer.{Answer}
 use Rattle.bench_schedules.specs.declared.runs.Difference.{Difference}
 use Rattle.bench_schedules.specs.Schedules.{Ran, RunText, RunsText, Source, Wrote, differing, tight_text}

@@ -6,7 +6,7 @@ use Rattle.std.proofs.lemmas.List.Elements.{All-append, All-cons, All-head, All-
 use Rattle.std.specs.Io.KnownBytes.{Appends}
 use Rattle.board_model.specs.Shapes.{Size}
 use Rattle.script_lang.specs.declared.line.Line.{Line}
-use Rattle.report_lines.proofs.Written.{appended, unwritten}
+use Rattle.board_model.proofs.Written.{appended, unwritten}
 use Rattle.report_lines.specs.declared.printed.Answer.{Answer}
 use Rattle.bench_schedules.specs.declared.runs.Difference.{Difference}
 use Rattle.bench_schedules.specs.Schedules.{RanLike, RanOwn, RanWell, differing, other_answers}

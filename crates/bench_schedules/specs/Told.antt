@@ -1,25 +1,18 @@
 -- What is told of an answer, and where two answers first differ in it. Source: docs/SCRIPT.md, "Schedules".
 use Rattle.std.specs.Prelude.{◌≡◌, ◌≢◌, ℕ, List, [], ◌∷◌, ◌++◌, Option, None, Some}
-use Rattle.std.specs.Fmt.{decimal}
-use Rattle.board_console.specs.Texts.{state_text}
+use Rattle.board_model.specs.Texts.{image_text, state_text}
 use Rattle.board_model.specs.declared.durable.Durable.{Durable}
 use Rattle.board_model.specs.declared.durable.ImageHead.{ImageHead}
-use Rattle.machine.specs.Texts.{hex_text}
 use Rattle.report_lines.specs.Texts.{line_text}
 use Rattle.report_lines.specs.declared.printed.Answer.{Answer}
 use Rattle.bench_schedules.specs.declared.told.ToldLine.{ToldLine}
 use Rattle.bench_schedules.specs.declared.told.ToldLine.TheVariants.{Found, Image, Line}
 use lib.Chars.{codes}
 
--- what stands of an image beside its memory, but for the serial, which the line `found` has
-abbrev pub head_text : ImageHead → List ℕ
-head_text head =
-    codes "hart " ++ (decimal head.hart ++ (codes " address 0x" ++ (hex_text 16 head.address ++ (codes " opaque 0x"
-    ++ hex_text 16 head.opaque))))
-
+-- what stands of the image that was found, if one was
 abbrev pub image_line : Option ImageHead → List ℕ
 image_line None = codes "image none"
-image_line (Some head) = codes "image " ++ head_text head
+image_line (Some head) = image_text head
 
 abbrev pub told_text : ToldLine → List ℕ
 told_text (Found d) = codes "found " ++ state_text d

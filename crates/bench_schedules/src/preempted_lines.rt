@@ -10,8 +10,7 @@ use crate::numbers::number_at;
 use crate::points::Preemption;
 use crate::runs::Difference;
 use crate::told::{ToldApart, first_apart};
-use board_model::Refusal;
-use report_lines::unwritten;
+use board_model::{Refusal, unwritten};
 use std::alloc::Global;
 use std::io::Write;
 

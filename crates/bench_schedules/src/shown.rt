@@ -16,15 +16,13 @@ use crate::numbers::line_numbers;
 use crate::orders::try_depths;
 use crate::own_runs::run_own;
 use crate::points::Preemption;
-use bench_orders::{
-    copied_row, fits, parted, preemptions_are_orders, shape_in_range, write_script,
-};
+use bench_orders::{copied_row, parted, preemptions_are_orders};
 use bench_report::Setting;
 use board::Payloads;
-use board_model::{Refusal, Shape};
+use board_model::{Refusal, Shape, shape_in_range};
 use crew::{Crew, Sequential};
 use jobs::{Jobs, Progress};
-use script_lang::{Line, Script, parse_script, scripts_read_as_written};
+use script_lang::{Line, Script, fits, parse_script, scripts_read_as_written, write_script};
 use std::alloc::Global;
 use std::io::{Write, sink};
 use std::thread::Threads;

@@ -1,30 +1,13 @@
 //! What is told of two answers: the first line in which they are another.
 
 ghost use Rattle.std.specs.Prelude.{◌≡◌, ◌≢◌, ◌∷◌, [], Some, None, IfOk, MatchOption};
-ghost use Rattle.bench_schedules.specs.Told.{IsFirstApart, head_text, told_lines, told_text};
+ghost use Rattle.bench_schedules.specs.Told.{IsFirstApart, told_lines, told_text};
 ghost use Rattle.bench_schedules.specs.declared.told.ToldLine.TheVariants as told;
 
-use board_console::StateText;
-use board_model::{Durable, ImageHead};
-use machine::Value;
+use board_model::{Durable, ImageHead, ImageText, StateText};
 use report_lines::{Answer, Printed};
 use std::alloc::{AllocError, Global};
 use std::fmt;
-
-/// What an image holds beside its memory, but for the serial, which the line `found` has.
-#[derive(Drop)]
-struct ToldHeadText(ImageHead);
-
-impl fmt::Display for ToldHeadText {
-    ghost output = { λ h. Some (head_text h.0) };
-
-    fn fmt<W: fmt::Write>(&self, f: &mut fmt::Formatter<W>) -> fmt::Result {
-        let hart = self.0.hart.number();
-        let address = Value(self.0.address.value());
-        let opaque = Value(self.0.opaque);
-        write!(f, "hart {hart} address 0x{address} opaque 0x{opaque}")
-    }
-}
 
 /// A line of what is told of an answer.
 #[derive(Clone, Copy, Drop)]
@@ -48,8 +31,8 @@ impl fmt::Display for ToldLine {
             }
             ToldLine::Image(None) => f.write_str("image none"),
             ToldLine::Image(Some(head)) => {
-                let text = ToldHeadText(head);
-                write!(f, "image {text}")
+                let text = ImageText(head);
+                write!(f, "{text}")
             }
             ToldLine::Line(line) => write!(f, "{line}"),
         }

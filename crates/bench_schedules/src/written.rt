@@ -9,9 +9,8 @@ ghost use Rattle.bench_schedules.specs.Told.{IsFirstApart, told_lines, told_text
 
 use crate::runs::Difference;
 use crate::told::{ToldApart, first_apart};
-use board_model::Refusal;
+use board_model::{Refusal, unwritten};
 use jobs::{Part, PartText};
-use report_lines::unwritten;
 use std::alloc::Global;
 use std::io::Write;
 

@@ -24,7 +24,7 @@ use Rattle.board_model.specs.Shapes.{Size}
 use Rattle.script_lang.specs.declared.line.Line.{Line}
 use Rattle.bench_report.specs.Bench.{Bench}
 use Rattle.bench_report.specs.Happens.{off, unpowered}
-use Rattle.report_lines.proofs.Written.{appended, unwritten}
+use Rattle.board_model.proofs.Written.{appended, unwritten}
 use Rattle.bench_sweep.specs.Made.{IsFormatted, IsPlainRun, IsUncut, IsRunOf}
 use Rattle.bench_sweep.specs.Points.{MadeCalls}
 use Rattle.bench_sweep.specs.Took.{RunTook, StandsOn}

@@ -4,7 +4,7 @@ use Rattle.std.specs.Fmt.{decimal}
 use Rattle.board_model.specs.declared.durable.Durable.{Durable}
 use Rattle.simdisk.specs.declared.fill.Fill.{Fill}
 use Rattle.script_lang.specs.Words.{fill_text}
-use Rattle.board_console.specs.Texts.{state_text}
+use Rattle.board_model.specs.Texts.{state_text}
 use Rattle.report_lines.specs.Texts.{line_text}
 use Rattle.report_lines.specs.declared.printed.Answer.{Answer}
 use Rattle.report_lines.specs.declared.printed.Printed.{Printed}

@@ -3,7 +3,7 @@
 ghost use Rattle.std.specs.Prelude.{◌≡◌, ◌⊎◌, ℕ, List, None, Some, IfErr, IfOk, OnOk};
 ghost use Rattle.board_model.specs.Durable.{DurableState};
 ghost use Rattle.board_model.specs.Plains.{state_in, IsPlainOf};
-ghost use Rattle.board_model.specs.Shapes.{Size, IsSize};
+ghost use Rattle.board_model.specs.Shapes.{Size};
 ghost use Rattle.board_model.specs.Views.{durable_of};
 ghost use Rattle.board_model.specs.declared.plain.Plain.{Plain as State};
 ghost use Rattle.board_model.specs.declared.refusal.Refusal.TheVariants.{Memory};
@@ -23,7 +23,7 @@ use crate::judges::Sweep;
 use crate::ledgers::RunLedger;
 use bench_report::{Answer, OffDisk, Power, Printed, power_on};
 use board::{Board, BoardParts, Payloads};
-use board_model::{BootMode, Bytes, Durable, Plain, Refusal, Shape};
+use board_model::{BootMode, Bytes, Durable, Plain, Refusal, Shape, shape_in_range};
 use ram::Ram;
 use simdisk::SimDisk;
 use std::alloc::Global;
@@ -126,15 +126,6 @@ fn found_by(
     }
 }
 
-/// Each number of a shape is within its range.
-fn sizes(shape: &Shape)
-    ensures { IsSize shape.now }
-{
-    let _harts = shape.harts();
-    let _pages = shape.pages();
-    let _lanes = shape.lanes();
-}
-
 /// Powers a board on that keeps its image, and looks what was found. Its slots are empty, whatever the script's are:
 /// it makes no turn, and is not refused for a payload that is longer than RAM. Refused `Memory` alone.
 fn look_at(alloc: Global, shape: &Shape, off: OffDisk) -> Result<FoundPlain, Refusal>
@@ -145,7 +136,7 @@ fn look_at(alloc: Global, shape: &Shape, off: OffDisk) -> Result<FoundPlain, Ref
     ensures exact { IfOk result (λ found. OpensOf (facts off.disk).content found.left) }
     ensures refused { IfErr result (λ e. e ≡ Memory) }
 {
-    sizes(shape);
+    shape_in_range(shape);
     let empty = Payloads::new(alloc);
     let (power, left, _now) = power_on(alloc, BootMode::Keep, off, &empty);
     let plain = found_by(alloc, power, left.found, left.line)?;

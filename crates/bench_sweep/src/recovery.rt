@@ -7,9 +7,7 @@ ghost use Rattle.bench_report.specs.Bench.{Bench};
 ghost use Rattle.report_lines.specs.Texts.{line_text};
 ghost use Rattle.report_lines.specs.declared.printed.Printed.{Printed as Said};
 ghost use Rattle.script_lang.specs.Lines.{IsLineInRange};
-ghost use Rattle.script_lang.specs.Spellings.{board_text};
 ghost use Rattle.script_lang.specs.Views.{view};
-ghost use Rattle.std.specs.String.{string_bytes};
 ghost use Rattle.bench_sweep.specs.Recovers.{behind_board, fault_behind, is_look, look_numbers, IsFaulty, Says, TellsFirst};
 ghost use Rattle.bench_sweep.specs.Made.{Recovers};
 ghost use Rattle.bench_sweep.specs.Lines.{LineAdds, LineSays};
@@ -22,7 +20,7 @@ use crate::sites::{run_line, say_still_line};
 use bench_report::{Printed, Setting};
 use board_model::{Refusal, Shape};
 use crew::Crew;
-use script_lang::{Line, Script, parse_script};
+use script_lang::{Line, Script, board_line, parse_script};
 use std::alloc::{AllocError, Global};
 
 /// Lines that run behind each run of a bench, and what the looks among them have to say. Without lines nothing runs.
@@ -60,16 +58,6 @@ fn is_look(line: &Line) -> bool
         Line::Show(_) | Line::Inspect => true,
         _ => false,
     }
-}
-
-/// The board line of that shape, without a line feed.
-fn board_line(alloc: Global, shape: &Shape) -> Result<String, AllocError>
-    ensures { IfOk result (λ text. string_bytes text ≡ board_text shape.now) }
-{
-    let harts = shape.harts();
-    let pages = shape.pages();
-    let lanes = shape.lanes();
-    format!(in alloc; "board {harts} {pages} {lanes}")
 }
 
 /// The bytes of a script whose board line names that shape, and whose other lines are these.

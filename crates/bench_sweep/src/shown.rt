@@ -23,12 +23,13 @@ use crate::runner::Runner;
 use crate::site::{Going, Site};
 use crate::sites::{Went, run_lines};
 use crate::sweeps::{calls_between, check_plain, check_recovery, run_plain};
-use bench_orders::{fits, shape_in_range, write_script};
 use bench_report::Setting;
 use board::Payloads;
-use board_model::{BootMode, Refusal, Shape};
+use board_model::{BootMode, Refusal, Shape, shape_in_range};
 use crew::{Crew, Sequential};
-use script_lang::{Arming, Line, Script, parse_script, scripts_read_as_written};
+use script_lang::{
+    Arming, Line, Script, fits, parse_script, scripts_read_as_written, write_script,
+};
 use simdisk::Fill;
 use std::alloc::{AllocError, Global};
 use std::io::Write;

@@ -3,3 +3,5 @@ pub mod Console
 pub mod Exits
 pub mod Steps
 pub mod Table
+pub mod Written
+pub mod Padded

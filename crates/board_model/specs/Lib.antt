@@ -6,3 +6,4 @@ pub mod ConsoleCommands
 pub mod Plains
 pub mod Trials
 pub mod HartSets
+pub mod Texts

@@ -1,10 +1,12 @@
 //! Why a call was refused.
 
-ghost use Rattle.std.specs.Prelude.{◌≡◌, ℕ};
+ghost use Rattle.std.specs.Prelude.{◌≡◌, ◌≢◌, ◌⊎◌, ℕ};
+ghost use Rattle.std.specs.IoError.{error_kind};
 ghost use Rattle.board_model.specs.Views.{number_of_refusal};
 ghost use Rattle.board_model.specs.declared.refusal.Refusal.TheVariants.{Memory};
 
 use std::alloc::{AllocError, AllocFailed};
+use std::io::{self, ErrorKind};
 use thiserror::Error;
 
 /// Why a call was refused. What stands after each refusal is said at the calls, and in docs/REFUSALS.md.
@@ -130,5 +132,17 @@ impl<T: Drop> From<AllocFailed<T>> for Refusal {
 
     fn from(_e: AllocFailed<T>) -> Refusal {
         Refusal::Memory
+    }
+}
+
+/// Why a line was not written: `Memory` (11) where the writer was refused memory, and else `Output` (16), as docs/REFUSALS.md has them.
+pub fn unwritten(error: io::Error) -> Refusal
+    ensures { ((error_kind error ≡ ErrorKind.OutOfMemory) × (result ≡ Refusal.Memory))
+        ⊎ ((error_kind error ≢ ErrorKind.OutOfMemory) × (result ≡ Refusal.Output)) }
+{
+    if error.kind() == ErrorKind::OutOfMemory {
+        Refusal::Memory
+    } else {
+        Refusal::Output
     }
 }

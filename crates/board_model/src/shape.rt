@@ -143,3 +143,10 @@ impl Shape {
         Addr::new(address)
     }
 }
+
+/// Each number of a shape is within its range.
+pub fn shape_in_range(shape: &Shape)
+    ensures { IsSize shape.now }
+{
+    let _harts = shape.harts;
+}

@@ -3,7 +3,7 @@ use Rattle.std.specs.Prelude.{ℕ, Bool, true, false, List, [], ◌∷◌, ◌++
 use Rattle.std.specs.Fmt.{decimal}
 use Rattle.hsm.specs.declared.state.State.{State}
 use Rattle.hsm.specs.declared.state.State.TheVariants as states
-use Rattle.machine.specs.Texts.{hex_text}
+use Rattle.board_model.specs.Texts.{hex_text}
 use Rattle.hart_threads.specs.Ends.{Ending}
 use Rattle.hart_threads.specs.declared.ends.ShutBy.{ShutBy}
 use Rattle.hart_threads.specs.declared.ends.ShutBy.TheVariants.{Life, Console}

@@ -3,9 +3,9 @@
 ghost use Rattle.std.specs.Prelude.{◌≡◌, Some};
 ghost use Rattle.board_program.specs.HartTexts.{doze_text, line_text, lines_text, loop_text, place_text, reason_text, state_text, trap_text};
 
+use board_model::Value;
 use hart_threads::{HartEnd, ShutBy, Why};
 use hsm::State;
-use machine::Value;
 use std::fmt;
 
 /// The name of a state.

@@ -7,7 +7,7 @@ use Rattle.clap.specs.declared.error.kind.ErrorKind.TheVariants.{ValueValidation
 use Rattle.clap.specs.declared.parser.matches.Found.{Found}
 use Rattle.command_line.specs.Options.{path_named, payload_paths}
 use Rattle.command_line.specs.Parses.{AreParsed}
-use Rattle.script_lang.specs.Words.{number_of}
+use Rattle.script_lang.specs.Words.{number_of, seed_of}
 use Rattle.debug_program.specs.Limits.{IsUpTo}
 use Rattle.debug_program.specs.Usage.{sbigdb}
 use Rattle.debug_program.specs.declared.given.Begin.{Begin}
@@ -19,11 +19,6 @@ use lib.Chars.{codes}
 abbrev pub number_up_to : ℕ → Option ℕ → Option ℕ
 number_up_to most None = None
 number_up_to most (Some n) = if nat_lt n 1 then None else (if nat_lt most n then None else Some n)
-
--- what schedules are drawn from: 1 if no word says it
-abbrev pub seed_of : Option (List ℕ) → Option ℕ
-seed_of None = Some 1
-seed_of (Some word) = number_of word
 
 abbrev pub drawn_by : Option ℕ → Option ℕ → Option Begin
 drawn_by None seed = None

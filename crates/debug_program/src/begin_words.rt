@@ -2,13 +2,13 @@
 
 ghost use Rattle.std.specs.Prelude.{◌≡◌, IfSome};
 ghost use Rattle.std.specs.Option.{option_map};
-ghost use Rattle.script_lang.specs.Words.{number_of};
+ghost use Rattle.script_lang.specs.Words.{number_of, seed_of};
 ghost use Rattle.debug_program.specs.Limits.{IsBounded, IsUpTo};
-ghost use Rattle.debug_program.specs.Reads.{begin_alone, begin_named, drawn_by, is_true, number_up_to, order_named, ordered_by, row_by, row_named, seed_of, with_row, without_order};
+ghost use Rattle.debug_program.specs.Reads.{begin_alone, begin_named, drawn_by, is_true, number_up_to, order_named, ordered_by, row_by, row_named, with_row, without_order};
 
 use crate::given::{Begin, OrderChoice, ScheduleChoice};
 use crate::help::{MOST_NUMBER, MOST_PREEMPTIONS};
-use script_lang::number;
+use script_lang::{number, seed_of};
 
 /// A number that a word spells, from 1 to `most`.
 fn number_up_to(most: u64, word: &str) -> Option<u64>
@@ -22,16 +22,6 @@ fn number_up_to(most: u64, word: &str) -> Option<u64>
         return None;
     }
     Some(number)
-}
-
-/// The seed that a word spells; 1 without a word.
-fn seed_of(word: Option<&str>) -> Option<u64>
-    ensures { result ≡ seed_of (option_map (λ s. s.now) word.entry) }
-{
-    match word {
-        None => Some(1),
-        Some(word) => number(word.as_bytes()),
-    }
 }
 
 /// Where a schedule parts, by its number and what it is drawn from.

@@ -6,22 +6,12 @@ ghost use Rattle.board_model.specs.declared.refusal.Refusal.TheVariants.{Memory}
 ghost use Rattle.bench_report.specs.Bench.{no_payloads};
 ghost use Rattle.debug_session.specs.Texts.{begin_text, begins_text, history_text, lines_text};
 ghost use Rattle.script_lang.specs.Scripts.{script_of};
-ghost use Rattle.script_lang.specs.Spellings.{IsWritable, board_text};
+ghost use Rattle.script_lang.specs.Spellings.{IsWritable};
 
 use board::Payloads;
 use board_model::{Refusal, Shape, Slot};
-use script_lang::{Line, LineText, scripts_read_as_written};
+use script_lang::{Line, LineText, board_line, scripts_read_as_written};
 use std::alloc::{AllocError, Global};
-
-/// The board line.
-fn board_line(alloc: Global, shape: &Shape) -> Result<String, AllocError>
-    ensures { IfOk result (λ text. string_bytes text ≡ board_text shape.now) }
-{
-    let harts = shape.harts();
-    let pages = shape.pages();
-    let lanes = shape.lanes();
-    format!(in alloc; "board {harts} {pages} {lanes}")
-}
 
 /// Adds a comment that names the payload with which a slot begins, where it begins with one.
 fn add_begin(

@@ -7,8 +7,7 @@ ghost use Rattle.debug_talk.specs.Texts.{HandOver, board_line, console_packet, h
 
 use crate::answers::PacketPayloads;
 use bench_report::Answer;
-use board_console::StateText;
-use board_model::{Durable, HartId, Refusal, Shape};
+use board_model::{Durable, HartId, Refusal, Shape, StateText};
 use crew::Crew;
 use debug_session::Session;
 use gdb_protocol::put_hex;

@@ -3,45 +3,28 @@
 ghost use Rattle.std.specs.Prelude.{◌≡◌, [], Some, OnOk, IfErr};
 ghost use Rattle.std.specs.Io.Buffered.{writer_buffer, writer_contents};
 ghost use Rattle.std.specs.Io.KnownBytes.{Appends};
-ghost use Rattle.disk_program.specs.Texts.{head_text, image_text, found_text, seen_text};
+ghost use Rattle.disk_program.specs.Texts.{standing_image_text, found_text, seen_text};
 
-use board_console::StateText;
-use board_model::{ImageHead, Refusal};
+use board_model::{ImageHead, ImageText, Refusal, StateText};
 use command_line::write_to_end;
 use examined::{FoundState, InspectionText, Seen};
-use machine::Value;
 use std::fmt;
 use std::io::{BufWriter, Write};
-
-/// What an image holds beside its memory, but for the serial, which the line `found` has.
-#[derive(Drop)]
-struct HeadText(ImageHead);
-
-impl fmt::Display for HeadText {
-    ghost output = { λ h. Some (head_text h.0) };
-
-    fn fmt<W: fmt::Write>(&self, f: &mut fmt::Formatter<W>) -> fmt::Result {
-        let hart = self.0.hart.number();
-        let address = Value(self.0.address.value());
-        let opaque = Value(self.0.opaque);
-        write!(f, "hart {hart} address 0x{address} opaque 0x{opaque}")
-    }
-}
 
 /// The line of an image, which has so many pages, or nothing where there is none.
 #[derive(Drop)]
 struct StandingImageText(Option<ImageHead>, u32);
 
 impl fmt::Display for StandingImageText {
-    ghost output = { λ i. Some (image_text i.1 i.0) };
+    ghost output = { λ i. Some (standing_image_text i.1 i.0) };
 
     fn fmt<W: fmt::Write>(&self, f: &mut fmt::Formatter<W>) -> fmt::Result {
         match self.0 {
             None => Ok(()),
             Some(head) => {
-                let text = HeadText(head);
+                let image = ImageText(head);
                 let pages = self.1;
-                writeln!(f, "image {text} pages {pages}")
+                writeln!(f, "{image} pages {pages}")
             }
         }
     }

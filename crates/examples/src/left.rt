@@ -7,8 +7,7 @@ ghost use Rattle.store.specs.Leaves.{IsIdle};
 
 use bench_report::{StoppedRun, run_left};
 use board::{Board, Payloads, Unpowered};
-use board_console::StateText;
-use board_model::{BootMode, Durable};
+use board_model::{BootMode, Durable, StateText};
 use crew::Crew;
 use simdisk::SimDisk;
 use std::alloc::Global;

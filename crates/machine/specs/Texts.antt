@@ -1,8 +1,9 @@
 -- The exact text of the report lines that show a board's memory and harts. Source: docs/SCRIPT.md.
-use Rattle.std.specs.Prelude.{ℕ, List, ◌++◌, ◌-◌, length, replicate, take, false}
-use Rattle.std.specs.Fmt.{decimal, digits, signed_decimal}
+use Rattle.std.specs.Prelude.{ℕ, List, ◌++◌, take}
+use Rattle.std.specs.Fmt.{decimal, signed_decimal}
 use Rattle.std.specs.Int.{cast_signed, w64}
 use Rattle.std.specs.List.{flat_map}
+use Rattle.board_model.specs.Texts.{hex_text}
 use Rattle.sbi_calls.specs.declared.words.Did.{Did}
 use Rattle.sbi_calls.specs.declared.words.Did.TheVariants.{Idle, Entered, Woke, Resumed, Next, Suspended, Stopped, Dozing}
 use Rattle.sbi.specs.declared.resets.ResetType.{ResetType}
@@ -14,10 +15,6 @@ use Rattle.sbi.specs.declared.words.Word.TheVariants.{Goes, Over}
 use Rattle.machine.specs.declared.line.MachineLine.{MachineLine}
 use Rattle.machine.specs.declared.line.MachineLine.TheVariants as lines
 use lib.Chars.{codes}
-
--- a number in so many hexadecimal digits, in lower case
-abbrev pub hex_text : ℕ → ℕ → List ℕ
-hex_text width n = replicate (width - length (digits 16 false n)) 48 ++ digits 16 false n
 
 abbrev pub bytes_text : List ℕ → List ℕ
 bytes_text bytes = flat_map (hex_text 2) bytes

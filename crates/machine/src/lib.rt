@@ -18,7 +18,7 @@ mod states;
 
 pub use hsm::State;
 pub use laws::{a_doze_stands, one_turn};
-pub use line::{MachineLine, MemBytes, Value};
+pub use line::{MachineLine, MemBytes};
 pub use line_laws::one_line;
 pub use machine::Machine;
 pub use parts::Parts;

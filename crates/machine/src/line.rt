@@ -3,9 +3,10 @@
 ghost use Rattle.std.specs.Prelude.{◌≡◌, ◌++◌, ◌≤◌, Some, take};
 ghost use Rattle.std.specs.Fmt.{WritesOnOk};
 ghost use Rattle.machine.specs.declared.line.MachineLine.TheVariants as lines;
-ghost use Rattle.machine.specs.Texts.{did_text, end_text, word_text, hex_text, bytes_text, machine_line_text};
+ghost use Rattle.board_model.specs.Texts.{hex_text};
+ghost use Rattle.machine.specs.Texts.{did_text, end_text, word_text, bytes_text, machine_line_text};
 
-use board_model::{HartId, Slot};
+use board_model::{HartId, Slot, Value};
 use sbi::{Did, LifeEnd, ResetType, Word};
 use std::fmt;
 
@@ -81,19 +82,6 @@ fn word_name(word: Word) -> &'static str
     match word {
         Word::Goes(did) => did_name(did),
         Word::Over(end) => end_name(end),
-    }
-}
-
-/// A value of 64 bits in 16 hexadecimal digits, in lower case and without a prefix.
-#[derive(Drop)]
-pub struct Value(pub u64);
-
-impl fmt::Display for Value {
-    ghost output = { λ v. Some (hex_text 16 v.0) };
-
-    fn fmt<W: fmt::Write>(&self, f: &mut fmt::Formatter<W>) -> fmt::Result {
-        let value = self.0;
-        write!(f, "{value:016x}")
     }
 }
 

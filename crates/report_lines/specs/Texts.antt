@@ -4,7 +4,7 @@ use Rattle.std.specs.Fmt.{decimal}
 use Rattle.std.specs.List.{flat_map, sum_by, filter_map}
 use Rattle.board_model.specs.declared.durable.Durable.{Durable}
 use Rattle.board_model.specs.ConsoleCommands.{word_of}
-use Rattle.board_console.specs.Texts.{state_text}
+use Rattle.board_model.specs.Texts.{state_text}
 use Rattle.script_lang.specs.Lines.{mode_text}
 use Rattle.machine.specs.Texts.{machine_line_text}
 use Rattle.examined.specs.Texts.{inspection_text}

@@ -5,4 +5,4 @@ mod printed;
 mod report;
 
 pub use printed::{Answer, Printed};
-pub use report::{Report, add, unwritten};
+pub use report::{Report, add};

@@ -1,15 +1,13 @@
 //! A report: what writes its lines, and counts them.
 
-ghost use Rattle.std.specs.Prelude.{◌≡◌, ◌≢◌, ◌⊎◌, ◌<◌, ◌^◌, IfErr, OnOk};
+ghost use Rattle.std.specs.Prelude.{◌≡◌, ◌⊎◌, ◌<◌, ◌^◌, IfErr, OnOk};
 ghost use Rattle.std.specs.Io.KnownBytes.{Appends};
-ghost use Rattle.std.specs.IoError.{error_kind};
 ghost use Rattle.report_lines.specs.Texts.{answer_text, found_line};
 ghost use Rattle.report_lines.specs.Counts.{Adds};
 
 use crate::printed::{Answer, Printed};
-use board_console::StateText;
-use board_model::{Durable, Refusal};
-use std::io::{self, ErrorKind, Write};
+use board_model::{Durable, Refusal, StateText, unwritten};
+use std::io::{self, Write};
 
 /// How many lines a run wrote, and what each power-on found (docs/SCRIPT.md, "The report").
 #[derive(Drop)]
@@ -18,18 +16,6 @@ pub struct Report {
     pub lines: u64,
     /// The states of the lines that begin with `found`, in their order.
     pub found: Vec<Durable>,
-}
-
-/// Why a line was not written: `Memory` (11) where the writer was refused memory, and else `Output` (16), as docs/REFUSALS.md has them.
-pub fn unwritten(error: io::Error) -> Refusal
-    ensures { ((error_kind error ≡ ErrorKind.OutOfMemory) × (result ≡ Refusal.Memory))
-        ⊎ ((error_kind error ≢ ErrorKind.OutOfMemory) × (result ≡ Refusal.Output)) }
-{
-    if error.kind() == ErrorKind::OutOfMemory {
-        Refusal::Memory
-    } else {
-        Refusal::Output
-    }
 }
 
 /// Writes the line of what an open found, where one did.
@@ -43,7 +29,7 @@ fn write_found<W: Write>(out: &mut W, found: &Option<Durable>) -> io::Result<()>
 }
 
 /// Writes the lines of an answer.
-#[tactic(auto, using(crate::proofs::Written::appended))]
+#[tactic(auto, using(board_model::proofs::Written::appended))]
 fn write_answer<W: Write>(out: &mut W, answer: &Answer) -> io::Result<()>
     ensures ok { OnOk result (Appends (W.contents out.old) (W.contents out.new) (answer_text answer.now)) }
 {

@@ -44,6 +44,11 @@ numeral_of radix most digits =
 abbrev pub number_of : List ℕ → Option ℕ
 number_of word = if bytes_eq (take 2 word) (codes "0x") then numeral_of 16 16 (drop 2 word) else numeral_of 10 20 word
 
+-- the seed that a word spells, if there is one; 1 where there is none
+abbrev pub seed_of : Option (List ℕ) → Option ℕ
+seed_of None = Some 1
+seed_of (Some word) = number_of word
+
 -- a number from `least` on and below a bound
 abbrev pub ranged : ℕ → ℕ → List ℕ → Option ℕ
 ranged least bound word = do

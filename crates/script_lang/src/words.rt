@@ -2,7 +2,7 @@
 
 ghost use Rattle.std.specs.Prelude.{◌≡◌, ◌≤◌, ◌*◌, ◌^◌, ◌<◌, length, map, IfSome, IfOk};
 ghost use Rattle.std.specs.Option.{option_map};
-ghost use Rattle.script_lang.specs.Words.{digits_after, numeral_of, number_of, ranged, fill_of, hex_of, alone, none_of, IsCount, one_of, two_of, three_of};
+ghost use Rattle.script_lang.specs.Words.{digits_after, numeral_of, number_of, ranged, fill_of, hex_of, seed_of, alone, none_of, IsCount, one_of, two_of, three_of};
 
 use board_model::{Bytes, HartId, Shape};
 use hex::FromHexError;
@@ -64,6 +64,16 @@ pub fn in_range(least: u64, bound: u64, word: &[u8]) -> Option<u32>
         Some(n as u32)
     } else {
         None
+    }
+}
+
+/// The seed that a word spells; 1 without a word.
+pub fn seed_of(word: Option<&str>) -> Option<u64>
+    ensures { result ≡ seed_of (option_map (λ s. s.now) word.entry) }
+{
+    match word {
+        None => Some(1),
+        Some(word) => number(word.as_bytes()),
     }
 }
 

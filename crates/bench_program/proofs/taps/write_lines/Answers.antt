@@ -2,7 +2,7 @@ use Rattle.std.proofs.Common.{◌+◌, ◌++◌, ℕ, List, Bor, [], codes, map,
 use Rattle.std.proofs.lemmas.Result.{on_ok_weaker}
 use Rattle.std.specs.Io.KnownBytes.{Appends}
 use Rattle.bench_program.specs.Taps.{counts_text, failed_count, failed_lines, last_behind}
-use Rattle.report_lines.proofs.Written.{appended}
+use Rattle.board_model.proofs.Written.{appended}
 use Rattle.bench_program.proofs.taps.write_lines.Goals as goal
 
 pub returns-clause-ok : goal.returns-clause-ok

@@ -9,7 +9,7 @@ use Rattle.script_lang.specs.Views.{view}
 use Rattle.bench_report.proofs.Prefixed.{prefix_law, end_law}
 use Rattle.bench_report.proofs.Devices.{may_find}
 use Rattle.bench_report.proofs.Found.{all_found}
-use Rattle.report_lines.proofs.Written.{unwritten}
+use Rattle.board_model.proofs.Written.{unwritten}
 use Rattle.bench_report.proofs.Told.{reported_more}
 use Rattle.bench_report.proofs.runs.run_script.Goals as goal
 

@@ -1,5 +1,5 @@
 use Rattle.std.proofs.Common.{[], ◌++◌}
-use Rattle.report_lines.proofs.Written.{unwritten}
+use Rattle.board_model.proofs.Written.{unwritten}
 use Rattle.bench_schedules.proofs.Ledgers.{tight_more}
 use Rattle.bench_schedules.proofs.benches.write_all_tight.Goals as goal
 

@@ -1,6 +1,6 @@
 use Rattle.std.proofs.Common.{[], ◌∷◌}
 use Rattle.std.proofs.lemmas.Result.{on_ok_weaker}
-use Rattle.report_lines.proofs.Written.{unwritten}
+use Rattle.board_model.proofs.Written.{unwritten}
 use Rattle.bench_schedules.proofs.benches.write_one_tight.Goals as goal
 
 pub returns-then-place-gt65535-clause-ok : goal.returns-then-place-gt65535-clause-ok

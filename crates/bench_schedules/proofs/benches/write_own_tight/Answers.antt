@@ -1,7 +1,7 @@
 use Rattle.std.proofs.Common.{◌∙◌, Bool, [], if◌then◌else◌, sym, subst}
 use Rattle.std.proofs.lemmas.Result.{on_ok_weaker}
 use Rattle.std.specs.Io.KnownBytes.{Appends}
-use Rattle.report_lines.proofs.Written.{unwritten}
+use Rattle.board_model.proofs.Written.{unwritten}
 use Rattle.bench_schedules.specs.Schedules.{tight_text}
 use Rattle.bench_schedules.proofs.benches.write_own_tight.Goals as goal
 

@@ -1,6 +1,6 @@
 use Rattle.std.proofs.Common.{List, ℕ, subst, arith}
 use Rattle.std.specs.Io.KnownBytes.{Appends}
-use Rattle.report_lines.proofs.Written.{appended, unwritten}
+use Rattle.board_model.proofs.Written.{appended, unwritten}
 use Rattle.std.proofs.lemmas.List.{take_all}
 use Rattle.bench_sweep.specs.declared.rows.Row.{Row}
 use Rattle.bench_sweep.specs.Swept.{rows_text}

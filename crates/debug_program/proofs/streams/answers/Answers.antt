@@ -1,6 +1,6 @@
 use Rattle.std.proofs.Common.{[], ◌∷◌, ◌++◌, ◌∙◌, inl, inr, refl, sym}
 use Rattle.std.proofs.iter.Next.{Yields-more}
-use Rattle.report_lines.proofs.Written.{appended, unwritten}
+use Rattle.board_model.proofs.Written.{appended, unwritten}
 use Rattle.debug_program.proofs.Responses.{given_from, one_more}
 use Rattle.debug_program.proofs.streams.answers.Goals as goal
 

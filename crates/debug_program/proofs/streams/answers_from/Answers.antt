@@ -1,6 +1,6 @@
 use Rattle.std.proofs.Common.{[], Option, refl, sym, subst}
 use Rattle.std.proofs.lemmas.Result.{on_ok_weaker}
-use Rattle.report_lines.proofs.Written.{unwritten}
+use Rattle.board_model.proofs.Written.{unwritten}
 use Rattle.gdb_protocol.specs.declared.heard.PacketEvent.{PacketEvent}
 use Rattle.debug_program.specs.Responses.{AnswersFrom}
 use Rattle.debug_program.proofs.streams.answers_from.Goals as goal

@@ -1,6 +1,6 @@
 use Rattle.std.proofs.Common.{◌++◌}
 use Rattle.std.proofs.lemmas.Result.{on_ok_weaker}
-use Rattle.report_lines.proofs.Written.{appended}
+use Rattle.board_model.proofs.Written.{appended}
 use Rattle.debug_program.specs.Responses.{first_ack}
 use Rattle.debug_program.proofs.Responses.{finite_on, from_given}
 use Rattle.debug_program.proofs.streams.discuss.Goals as goal

@@ -1,6 +1,6 @@
 use Rattle.std.proofs.Common.{◌++◌, Bool, ap}
 use Rattle.std.proofs.lemmas.Result.{on_ok_weaker}
-use Rattle.report_lines.proofs.Written.{appended}
+use Rattle.board_model.proofs.Written.{appended}
 use Rattle.debug_program.specs.Responses.{ack_text}
 use Rattle.debug_program.proofs.streams.take_up.Goals as goal
 

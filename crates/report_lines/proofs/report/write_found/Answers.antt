@@ -1,4 +1,4 @@
-use Rattle.report_lines.proofs.Written.{unwritten}
+use Rattle.board_model.proofs.Written.{unwritten}
 use Rattle.report_lines.proofs.report.write_found.Goals as goal
 
 pub returns-in-None : goal.returns-in-None

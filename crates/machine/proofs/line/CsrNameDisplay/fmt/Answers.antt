@@ -1,7 +1,7 @@
 use Rattle.std.proofs.Common.{◌≡◌, Some, ap}
 use Rattle.std.specs.Fmt.{styled_digits_output}
-use Rattle.machine.specs.Texts.{hex_text}
-use Rattle.machine.proofs.Padded.{padded_zeros}
+use Rattle.board_model.specs.Texts.{hex_text}
+use Rattle.board_model.proofs.Padded.{padded_zeros}
 use Rattle.machine.proofs.line.CsrNameDisplay.fmt.Goals as goal
 
 pub returns-clause-writes : goal.returns-clause-writes

@@ -1,7 +1,7 @@
 use Rattle.std.proofs.Common.{take}
 use Rattle.std.specs.Io.KnownBytes.{Appends}
-use Rattle.bench_orders.specs.Texts.{lines_text}
-use Rattle.bench_orders.proofs.scripts.write_lines.Given as goal
+use Rattle.script_lang.specs.Spellings.{lines_text}
+use Rattle.script_lang.proofs.writing.write_lines.Given as goal
 
 abbrev pub invariant-loop-line : goal.invariant-loop-line
 invariant-loop-line g l = Appends (g.W.Write.contents l.initial.out) (g.W.Write.contents l.out) (lines_text (take l.line-index l.lines))

@@ -3,11 +3,10 @@ use Rattle.std.proofs.Common.{◌≡◌, ◌∙◌, ℕ, List, [], ◌∷◌, �
 use Rattle.std.specs.Io.KnownBytes.{Appends}
 use Rattle.std.specs.List.{join_with_byte}
 use Rattle.board_model.specs.Shapes.{Size}
-use Rattle.report_lines.proofs.Written.{appended}
+use Rattle.board_model.proofs.Written.{appended}
 use Rattle.script_lang.specs.Lines.{text_of}
-use Rattle.script_lang.specs.Spellings.{board_text, script_text}
+use Rattle.script_lang.specs.Spellings.{board_text, lines_text, script_text}
 use Rattle.script_lang.specs.declared.line.Line.{Line}
-use Rattle.bench_orders.specs.Texts.{lines_text}
 
 -- parts that are joined, with a line feed behind the last
 joined : (first : List ℕ) (those : List Line) → join_with_byte 10 (first ∷ map text_of those) ++ 10 ∷ [] ≡ first ++ 10 ∷ lines_text those

@@ -1,14 +1,14 @@
-//! What the types of a shape, and of a line's numbers and bytes, say of them.
+//! What the types of a line's numbers and bytes say of them.
 
 ghost use Rattle.std.specs.Prelude.{All, ◌<◌, ◌^◌};
-ghost use Rattle.board_model.specs.Shapes.{IsSize};
 ghost use Rattle.hex.specs.Hex.{IsBytes};
 ghost use Rattle.script_lang.specs.Armings.{FitsArming};
 ghost use Rattle.script_lang.specs.Lines.{FitsLine};
 ghost use Rattle.script_lang.specs.Words.{FitsFill};
 
-use board_model::{Bytes, CallWords, Shape};
-use script_lang::{Arming, Line};
+use crate::armings::Arming;
+use crate::line::Line;
+use board_model::{Bytes, CallWords};
 use simdisk::Fill;
 
 fn slice_fits(bytes: &[u8])
@@ -76,13 +76,4 @@ pub fn fits(lines: &[Line])
     for line in lines {
         line_fits(line);
     }
-}
-
-/// Each number of a shape is within its range.
-pub fn shape_in_range(shape: &Shape)
-    ensures { IsSize shape.now }
-{
-    let _harts = shape.harts();
-    let _pages = shape.pages();
-    let _lanes = shape.lanes();
 }

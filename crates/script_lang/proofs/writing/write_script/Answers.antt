@@ -1,6 +1,6 @@
 use Rattle.std.proofs.lemmas.Result.{IfOk-from_err}
 use Rattle.board_model.proofs.Exits.{err_exit}
-use Rattle.bench_orders.proofs.scripts.write_script.Goals as goal
+use Rattle.script_lang.proofs.writing.write_script.Goals as goal
 
 pub returns-in_err-write_board-clause-ok : goal.returns-in_err-write_board-clause-ok
 returns-in_err-write_board-clause-ok g c = IfOk-from_err c.from_residual.result _ c.from_residual.ensures.0

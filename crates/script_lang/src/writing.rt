@@ -1,26 +1,48 @@
-//! Lines are written as a script.
+//! A board and lines are written as a script.
 
-ghost use Rattle.std.specs.Prelude.{◌≡◌, ◌⊎◌, ◌++◌, ◌∷◌, [], OnOk, IfErr};
+ghost use Rattle.std.specs.Prelude.{◌≡◌, ◌⊎◌, ◌++◌, ◌∷◌, [], Some, OnOk, IfOk, IfErr};
 ghost use Rattle.std.specs.Io.KnownBytes.{Appends};
+ghost use Rattle.std.specs.String.{string_bytes};
 ghost use Rattle.board_model.specs.declared.refusal.Refusal.TheVariants.{Memory, Output};
 ghost use Rattle.script_lang.specs.Lines.{text_of};
-ghost use Rattle.script_lang.specs.Spellings.{board_text, script_text};
-ghost use Rattle.bench_orders.specs.Texts.{lines_text};
+ghost use Rattle.script_lang.specs.Spellings.{board_text, lines_text, script_text};
 
-use board_model::{Refusal, Shape};
-use report_lines::unwritten;
-use script_lang::{Line, LineText};
+use crate::line::{Line, LineText};
+use board_model::{Refusal, Shape, unwritten};
+use std::alloc::{AllocError, Global};
+use std::fmt;
 use std::io::Write;
+
+/// The board line of that shape, as the language writes it.
+#[derive(Drop)]
+struct BoardText(Shape);
+
+impl fmt::Display for BoardText {
+    ghost output = { λ b. Some (board_text b.0) };
+
+    fn fmt<W: fmt::Write>(&self, f: &mut fmt::Formatter<W>) -> fmt::Result {
+        let harts = self.0.harts();
+        let pages = self.0.pages();
+        let lanes = self.0.lanes();
+        write!(f, "board {harts} {pages} {lanes}")
+    }
+}
+
+/// The board line of that shape, without a line feed.
+pub fn board_line(alloc: Global, shape: &Shape) -> Result<String, AllocError>
+    ensures { IfOk result (λ text. string_bytes text ≡ board_text shape.now) }
+{
+    let board = BoardText(*shape);
+    format!(in alloc; "{board}")
+}
 
 /// Writes the board line.
 fn write_board<W: Write>(out: &mut W, shape: &Shape) -> Result<(), Refusal>
     ensures ok { OnOk result (Appends (W.contents out.old) (W.contents out.new) (board_text shape.now ++ 10 ∷ [])) }
     ensures err { IfErr result (λ e. (e ≡ Memory) ⊎ (e ≡ Output)) }
 {
-    let harts = shape.harts();
-    let pages = shape.pages();
-    let lanes = shape.lanes();
-    writeln!(out, "board {harts} {pages} {lanes}").map_err(|error| unwritten(error))
+    let board = BoardText(*shape);
+    writeln!(out, "{board}").map_err(|error| unwritten(error))
 }
 
 /// Writes a line.

@@ -1,8 +1,8 @@
 use Rattle.std.proofs.Common.{◌≡◌, Some, ap}
 use Rattle.std.specs.Fmt.{styled_digits_output}
-use Rattle.machine.specs.Texts.{hex_text}
-use Rattle.machine.proofs.Padded.{padded_zeros}
-use Rattle.machine.proofs.line.ValueDisplay.fmt.Goals as goal
+use Rattle.board_model.specs.Texts.{hex_text}
+use Rattle.board_model.proofs.Padded.{padded_zeros}
+use Rattle.board_model.proofs.values.ValueDisplay.fmt.Goals as goal
 
 pub returns-clause-writes : goal.returns-clause-writes
 returns-clause-writes g c =

@@ -1,5 +1,5 @@
 use Rattle.std.proofs.Common.{rules}
-use Rattle.report_lines.proofs.report.unwritten.Goals as goal
+use Rattle.board_model.proofs.refusal.unwritten.Goals as goal
 
 pub returns-then-eq : goal.returns-then-eq
 returns-then-eq c = search rules

@@ -2,7 +2,7 @@ use Rattle.std.proofs.Common.{take, All, get_or, sym, subst, [], ◌∷◌}
 use Rattle.std.proofs.lemmas.List.{take_more}
 use Rattle.std.proofs.lemmas.List.Elements.{All-append, All-cons, All-nil}
 use Rattle.script_lang.specs.Lines.{FitsLine}
-use Rattle.bench_orders.proofs.lines_fit.fits.Goals as goal
+use Rattle.script_lang.proofs.lines_fit.fits.Goals as goal
 
 pub loop-line-preserved : goal.loop-line-preserved
 loop-line-preserved c =

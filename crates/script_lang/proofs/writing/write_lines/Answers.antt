@@ -1,6 +1,6 @@
 use Rattle.std.proofs.lemmas.Result.{IfOk-from_err}
 use Rattle.board_model.proofs.Exits.{err_exit}
-use Rattle.bench_orders.proofs.scripts.write_lines.Goals as goal
+use Rattle.script_lang.proofs.writing.write_lines.Goals as goal
 
 pub returns-in_err-write_line-clause-ok : goal.returns-in_err-write_line-clause-ok
 returns-in_err-write_line-clause-ok g c = IfOk-from_err c.from_residual.result _ c.from_residual.ensures.0
