@@ -8,6 +8,7 @@ use Rattle.script_lang.specs.declared.line.Line.{Line}
 use Rattle.script_lang.specs.declared.line.Line.TheVariants as lines
 use Rattle.simdisk.specs.declared.SimDisk.{SimDisk}
 use Rattle.simdisk.specs.declared.fill.Fill.{Fill}
+use Rattle.sbi.specs.Words.{life_goes_on}
 use Rattle.sbi.specs.declared.words.Word.{Word}
 use Rattle.sbi.specs.declared.words.Word.TheVariants as words
 use Rattle.bench_report.specs.Agree.{Agrees, ArmedAlike, ArmsIts, CountsNone, CutsIts, EndsBy, HadEnough, HasDisk, InspectsOrLost, IsBench, Matches, MovesEnough, PokesIts}
@@ -23,7 +24,7 @@ use Rattle.bench_live.specs.declared.rows.TurnRow.{TurnRow}
 use Rattle.bench_live.specs.declared.rows.TurnRow.TheVariants as rows
 use Rattle.bench_live.proofs.InPlace.{lost_of, row_of, step_of}
 use Rattle.report_lines.specs.declared.printed.Answer.{Answer}
-use Rattle.bench_live.specs.Lives.{IsAfter, IsCutIn, IsSettled, LineDid, PowerShows, WentInPlace, stays_on}
+use Rattle.bench_live.specs.Lives.{IsAfter, IsCutIn, IsSettled, LineDid, PowerShows, WentInPlace}
 
 pub runs_on : (size : Size) (line : Line) (fill : Fill) (start : Option Power) (power after : Power) (old new : List (List ℕ)) (r : Result Answer Refusal) → start ≡ Some power
     → ((b : Bench) → IsBench size b power old → MatchResult r (λ answer. (x : Bench) × Moves size line b answer x × EndsBy size line fill b answer after × IsBench size x after new) (λ e. (e ≡ Memory) × Matches size b after new))
@@ -78,7 +79,7 @@ did_on size line fill start power after given old new (Ok answer) is same report
 did_on size line fill start power after given old new (Err e) is same reported arms cuts pokes inspects = tt
 
 -- turns after which the board is on
-pub stays : (size : Size) (word : Word) (x : Bench) (power : Power) → stays_on word ≡ true → IsAfter size word x power → Agrees size x power
+pub stays : (size : Size) (word : Word) (x : Bench) (power : Power) → life_goes_on word ≡ true → IsAfter size word x power → Agrees size x power
 stays size (words.Goes did) x (On board) e is = is
 stays size (words.Goes did) x (Off disk) e is = absurd is
 stays size (words.Over end) x power e is = absurd (let no : ⊥ = cc in no)
@@ -94,7 +95,7 @@ module _ (size : Size) (h n made : ℕ) (word : Word) (b : Bench) (start : Optio
   abbrev Rowed : TurnRow → Option Power → List (List ℕ) → Type 0
   Rowed row end slots = (x : Bench) × RowMoves size h row b x × Moves size (lines.Turn h n) b (row_answer h row) x × PowerShows size x end slots × CountsNone after b x
 
-  pub still_row : stays_on word ≡ true → ((x : Bench) → Agrees size x after → x.fault_state.struck ≡ false) → Rowed (rows.Made made word) (Some after) old
+  pub still_row : life_goes_on word ≡ true → ((x : Bench) → Agrees size x after → x.fault_state.struck ≡ false) → Rowed (rows.Made made word) (Some after) old
   still_row on calm =
       let agrees = stays size word went.0 after on went.5 in
       let quiet = calm went.0 agrees in

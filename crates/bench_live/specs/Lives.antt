@@ -2,7 +2,6 @@
 use Rattle.std.specs.Prelude.{◌≡◌, ⊤, ℕ, Bool, true, false, List, Option, Some, None, Ok}
 use Rattle.board_model.specs.Shapes.{Size}
 use Rattle.sbi.specs.declared.words.Word.{Word}
-use Rattle.sbi.specs.declared.words.Word.TheVariants as words
 use Rattle.bench_report.specs.declared.power.Power.{Power}
 use Rattle.bench_report.specs.declared.power.Power.TheVariants.{Off, On}
 use Rattle.bench_report.specs.Bench.{Bench, BenchLife}
@@ -64,11 +63,6 @@ abbrev pub WentInPlace : Size → ℕ → ℕ → Bench → ℕ → Word → Pow
 WentInPlace size h n b made word after =
     (new : Bench) × (life : BenchLife) × (b.power ≡ Some life) × HasHart life.machine h × GuestTurns h n b made word new
     × IsAfter size word new after × (new.payloads ≡ b.payloads) × CountsNone after b new
-
--- the board is still on after a turn with this word
-abbrev pub stays_on : Word → Bool
-stays_on (words.Goes did) = true
-stays_on (words.Over end) = false
 
 -- the board is there, and on
 abbrev pub IsThere : Option Power → Type 0

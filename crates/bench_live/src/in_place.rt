@@ -7,9 +7,10 @@ ghost use Rattle.bench_report.specs.Bench.{Bench};
 ghost use Rattle.bench_report.specs.Happens.{shows};
 ghost use Rattle.bench_report.specs.Steps.{TurnStep};
 ghost use Rattle.bench_report.specs.Views.{machine_in, store_in, store_fault_state};
-ghost use Rattle.bench_live.specs.Lives.{IsOn, stays_on, WentInPlace};
+ghost use Rattle.bench_live.specs.Lives.{IsOn, WentInPlace};
 ghost use Rattle.machine.specs.Shows.{HasHart};
 ghost use Rattle.machine.specs.declared.line.MachineLine.TheVariants as shown;
+ghost use Rattle.sbi.specs.Words.{life_goes_on};
 
 use crate::laws::idle_turns_change_nothing;
 use crate::rows::is_idle;
@@ -20,16 +21,6 @@ use crew::Crew;
 use machine::Word;
 use simdisk::SimDisk;
 use std::alloc::Global;
-
-/// Whether the board is still on after a turn, by the turn's word.
-fn stays_on(word: Word) -> bool
-    ensures { result ≡ stays_on word }
-{
-    match word {
-        Word::Goes(_) => true,
-        Word::Over(_) => false,
-    }
-}
 
 /// Makes turns of a hart of a board that is on. Answers how many, and the word of the last. An idle turn changes nothing: so a
 /// row that begins with one is idle to its end, and its other turns need not be made.
@@ -91,10 +82,10 @@ pub fn in_place<C: Crew>(
 
 /// Whether the board is still on after a turn, by the turn's word, and no armed cut struck in that turn.
 pub fn is_still_on(power: &Power, word: Word) -> bool
-    ensures on { result ≡ true → stays_on word ≡ true }
+    ensures on { result ≡ true → life_goes_on word ≡ true }
     ensures calm { result ≡ true → IsUnstruck power.now }
     ensures reported { result ≡ true → (size : Size) (b : Bench) → Agrees size b power.now → b.fault_state.struck ≡ false }
 {
     let hit = struck(power);
-    stays_on(word) && !hit
+    word.goes_on() && !hit
 }

@@ -10,7 +10,7 @@ use bench_report::Power;
 use board::Board;
 use board_model::{HartId, RAM_BASE};
 use machine::{MachineLine, State, csr_of};
-use rv_decode::Reg;
+use rv_decode::{Reg, SATP, SCAUSE, SEPC, SIE, SIP, SSCRATCH, SSTATUS, STVAL, STVEC};
 use simdisk::SimDisk;
 
 /// The number of the pc.
@@ -24,15 +24,15 @@ fn csr_at(number: u64) -> u32
     ensures { result ≡ csr_number (csr_shown number) }
 {
     match number {
-        33 => 0x100,
-        34 => 0x104,
-        35 => 0x105,
-        36 => 0x140,
-        37 => 0x141,
-        38 => 0x142,
-        39 => 0x143,
-        40 => 0x144,
-        _ => 0x180,
+        33 => SSTATUS,
+        34 => SIE,
+        35 => STVEC,
+        36 => SSCRATCH,
+        37 => SEPC,
+        38 => SCAUSE,
+        39 => STVAL,
+        40 => SIP,
+        _ => SATP,
     }
 }
 

@@ -9,6 +9,7 @@ use Rattle.hart.specs.State.{ArchState}
 use Rattle.tallies.specs.declared.book_views.PartView.{PartView}
 use Rattle.sbi.specs.declared.words.LifeEnd.{LifeEnd}
 use Rattle.sbi.specs.declared.words.LifeEnd.TheVariants as ends
+use Rattle.sbi.specs.Words.{life_goes_on}
 use Rattle.sbi.specs.declared.words.Word.{Word}
 use Rattle.sbi.specs.declared.words.Word.TheVariants.{Goes, Over}
 use Rattle.sbi_abi.specs.declared.call.Call.{Call}
@@ -19,7 +20,7 @@ use Rattle.shared_store.specs.Called.{AsksFor, IsToldBy}
 use Rattle.shared_store.specs.Noted.{part_after}
 use Rattle.susp.specs.declared.buses.Doze.{Doze}
 use Rattle.hart_threads.specs.Looks.{Looked}
-use Rattle.hart_threads.specs.Threads.{Seated, ComesOnce, TurnOnceBy, TurnOnce, LoopOnce, loop_goes_on, is_end, ends_life}
+use Rattle.hart_threads.specs.Threads.{Seated, ComesOnce, TurnOnceBy, TurnOnce, LoopOnce, is_end, ends_life}
 use Rattle.hart_threads.specs.declared.loops.Why.{Why}
 use Rattle.hart_threads.specs.declared.loops.Why.TheVariants as whys
 
@@ -102,23 +103,23 @@ asks_end size call by ends.Asleep entry (site, opaque, asks, is) = subst (λ (e 
 abbrev pub HasEnd : Option (ℕ × Entry) → Type 0
 HasEnd told = IsTrue (is_some told) × (ends_life told ≡ true)
 
-goes_not : {X : Type 0} (word : Word) → loop_goes_on word ≡ true → loop_goes_on word ≡ false → X
+goes_not : {X : Type 0} (word : Word) → life_goes_on word ≡ true → life_goes_on word ≡ false → X
 goes_not {X} word on off = let n : ⊥ = cc in absurd n
 
-held_told : (size : Size) (call : Call) (by : ℕ) (word : Word) (told : Option (ℕ × Entry)) → IsToldBy size call by word told → loop_goes_on word ≡ false → HasEnd told
+held_told : (size : Size) (call : Call) (by : ℕ) (word : Word) (told : Option (ℕ × Entry)) → IsToldBy size call by word told → life_goes_on word ≡ false → HasEnd told
 held_told size call by (Goes did) told is off = goes_not (Goes did) refl off
 held_told size call by (Over end) told (t, is, asks) off = subst HasEnd (sym is) (refl, asks_end size call by end t.1 asks)
 
-comes_told : (size : Size) (turned : Turned) (a b : Seated) (word : Word) (told : Option (ℕ × Entry)) → ComesOnce size turned a b word told → loop_goes_on word ≡ false → HasEnd told
-comes_told size (Made did) a b word told p off = goes_not word (ap loop_goes_on p.1) off
+comes_told : (size : Size) (turned : Turned) (a b : Seated) (word : Word) (told : Option (ℕ × Entry)) → ComesOnce size turned a b word told → life_goes_on word ≡ false → HasEnd told
+comes_told size (Made did) a b word told p off = goes_not word (ap life_goes_on p.1) off
 comes_told size Durable a b word told p off = held_told size (call_of a.hart) a.hart.id word told p.1 off
 
-told_by : (doze : Option Doze) (size : Size) (begun : List ℕ) (a b : Seated) (word : Word) (told : Option (ℕ × Entry)) → TurnOnceBy doze size begun a b word told → loop_goes_on word ≡ false → HasEnd told
+told_by : (doze : Option Doze) (size : Size) (begun : List ℕ) (a b : Seated) (word : Word) (told : Option (ℕ × Entry)) → TurnOnceBy doze size begun a b word told → life_goes_on word ≡ false → HasEnd told
 told_by None size begun a b word told p off = comes_told size p.2 p.3 b word told p.5 off
-told_by (Some d) size begun a b word told (false, q, none) off = goes_not word (ap loop_goes_on q.1) off
-told_by (Some d) size begun a b word told (true, q, none) off = goes_not word (ap loop_goes_on q.4) off
+told_by (Some d) size begun a b word told (false, q, none) off = goes_not word (ap life_goes_on q.1) off
+told_by (Some d) size begun a b word told (true, q, none) off = goes_not word (ap life_goes_on q.4) off
 
-pub turn_told : (size : Size) (begun : List ℕ) (a b : Seated) (word : Word) (told : Option (ℕ × Entry)) → TurnOnce size begun a b word told → loop_goes_on word ≡ false → HasEnd told
+pub turn_told : (size : Size) (begun : List ℕ) (a b : Seated) (word : Word) (told : Option (ℕ × Entry)) → TurnOnce size begun a b word told → life_goes_on word ≡ false → HasEnd told
 turn_told size begun a b word told p off = told_by a.doze size begun a b word told p off
 
 -- what a part was told that was told nothing before

@@ -7,7 +7,7 @@ use Rattle.shared_store.specs.Called.{IsToldBy}
 use Rattle.shared_store.specs.Noted.{part_after}
 use Rattle.tallies.specs.declared.book_views.PartView.{PartView}
 use Rattle.sbi_abi.specs.Calls.{call_of}
-use Rattle.sbi.specs.Words.{stage_told, word_of_sleep}
+use Rattle.sbi.specs.Words.{life_goes_on, stage_told, word_of_sleep}
 use Rattle.sbi.specs.declared.words.LifeEnd.TheVariants as ends
 use Rattle.sbi.specs.declared.words.Word.{Word}
 use Rattle.sbi.specs.declared.words.Word.TheVariants.{Goes, Over}
@@ -31,7 +31,7 @@ use Rattle.hart_threads.specs.Ends.{AnyAnswer, AnyWord, HasGone}
 use Rattle.hart_threads.specs.Looks.{Looked}
 use Rattle.hart_threads.specs.Refusals.{RefusedCalls}
 use Rattle.hart_threads.specs.Seated.{StandsAfterTurn, StandsAfter}
-use Rattle.hart_threads.specs.Threads.{Seated, seated, HeldOnce, IsDozeBy, RefusedOnce, ComesOnce, OwnOnce, DozeOnce, TurnOnceBy, TurnOnce, TurnsOn, LoopOnce, loop_goes_on}
+use Rattle.hart_threads.specs.Threads.{Seated, seated, HeldOnce, IsDozeBy, RefusedOnce, ComesOnce, OwnOnce, DozeOnce, TurnOnceBy, TurnOnce, TurnsOn, LoopOnce}
 use Rattle.hart_threads.specs.declared.loops.Why.{Why}
 use Rattle.hart_threads.specs.declared.loops.Why.TheVariants as whys
 
@@ -59,12 +59,12 @@ stands_told size call by u t k k' s doze word (inr (inl p)) = subst (λ (w : Wor
 stands_told size call by u t k k' s doze word (inr (inr p)) = subst (λ (w : Word). StandsTold size call by s doze w) (sym p.3) (λ is a. a)
 
 -- at rest or in its doze, where the life goes on
-pub rests_on : (by : ℕ) (s : Seats) (word : Word) (doze : Option Doze) → loop_goes_on word ≡ true → StandsAfterTurn word doze by s → RestsBy doze by s
+pub rests_on : (by : ℕ) (s : Seats) (word : Word) (doze : Option Doze) → life_goes_on word ≡ true → StandsAfterTurn word doze by s → RestsBy doze by s
 rests_on by s (Goes did) doze e stands = stands
 rests_on by s (Over end) doze e stands = let n : ⊥ = cc in absurd n
 
 -- and else after the life's end
-pub stands_over : (by : ℕ) (s : Seats) (word : Word) (doze : Option Doze) → loop_goes_on word ≡ false → StandsAfterTurn word doze by s → StandsAfter whys.Life doze by s
+pub stands_over : (by : ℕ) (s : Seats) (word : Word) (doze : Option Doze) → life_goes_on word ≡ false → StandsAfterTurn word doze by s → StandsAfter whys.Life doze by s
 stands_over by s (Goes did) doze e stands = let n : ⊥ = cc in absurd n
 stands_over by s (Over ends.Asleep) doze e stands = inr stands
 stands_over by s (Over (ends.Reset kind)) doze e stands = inl stands
@@ -118,23 +118,23 @@ held_comes size s t k k' doze after looks r r' turned word told is once has doze
     subst (λ (w : Turned). ComesOnce size w (seated s k doze looks r) (seated t k' after looks r') word told) (sym is) (once, has, dozes, refl, refused)
 
 -- the receipt that a turn has, by whether the life goes on
-held_none : (size : Size) (call : Call) (by : ℕ) (word : Word) (told : Option (ℕ × Entry)) → IsToldBy size call by word told → loop_goes_on word ≡ true → told ≡ None
+held_none : (size : Size) (call : Call) (by : ℕ) (word : Word) (told : Option (ℕ × Entry)) → IsToldBy size call by word told → life_goes_on word ≡ true → told ≡ None
 held_none size call by (Goes did) told is on = is
 held_none size call by (Over end) told is on = let n : ⊥ = cc in absurd n
 
-comes_none : (size : Size) (turned : Turned) (a b : Seated) (word : Word) (told : Option (ℕ × Entry)) → ComesOnce size turned a b word told → loop_goes_on word ≡ true → told ≡ None
+comes_none : (size : Size) (turned : Turned) (a b : Seated) (word : Word) (told : Option (ℕ × Entry)) → ComesOnce size turned a b word told → life_goes_on word ≡ true → told ≡ None
 comes_none size (Made did) a b word told p on = p.2
 comes_none size Durable a b word told p on = held_none size (call_of a.hart) a.hart.id word told p.1 on
 
-none_by : (doze : Option Doze) (size : Size) (begun : List ℕ) (a b : Seated) (word : Word) (told : Option (ℕ × Entry)) → TurnOnceBy doze size begun a b word told → loop_goes_on word ≡ true → told ≡ None
+none_by : (doze : Option Doze) (size : Size) (begun : List ℕ) (a b : Seated) (word : Word) (told : Option (ℕ × Entry)) → TurnOnceBy doze size begun a b word told → life_goes_on word ≡ true → told ≡ None
 none_by None size begun a b word told p on = comes_none size p.2 p.3 b word told p.5 on
 none_by (Some d) size begun a b word told p on = p.2
 
-turn_none : (size : Size) (begun : List ℕ) (a b : Seated) (word : Word) (told : Option (ℕ × Entry)) → TurnOnce size begun a b word told → loop_goes_on word ≡ true → told ≡ None
+turn_none : (size : Size) (begun : List ℕ) (a b : Seated) (word : Word) (told : Option (ℕ × Entry)) → TurnOnce size begun a b word told → life_goes_on word ≡ true → told ≡ None
 turn_none size begun a b word told p on = none_by a.doze size begun a b word told p on
 
 -- ---- one turn more
-pub one_more : (size : Size) (begun : List ℕ) (answers : ℕ → Bool → Type 0) (hears : ℕ → Type 0) (n : ℕ) (a mid b : Seated) (word : Word) (told : Option (ℕ × Entry)) → TurnsOn size begun answers hears n a mid → TurnOnce size begun mid b word told → loop_goes_on word ≡ true
+pub one_more : (size : Size) (begun : List ℕ) (answers : ℕ → Bool → Type 0) (hears : ℕ → Type 0) (n : ℕ) (a mid b : Seated) (word : Word) (told : Option (ℕ × Entry)) → TurnsOn size begun answers hears n a mid → TurnOnce size begun mid b word told → life_goes_on word ≡ true
     → answers n true → hears n → TurnsOn size begun answers hears (n + 1) a b
 one_more size begun answers hears n a mid b word told many once on said heard =
     let e : suc n ≡ n + 1 = omega arith in
@@ -142,12 +142,12 @@ one_more size begun answers hears n a mid b word told many once on said heard =
     subst (λ (k : ℕ). TurnsOn size begun answers hears k a b) e (mid, word, many, subst (λ (o : Option (ℕ × Entry)). TurnOnce size begun mid b word o) none once, on, said, heard)
 
 -- that ended the life
-pub ended_life : (size : Size) (begun : List ℕ) (answers : ℕ → Bool → Type 0) (hears : ℕ → Type 0) (turns n : ℕ) (a mid b : Seated) (word : Word) (told : Option (ℕ × Entry)) → TurnsOn size begun answers hears n a mid → TurnOnce size begun mid b word told → loop_goes_on word ≡ false
+pub ended_life : (size : Size) (begun : List ℕ) (answers : ℕ → Bool → Type 0) (hears : ℕ → Type 0) (turns n : ℕ) (a mid b : Seated) (word : Word) (told : Option (ℕ × Entry)) → TurnsOn size begun answers hears n a mid → TurnOnce size begun mid b word told → life_goes_on word ≡ false
     → answers n true → hears n → LoopOnce size begun answers hears turns (n + 1) a b whys.Life told
 ended_life size begun answers hears turns n a mid b word told many once off said heard = let e : n + 1 ≡ suc n = omega arith in (n, mid, word, e, many, once, off, said, heard)
 
 -- ---- a part that a turn was told nothing for
-pub kept_part : (size : Size) (begun : List ℕ) (a b : Seated) (word : Word) (told : Option (ℕ × Entry)) (first now next : PartView) → TurnOnce size begun a b word told → loop_goes_on word ≡ true → now ≡ first → next ≡ part_after told now → next ≡ first
+pub kept_part : (size : Size) (begun : List ℕ) (a b : Seated) (word : Word) (told : Option (ℕ × Entry)) (first now next : PartView) → TurnOnce size begun a b word told → life_goes_on word ≡ true → now ≡ first → next ≡ part_after told now → next ≡ first
 kept_part size begun a b word told first now next once on same is =
     let none = turn_none size begun a b word told once on in
     is ∙ (ap (λ (o : Option (ℕ × Entry)). part_after o now) none ∙ same)

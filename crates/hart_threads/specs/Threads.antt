@@ -33,7 +33,7 @@ use Rattle.susp.specs.declared.sleeps.Sleep.{Sleep}
 use Rattle.susp.specs.declared.sleeps.Sleep.TheVariants.{ToDisk}
 use Rattle.sbi.specs.Resets.{reset_of}
 use Rattle.sbi.specs.declared.resets.ResetType.{ResetType}
-use Rattle.sbi.specs.Words.{word_of_sleep}
+use Rattle.sbi.specs.Words.{life_goes_on, word_of_sleep}
 use Rattle.sbi.specs.declared.words.LifeEnd.TheVariants as ends
 use Rattle.sbi.specs.declared.words.Word.{Word}
 use Rattle.sbi.specs.declared.words.Word.TheVariants.{Goes, Over}
@@ -149,17 +149,12 @@ abbrev pub TurnOnce : Size → List ℕ → Seated → Seated → Word → Optio
 TurnOnce size begun a b word told = TurnOnceBy a.doze size begun a b word told
 
 -- ---- the turns of a loop
--- the life goes on after it
-abbrev pub loop_goes_on : Word → Bool
-loop_goes_on (Goes did) = true
-loop_goes_on (Over end) = false
-
 -- so many turns, after each of which the life went on: the gate let each begin, and heard of each
 abbrev pub TurnsOn : Size → List ℕ → (ℕ → Bool → Type 0) → (ℕ → Type 0) → ℕ → Seated → Seated → Type 0
 TurnsOn size begun answers hears zero a b = b ≡ a
 TurnsOn size begun answers hears (suc n) a b =
     (mid : Seated) × (word : Word) × TurnsOn size begun answers hears n a mid × TurnOnce size begun mid b word None
-    × (loop_goes_on word ≡ true) × answers n true × hears n
+    × (life_goes_on word ≡ true) × answers n true × hears n
 
 -- A loop of at most so many turns made that many, and ended so: by the life's end, which its last turn told; by what
 -- ended all loops, before it had made all; by the gate, which said so before then; or with the last of them.
@@ -167,7 +162,7 @@ abbrev pub LoopOnce : Size → List ℕ → (ℕ → Bool → Type 0) → (ℕ �
     → Option (ℕ × Entry) → Type 0
 LoopOnce size begun answers hears turns made a b whys.Life told =
     (n : ℕ) × (mid : Seated) × (word : Word) × (made ≡ suc n)
-    × TurnsOn size begun answers hears n a mid × TurnOnce size begun mid b word told × (loop_goes_on word ≡ false)
+    × TurnsOn size begun answers hears n a mid × TurnOnce size begun mid b word told × (life_goes_on word ≡ false)
     × answers n true × hears n
 LoopOnce size begun answers hears turns made a b whys.Closed told =
     TurnsOn size begun answers hears made a b × (made < turns) × (told ≡ None)

@@ -18,7 +18,7 @@ use crate::threaded::Threaded;
 use board_model::{Entry, HartId};
 use hart::Hart;
 use hsm::State;
-use rv_decode::CsrNumber;
+use rv_decode::{CsrNumber, SCAUSE, SEPC, STVAL};
 use sbi_calls::{Seats, Tables};
 use shared_store::CommandReceipt;
 use std::marker::Model;
@@ -207,11 +207,11 @@ pub(crate) fn at_rest<'a, J: Threaded>(
 }
 
 /// One of a hart's control and status registers that no pending interrupt shows in.
-fn csr(hart: &Hart, number: u16) -> u64
+fn csr(hart: &Hart, number: u32) -> u64
     requires { number < 4096 }
     ensures { (c : Csr) → csr_number c ≡ number → result ≡ csr_read c hart.now false }
 {
-    hart.csr(CsrNumber::new(number), false).unwrap_or(0)
+    hart.csr(CsrNumber::new(number as u16), false).unwrap_or(0)
 }
 
 /// What ended a loop. It agrees with what the console said when it left.
@@ -256,9 +256,9 @@ impl<'a, J: Threaded> Rested<'a, J> {
             state: self.state,
             dozing: ended.local.doze.is_some(),
             pc: ended.hart.pc(),
-            scause: csr(&ended.hart, 0x142),
-            sepc: csr(&ended.hart, 0x141),
-            stval: csr(&ended.hart, 0x143),
+            scause: csr(&ended.hart, SCAUSE),
+            sepc: csr(&ended.hart, SEPC),
+            stval: csr(&ended.hart, STVAL),
             made: ended.made,
             asked: ended.asked.times(),
             why: ended.why,

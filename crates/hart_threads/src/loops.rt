@@ -8,7 +8,7 @@ ghost use Rattle.shared_store.specs.Noted.{part_after};
 ghost use Rattle.hart_threads.specs.declared.loops.Why.TheVariants.{Life, Closed, Gate as ByGate, Turns};
 ghost use Rattle.hart_threads.specs.Looks.{no_looks};
 ghost use Rattle.hart_threads.specs.Seated.{IsSeated, StandsAfter};
-ghost use Rattle.hart_threads.specs.Threads.{seated, loop_goes_on, ends_life, LoopOnce};
+ghost use Rattle.hart_threads.specs.Threads.{seated, ends_life, LoopOnce};
 
 use crate::closing::{HaltPolls, Shut};
 use crate::dozes::DozeLooks;
@@ -19,7 +19,6 @@ use crate::turn::{ask, tell, whole_turn};
 use crew::Crew;
 use disk::Disk;
 use hart::Hart;
-use sbi::Word;
 use shared_store::{CommandReceipt, Locks};
 use std::sync::Wait;
 
@@ -62,16 +61,6 @@ pub struct Ended<'a, J: Threaded> {
     pub ghost closed: { (why ≡ Closed → IsTrue (is_some shut)) },
     pub ghost gated: { (why ≡ ByGate → J.gated ≡ true) },
     pub ghost looked: { made ≤ asked },
-}
-
-/// Whether the life goes on after a turn that came to that.
-fn goes_on(word: Word) -> bool
-    ensures { result ≡ loop_goes_on word }
-{
-    match word {
-        Word::Goes(_) => true,
-        Word::Over(_) => false,
-    }
 }
 
 /// A hart in its loop, between two of its turns.
@@ -180,7 +169,7 @@ pub fn hart_loop<'c, R: Wait, G: Gate, D: Disk + Drop, J: Threaded, C: Crew>(
         let (end, turn) = whole_turn(rt, board, &mut run.hart, &mut run.looks, local, allowed);
         run.local = end.local;
         locks = tell(gate, turn);
-        if !goes_on(end.word) {
+        if !end.word.goes_on() {
             return run.end(made + 1, Why::Life, None, end.told);
         }
     }

@@ -5,10 +5,12 @@
 //! of chapter 24, and the Privileged ISA 1.11, chapter 5. No memory is taken.
 #![tactic(auto)]
 
+mod csrs;
 mod opcode;
 mod ops;
 mod tables;
 
+pub use csrs::{SATP, SCAUSE, SEPC, SIE, SIP, SSCRATCH, SSTATUS, STVAL, STVEC};
 pub use opcode::{
     ADDIW_FUNCT3, AUIPC, BRANCH, FENCE_FUNCT3, JAL, JALR, JALR_FUNCT3, LOAD, LUI, MISC_MEM, OP,
     OP_32, OP_IMM, OP_IMM_32, STORE, SYSTEM,

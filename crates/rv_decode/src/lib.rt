@@ -26,5 +26,6 @@ pub use fields::{
 pub use flat::{FlatInstr, FlatOp, flatten};
 pub use instr::Instr;
 pub use rv_codes::{
-    ArithOp, ArithWordOp, BranchOp, CsrOp, ImmOp, LoadOp, ShiftOp, StoreOp, SystemOp, UpperOp,
+    ArithOp, ArithWordOp, BranchOp, CsrOp, ImmOp, LoadOp, SATP, SCAUSE, SEPC, SIE, SIP, SSCRATCH,
+    SSTATUS, STVAL, STVEC, ShiftOp, StoreOp, SystemOp, UpperOp,
 };

@@ -1,6 +1,6 @@
 -- What is said of a turn or a call of a hart, where the store is at hand. Source: SBI specification 2.0, chapter 13;
 -- docs/BOARD.md; docs/SBI.md.
-use Rattle.std.specs.Prelude.{Bool, true}
+use Rattle.std.specs.Prelude.{Bool, true, false}
 use Rattle.hsm_steps.specs.declared.view.Stage.{Stage}
 use Rattle.hsm_steps.specs.declared.view.Stage.TheVariants.{Running, Quiet}
 use Rattle.sbi_calls.specs.Words.{stage_of, ends_row}
@@ -21,6 +21,11 @@ abbrev pub stage_told : Word → Stage
 stage_told (Goes did) = stage_of did
 stage_told (Over Asleep) = Quiet
 stage_told (Over (Reset kind)) = Running
+
+-- the life goes on
+abbrev pub life_goes_on : Word → Bool
+life_goes_on (Goes did) = true
+life_goes_on (Over end) = false
 
 -- no turn of the hart follows in a line: it stopped, the board dozes, or the life is over
 abbrev pub ends : Word → Bool

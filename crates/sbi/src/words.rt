@@ -1,7 +1,7 @@
 //! What is said of a turn or a call of a hart, where the store is at hand.
 
 ghost use Rattle.std.specs.Prelude.{◌≡◌};
-ghost use Rattle.sbi.specs.Words.{ends};
+ghost use Rattle.sbi.specs.Words.{ends, life_goes_on};
 
 use crate::resets::ResetType;
 use sbi_calls::Did;
@@ -25,6 +25,16 @@ pub enum Word {
 }
 
 impl Word {
+    /// Whether the life goes on.
+    pub fn goes_on(self) -> bool
+        ensures { result ≡ life_goes_on self }
+    {
+        match self {
+            Word::Goes(_) => true,
+            Word::Over(_) => false,
+        }
+    }
+
     /// Whether no turn of the hart follows in a line: it stopped, the board dozes, or the life is over.
     pub fn ends_row(self) -> bool
         ensures { result ≡ ends self }
