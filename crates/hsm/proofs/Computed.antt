@@ -64,7 +64,7 @@ module _ (h : ℕ) (c : HartSeatView) where
   none_open x settled e (Armed t) = refl
   none_open x settled e (Looked w) = refl
   none_open x settled e (Read n w) = refl
-  none_open x settled e (Entered k a o) = refl
+  none_open x settled e (Entered k a o ps) = refl
   none_open x settled e (Stopped w) = refl
   none_open x settled e (DidSuspend w) = refl
   none_open x settled e (Woke w) = refl
@@ -89,7 +89,7 @@ module _ (h : ℕ) (c : HartSeatView) where
     only (Armed t) = inl refl
     only (Looked w) = inl refl
     only (Read n w) = inl refl
-    only (Entered k a o) = inl refl
+    only (Entered k a o ps) = inl refl
     only (Stopped w) = inl refl
     only (DidSuspend w) = inl refl
     only (Woke w) = inl refl
@@ -113,7 +113,7 @@ module _ (h : ℕ) (c : HartSeatView) where
     weightless (Armed t) none = refl
     weightless (Looked w) none = refl
     weightless (Read n w) none = refl
-    weightless (Entered k a o) none = refl
+    weightless (Entered k a o ps) none = refl
     weightless (Stopped w) none = refl
     weightless (DidSuspend w) none = refl
     weightless (Woke w) none = refl

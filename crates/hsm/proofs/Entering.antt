@@ -1,5 +1,5 @@
 -- An entry, with the one seat of all harts.
-use Rattle.std.proofs.Common.{◌≡◌, ◌≢◌, ℕ, ◌+◌, ◌*◌, ◌<◌, Bool, true, false, true≢false, if◌then◌else◌, eqb, Some, None, refl, sym, ap, ◌∙◌, subst, arith, eq-eqb, ne_eqb}
+use Rattle.std.proofs.Common.{List, ◌≡◌, ◌≢◌, ℕ, ◌+◌, ◌*◌, ◌<◌, Bool, true, false, true≢false, if◌then◌else◌, eqb, Some, None, refl, sym, ap, ◌∙◌, subst, arith, eq-eqb, ne_eqb}
 use Rattle.std.specs.Int.{bit_at}
 use mathlib.Core.Logic.{dite}
 use native.Mathlib.Decide.{ℕ_discrete}
@@ -54,14 +54,14 @@ enters_none harts h found c c' is z stood lt tells states shown =
           (shows_same harts h Out Out (Looked found) c c' (stays_out h found c c' is z) stood (λ y at. at) (λ k a o. refl) (λ k a o. refl) states shown),
     )
 
-pub enters_some : (harts h found a o : ℕ) (c c1 c2 c3 c4 : HartSeatView)
+pub enters_some : (harts h found a o : ℕ) (ps : List ℕ) (c c1 c2 c3 c4 : HartSeatView)
     → HasNoted h Ready (Looked found) c.harts c1.harts
     → HasNoted h (Addressed a) (Read (1 + 2 * h) a) c1.harts c2.harts
     → HasNoted h (Loaded a o) (Read (2 + 2 * h) o) c2.harts c3.harts
-    → HasNoted h Running (Entered h a o) c3.harts c4.harts
+    → HasNoted h Running (Entered h a o ps) c3.harts c4.harts
     → stands h Out c.harts → IsOpenStart harts c3 h a o
     → (states : ℕ → HartState) → Shows harts c states → (Some (a, o) ≡ entry (states h)) × Shows harts c4 (change_at h begin states)
-enters_some harts h found a o c c1 c2 c3 c4 is1 is2 is3 is4 stood opened states shown =
+enters_some harts h found a o ps c c1 c2 c3 c4 is1 is2 is3 is4 stood opened states shown =
     let s1 = stands_after h Out Ready (Looked found) c c1 is1 stood in
     let s2 = stands_after h Ready (Addressed a) (Read (1 + 2 * h) a) c1 c2 is2 s1 in
     let s3 = stands_after h (Addressed a) (Loaded a o) (Read (2 + 2 * h) o) c2 c3 is3 s2 in
@@ -71,14 +71,14 @@ enters_some harts h found a o c c1 c2 c3 c4 is1 is2 is3 is4 stood opened states 
     let e = opened states w3 in
     let now : change_at h begin states h ≡ started = rw (eq-eqb h h refl) (ap begin e) in (
       sym (ap entry e),
-      shows_next harts h (Loaded a o) Running (Entered h a o) c3 c4 is4 s3 states (change_at h begin states) w3 (λ k ne. rw (ne_eqb k h ne) refl)
+      shows_next harts h (Loaded a o) Running (Entered h a o ps) c3 c4 is4 s3 states (change_at h begin states) w3 (λ k ne. rw (ne_eqb k h ne) refl)
           (λ at. (
             subst (λ (z : HartState). IsAt z Running) (sym now) refl,
             (λ b d.
                 let p = ap (λ (z : HartState). awaits z b d) e in
-                let q : entry_of h b d (Entered h a o) ≡ awaits (start_pending a o) b d = rw (eq-eqb h h refl) refl in
+                let q : entry_of h b d (Entered h a o ps) ≡ awaits (start_pending a o) b d = rw (eq-eqb h h refl) refl in
                 let r = ap (λ (z : HartState). awaits z b d) now in
                 omega arith),
           ))
-          (λ k b d ne. sym (let z : entry_of k b d (Entered h a o) ≡ 0 = rw (ne_eqb h k (λ x. ne (sym x))) refl in z)),
+          (λ k b d ne. sym (let z : entry_of k b d (Entered h a o ps) ≡ 0 = rw (ne_eqb h k (λ x. ne (sym x))) refl in z)),
     )

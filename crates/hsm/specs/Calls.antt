@@ -88,13 +88,13 @@ Starts h t a o vs answer vs' =
 abbrev pub is_ready : ℕ → ℕ → Bool
 is_ready h found = if bit_at found (8 + h) == 1 then bit_at found (16 + h) == 0 else false
 
--- an entry: a look, two loads and the step
-abbrev pub EntersAs : ℕ → List HartView → ℕ → ℕ → List HartView → Type 0
-EntersAs h vs a o vs' = (found : ℕ) × (one two three : List HartView) × (is_ready h found ≡ true)
+-- an entry: a look, two loads and the step, which notes what stands beside it
+abbrev pub EntersAs : ℕ → List HartView → ℕ → ℕ → List ℕ → List HartView → Type 0
+EntersAs h vs a o beside vs' = (found : ℕ) × (one two three : List HartView) × (is_ready h found ≡ true)
     × HasNoted h Ready (Looked found) vs one
     × HasNoted h (Addressed a) (Read (1 + 2 * h) a) one two
     × HasNoted h (Loaded a o) (Read (2 + 2 * h) o) two three
-    × HasNoted h Running (Entered h a o) three vs'
+    × HasNoted h Running (Entered h a o beside) three vs'
 
 abbrev pub FindsNone : ℕ → List HartView → List HartView → Type 0
 FindsNone h vs vs' = (found : ℕ) × (is_ready h found ≡ false) × HasNoted h Out (Looked found) vs vs'

@@ -1,6 +1,6 @@
 //! One function for each call on the hart table.
 
-ghost use Rattle.std.specs.Prelude.{◌≡◌, ◌≢◌, ℕ, ◌+◌, ◌*◌, ◌<◌, ◌↔◌, true, false, IsTrue, MatchBool, MatchOption};
+ghost use Rattle.std.specs.Prelude.{◌≡◌, ◌≢◌, ℕ, ◌+◌, ◌*◌, ◌<◌, ◌↔◌, true, false, IsTrue, List, [], MatchBool, MatchOption};
 ghost use Rattle.std.specs.Int.{bit_at};
 ghost use Rattle.hsm_steps.specs.Rule.{stands};
 ghost use Rattle.hsm_steps.specs.States.{IsStarted, IsBetweenCalls, is_stopped, stopped, started, suspended, change_at, grant, entry, begin};
@@ -52,8 +52,14 @@ pub fn start(
 
 /// Enters where the hart is START_PENDING and armed, and then answers the address and the opaque value of the
 /// one start that was granted. None where one look found it not armed, or entered already. The acting hart
-/// has not entered.
-pub fn try_enter(table: &HartTable, seat: HartSeat, by: HartId) -> (HartSeat, Option<(Addr, u64)>)
+/// has not entered. The step of the entry notes what stands `beside` it: the places of the steps that the hart had made in
+/// another table, of which the caller knows. What is made there later has another place.
+pub fn try_enter_beside(
+    table: &HartTable,
+    seat: HartSeat,
+    by: HartId,
+) -> (HartSeat, Option<(Addr, u64)>)
+    ghost beside: { List ℕ }
     requires seat { IsSeatOf table.now seat }
     requires acts { stands by Out (harts_in seat) }
     requires by { by < harts_of table.now }
@@ -62,7 +68,7 @@ pub fn try_enter(table: &HartTable, seat: HartSeat, by: HartId) -> (HartSeat, Op
         (harts_in result.0)) }
     ensures others { KeepsOthers by (harts_in seat) (harts_in result.0) }
     ensures steps { MatchOption result.1 (FindsNone by (harts_in seat) (harts_in result.0)) (λ e. EntersAs by
-        (harts_in seat) e.0 e.1 (harts_in result.0)) }
+        (harts_in seat) e.0 e.1 beside (harts_in result.0)) }
     ensures alone { ActsAlone (harts_of table.entry.now) (hart_view_of_seat seat) (hart_view_of_seat result.0)
         (λ states. result.1 ≡ entry (states by)) (change_at by begin) }
 {
@@ -79,6 +85,23 @@ pub fn try_enter(table: &HartTable, seat: HartSeat, by: HartId) -> (HartSeat, Op
     hsm_steps::enter::<Brand>(table, &mut seat, by, site, opaque);
     let address = Addr::new(site).unwrap();
     (seat, Some((address, opaque)))
+}
+
+/// Enters as `try_enter_beside` does, with nothing beside the entry.
+pub fn try_enter(table: &HartTable, seat: HartSeat, by: HartId) -> (HartSeat, Option<(Addr, u64)>)
+    requires seat { IsSeatOf table.now seat }
+    requires acts { stands by Out (harts_in seat) }
+    requires by { by < harts_of table.now }
+    ensures seat { IsSeatOf table.entry.now result.0 }
+    ensures stands { MatchOption result.1 (stands by Out (harts_in result.0)) (λ _. stands by Running
+        (harts_in result.0)) }
+    ensures others { KeepsOthers by (harts_in seat) (harts_in result.0) }
+    ensures steps { MatchOption result.1 (FindsNone by (harts_in seat) (harts_in result.0)) (λ e. EntersAs by
+        (harts_in seat) e.0 e.1 [] (harts_in result.0)) }
+    ensures alone { ActsAlone (harts_of table.entry.now) (hart_view_of_seat seat) (hart_view_of_seat result.0)
+        (λ states. result.1 ≡ entry (states by)) (change_at by begin) }
+{
+    try_enter_beside(table, seat, by)
 }
 
 /// Stops the hart, in one step. The acting hart is STARTED and not quiet (SBI specification 2.0,

@@ -11,7 +11,7 @@ mod seen;
 mod standings;
 mod state;
 
-pub use calls::{quiet, start, status, stop, suspend, try_enter, unquiet, wake};
+pub use calls::{quiet, start, status, stop, suspend, try_enter, try_enter_beside, unquiet, wake};
 pub use copies::{copy, is_as};
 pub use hsm_steps::{HartSeat, HartTable, SeatTable, Seats, laws};
 pub use seen::one_table;

@@ -57,8 +57,8 @@ ReadsOpaque h a st m found m' = Notes h (Loaded a found) (Read (2 + 2 * h) found
 abbrev pub IsOpenStart : ℕ → HartSeatView → ℕ → ℕ → ℕ → Type 0
 IsOpenStart harts c h a o = (table : ℕ → HartState) → Shows harts c table → table h ≡ start_pending a o
 
-abbrev pub Enters : ℕ → ℕ → ℕ → ℕ → Step (Unit {0}) → SeatState HartSeatView → ℕ → SeatState HartSeatView → Type 0
-Enters harts h a o st m found m' = Notes h Running (Entered h a o) m m' × IsOpenStart harts m.0 h a o
+abbrev pub Enters : ℕ → ℕ → ℕ → ℕ → List ℕ → Step (Unit {0}) → SeatState HartSeatView → ℕ → SeatState HartSeatView → Type 0
+Enters harts h a o ps st m found m' = Notes h Running (Entered h a o ps) m m' × IsOpenStart harts m.0 h a o
 
 abbrev pub Stops : ℕ → Step (Unit {0}) → SeatState HartSeatView → ℕ → SeatState HartSeatView → Type 0
 Stops h st m found m' = Notes h Out (Stopped found) m m'

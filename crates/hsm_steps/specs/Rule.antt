@@ -37,7 +37,7 @@ claim_of t a o _ = 0
 
 -- 1 for an entry with this triple
 abbrev pub entry_of : ℕ → ℕ → ℕ → Action → ℕ
-entry_of t a o (Entered h a' o') = if h == t then (if a' == a then (if o' == o then 1 else 0) else 0) else 0
+entry_of t a o (Entered h a' o' ps) = if h == t then (if a' == a then (if o' == o then 1 else 0) else 0) else 0
 entry_of t a o _ = 0
 
 -- the weight of all actions of a seat
@@ -119,7 +119,7 @@ abbrev pub left_by : ℕ → Action → ℕ → ℕ
 left_by h (Claimed t a o found) word = bit_or word (bit t)
 left_by h (Wrote i n) word = n
 left_by h (Armed t) word = bit_or word (bit (8 + t))
-left_by h (Entered k a o) word = bit_or word (bit (16 + k))
+left_by h (Entered k a o ps) word = bit_or word (bit (16 + k))
 left_by h (Stopped found) word =
     bit_and word
     (bit_and (bit_and (bit_and (bit_not w64 (bit h)) (bit_not w64 (bit (8 + h)))) (bit_not w64 (bit (16 + h))))

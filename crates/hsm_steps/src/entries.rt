@@ -44,7 +44,7 @@ struct EnterStep<J> {
 }
 
 impl<J: Acting> Play<(), HartSeatView> for EnterStep<J> {
-    ghost then = { Enters J.harts J.by J.address J.opaque };
+    ghost then = { Enters J.harts J.by J.address J.opaque J.beside };
 }
 
 /// A look at the first word by a hart that has not entered.
@@ -92,7 +92,8 @@ pub fn read_opaque<J: Acting>(
     table.table.shared.load::<ReadOpaqueStep<J>>(seat, word)
 }
 
-/// Enters with the address and the opaque value that were loaded, which are those of the open start.
+/// Enters with the address and the opaque value that were loaded, which are those of the open start, and notes what the
+/// caller says stands beside it.
 pub fn enter<J: Acting>(
     table: &HartTable,
     seat: &mut HartSeat,
@@ -105,7 +106,7 @@ pub fn enter<J: Acting>(
     requires acts { stands by (Loaded address opaque) (harts_in seat.old) }
     requires by { by < harts_of table.now }
     ensures seat { IsSeatOf table.now seat.new }
-    ensures told { HasNoted by Running (Entered by address opaque) (harts_in seat.old) (harts_in seat.new) }
+    ensures told { HasNoted by Running (Entered by address opaque J.beside) (harts_in seat.old) (harts_in seat.new) }
     ensures open { IsOpenStart (harts_of table.now) (hart_view_of_seat seat.old) by address opaque }
 {
     let bit = 16 + by.number();

@@ -1,26 +1,20 @@
--- The entry of a hart, behind its take of what is pending: at the moment of the entry nothing is gone that was raised after
--- that take. Source: docs/SBI.md, "What a hart finds in its registers".
-use Rattle.std.specs.Prelude.{◌≡◌, ℕ, List}
+-- The entry of a hart, once what was pending for it is taken. Source: docs/SBI.md, "What a hart finds in its registers".
+use Rattle.std.specs.Prelude.{◌≡◌, ℕ}
 use Rattle.hsm.specs.Calls.{EntersAs, FindsNone}
 use Rattle.hsm.specs.Views.{listed}
 use Rattle.hsm_steps.specs.States.{started}
-use Rattle.ipi.specs.Ledger.{HasNoted, PendingView}
-use Rattle.ipi.specs.declared.view.IpiAction.TheVariants.{Took}
 use Rattle.sbi_calls.specs.declared.tables.Seats.{Seats}
 use Rattle.sbi_calls.specs.Both.{Known, TableState, IsTable}
 use Rattle.sbi_calls.specs.Answers.{with_state}
 use Rattle.turns.specs.declared.readies.Ready.{Ready}
 use Rattle.turns.specs.declared.readies.Ready.TheVariants as readies
+use Rattle.turns.specs.Own.{places_of}
 use Rattle.turns.specs.Turns.{turn_begun, IsOutside}
 
--- the last step of the hart on its pending interrupts took them
-abbrev pub HasJustTaken : ℕ → Known → Type 0
-HasJustTaken by k = (before : List PendingView) × (found : ℕ) × HasNoted by (Took found) before k.pairs
-
--- the hart finds no start that is armed for it, or enters by it
+-- the hart finds no start that is armed for it, or enters by it, and notes what it had done to pending interrupts
 abbrev pub EntersTaken : ℕ → Known → Known → Ready → Type 0
 EntersTaken by k k' readies.Idle = FindsNone by k.harts k'.harts × (k'.pairs ≡ k.pairs)
-EntersTaken by k k' (readies.Enters a o) = EntersAs by k.harts a o k'.harts × (k'.pairs ≡ k.pairs)
+EntersTaken by k k' (readies.Enters a o) = EntersAs by k.harts a o (places_of by k.pairs) k'.harts × (k'.pairs ≡ k.pairs)
 EntersTaken by k k' readies.Woke = ⊥
 EntersTaken by k k' (readies.Steps pending) = ⊥
 

@@ -1,6 +1,6 @@
 -- A turn's own steps on the tables, and what it comes to by what they found, whatever the other threads do.
 -- Source: docs/BOARD.md, "A turn of a hart"; docs/TABLES.md.
-use Rattle.std.specs.Prelude.{◌≡◌, ◌↔◌, ℕ, Bool, true, false, IsTrue, List}
+use Rattle.std.specs.Prelude.{◌≡◌, ◌↔◌, ℕ, Bool, true, false, IsTrue, List, [], ◌∷◌, ◌==◌, if◌then◌else◌}
 use Rattle.std.specs.Int.{bit_at}
 use Rattle.board_model.specs.Shapes.{Size}
 use Rattle.hart.specs.State.{ArchState, started as fresh}
@@ -12,7 +12,7 @@ use Rattle.hsm_steps.specs.declared.view.Action.TheVariants.{Looked, Woke, Unqui
 use Rattle.hsm.specs.Calls.{stage_of, state_in_word, EntersAs, FindsNone}
 use Rattle.hsm.specs.declared.state.State.{State as Code}
 use Rattle.hsm.specs.declared.state.State.TheVariants as codes
-use Rattle.ipi.specs.Ledger.{HasNoted}
+use Rattle.ipi.specs.Ledger.{HasNoted, PendingView}
 use Rattle.ipi.specs.declared.view.IpiAction.TheVariants.{Took, Looked as LookedAt}
 use Rattle.sbi_calls.specs.Both.{Known}
 use Rattle.sbi_calls.specs.Steps.{OneStep, Calls}
@@ -37,12 +37,19 @@ abbrev pub ResumesOwn : ℕ → Known → Known → Type 0
 ResumesOwn by k k' = (mid : Known) × TakesOwn by k mid × (found : ℕ) × OneStep by Running (Unquieted found) mid k'
 
 -- ---- before the step
--- a hart that has not entered takes what is pending; then it finds no start that is armed for it, or enters by that start
+-- where the steps of the hart on pending interrupts stand in the order of all such steps, the newest first
+abbrev pub places_of : ℕ → List PendingView → List ℕ
+places_of by [] = []
+places_of by (v ∷ vs) = if v.hart == by then v.places else places_of by vs
+
+-- A hart that has not entered takes what is pending; then it finds no start that is armed for it, or enters by that start.
+-- The entry's step notes what the hart had done to pending interrupts by then, and the take is there: what is sent to the hart
+-- once it is STARTED comes after the take.
 abbrev pub EntersOwn : ℕ → Known → Known → Ready → Type 0
 EntersOwn by k k' readies.Idle =
     (mid : Known) × TakesOwn by k mid × FindsNone by mid.harts k'.harts × (k'.pairs ≡ mid.pairs)
 EntersOwn by k k' (readies.Enters a o) =
-    (mid : Known) × TakesOwn by k mid × EntersAs by mid.harts a o k'.harts × (k'.pairs ≡ mid.pairs)
+    (mid : Known) × TakesOwn by k mid × EntersAs by mid.harts a o (places_of by mid.pairs) k'.harts × (k'.pairs ≡ mid.pairs)
 EntersOwn by k k' readies.Woke = ⊥
 EntersOwn by k k' (readies.Steps pending) = ⊥
 

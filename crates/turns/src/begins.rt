@@ -1,12 +1,12 @@
 //! What comes before the step of a turn.
 
-ghost use Rattle.std.specs.Prelude.{◌≡◌, ◌<◌};
+ghost use Rattle.std.specs.Prelude.{◌≡◌, ◌<◌, ℕ, List};
 ghost use Rattle.hsm_steps.specs.declared.view.Stage.TheVariants.{Out, Running, Suspended};
 ghost use Rattle.ipi.specs.Pairs.{Sits};
 ghost use Rattle.sbi_calls.specs.Both.{AreSeatsOfBoth, GivesBack, Acts, harts_of_both, known, pair_crew};
 ghost use Rattle.turns.specs.Turns.{Rests, RestsAs, BeginsAlone, LooksAlone, TakesAlone, EntersAlone, WakesAlone};
-ghost use Rattle.turns.specs.Own.{LooksOwn, TakesOwn, EntersOwn, WakesOwn, BeginsOwn};
-ghost use Rattle.turns.specs.Entries.{HasJustTaken, EntersTaken, EntersTakenAlone};
+ghost use Rattle.turns.specs.Own.{LooksOwn, TakesOwn, EntersOwn, WakesOwn, BeginsOwn, places_of};
+ghost use Rattle.turns.specs.Entries.{EntersTaken, EntersTakenAlone};
 
 use crate::readies::Ready;
 use board_model::HartId;
@@ -45,13 +45,13 @@ pub(crate) fn take(seats: Seats, tables: &Tables, by: HartId) -> Seats
     Seats { harts, pending }
 }
 
-/// Enters where the start of the hart is armed. What was pending for it was taken just before: so what is sent to it once it
-/// is STARTED stays pending.
+/// Enters where the start of the hart is armed, and notes what the hart had done to pending interrupts by then.
 fn enter_taken(seats: Seats, tables: &Tables, by: HartId) -> (Seats, Ready)
+    ghost beside: { List ℕ }
     requires seats { AreSeatsOfBoth tables.now seats }
     requires by { by < harts_of_both tables.now }
     requires acts { Acts by Out seats }
-    requires taken { HasJustTaken by (known seats) }
+    requires beside { beside ≡ places_of by (known seats).pairs }
     ensures gives { GivesBack tables.entry.now by seats result.0 }
     ensures rests { RestsAs by result.1 result.0 }
     ensures own { EntersTaken by (known seats) (known result.0) result.1 }
@@ -59,7 +59,7 @@ fn enter_taken(seats: Seats, tables: &Tables, by: HartId) -> (Seats, Ready)
 {
     hsm::one_table();
     let Seats { harts, pending } = seats;
-    let (harts, entry) = hsm::try_enter(&tables.harts, harts, by);
+    let (harts, entry) = hsm::try_enter_beside(&tables.harts, harts, by);
     let seats = Seats { harts, pending };
     match entry {
         None => (seats, Ready::Idle),
@@ -67,7 +67,8 @@ fn enter_taken(seats: Seats, tables: &Tables, by: HartId) -> (Seats, Ready)
     }
 }
 
-/// Takes what is pending for the hart, which is START_PENDING, and then enters where its start is armed.
+/// Takes what is pending for the hart, which is START_PENDING, and then enters where its start is armed. So what is sent to it
+/// once it is STARTED stays pending.
 fn enter(seats: Seats, tables: &Tables, by: HartId) -> (Seats, Ready)
     requires seats { AreSeatsOfBoth tables.now seats }
     requires by { by < harts_of_both tables.now }

@@ -1,14 +1,5 @@
-use Rattle.hsm_steps.specs.declared.view.Stage.TheVariants.{Running}
+use Rattle.std.proofs.Common.{[]}
 use Rattle.hsm.proofs.calls.try_enter.Given as goal
 
-abbrev pub ghosts-poll : goal.ghosts-poll
-ghosts-poll a = record { by = a.by; target = 0; address = 0; opaque = 0; stage = Running; harts = a.table.now.table.shared.key.harts }
-
-abbrev pub ghosts-read_address : goal.ghosts-read_address
-ghosts-read_address a = record { by = a.by; target = 0; address = 0; opaque = 0; stage = Running; harts = a.table.now.table.shared.key.harts }
-
-abbrev pub ghosts-read_opaque : goal.ghosts-read_opaque
-ghosts-read_opaque a = record { by = a.by; target = 0; address = a.address; opaque = 0; stage = Running; harts = a.table.now.table.shared.key.harts }
-
-abbrev pub ghosts-enter : goal.ghosts-enter
-ghosts-enter a = record { by = a.by; target = 0; address = a.address; opaque = a.opaque; stage = Running; harts = a.table.now.table.shared.key.harts }
+abbrev pub ghost-try_enter_beside : goal.ghost-try_enter_beside
+ghost-try_enter_beside a = []

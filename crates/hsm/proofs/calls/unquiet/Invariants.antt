@@ -1,5 +1,6 @@
+use Rattle.std.proofs.Common.{[]}
 use Rattle.hsm_steps.specs.declared.view.Stage.TheVariants.{Running}
 use Rattle.hsm.proofs.calls.unquiet.Given as goal
 
 abbrev pub ghosts-unquiet : goal.ghosts-unquiet
-ghosts-unquiet a = record { by = a.by; target = 0; address = 0; opaque = 0; stage = Running; harts = a.table.now.table.shared.key.harts }
+ghosts-unquiet a = record { by = a.by; target = 0; address = 0; opaque = 0; beside = []; stage = Running; harts = a.table.now.table.shared.key.harts }

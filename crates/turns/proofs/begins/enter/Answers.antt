@@ -1,4 +1,4 @@
-use Rattle.std.proofs.Common.{List, sym, ap, ◌∙◌, subst}
+use Rattle.std.proofs.Common.{List, refl, sym, ap, ◌∙◌, subst}
 use Rattle.hsm_steps.specs.Words.{HartView}
 use Rattle.hsm_steps.specs.declared.view.Stage.TheVariants.{Out}
 use Rattle.hsm_steps.specs.Rule.{stands}
@@ -9,14 +9,20 @@ use Rattle.turns.specs.Turns.{after_take}
 use Rattle.turns.proofs.Begun.{gives_then, entered_ready, entered_table, then_enters}
 use Rattle.turns.proofs.begins.enter.Goals as goal
 
-pub enter_taken-requires-clause-acts : goal.enter_taken-requires-clause-acts
-enter_taken-requires-clause-acts c = (
-  subst (λ (v : List HartView). stands c.args.by Out v) (sym (ap harts_in c.take-seats.ensures.harts)) c.requires.acts.0,
-  c.take-seats.ensures.gives.pairs.each c.args.by ∙ c.requires.acts.1,
+pub enter_taken-requires : goal.enter_taken-requires
+enter_taken-requires c = (
+  c.take-seats.ensures.gives.seats,
+  (
+    c.requires.by,
+    (
+      (
+        subst (λ (v : List HartView). stands c.args.by Out v) (sym (ap harts_in c.take-seats.ensures.harts)) c.requires.acts.0,
+        c.take-seats.ensures.gives.pairs.each c.args.by ∙ c.requires.acts.1,
+      ),
+      refl,
+    ),
+  ),
 )
-
-pub enter_taken-requires-clause-taken : goal.enter_taken-requires-clause-taken
-enter_taken-requires-clause-taken c = ((known c.args.seats).pairs, c.take-seats.ensures.own.1, c.take-seats.ensures.own.2)
 
 pub returns-clause-gives : goal.returns-clause-gives
 returns-clause-gives c =
@@ -42,12 +48,6 @@ take-seats-requires-clause-by c = c.requires.by
 
 pub take-seats-requires-clause-sits : goal.take-seats-requires-clause-sits
 take-seats-requires-clause-sits c = c.requires.acts.1
-
-pub enter_taken-requires-clause-seats : goal.enter_taken-requires-clause-seats
-enter_taken-requires-clause-seats c = c.take-seats.ensures.gives.seats
-
-pub enter_taken-requires-clause-by : goal.enter_taken-requires-clause-by
-enter_taken-requires-clause-by c = c.requires.by
 
 pub returns-clause-rests : goal.returns-clause-rests
 returns-clause-rests c = c.enter_taken.ensures.rests
