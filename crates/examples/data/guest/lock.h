@@ -17,7 +17,7 @@ struct lock {
     volatile u64 ticket[HARTS]; /* 0 of a hart that neither waits for the lock nor holds it */
 };
 
-static inline void fence(void)
+static inline void lock_fence(void)
 {
     asm volatile("fence rw, rw" : : : "memory");
 }
@@ -27,14 +27,14 @@ static inline void lock_draw(struct lock *lock, u64 hart)
 {
     u64 most = 0;
     lock->draws[hart] = 1;
-    fence(); /* whoever does not see the ticket below sees that it is being drawn */
+    lock_fence(); /* whoever does not see the ticket below sees that it is being drawn */
     for (u64 other = 0; other < HARTS; other++) {
         u64 ticket = lock->ticket[other];
         if (ticket > most)
             most = ticket;
     }
     lock->ticket[hart] = most + 1;
-    fence(); /* the ticket stands before its drawing ends, and before another one is looked at */
+    lock_fence(); /* the ticket stands before its drawing ends, and before another one is looked at */
     lock->draws[hart] = 0;
 }
 
@@ -52,17 +52,17 @@ static inline void lock_take(struct lock *lock, u64 hart)
     for (u64 other = 0; other < HARTS; other++) {
         while (lock->draws[other])
             ;
-        fence(); /* the ticket is looked at once it is drawn */
+        lock_fence(); /* the ticket is looked at once it is drawn */
         while (lock_is_before(lock, other, hart))
             ;
     }
-    fence(); /* what the lock guards is read once it is held */
+    lock_fence(); /* what the lock guards is read once it is held */
 }
 
 /* An image keeps a lock as it stands: leave it before the board sleeps. */
 static inline void lock_leave(struct lock *lock, u64 hart)
 {
-    fence(); /* what was written under the lock stands before it is free */
+    lock_fence(); /* what was written under the lock stands before it is free */
     lock->ticket[hart] = 0;
 }
 
