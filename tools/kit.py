@@ -32,26 +32,8 @@ def rt():
         found = shutil.which("rt")
         if not found:
             sys.exit("rt is not on the path: the kit's folder bin/ has it")
-        keep_sums(loaded(os.path.realpath(found), "rt_main").rtlib.Crate)
+        loaded(os.path.realpath(found), "rt_main")
     return sys.modules["rt_main"]
-
-
-def keep_sums(kind):
-    """Has each crate's stamp, and the list of those below it, computed once. To kit 13b both are computed anew for each path down the graph
-    of crates, of which a crate at the top has over a hundred thousand: minutes of processor at each check."""
-    stamp, below = kind.stamp, kind.below
-
-    def stamp_once(crate):
-        if not hasattr(crate, "kept_stamp"):
-            crate.kept_stamp = stamp(crate)
-        return crate.kept_stamp
-
-    def below_once(crate):
-        if not hasattr(crate, "kept_below"):
-            crate.kept_below = (*below(crate),)
-        return [*crate.kept_below]
-
-    kind.stamp, kind.below = stamp_once, below_once
 
 
 def crates():

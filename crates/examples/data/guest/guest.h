@@ -53,6 +53,17 @@ struct frame *trap(struct frame *frame);
 void trap_entry(void);
 _Noreturn void go_on(struct frame *frame);
 
+/* The first trap of a hart whose traps end the board. */
+struct first_trap {
+    u64 is_there; /* 1 once there was one */
+    u64 cause;    /* scause */
+    u64 pc;       /* sepc */
+    u64 value;    /* stval */
+};
+
+extern struct first_trap first_traps[MOST_HARTS]; /* start.S */
+void trap_stop(void);
+
 static inline u64 trap_cause(void)
 {
     u64 cause;
@@ -70,6 +81,13 @@ static inline void set_frame(struct frame *frame)
 static inline void set_trap(void (*entry)(void))
 {
     asm volatile("csrw stvec, %0" : : "r"(entry));
+}
+
+/* Each trap of this hart is kept in its words of first_traps, and shuts the board down with reason 1, "system failure". */
+static inline void stop_at_traps(u64 hart)
+{
+    asm volatile("csrw sscratch, %0" : : "r"(&first_traps[hart]) : "memory");
+    set_trap(trap_stop);
 }
 
 /* The software interrupt wakes this hart, and traps while interrupts are on. */

@@ -96,6 +96,37 @@ board_suspend:
 sleeper:
     .skip 112
 
+/* Where traps end a kernel that expects none, interrupts too: stvec is trap_stop, and sscratch the hart's words of first_traps
+   (stop_at_traps of guest.h). It uses no stack, which may be what is broken; it keeps the hart's first trap, and shuts the board down
+   with reason 1. A shutdown that the disk refuses is asked for again. Of what ran, t0, t1, a0, a1, a6 and a7 are lost. */
+    .section .text.trap_stop, "ax"
+    .globl trap_stop
+    .balign 4
+trap_stop:
+    csrr t0, sscratch
+    ld t1, 0(t0)
+    bnez t1, 1f
+    csrr t1, scause
+    sd t1, 8(t0)
+    csrr t1, sepc
+    sd t1, 16(t0)
+    csrr t1, stval
+    sd t1, 24(t0)
+    li t1, 1
+    sd t1, 0(t0)
+1:  li a0, SBI_SHUTDOWN
+    li a1, SBI_SYSTEM_FAILURE
+    li a6, SBI_SRST_RESET
+    li a7, SBI_SRST
+    ecall
+    j 1b
+
+    .section .bss.first_traps, "aw", @nobits
+    .balign 64
+    .globl first_traps
+first_traps:
+    .skip 32 * 8
+
 /* Each trap: stvec is trap_entry, and sscratch the frame of what runs. It keeps all registers in the frame, calls
    struct frame *trap(struct frame *) on the stack that the frame names, and goes on with the frame that it answers.
    go_on(struct frame *) goes on with a frame from anywhere. (struct frame: guest.h) */
