@@ -28,7 +28,7 @@ pub use crate::usage::{BenchOptions, DrawnSchedule, Savers, Work, options_of};
 pub use crate::watched::Telling;
 use board_model::{MAX_LINE_BYTES, MAX_SCRIPT_LINES, Refusal};
 pub use command_line::Pipe;
-use command_line::{NoWork, keep_heap, read_at_most, words};
+use command_line::{NoWork, hold_streams, keep_heap, read_at_most, words};
 use std::alloc::Global;
 use std::io::{self, BufWriter, ErrorKind, IsTerminal, Read};
 use std::process::ExitCode;
@@ -70,6 +70,7 @@ pub fn bench<R: Threads + Sync>(rt: &HostRuntime, threads: &R) -> ExitCode
     // The status is the one of what was done.
     ensures status { (done : Result (Unit {0}) BenchFault) × (exit_status result ≡ status_after done) }
 {
+    let _held = hold_streams(rt);
     let mut faults = rt.stderr();
     let words = match words(rt, USAGE) {
         Ok(words) => words,

@@ -8,7 +8,7 @@ use crate::screen::Screen;
 use board_files::SystemFiles;
 use board_options::{EndHint, USAGE};
 use board_session::Streams;
-use command_line::{FileFault, end_with, without_work, words};
+use command_line::{FileFault, end_with, hold_streams, without_work, words};
 use std::process::ExitCode;
 use std::sync::Wait;
 use std::thread::Threads;
@@ -26,6 +26,7 @@ fn end(rt: &HostRuntime, done: &Result<(), FileFault>) -> ExitCode
 pub fn operate<R: Threads + Wait + Sync>(rt: &HostRuntime, threads: &R) -> ExitCode
     ensures { exit_status result ≤ 2 }
 {
+    let _held = hold_streams(rt);
     let words = match words(rt, USAGE) {
         Ok(words) => words,
         Err(why) => return end(rt, &without_work(why).map_err(FileFault::from)),

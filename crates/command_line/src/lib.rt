@@ -11,6 +11,7 @@ mod parses;
 mod pipe;
 mod programs;
 mod reads;
+mod streams;
 mod written;
 
 ghost use Rattle.std.specs.Prelude.{◌≡◌};
@@ -28,6 +29,7 @@ pub use crate::parses::{out_of_range, parse, release, value_fault};
 pub use crate::pipe::Pipe;
 pub use crate::programs::program;
 pub use crate::reads::read_at_most;
+pub use crate::streams::{HeldStreams, hold_streams};
 pub use crate::written::write_to_end;
 use clap::Error;
 use clap::error::ErrorKind;

@@ -14,8 +14,8 @@ use crate::parsed::options_of;
 use crate::streams::converse;
 use board_model::Refusal;
 use command_line::{
-    FileFault, NoWork, ProgramFault, explain_fault, show, status_of, tell_fault, without_work,
-    words,
+    FileFault, NoWork, ProgramFault, explain_fault, hold_streams, show, status_of, tell_fault,
+    without_work, words,
 };
 use debug_session::SessionPlan;
 use std::io::{IsTerminal, Write};
@@ -88,6 +88,7 @@ pub fn debug<R: Threads + Wait + Sync>(rt: &HostRuntime, threads: &R) -> ExitCod
     // The status is the one of what was done.
     ensures status { (done : Result (Unit {0}) FileFault) × (exit_status result ≡ status_after (fault_of done)) }
 {
+    let _held = hold_streams(rt);
     let done = run_program(rt, threads);
     ExitCode::from(end(&mut rt.stderr(), &done))
 }

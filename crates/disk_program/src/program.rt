@@ -7,7 +7,7 @@ use crate::examines::examine_on;
 use crate::usage::USAGE;
 use board_files::SystemFiles;
 use board_model::Refusal;
-use command_line::{FileFault, Pipe, end_with, without_work, words};
+use command_line::{FileFault, Pipe, end_with, hold_streams, without_work, words};
 use std::io::{self, BufWriter};
 use std::process::ExitCode;
 
@@ -18,6 +18,7 @@ use std::process::ExitCode;
 pub fn examine(rt: &HostRuntime) -> ExitCode
     ensures { exit_status result ≤ 2 }
 {
+    let _held = hold_streams(rt);
     let mut faults = rt.stderr();
     let words = match words(rt, USAGE) {
         Ok(words) => words,
