@@ -6,6 +6,7 @@ ghost use Rattle.script_lang.specs.Looks.{reg_of, pc_of, csr_number_of, csr_of, 
 
 use crate::words::{alone, hart, in_range, number, one, two};
 use board_model::{HartId, RAM_BASE, Shape};
+use rv_decode::{SATP, SCAUSE, SEPC, SIE, SIP, SSCRATCH, SSTATUS, STVAL, STVEC};
 use std::fmt;
 
 /// What a line shows of a board that is on.
@@ -46,9 +47,9 @@ fn csr_number(word: &[u8]) -> Option<u32>
     ensures value { result ≡ csr_number_of word.now }
     ensures range { IfSome result IsCsr }
 {
-    let number = number(word)?;
+    let number = u32::try_from(number(word)?).ok()?;
     match number {
-        0x100 | 0x104 | 0x105 | 0x140..=0x144 | 0x180 => Some(number as u32),
+        SSTATUS | SIE | STVEC | SSCRATCH | SEPC | SCAUSE | STVAL | SIP | SATP => Some(number),
         _ => None,
     }
 }
