@@ -145,6 +145,11 @@ fn shows_nothing(alloc: Global, work: Work, script: &[u8]) -> bool {
     }
 }
 
+/// Whether what the number of the refusal means is more than its cause says: 17 means what it says of a script alone.
+fn is_explained(work: Work, refusal: Refusal) -> bool {
+    !(is_bench(work) && refusal == Refusal::NotPlain) || matches!(work, Work::Judge(_))
+}
+
 /// Tells how a work ended: a refusal, with its cause, and on a terminal what its number means; or that a bench made no run, or that none
 /// of its runs could show a difference. Another fault is told elsewhere.
 pub fn tell_work<F: Write + IsTerminal>(
@@ -160,7 +165,7 @@ pub fn tell_work<F: Write + IsTerminal>(
             let fault = BenchFault::Refused(*refusal);
             let _told = write!(faults, "{fault}");
             tell_cause(alloc, work, *refusal, texts, faults);
-            if faults.is_terminal() {
+            if is_explained(work, *refusal) && faults.is_terminal() {
                 explain_fault(faults, "sbibench", &FileFault::refused(*refusal));
             }
         }
