@@ -3,7 +3,7 @@ use Rattle.std.proofs.Common.{◌≡◌, ◌⊎◌, ◌<◌, inl, ℕ, Bool, Lis
 use Rattle.std.proofs.lemmas.Result.{on_ok_weaker}
 use Rattle.board_files.specs.Named.{AreFilesOf}
 use Rattle.bench_program.specs.Usage.{payload_files, recovery_file}
-use Rattle.bench_program.specs.Written.{AreDone, IsFaultIn, IsFaultOf, IsMade, IsPut, IsReadOf, IsRecoveryOf, source_of}
+use Rattle.bench_program.specs.Written.{AreDone, IsFaultIn, IsFaultOf, IsReadOf, IsRecoveryOf, IsWritten, source_of}
 use Rattle.bench_program.specs.declared.fault.BenchFault.{BenchFault}
 use Rattle.bench_program.specs.declared.usage.BenchOptions.{BenchOptions}
 use Rattle.bench_program.proofs.Bounded.{read_says}
@@ -22,10 +22,10 @@ wrong_of D E F f (differ, some, (d, k)) = (differ, some, (f differ d, k))
 module _ (options : BenchOptions) (bytes_at : List ℕ → Option (List ℕ)) (input : Option (List ℕ)) (payloads : List (List ℕ)) (recovery script r s : List ℕ)
     (is_script : s ≡ script) (is_recovery : r ≡ recovery) (files : AreFilesOf bytes_at (payload_files options) payloads)
     (named : IsRecoveryOf bytes_at (recovery_file options) recovery) (bytes : IfSome (source_of options bytes_at input) (IsReadOf script)) where
-  pub over : (differ : ℕ) (a b : Option (List ℕ)) → IsPut options.tap (IsMade options.work payloads r s) differ a b → AreDone options bytes_at input differ a b
+  pub over : (differ : ℕ) (a b : Option (List ℕ)) → IsWritten options payloads r s differ a b → AreDone options bytes_at input differ a b
   over differ a b is =
-      let P : List ℕ → Type 0 = λ x. IsPut options.tap (IsMade options.work payloads r x) differ a b in
-      let Q : List ℕ → Type 0 = λ x. IsPut options.tap (IsMade options.work payloads x script) differ a b in
+      let P : List ℕ → Type 0 = λ x. IsWritten options payloads r x differ a b in
+      let Q : List ℕ → Type 0 = λ x. IsWritten options payloads x script differ a b in
       (payloads, files, recovery, named, (script, read_says (source_of options bytes_at input) script bytes, bytes, subst Q is_recovery (subst P is_script is)))
 
   pub fault_over : (gone : Bool) (fault : BenchFault) → IsFaultIn options.work payloads r s gone fault → IsFaultOf options bytes_at input gone fault

@@ -186,10 +186,10 @@ made_on (Judge plan) start recovery script differ a b c w keeps = (w.0, w.1, wro
 made_on (Recover plan) start recovery script differ a b c w keeps = recovered_done plan start recovery script a b c differ w keeps
 made_on (ShowRow row) start recovery script differ a b c w keeps = (w.0, row_on row.bench row.number start script None a b c w.1 keeps)
 made_on (ShowRecovered row) start recovery script differ a b c w keeps = (w.0, row_shown row start recovery script a b c w.1 keeps)
-made_on (Compare plan) start recovery script differ a b c w keeps = compared_on plan start script a b c differ w keeps
+made_on (Compare plan) start recovery script differ a b c w keeps = (w.0, compared_on plan start script a b c differ w.1 keeps)
 made_on (Show drawn) start recovery script differ a b c w keeps = (w.0, shown_on drawn script a b c w.1 keeps)
 made_on (Shrink drawn) start recovery script differ a b c w keeps = (w.0, shrunk_on drawn start script a b c w.1 keeps)
-made_on (Preempt within) start recovery script differ a b c w keeps = preempted_on within start script a b c differ w keeps
+made_on (Preempt within) start recovery script differ a b c w keeps = (w.0, preempted_on within start script a b c differ w.1 keeps)
 made_on (ShowOrder wanted) start recovery script differ a b c w keeps = (w.0, order_on wanted start script a b c w.1 keeps)
 
 none_tells : {A : Type 0} (differ : ℕ) → 0 < differ → differ ≡ 0 → A
@@ -227,33 +227,33 @@ if_made made P n is all = subst (λ (r : Result ℕ Refusal). IfOk r P) is all
 if_refused : (made : Result ℕ Refusal) (P : Refusal → Type 0) (e : Refusal) → made ≡ Err e → IfErr made P → P e
 if_refused made P e is all = subst (λ (r : Result ℕ Refusal). IfErr r P) is all
 
--- ---- how a work ended, with its tests or without
-module _ (tap : Bool) (work : Work) (start : List (List ℕ)) (recovery script : List ℕ) (a b c : Option (List ℕ)) (made : Result ℕ Refusal) (result : Result (Unit {0}) BenchFault)
-    (all : IfOk made (λ differ. IsPut tap (IsMade work start recovery script) differ a b)) where
+-- ---- how a work ended, whether its text was made whole first or not
+module _ (kept : Bool) (Comes : ℕ → List ℕ → List ℕ) (work : Work) (start : List (List ℕ)) (recovery script : List ℕ) (a b c : Option (List ℕ)) (made : Result ℕ Refusal) (result : Result (Unit {0}) BenchFault)
+    (all : IfOk made (λ differ. IsPut kept Comes (IsMade work start recovery script) differ a b)) where
   abbrev Put : ℕ → Option (List ℕ) → Type 0
-  Put differ now = IsPut tap (IsMade work start recovery script) differ a now
+  Put differ now = IsPut kept Comes (IsMade work start recovery script) differ a now
 
-  put_on : (t : Bool) (differ : ℕ) → IsPut t (IsMade work start recovery script) differ a b → Keeps b c → IsPut t (IsMade work start recovery script) differ a c
+  put_on : (t : Bool) (differ : ℕ) → IsPut t Comes (IsMade work start recovery script) differ a b → Keeps b c → IsPut t Comes (IsMade work start recovery script) differ a c
   put_on true differ (text, is, wrote) keeps = (text, is, handed_on a b c _ wrote keeps)
   put_on false differ is keeps = made_on work start recovery script differ a b c is keeps
 
-  may_put : (t : Bool) (differ : ℕ) → 0 < differ → IsPut t (IsMade work start recovery script) differ a b → MayTellWrong work
+  may_put : (t : Bool) (differ : ℕ) → 0 < differ → IsPut t Comes (IsMade work start recovery script) differ a b → MayTellWrong work
   may_put true differ some (text, is, wrote) = may_tell work start recovery script differ _ _ some is
   may_put false differ some is = may_tell work start recovery script differ a b some is
 
-  put : (differ : ℕ) → made ≡ Ok differ → IsPut tap (IsMade work start recovery script) differ a b
-  put differ is = if_made made (λ n. IsPut tap (IsMade work start recovery script) n a b) differ is all
+  put : (differ : ℕ) → made ≡ Ok differ → IsPut kept Comes (IsMade work start recovery script) differ a b
+  put differ is = if_made made (λ n. IsPut kept Comes (IsMade work start recovery script) n a b) differ is all
 
   pub did : (F : Type 0) → OnOk result ((made ≡ Ok 0) × (Keeps b c × F)) → OnOk result (Put 0 c × F)
-  did F ended = on_ok_weaker result (λ w. (put_on tap 0 (put 0 w.0) w.1.0, w.1.1)) ended
+  did F ended = on_ok_weaker result (λ w. (put_on kept 0 (put 0 w.0) w.1.0, w.1.1)) ended
 
   pub told_wrong : (F : Type 0) → ((differ : ℕ) × (0 < differ) × (made ≡ Ok differ) × (Keeps b c × F)) → (differ : ℕ) × (0 < differ) × (Put differ c × F)
-  told_wrong F (differ, some, is, (keeps, f)) = (differ, some, (put_on tap differ (put differ is) keeps, f))
+  told_wrong F (differ, some, is, (keeps, f)) = (differ, some, (put_on kept differ (put differ is) keeps, f))
 
   fault_in : (gone : Bool) (fault : BenchFault) → IfErr made (IsRefusedWith work start recovery script) → IsEndOf made gone fault → IsFaultIn work start recovery script gone fault
   fault_in gone fault refused (inl (is, differ, some, ok)) =
       let P : BenchFault → Type 0 = λ f. IsFaultIn work start recovery script gone f in
-      subst P (sym is) (may_put tap differ some (put differ ok))
+      subst P (sym is) (may_put kept differ some (put differ ok))
   fault_in gone fault refused (inr (e, is, inl err)) = told work start recovery script gone e fault is (if_refused made _ e err refused)
   fault_in gone fault refused (inr (e, is, inr out)) = told work start recovery script gone e fault is (output_fails work start recovery script e out)
 

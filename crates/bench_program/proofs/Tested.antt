@@ -3,25 +3,28 @@ use Rattle.std.proofs.Common.{◌≡◌, ◌∙◌, ℕ, ◌+◌, ◌-◌, ◌<�
 use Rattle.std.proofs.lemmas.List.{append-nil, drop_more, take_all}
 use Rattle.std.specs.Io.KnownBytes.{Appends}
 use Rattle.std.specs.List.{starts_with}
-use Rattle.bench_program.specs.Taps.{failed_count, failed_lines, failed_text, last_behind, last_of_two, tells_apart}
+use Rattle.bench_program.specs.Taps.{failed_count, failed_lines, failed_text, has_word, last_behind, last_of_two, tells_apart}
 use Rattle.board_model.proofs.Written.{appended}
 
 -- ---- a line that tells of a difference
-here : (line : List ℕ) → starts_with nat_eq line (codes " own ") ≡ true → tells_apart line ≡ true
-here [] is = is
-here (b ∷ bs) is = rw is refl
+here : (word : List ℕ) (b : ℕ) (bs : List ℕ) → starts_with nat_eq (b ∷ bs) word ≡ true → has_word word (b ∷ bs) ≡ true
+here word b bs is = rw is refl
 
-pub apart_here : (line : List ℕ) (i : ℕ) → starts_with nat_eq (drop i line) (codes " own ") ≡ true → tells_apart (drop i line) ≡ tells_apart line → tells_apart line ≡ true
-apart_here line i is so_far = sym so_far ∙ here (drop i line) is
+past : (word : List ℕ) (b : ℕ) (bs : List ℕ) → starts_with nat_eq (b ∷ bs) word ≡ false → has_word word (b ∷ bs) ≡ has_word word bs
+past word b bs not = rw not refl
 
-past : (b : ℕ) (bs : List ℕ) → starts_with nat_eq (b ∷ bs) (codes " own ") ≡ false → tells_apart (b ∷ bs) ≡ tells_apart bs
-past b bs not = rw not refl
+module _ (word line : List ℕ) (i : ℕ) (less : i < length line) (so_far : has_word word (drop i line) ≡ has_word word line) where
+  pub word_here : starts_with nat_eq (drop i line) word ≡ true → has_word word line ≡ true
+  word_here is =
+      let e = drop_more line i 0 less in
+      let P : List ℕ → Type 0 = λ xs. starts_with nat_eq xs word ≡ true in
+      sym so_far ∙ ap (has_word word) e ∙ here word (get_or line i 0) (drop (i + 1) line) (subst P e is)
 
-pub apart_later : (line : List ℕ) (i : ℕ) → i < length line → starts_with nat_eq (drop i line) (codes " own ") ≡ false → tells_apart (drop i line) ≡ tells_apart line → tells_apart (drop (i + 1) line) ≡ tells_apart line
-apart_later line i less not so_far =
-    let e = drop_more line i 0 less in
-    let P : List ℕ → Type 0 = λ xs. starts_with nat_eq xs (codes " own ") ≡ false in
-    sym (ap tells_apart e ∙ past (get_or line i 0) (drop (i + 1) line) (subst P e not)) ∙ so_far
+  pub word_later : starts_with nat_eq (drop i line) word ≡ false → has_word word (drop (i + 1) line) ≡ has_word word line
+  word_later not =
+      let e = drop_more line i 0 less in
+      let P : List ℕ → Type 0 = λ xs. starts_with nat_eq xs word ≡ false in
+      sym (ap (has_word word) e ∙ past word (get_or line i 0) (drop (i + 1) line) (subst P e not)) ∙ so_far
 
 -- ---- lines behind others
 pub failed_more : (n : ℕ) (line : List ℕ) (more : List (List ℕ)) → failed_lines n (line ∷ more) ≡ failed_lines n (line ∷ []) ++ failed_lines (n + failed_count (line ∷ [])) more

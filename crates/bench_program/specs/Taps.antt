@@ -5,10 +5,29 @@ use Rattle.std.specs.Fmt.{decimal}
 use Rattle.std.specs.List.{slice_split, starts_with}
 use lib.Chars.{codes}
 
+-- that word stands in the line, which is not empty
+abbrev pub has_word : List ℕ → List ℕ → Bool
+has_word word [] = false
+has_word word (b ∷ bs) = if starts_with nat_eq (b ∷ bs) word then true else has_word word bs
+
 -- a line tells of a difference: behind this word it has what the script's own run said
 abbrev pub tells_apart : List ℕ → Bool
-tells_apart [] = false
-tells_apart (b ∷ bs) = if starts_with nat_eq (b ∷ bs) (codes " own ") then true else tells_apart bs
+tells_apart line = has_word (codes " own ") line
+
+-- the line of the counts has no run
+abbrev pub is_untried : List ℕ → Bool
+is_untried line =
+    if has_word (codes " runs 0 ") line then true
+    else (if has_word (codes "schedules 0 ") line then true else has_word (codes " orders 0 ") line)
+
+-- how the test of that line ends then: nothing failed, and nothing was tried
+abbrev pub skip_text : List ℕ → List ℕ
+skip_text line = if is_untried line then codes " # SKIP nothing was tried" else []
+
+-- a comment where no run could show a difference
+abbrev pub shown_text : Bool → List ℕ
+shown_text true = []
+shown_text false = codes "# nothing is shown\n"
 
 -- a test that failed, with that number
 abbrev pub failed_text : ℕ → List ℕ → List ℕ
@@ -39,12 +58,16 @@ well_word false = codes "not ok"
 
 -- the last test, which has the line of the counts, and the plan
 abbrev pub counts_text : Bool → ℕ → List ℕ → List ℕ
-counts_text well n line = well_word well ++ (codes " " ++ (decimal n ++ (codes " - " ++ (line ++ (codes "\n1.." ++ (decimal n ++ 10 ∷ []))))))
+counts_text well n line =
+    well_word well
+    ++ (codes " " ++ (decimal n ++ (codes " - " ++ (line ++ (skip_text line ++ (codes "\n1.." ++ (decimal n ++ 10 ∷ [])))))))
 
-abbrev pub tap_lines : Bool → List (List ℕ) → List ℕ
-tap_lines well lines =
-    codes "TAP version 13\n" ++ (failed_lines 0 lines ++ counts_text well (failed_count lines + 1) (last_behind [] lines))
+abbrev pub tap_lines : Bool → Bool → List (List ℕ) → List ℕ
+tap_lines well shown lines =
+    codes "TAP version 13\n"
+    ++ (failed_lines 0 lines ++ (shown_text shown ++ counts_text well (failed_count lines + 1) (last_behind [] lines)))
 
--- a test for each line that tells of a difference, and one for the line of the counts, by whether all is well
-abbrev pub tap_text : Bool → List ℕ → List ℕ
-tap_text well text = tap_lines well (slice_split (λ b. b == 10) text)
+-- a test for each line that tells of a difference, and one for the line of the counts, by whether all is well and whether a run
+-- can show a difference
+abbrev pub tap_text : Bool → Bool → List ℕ → List ℕ
+tap_text well shown text = tap_lines well shown (slice_split (λ b. b == 10) text)

@@ -1,5 +1,5 @@
 -- What the program writes, by the work that its words ask for. Source: docs/SCRIPT.md, "The program".
-use Rattle.std.specs.Prelude.{◌≡◌, ◌⊎◌, ◌==◌, ⊤, ℕ, Bool, true, false, List, [], Option, None, Some, Ok, Err, IfSome, IsSome, get_or, take}
+use Rattle.std.specs.Prelude.{◌≡◌, ◌⊎◌, ◌==◌, ⊤, ℕ, Bool, true, false, List, [], Option, None, Some, Ok, Err, if◌then◌else◌, IfSome, IsSome, get_or, take}
 use Rattle.board_model.specs.declared.refusal.Refusal.{Refusal}
 use Rattle.board_model.specs.declared.refusal.Refusal.TheVariants.{BadShape, Memory, Output, NotPlain}
 use Rattle.std.specs.Io.Buffered.{writer_buffer, writer_contents}
@@ -25,6 +25,8 @@ use Rattle.bench_schedules.specs.Numbers.{number_of_other, numbers_of}
 use Rattle.bench_schedules.specs.Schedules.{Shown, WroteSchedules}
 use Rattle.bench_schedules.specs.Shrunk.{Shrunk}
 use Rattle.bench_sweep.specs.declared.judges.Sweep.{Sweep as Counts}
+use Rattle.bench_program.specs.Digests.{is_part, part_tag, with_tag}
+use Rattle.bench_program.specs.Orders.{has_orders, shown_in}
 use Rattle.bench_program.specs.Taps.{tap_text}
 use Rattle.command_line.specs.Pipes.{pipe_contents}
 use Rattle.command_line.specs.declared.pipe.Pipe.{Pipe}
@@ -84,6 +86,10 @@ abbrev pub IsRowShown : WantedRow → List (List ℕ) → List ℕ → List ℕ 
 IsRowShown row payloads recovery script old now = (file : RecoveryFile) × IsFileOf recovery file
     × IsRowOf row.bench row.number payloads script (Some file) old now
 
+-- a script without a fault has several orders: a stretch of its rows is of two harts
+abbrev pub HasOrders : List ℕ → Type 0
+HasOrders script = (said : Said) × (script_of script ≡ Ok said) × (has_orders said.lines ≡ true)
+
 -- What was written is what the work makes of the script, and so many of its runs tell that something is wrong. It is the report; the lines
 -- of a bench, or of schedules, or of orders with few preemptions, of which so many differ; or one of these as a script. None of the runs
 -- of a bench is wrong, and one with a recovery differs where a look of that says something else.
@@ -95,22 +101,49 @@ IsMade (Recover plan) payloads recovery script differ old now = IsRecovered plan
 IsMade (ShowRow row) payloads recovery script differ old now =
     (differ ≡ 0) × IsRowOf row.bench row.number payloads script None old now
 IsMade (ShowRecovered row) payloads recovery script differ old now = (differ ≡ 0) × IsRowShown row payloads recovery script old now
-IsMade (Compare plan) payloads recovery script differ old now = IsCompared plan payloads script old now differ
+IsMade (Compare plan) payloads recovery script differ old now = HasOrders script × IsCompared plan payloads script old now differ
 IsMade (Show drawn) payloads recovery script differ old now = (differ ≡ 0) × IsShown drawn script old now
 IsMade (Shrink drawn) payloads recovery script differ old now = (differ ≡ 0) × IsShrunk drawn payloads script old now
-IsMade (Preempt within) payloads recovery script differ old now = IsPreempted within payloads script old now differ
+IsMade (Preempt within) payloads recovery script differ old now = HasOrders script × IsPreempted within payloads script old now differ
 IsMade (ShowOrder wanted) payloads recovery script differ old now = (differ ≡ 0) × IsOrderShown wanted payloads script old now
 
 -- what is read of a source of these bytes: all of them, but for what is more than any script has
 abbrev pub IsReadOf : List ℕ → List ℕ → Type 0
 IsReadOf script bytes = script ≡ take 268500993 bytes
 
--- That was written, where so many runs tell that something is wrong; or, with `--tap`, what the protocol has of a text that else would be
--- written, where all is well or not.
-abbrev pub IsPut : Bool → (ℕ → Option (List ℕ) → Option (List ℕ) → Type 0) → ℕ → Option (List ℕ) → Option (List ℕ) → Type 0
-IsPut false That differ old now = That differ old now
-IsPut true That differ old now =
-    (text : List ℕ) × That differ (Some []) (Some text) × Appends old now (tap_text (differ == 0) text)
+-- ---- what is written of it
+-- a line of the script can show that an order differs; another work compares none
+abbrev pub shown_by : Work → List ℕ → Bool
+shown_by (Compare plan) script = shown_in (script_of script)
+shown_by (Preempt within) script = shown_in (script_of script)
+shown_by work script = true
+
+-- with `--tap` it is what the protocol has of a text
+abbrev pub tested_text : Bool → Bool → Bool → List ℕ → List ℕ
+tested_text false well shown text = text
+tested_text true well shown text = tap_text well shown text
+
+-- what is written of a text that a work made, of which so many runs tell that something is wrong: a part ends with the digest of what it
+-- is of
+abbrev pub put_text : Bool → Work → List (List ℕ) → List ℕ → List ℕ → ℕ → List ℕ → List ℕ
+put_text tap work payloads recovery script differ text =
+    tested_text tap (differ == 0) (shown_by work script) (with_tag (part_tag work payloads recovery script) text)
+
+-- the text is made whole before any of it is written
+abbrev pub is_kept : BenchOptions → Bool
+is_kept options = if options.tap then true else is_part options.work
+
+-- That was written, where so many runs tell that something is wrong; or what comes of a text that else would be written.
+abbrev pub IsPut : Bool → (ℕ → List ℕ → List ℕ) → (ℕ → Option (List ℕ) → Option (List ℕ) → Type 0) → ℕ → Option (List ℕ) → Option (List ℕ) → Type 0
+IsPut false Comes That differ old now = That differ old now
+IsPut true Comes That differ old now =
+    (text : List ℕ) × That differ (Some []) (Some text) × Appends old now (Comes differ text)
+
+-- what the options' work makes of the script was written
+abbrev pub IsWritten : BenchOptions → List (List ℕ) → List ℕ → List ℕ → ℕ → Option (List ℕ) → Option (List ℕ) → Type 0
+IsWritten options payloads recovery script differ old now =
+    IsPut (is_kept options) (put_text options.tap options.work payloads recovery script) (IsMade options.work payloads recovery script)
+    differ old now
 
 -- what a writer has written now is that, and nothing of it is held back
 abbrev pub IsHandedOn : {W A : Type 0} → (W → Option (List ℕ)) → (Option (List ℕ) → Option (List ℕ) → Type 0) → BufWriter (Pipe W) A
@@ -121,7 +154,7 @@ IsHandedOn contents That old now =
 -- the work was done over a source of which these bytes are known, and so many of its runs tell that something is wrong
 abbrev pub IsWorked : BenchOptions → List (List ℕ) → List ℕ → Option (List ℕ) → ℕ → Option (List ℕ) → Option (List ℕ) → Type 0
 IsWorked options payloads recovery source differ old now = (script : List ℕ) × IfSome source (λ bytes. script_of script ≡ script_of bytes)
-    × IfSome source (IsReadOf script) × IsPut options.tap (IsMade options.work payloads recovery script) differ old now
+    × IfSome source (IsReadOf script) × IsWritten options payloads recovery script differ old now
 
 -- the bytes that the script is read from: those of the file that is named, or else the input's
 abbrev pub source_at : Option (List ℕ) → (List ℕ → Option (List ℕ)) → Option (List ℕ) → Option (List ℕ)
@@ -163,9 +196,13 @@ IsAnyRefusal script e = (e ≡ Memory) ⊎ (e ≡ Output) ⊎ (script_of script 
 abbrev pub IsNoBench : List ℕ → Refusal → Type 0
 IsNoBench script e = (e ≡ NotPlain) × NoBenchRuns script
 
+-- or it has one order alone, so that none is compared
+abbrev pub HasOneOrder : List ℕ → Refusal → Type 0
+HasOneOrder script e = (e ≡ NotPlain) × (said : Said) × (script_of script ≡ Ok said) × (has_orders said.lines ≡ false)
+
 -- A work over that script, which begins with these payloads, with that recovery where it has one, is refused so: by what may befall any; or
--- it is a bench or shows a run of one, and no bench runs the script, or the recovery; or it shows a run or an order, and there is none of
--- that number to show.
+-- it is a bench or shows a run of one, and no bench runs the script, or the recovery; or it compares orders, and there is one alone; or it
+-- shows a run or an order, and there is none of that number to show.
 abbrev pub IsRefusedWith : Work → List (List ℕ) → List ℕ → List ℕ → Refusal → Type 0
 IsRefusedWith (Report savers) payloads recovery script e = IsAnyRefusal script e
 IsRefusedWith (Judge plan) payloads recovery script e = (e ≡ Memory) ⊎ (e ≡ Output) ⊎ (script_of script ≡ Err e) ⊎ IsNoBench script e
@@ -176,10 +213,12 @@ IsRefusedWith (ShowRow row) payloads recovery script e =
     ⊎ ((e ≡ BadShape) × NoRowOf row.bench row.number payloads script None)
 IsRefusedWith (ShowRecovered row) payloads recovery script e =
     (e ≡ Memory) ⊎ (e ≡ Output) ⊎ (script_of script ≡ Err e) ⊎ IsNoBench script e ⊎ IsNoRow row payloads recovery script e
-IsRefusedWith (Compare plan) payloads recovery script e = IsAnyRefusal script e
+IsRefusedWith (Compare plan) payloads recovery script e =
+    (e ≡ Memory) ⊎ (e ≡ Output) ⊎ (script_of script ≡ Err e) ⊎ HasOneOrder script e
 IsRefusedWith (Show drawn) payloads recovery script e = IsAnyRefusal script e
 IsRefusedWith (Shrink drawn) payloads recovery script e = IsAnyRefusal script e
-IsRefusedWith (Preempt within) payloads recovery script e = IsAnyRefusal script e
+IsRefusedWith (Preempt within) payloads recovery script e =
+    (e ≡ Memory) ⊎ (e ≡ Output) ⊎ (script_of script ≡ Err e) ⊎ HasOneOrder script e
 IsRefusedWith (ShowOrder wanted) payloads recovery script e =
     (e ≡ Memory) ⊎ (e ≡ Output) ⊎ (script_of script ≡ Err e)
     ⊎ ((e ≡ BadShape) × (said : Said) × (script_of script ≡ Ok said)

@@ -2,11 +2,15 @@
 //! bench that it writes, and its status.
 #![tactic(auto)]
 
+mod digests;
 mod fault;
+mod orders;
+mod remarks;
 mod run_line;
 mod standing;
 mod streams;
 mod taps;
+mod traps;
 mod usage;
 mod watched;
 mod works;

@@ -90,6 +90,11 @@ impl<'a, F: Write> RunLine<'a, F> {
         told
     }
 
+    /// Whether a row was made since rows were begun.
+    pub fn went_on(&self) -> bool {
+        0 < self.done
+    }
+
     /// So many rows are begun now; 0 where they are not counted yet.
     pub fn begin(&mut self, now: u64, rows: u64)
         ensures gone { self.new.stands ≡ false }

@@ -8,15 +8,17 @@ ghost use Rattle.bench_program.specs.Faults.{fault_by, status_after, unread_by, 
 ghost use Rattle.command_line.specs.Pipes.{is_closed_pipe};
 ghost use Rattle.board_files.specs.Named.{AreFilesOf};
 ghost use Rattle.bench_program.specs.Usage.{payload_files, recovery_file, IsBounded, NamesNoWork};
-ghost use Rattle.bench_program.specs.Written.{AreDone, IsDone, IsFault, IsFaultIn, IsFaultOf, IsHandedOn, IsMade, IsPut, IsReadOf, IsRecoveryOf, IsUnread, source_of};
+ghost use Rattle.bench_program.specs.Written.{AreDone, IsDone, IsFault, IsFaultIn, IsFaultOf, IsHandedOn, IsReadOf, IsRecoveryOf, IsUnread, IsWritten, source_of};
 ghost use Rattle.bench_program.specs.declared.fault.BenchFault.{BenchFault};
 ghost use Rattle.bench_program.specs.declared.fault.BenchFault.TheVariants.{Closed, Input, Refused, Wrong};
 ghost use Rattle.script_lang.specs.Scripts.{script_of};
 
 use crate::fault::{BenchFault, status_of};
-use crate::usage::{BenchOptions, options_of};
+use crate::remarks::tell_work;
+use crate::traps::tell_traps;
+use crate::usage::{BenchOptions, Work, options_of};
 use crate::watched::{Telling, Watched};
-use crate::works::{WorkTexts, make, make_tests};
+use crate::works::{WorkTexts, is_kept, make, make_kept};
 use crate::{READ_AT_MOST, read_script};
 use board::Payloads;
 use board_files::{PayloadFiles, read_payloads};
@@ -193,7 +195,7 @@ fn named_files<P: PayloadFiles, F: Write>(
     Ok(Given { payloads, recovery })
 }
 
-/// Does the work of the options, and writes what it makes, or the tests of that, to the end.
+/// Does the work of the options, and writes what it makes, or what comes of that, to the end.
 fn run_work<R: Threads + Sync, P: Progress + Copy + Drop, O: Write + Drop>(
     alloc: Global,
     threads: &R,
@@ -205,21 +207,44 @@ fn run_work<R: Threads + Sync, P: Progress + Copy + Drop, O: Write + Drop>(
 ) -> Result<(), BenchFault>
     requires most { IsBounded options.now.work }
     ensures worked { OnOk result (IsHandedOn O.contents
-        (IsPut options.now.tap (IsMade options.now.work payloads texts.entry.recovery.now texts.entry.script.now) 0) out.old out.new) }
+        (IsWritten options.now payloads texts.entry.recovery.now texts.entry.script.now 0) out.old out.new) }
     ensures wrong { result ≡ Err Wrong → (differ : ℕ) × (0 < differ) × IsHandedOn O.contents
-        (IsPut options.now.tap (IsMade options.now.work payloads texts.entry.recovery.now texts.entry.script.now) differ) out.old out.new }
+        (IsWritten options.now payloads texts.entry.recovery.now texts.entry.script.now differ) out.old out.new }
     ensures faults { IfErr result (IsFaultIn options.now.work payloads texts.entry.recovery.now texts.entry.script.now
         (is_closed_pipe (writer_inner out.new))) }
 {
-    if options.tap {
-        let made = make_tests(alloc, threads, options, payloads, texts, out, progress);
+    if is_kept(options) {
+        let made = make_kept(alloc, threads, options, payloads, texts, out, progress);
         return ended(made, out);
     }
     let made = make(alloc, threads, options, payloads, texts, out, progress);
     ended(made, out)
 }
 
-/// Does what the options ask for. The files of payloads and of a recovery are read before the script.
+/// Tells of the harts that only trap, where the work is the report of a script. That memory was refused for it changes nothing.
+fn tell_traps_of<R: Threads + Sync, F: Write>(
+    alloc: Global,
+    work: Work,
+    texts: WorkTexts<'_>,
+    payloads: &Payloads,
+    faults: &mut F,
+) {
+    if let Work::Report(_) = work {
+        let _told = tell_traps::<R, F>(alloc, texts.script, payloads, faults);
+    }
+}
+
+/// Where a work tells what is no part of what it writes, and whether its fault was told there.
+#[derive(Drop)]
+struct Teller<'a, F, C> {
+    faults: &'a mut F,
+    clock: &'a C,
+    is_shared: bool,
+    is_told: bool,
+}
+
+/// Does what the options ask for. The files of payloads and of a recovery are read before the script. How the work ended is told, and
+/// of a report first which harts only trap.
 fn run_options<
     R: Threads + Sync,
     P: PayloadFiles,
@@ -234,7 +259,7 @@ fn run_options<
     options: &BenchOptions,
     input: I,
     out: &mut BufWriter<Pipe<O>>,
-    telling: &mut Telling<'_, F, C>,
+    teller: &mut Teller<'_, F, C>,
 ) -> Result<(), BenchFault>
     requires most { IsBounded options.now.work }
     ensures done { OnOk result (IsHandedOn O.contents (AreDone options.now (P.bytes_at files.now) (I.remaining input) 0) out.old out.new) }
@@ -244,19 +269,19 @@ fn run_options<
         ⊎ IsFaultOf options.now (P.bytes_at files.now) (I.remaining input)
         (is_closed_pipe (writer_inner out.new)) fault) }
 {
-    let given = named_files(alloc, files, options, telling.faults)?;
-    let script = named_script(alloc, files, options, input, telling.faults)?;
+    let given = named_files(alloc, files, options, teller.faults)?;
+    let script = named_script(alloc, files, options, input, teller.faults)?;
     let Given { payloads, recovery } = given;
     let texts = WorkTexts {
         script: &script,
         recovery: &recovery,
     };
-    let clock = telling.clock;
-    let is_shared = telling.is_shared;
-    let faults = &mut *telling.faults;
-    let watched = Watched::new(faults, clock, is_shared, options.work);
+    tell_traps_of::<R, F>(alloc, options.work, texts, &payloads, teller.faults);
+    let watched = Watched::new(teller.faults, teller.clock, teller.is_shared, options.work);
     let done = run_work(alloc, threads, options, payloads, texts, out, &watched);
-    let _line = watched.end();
+    let is_tried = watched.end().went_on();
+    tell_work(alloc, options.work, texts, &done, is_tried, teller.faults);
+    teller.is_told = true;
     done
 }
 
@@ -280,10 +305,24 @@ pub fn end<F: Write + IsTerminal>(done: &Result<(), BenchFault>, faults: &mut F)
     status_of(done)
 }
 
+/// Tells the fault, where there is one that was not told yet, and answers the status.
+fn end_told<F: Write + IsTerminal>(
+    done: &Result<(), BenchFault>,
+    is_told: bool,
+    faults: &mut F,
+) -> u8
+    ensures { result ≡ status_after done.now }
+{
+    if is_told {
+        return status_of(done);
+    }
+    end(done, faults)
+}
+
 /// The program over files and streams: does what the words of a command line ask for, the program's name first, with
 /// the payload files that they name and the script, read in that order: it is the file that they name, or else the input. The report,
-/// the lines of a bench, or what the words ask to be shown goes to `out`. A fault is told where `telling` says, and where that is a
-/// terminal how far a long run is. Answers the status that docs/SCRIPT.md, "The program", has. The handle makes the threads of lanes,
+/// the lines of a bench, or what the words ask to be shown goes to `out`. A fault is told where `telling` says, and there too that a
+/// bench tried or showed nothing, and where that is a terminal how far a long run is. Answers the status that docs/SCRIPT.md, "The program", has. The handle makes the threads of lanes,
 /// where the words ask for these.
 pub fn run_on<
     R: Threads + Sync,
@@ -313,15 +352,25 @@ pub fn run_on<
         × (done ≡ Err Wrong → (differ : ℕ) × (0 < differ)
         × IsHandedOn O.contents (IsDone (map S.text words.now) (P.bytes_at files.now) (I.remaining input) differ) out.old out.new) }
 {
-    let mut telling = telling;
+    let Telling {
+        faults,
+        clock,
+        is_shared,
+    } = telling;
     match options_of(alloc, words) {
         Ok(options) => {
-            let done = run_options(alloc, threads, files, &options, input, out, &mut telling);
-            end(&done, telling.faults)
+            let mut teller = Teller {
+                faults,
+                clock,
+                is_shared,
+                is_told: false,
+            };
+            let done = run_options(alloc, threads, files, &options, input, out, &mut teller);
+            end_told(&done, teller.is_told, teller.faults)
         }
         Err(text) => {
-            let done = without_work(show_on(out, telling.faults, &text));
-            end(&done, telling.faults)
+            let done = without_work(show_on(out, faults, &text));
+            end(&done, faults)
         }
     }
 }

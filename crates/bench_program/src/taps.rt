@@ -1,10 +1,10 @@
 //! The lines of a bench as the Test Anything Protocol has them.
 
-ghost use Rattle.std.specs.Prelude.{◌≡◌, ◌⊎◌, ◌+◌, ◌==◌, ◌≤◌, ◌<◌, ◌^◌, ◌∷◌, [], map, length, codes, IfOk, IfErr, OnOk};
+ghost use Rattle.std.specs.Prelude.{◌≡◌, ◌⊎◌, ◌+◌, ◌++◌, ◌==◌, ◌≤◌, ◌<◌, ◌^◌, ◌∷◌, [], map, length, codes, IfOk, IfErr, OnOk};
 ghost use Rattle.std.specs.List.{slice_split};
 ghost use Rattle.std.specs.Io.KnownBytes.{Appends};
 ghost use Rattle.board_model.specs.declared.refusal.Refusal.TheVariants.{Memory, Output};
-ghost use Rattle.bench_program.specs.Taps.{counts_text, failed_count, failed_lines, failed_text, last_behind, last_of_two, tap_lines, tap_text, tells_apart, well_word};
+ghost use Rattle.bench_program.specs.Taps.{counts_text, failed_count, failed_lines, failed_text, has_word, last_behind, last_of_two, shown_text, skip_text, tap_lines, tap_text, tells_apart, well_word};
 
 use board_model::{Refusal, unwritten};
 use std::alloc::{AllocError, Global};
@@ -13,16 +13,37 @@ use std::io::Write;
 /// What stands in a line of a bench before what the script's own run said.
 const OWN: &[u8] = b" own ";
 
-/// Whether a line tells of a difference.
-fn tells_apart(line: &[u8]) -> bool
-    ensures { result ≡ tells_apart line.now }
+/// Whether that word stands in the line.
+fn has_word(word: &[u8], line: &[u8]) -> bool
+    ensures { result ≡ has_word word.now line.now }
 {
     for place in 0..line.len() {
-        if line[place..].starts_with(OWN) {
+        if line[place..].starts_with(word) {
             return true;
         }
     }
     false
+}
+
+/// Whether a line tells of a difference.
+fn tells_apart(line: &[u8]) -> bool
+    ensures { result ≡ tells_apart line.now }
+{
+    has_word(OWN, line)
+}
+
+/// How the test of the counts ends: it is skipped where no run was made.
+fn skip_text(line: &[u8]) -> &'static [u8]
+    ensures { result.now ≡ skip_text line.now }
+{
+    if has_word(b" runs 0 ", line)
+        || has_word(b"schedules 0 ", line)
+        || has_word(b" orders 0 ", line)
+    {
+        b" # SKIP nothing was tried"
+    } else {
+        b""
+    }
 }
 
 /// The lines of a text. After a line feed at its end there is one more, which is empty.
@@ -107,6 +128,8 @@ fn write_counts<W: Write>(out: &mut W, well: bool, number: u64, line: &[u8]) -> 
     let word = well_word(well);
     write!(out, "{word} {number} - ").map_err(|error| unwritten(error))?;
     out.write_all(line).map_err(|error| unwritten(error))?;
+    out.write_all(skip_text(line))
+        .map_err(|error| unwritten(error))?;
     writeln!(out, "\n1..{number}").map_err(|error| unwritten(error))
 }
 
@@ -118,30 +141,62 @@ fn write_version<W: Write>(out: &mut W) -> Result<(), Refusal>
     writeln!(out, "TAP version 13").map_err(|error| unwritten(error))
 }
 
+/// Writes the comment that nothing is shown, where that is so.
+fn write_shown<W: Write>(out: &mut W, shown: bool) -> Result<(), Refusal>
+    ensures ok { OnOk result (Appends (W.contents out.old) (W.contents out.new) (shown_text shown)) }
+    ensures err { IfErr result (λ e. (e ≡ Memory) ⊎ (e ≡ Output)) }
+{
+    let comment = if shown { "" } else { "# nothing is shown\n" };
+    write!(out, "{comment}").map_err(|error| unwritten(error))
+}
+
+/// Writes what the Test Anything Protocol has behind the tests that failed: the comment, and the last test.
+#[tactic(auto, using(report_lines::proofs::Written::appended))]
+fn write_end<W: Write>(
+    out: &mut W,
+    well: bool,
+    shown: bool,
+    number: u64,
+    line: &[u8],
+) -> Result<(), Refusal>
+    ensures ok { OnOk result (Appends (W.contents out.old) (W.contents out.new) (shown_text shown ++ counts_text well number line.now)) }
+    ensures err { IfErr result (λ e. (e ≡ Memory) ⊎ (e ≡ Output)) }
+{
+    write_shown(out, shown)?;
+    write_counts(out, well, number, line)
+}
+
 /// Writes what the Test Anything Protocol has of these lines of a bench.
-fn write_lines<W: Write>(out: &mut W, well: bool, lines: &[&[u8]]) -> Result<(), Refusal>
+fn write_lines<W: Write>(
+    out: &mut W,
+    well: bool,
+    shown: bool,
+    lines: &[&[u8]],
+) -> Result<(), Refusal>
     requires { length lines.now < 2 ^ 63 }
-    ensures ok { OnOk result (Appends (W.contents out.old) (W.contents out.new) (tap_lines well (map (λ w. w.now) lines.now))) }
+    ensures ok { OnOk result (Appends (W.contents out.old) (W.contents out.new) (tap_lines well shown (map (λ w. w.now) lines.now))) }
     ensures err { IfErr result (λ e. (e ≡ Memory) ⊎ (e ≡ Output)) }
 {
     write_version(out)?;
     let failed = write_failures(out, lines)?;
-    write_counts(out, well, failed + 1, last_line(lines))
+    write_end(out, well, shown, failed + 1, last_line(lines))
 }
 
 /// Writes what the Test Anything Protocol has of a bench's text: a test for each line that tells of a difference, and the last for
-/// the line of the counts, by whether all is well.
+/// the line of the counts, by whether all is well. That one is skipped where the bench made no run. A comment says where none of its
+/// runs could show a difference.
 ///
 /// Refused `Memory` where memory was refused, to the writer too; `Output` where the writer failed else. Any part may be written then.
 pub fn write_tap<W: Write>(
     alloc: Global,
     text: &[u8],
     well: bool,
+    shown: bool,
     out: &mut W,
 ) -> Result<(), Refusal>
-    ensures ok { OnOk result (Appends (W.contents out.old) (W.contents out.new) (tap_text well text.now)) }
+    ensures ok { OnOk result (Appends (W.contents out.old) (W.contents out.new) (tap_text well shown text.now)) }
     ensures err { IfErr result (λ e. (e ≡ Memory) ⊎ (e ≡ Output)) }
 {
     let lines = parts(alloc, text)?;
-    write_lines(out, well, &lines)
+    write_lines(out, well, shown, &lines)
 }

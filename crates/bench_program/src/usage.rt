@@ -25,7 +25,8 @@ use std::alloc::{AllocError, Global};
 use std::convert::AsStr;
 
 /// How the program is called.
-pub const USAGE: &str = "sbibench [--crew CREW] [--sweep | --faults | --schedules N] [SCRIPT]";
+pub const USAGE: &str =
+    "sbibench [--sweep | --faults | --schedules N | --preemptions K] [--recover PATH] [OPTIONS] [SCRIPT]";
 
 const ABOUT: &str = "\
 Runs a script of programs, commands and power cuts on a modelled RISC-V board.
@@ -154,7 +155,7 @@ const QUIET: &str = "quiet";
 /// The flag by which tests are written.
 const TAP: &str = "tap";
 
-/// The most of them.
+/// The most threads that make the runs of a bench.
 pub const MOST_JOBS: u64 = 64;
 
 /// The most schedules of one run of the bench.
@@ -257,7 +258,8 @@ fn with_schedules<'a>(alloc: Global, command: Command<'a>) -> Result<Command<'a>
 {
     let schedules = "Runs N schedules of the script, and tells which report otherwise";
     let seed = "What the schedules are drawn from, 1 if not said";
-    let show = "Writes schedule K, or with --preemptions the K-th order that reports otherwise";
+    let show =
+        "Writes schedule K, run K of --sweep or --faults, or with --preemptions the K-th order that reports otherwise";
     let shrink =
         "Writes an order with fewer rows that reports otherwise in the line in which schedule K does";
     command
@@ -285,7 +287,7 @@ fn jobs<'a>(alloc: Global) -> Arg<'a>
     ensures local { result.global ≡ false }
 {
     let help =
-        "How many threads make the runs of --sweep, --faults or --schedules, all processors if not said";
+        "How many threads make the runs of a bench, as many as there are processors if not said";
     option(alloc, JOBS, "N", help).value_parser(ValueParser::unsigned(1, MOST_JOBS))
 }
 

@@ -1,22 +1,29 @@
 //! What each work makes of a script, written to any writer, and how many of its runs tell that something is wrong.
 
-ghost use Rattle.std.specs.Prelude.{◌≡◌, ◌⊎◌, ◌<◌, true, Err, IfOk, IfErr};
+ghost use Rattle.std.specs.Prelude.{◌≡◌, ◌⊎◌, ◌<◌, ◌≤◌, true, Err, IfOk, IfErr, OnOk};
 ghost use Rattle.board_model.specs.declared.refusal.Refusal.TheVariants.{Memory, Output};
 ghost use Rattle.script_lang.specs.Scripts.{script_of};
 ghost use Rattle.bench_program.specs.Usage.{IsBounded};
-ghost use Rattle.bench_program.specs.Written.{IsMade, IsPut, IsRecovered, IsRefusedWith, IsReported, IsRowShown};
+ghost use Rattle.std.specs.Io.KnownBytes.{Appends};
+ghost use Rattle.bench_program.specs.Written.{HasOneOrder, HasOrders, IsCompared, IsMade, IsPreempted, IsPut, IsRecovered, IsRefusedWith, IsReported, IsRowShown, is_kept, put_text, shown_by, tested_text};
 ghost use Rattle.bench_program.specs.declared.usage.Work.TheVariants.{Recover, ShowRecovered};
 
+use crate::digests::{is_part, part_tag, with_tag};
+use crate::orders::{has_orders, is_shown};
 use crate::taps::write_tap;
 use crate::usage::{BenchOptions, MOST_JOBS, Savers, Work};
 use crate::watched::Unpaused;
 use bench_report::run_with;
-use bench_schedules::{line_numbers, preemptions, schedules, show, show_order, shrink};
+use bench_schedules::{
+    OrderBounds, SchedulePlan, line_numbers, preemptions, schedules, show, show_order, shrink,
+};
 use bench_sweep::{RecoveryFile, SweepPlan, WantedRow, run_bench, run_bench_recovered, show_row};
 use board::Payloads;
 use board_model::Refusal;
 use crew::Sequential;
 use jobs::{Jobs, Progress};
+use report_lines::unwritten;
+use script_lang::parse_script;
 use std::alloc::Global;
 use std::io::Write;
 use std::thread::{self, Threads};
@@ -110,6 +117,57 @@ fn show_recovered<R: Threads + Sync, W: Write>(
     Ok(0)
 }
 
+/// Refused `NotPlain` exactly where the script has no fault, and no stretch of rows of two harts: it has one order alone.
+fn check_orders(alloc: Global, script: &[u8]) -> Result<(), Refusal>
+    ensures several { OnOk result (HasOrders script.now) }
+    ensures refused { IfErr result (λ e. (e ≡ Memory) ⊎ (script_of script.now ≡ Err e) ⊎ HasOneOrder script.now e) }
+{
+    let script = parse_script(alloc, script)?;
+    if has_orders(&script.lines) {
+        Ok(())
+    } else {
+        Err(Refusal::NotPlain)
+    }
+}
+
+/// Compares schedules of the script with its own run. Refused `NotPlain` where it has one order alone.
+fn compare<R: Threads + Sync, P: Progress, W: Write>(
+    jobs: &Jobs<'_, R, P>,
+    alloc: Global,
+    plan: SchedulePlan,
+    script: &[u8],
+    payloads: &Payloads,
+    out: &mut W,
+) -> Result<u64, Refusal>
+    requires most { plan.count ≤ 1000000 }
+    ensures made { IfOk result (λ differ. HasOrders script.now
+        × IsCompared plan payloads.now script.now (W.contents out.old) (W.contents out.new) differ) }
+    ensures refused { IfErr result (λ e. (e ≡ Memory) ⊎ (e ≡ Output) ⊎ (script_of script.now ≡ Err e) ⊎ HasOneOrder script.now e) }
+{
+    check_orders(alloc, script)?;
+    let compared = schedules(jobs, alloc, script, payloads, plan, out)?;
+    Ok(compared.differ)
+}
+
+/// Compares the orders of the script that have few preemptions with its own run. Refused `NotPlain` where it has one order alone.
+fn preempt<R: Threads + Sync, P: Progress, W: Write>(
+    jobs: &Jobs<'_, R, P>,
+    alloc: Global,
+    within: OrderBounds,
+    script: &[u8],
+    payloads: &Payloads,
+    out: &mut W,
+) -> Result<u64, Refusal>
+    requires most { within.most ≤ 3 }
+    ensures made { IfOk result (λ differ. HasOrders script.now
+        × IsPreempted within payloads.now script.now (W.contents out.old) (W.contents out.new) differ) }
+    ensures refused { IfErr result (λ e. (e ≡ Memory) ⊎ (e ≡ Output) ⊎ (script_of script.now ≡ Err e) ⊎ HasOneOrder script.now e) }
+{
+    check_orders(alloc, script)?;
+    let done = preemptions(jobs, alloc, script, payloads, within, out)?;
+    Ok(done.differ)
+}
+
 /// Makes what the work makes of the script, with these payloads in the slots. Of a long run it is told how far that is.
 pub fn make<R: Threads + Sync, P: Progress + Drop, W: Write>(
     alloc: Global,
@@ -136,7 +194,7 @@ pub fn make<R: Threads + Sync, P: Progress + Drop, W: Write>(
             Ok(0)
         }
         Work::ShowRecovered(row) => show_recovered::<R, W>(alloc, row, texts, payloads, out),
-        Work::Compare(plan) => Ok(schedules(&jobs, alloc, script, &payloads, plan, out)?.differ),
+        Work::Compare(plan) => compare(&jobs, alloc, plan, script, &payloads, out),
         Work::Show(drawn) => {
             show::<R, W>(alloc, script, &payloads, drawn.seed, drawn.number, out)?;
             Ok(0)
@@ -145,9 +203,7 @@ pub fn make<R: Threads + Sync, P: Progress + Drop, W: Write>(
             shrink::<R, W>(alloc, script, &payloads, drawn.seed, drawn.number, out)?;
             Ok(0)
         }
-        Work::Preempt(within) => {
-            Ok(preemptions(&jobs, alloc, script, &payloads, within, out)?.differ)
-        }
+        Work::Preempt(within) => preempt(&jobs, alloc, within, script, &payloads, out),
         Work::ShowOrder(wanted) => {
             show_order(&jobs, alloc, script, &payloads, wanted, out)?;
             Ok(0)
@@ -155,8 +211,48 @@ pub fn make<R: Threads + Sync, P: Progress + Drop, W: Write>(
     }
 }
 
-/// Makes what the work makes in memory, and then writes the tests of it.
-pub fn make_tests<R: Threads + Sync, P: Progress + Copy + Drop, W: Write>(
+/// Whether the text is made whole before any of it is written: where tests are written of it, or a part ends with its digest.
+pub fn is_kept(options: &BenchOptions) -> bool
+    ensures { result ≡ is_kept options.now }
+{
+    options.tap || is_part(options.work)
+}
+
+/// Whether a line of the script can show that an order differs, where the work compares orders.
+fn shown_by(alloc: Global, work: Work, script: &[u8]) -> Result<bool, Refusal>
+    ensures shown { IfOk result (λ shown. shown ≡ shown_by work script.now) }
+    ensures refused { IfErr result (λ e. e ≡ Memory) }
+{
+    match work {
+        Work::Compare(_) | Work::Preempt(_) => match parse_script(alloc, script) {
+            Ok(script) => Ok(is_shown(&script.lines)),
+            Err(Refusal::Memory) => Err(Refusal::Memory),
+            Err(_) => Ok(true),
+        },
+        _ => Ok(true),
+    }
+}
+
+/// Writes a text, or the tests of it.
+fn write_tested<W: Write>(
+    alloc: Global,
+    tap: bool,
+    well: bool,
+    shown: bool,
+    text: &[u8],
+    out: &mut W,
+) -> Result<(), Refusal>
+    ensures ok { OnOk result (Appends (W.contents out.old) (W.contents out.new) (tested_text tap well shown text.now)) }
+    ensures err { IfErr result (λ e. (e ≡ Memory) ⊎ (e ≡ Output)) }
+{
+    if tap {
+        return write_tap(alloc, text, well, shown, out);
+    }
+    out.write_all(text).map_err(|error| unwritten(error))
+}
+
+/// Makes what the work makes in memory, and then writes it, or the tests of it. A part ends with its digest.
+pub fn make_kept<R: Threads + Sync, P: Progress + Copy + Drop, W: Write>(
     alloc: Global,
     threads: &R,
     options: &BenchOptions,
@@ -167,9 +263,12 @@ pub fn make_tests<R: Threads + Sync, P: Progress + Copy + Drop, W: Write>(
 ) -> Result<u64, Refusal>
     requires most { IsBounded options.now.work }
     ensures made { IfOk result (λ differ. IsPut true
+        (put_text options.now.tap options.now.work payloads texts.entry.recovery.now texts.entry.script.now)
         (IsMade options.now.work payloads texts.entry.recovery.now texts.entry.script.now) differ (W.contents out.old) (W.contents out.new)) }
     ensures refused { IfErr result (IsRefusedWith options.now.work payloads texts.entry.recovery.now texts.entry.script.now) }
 {
+    let tag = part_tag(alloc, options.work, &payloads, texts)?;
+    let shown = shown_by(alloc, options.work, texts.script)?;
     let mut text = Vec::new(alloc);
     let made = make::<R, Unpaused<P>, Vec<u8>>(
         alloc,
@@ -182,6 +281,7 @@ pub fn make_tests<R: Threads + Sync, P: Progress + Copy + Drop, W: Write>(
     );
     progress.pause();
     let differ = made?;
-    write_tap(alloc, &text, differ == 0, out)?;
+    let text = with_tag(text, &tag)?;
+    write_tested(alloc, options.tap, differ == 0, shown, &text, out)?;
     Ok(differ)
 }

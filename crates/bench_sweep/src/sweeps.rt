@@ -22,17 +22,18 @@ use crate::chunks::{RunsAtCalls, chunk_size, marks_of};
 use crate::judges::Sweep;
 use crate::judging::{PointRows, turn_off};
 use crate::plan::SweepPlan;
-use crate::points::{CALLERS, Caller};
+use crate::points::{BenchKind, CALLERS, Caller};
 use crate::recovery::{Recovery, RecoveryFile, looks_of, numbers_of_looks, recovery_lines};
 use crate::rows::{differing, write_recovered, write_rows, write_sweep};
 use crate::runner::Runner;
 use crate::site::{Going, Site};
 use crate::sites::run_lines;
-use bench_report::Setting;
+use bench_report::{Printed, Setting};
 use board::Payloads;
 use board_model::Refusal;
 use crew::{Crew, Sequential};
 use jobs::{Chunk, Jobs, Part, Progress, Sink, Window, hand_on_all};
+use machine::MachineLine;
 use script_lang::{Line, Script, parse_script};
 use std::alloc::Global;
 use std::io::Write;
@@ -501,6 +502,30 @@ fn sweep_lines<'a, R: Threads + Sync, P: Progress, C: Crew + Sync, W: Write>(
     sweep_site(jobs, &runner, &site, plan.part, report)
 }
 
+/// What the looks of the recovery say behind the lines' own end, which stand in a script that begins with these payloads.
+fn own_looks<'a, C: Crew>(
+    setting: &Setting<'a, C>,
+    lines: &'a [Line],
+    recovery: Recovery<'a>,
+    payloads: &Payloads,
+) -> Result<Vec<Printed>, Refusal>
+    requires lines { AreSwept setting.now.shape.now lines.now }
+    requires recovery { AreSwept setting.now.shape.now recovery.lines.now }
+    ensures refused { IfErr result (λ e. e ≡ Memory) }
+{
+    let (count, site) = run_to_format(setting, lines, payloads)?;
+    let after = &lines[count..];
+    let runner = Runner {
+        setting: *setting,
+        bench: BenchKind::Cuts,
+        lines: after,
+        recovery,
+    };
+    let end = run_plain(&runner, &site)?;
+    let left = end.copy(setting.alloc)?;
+    looks_of(setting, recovery.lines, left)
+}
+
 /// Writes the rows that the bench makes of those lines, and answers their counts.
 fn write_swept<'a, R: Threads + Sync, P: Progress, C: Crew + Sync, W: Write>(
     jobs: &Jobs<'_, R, P>,
@@ -556,6 +581,39 @@ fn sweep_plain_script<R: Threads + Sync, P: Progress, W: Write>(
         shape: &script.shape,
     };
     write_swept(jobs, &setting, plan, &script.lines, recovery, payloads, out)
+}
+
+/// Whether a look says nothing of a board or of its disk: the board is off, or on where the disk is asked for.
+fn is_blind(said: &Printed) -> bool {
+    matches!(
+        said,
+        Printed::Off | Printed::Busy | Printed::Shown(MachineLine::Off)
+    )
+}
+
+/// Refused `NotPlain` where each look of the recovery is blind behind the script's own end, so that nothing would be compared.
+fn check_looks<R: Threads + Sync>(
+    alloc: Global,
+    script: &Script,
+    recovery: Recovery<'_>,
+    payloads: &Payloads,
+) -> Result<(), Refusal>
+    requires ranges { All (IsLineInRange script.now.shape) script.now.lines.items }
+    requires plain { All IsPlainLine script.now.lines.items }
+    requires recovery { AreSwept script.now.shape recovery.lines.now }
+    ensures refused { IfErr result (λ e. (e ≡ Memory) ⊎ (e ≡ NotPlain)) }
+{
+    let crew = Sequential::<R>::new([0, 1, 2, 3])?;
+    let setting = Setting {
+        alloc,
+        crew: &crew,
+        shape: &script.shape,
+    };
+    let own = own_looks(&setting, &script.lines, recovery, payloads)?;
+    if own.iter().all(|said| is_blind(said)) {
+        return Err(Refusal::NotPlain);
+    }
+    Ok(())
 }
 
 /// The parts of a bench make the whole: their rows, one part behind another, are those of the bench without parts.
@@ -617,7 +675,8 @@ pub fn run_bench<R: Threads + Sync, P: Progress, W: Write>(
 /// quiet plan writes the lines of those runs alone, and the counts.
 ///
 /// Refused as `run_bench` is, and `BadScript` or `NotPlain` also for a line of the recovery that is none, or that formats,
-/// arms, cuts power or pokes; `NotPlain` also where none of them looks.
+/// arms, cuts power or pokes; `NotPlain` also where none of them looks, or each look says `off` or `busy` behind the script's own
+/// end.
 pub fn run_bench_recovered<R: Threads + Sync, P: Progress, W: Write>(
     jobs: &Jobs<'_, R, P>,
     alloc: Global,
@@ -647,6 +706,7 @@ pub fn run_bench_recovered<R: Threads + Sync, P: Progress, W: Write>(
         numbers: &numbers,
         own: &[],
     };
+    check_looks::<R>(alloc, &script, behind, &payloads)?;
     let done = sweep_plain_script::<R, P, W>(jobs, alloc, plan, &script, behind, &payloads, out)?;
     write_recovered(out, plan.part, done)?;
     Ok(done)

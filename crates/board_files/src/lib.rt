@@ -15,5 +15,5 @@ mod written;
 pub use files::{BoardFiles, DiskFile, DiskFiles, HeldFile, unreached};
 pub use payload_files::PayloadFiles;
 pub use payloads::read_payloads;
-pub use reads::{disk_in, seen_in, shape_in};
+pub use reads::{disk_in, refused_disk, seen_in, shape_in};
 pub use system::SystemFiles;

@@ -17,6 +17,9 @@ use layout::parse_superblock;
 use simdisk::SimDisk;
 use std::alloc::Global;
 
+/// The sectors of the largest board's disk.
+const MOST_SECTORS: usize = 18_440;
+
 /// The first sector of a file.
 fn first_sector<F: DiskFile>(file: &F) -> Result<Sector, FileFault>
     ensures first { IfOk result (λ first. IfSome (F.bytes file.now) (λ all. first ≡ take 512 all)) }
@@ -59,6 +62,33 @@ fn shape_of(bytes: u64, first: &Sector) -> Result<Shape, Refusal>
     parse_superblock(first, (bytes / 512) as usize)
 }
 
+/// The cause of a refusal `BadShape` of a file of so many bytes that begins with this sector.
+fn cause_of(bytes: u64, first: &Sector) -> &'static str {
+    if bytes < 512 || bytes % 512 != 0 {
+        return "the disk's file is empty, or not whole sectors of 512 bytes";
+    }
+    if parse_superblock(first, MOST_SECTORS).is_ok() {
+        "the disk's file is too short for the board in its superblock"
+    } else {
+        "the superblock in the disk's file is no board's"
+    }
+}
+
+/// The refusal of the disk that a file holds. `BadShape` has its cause: the file's length, or the superblock.
+pub fn refused_disk<F: DiskFile>(file: &F, refusal: Refusal) -> FileFault
+    ensures { result.fault ≡ Refused refusal }
+{
+    let fault = FileFault::refused(refusal);
+    if refusal != Refusal::BadShape {
+        return fault;
+    }
+    let Ok(begin) = read_begin(file) else {
+        return fault;
+    };
+    let (bytes, first) = begin;
+    fault.caused_by(cause_of(bytes, &first))
+}
+
 /// The shape of the board whose disk the file holds. Only the first sector is read. Refused where the file is no board's.
 #[tactic(auto, using(crate::proofs::FileSectors::is_board, crate::proofs::FileSectors::exact_ok, crate::proofs::FileSectors::exact_err, crate::proofs::FileSectors::is_no_disk))]
 pub fn shape_in<F: DiskFile>(file: &F) -> Result<Shape, FileFault>
@@ -70,7 +100,7 @@ pub fn shape_in<F: DiskFile>(file: &F) -> Result<Shape, FileFault>
     let (bytes, first) = read_begin(file)?;
     match shape_of(bytes, &first) {
         Ok(shape) => Ok(shape),
-        Err(e) => Err(FileFault::refused(e)),
+        Err(e) => Err(refused_disk(file, e)),
     }
 }
 
@@ -117,7 +147,7 @@ fn sectors_to_examine<F: DiskFile>(file: &F) -> Result<usize, FileFault>
 {
     let bytes = file.length()?;
     if bytes % 512 != 0 {
-        return Err(FileFault::refused(Refusal::BadShape));
+        return Err(refused_disk(file, Refusal::BadShape));
     }
     if bytes == 0 {
         return Ok(0);

@@ -30,8 +30,7 @@ macro_rules! numbers {
 Console, a line each:
 ",
             $($command,)*
-            "\
-  state      'state slot S reason R image X next N', and where the slot is on
+            "  state      'state slot S reason R image X next N', and where the slot is on
              trial ' trial F L': the slot to fall back to, and the boots left
   wake       wakes a board that sleeps in its RAM: 'wake ok' or 'wake refused 18'
   quit       ends the harts after their turn, and the program

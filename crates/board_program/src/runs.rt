@@ -8,6 +8,7 @@ ghost use Rattle.board_files.specs.Faults.{IsFileFault};
 ghost use Rattle.disk.specs.Facts.{Unchanged};
 ghost use Rattle.board_program.specs.Operated.{EndsInFile, HasLeft, IsWritten, StaysInFile, known};
 ghost use Rattle.board_program.specs.Ran.{HasRun, told_of};
+ghost use Rattle.command_line.specs.declared.fault.ProgramFault.TheVariants.{Refused};
 
 use crate::answers::Answers;
 use crate::disks::{TakenDisk, take_disk};
@@ -99,13 +100,24 @@ fn write_at_the_end<H: HeldFile>(
     first_of(as_file_fault(ran), written)
 }
 
-/// The program's fault for a session that was refused.
+/// The program's fault for a session that was refused. The shape is the disk's own, so `BadShape` is of a payload.
 fn as_file_fault(ran: Result<(), Refusal>) -> Result<(), FileFault>
     ensures { fault_of result ≡ told_of ran }
 {
     match ran {
         Ok(()) => Ok(()),
-        Err(e) => Err(FileFault::refused(e)),
+        Err(e) => Err(refused_session(e)),
+    }
+}
+
+/// The fault of a session that was refused so.
+fn refused_session(refusal: Refusal) -> FileFault
+    ensures { result.fault ≡ Refused refusal }
+{
+    let fault = FileFault::refused(refusal);
+    match refusal {
+        Refusal::BadShape => fault.caused_by("a payload is longer than the board's RAM"),
+        _ => fault,
     }
 }
 

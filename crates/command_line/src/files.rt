@@ -14,12 +14,13 @@ use std::fs::{self, File, OpenOptions};
 use std::io::{self, IsTerminal, Write};
 use thiserror::Error;
 
-/// A fault of a program over files, and of a file's fault which file it was, and why.
+/// A fault of a program over files; of a file's fault which file it was, and why, and of a refusal which of its causes.
 #[derive(Drop)]
 pub struct FileFault {
     /// The fault.
     pub fault: ProgramFault,
     reason: Option<FaultReason>,
+    cause: Option<&'static str>,
     is_loss: bool,
 }
 
@@ -45,7 +46,18 @@ impl FileFault {
         FileFault {
             fault,
             reason,
+            cause: None,
             is_loss: false,
+        }
+    }
+
+    /// This fault, of a refusal that has several causes, by the words for the one.
+    pub fn caused_by(self, cause: &'static str) -> FileFault
+        ensures { result.fault ≡ self.fault }
+    {
+        FileFault {
+            cause: Some(cause),
+            ..self
         }
     }
 
@@ -56,12 +68,13 @@ impl FileFault {
         FileFault { is_loss, ..self }
     }
 
-    /// The first of two faults. What is told of a file is told of the later one's too.
+    /// The first of two faults, with its cause. What is told of a file is told of the later one's too.
     pub fn before(self, later: FileFault) -> FileFault
         ensures { result.fault ≡ self.fault }
     {
         FileFault {
             fault: self.fault,
+            cause: self.cause,
             ..later
         }
     }
@@ -81,16 +94,21 @@ impl From<ProgramFault> for FileFault {
         FileFault {
             fault,
             reason: None,
+            cause: None,
             is_loss: false,
         }
     }
 }
 
-/// Tells a fault: its line, as [`ToldBy`] has it; then, where a file could not be read or written, its path and the
-/// system's reason; and whether commands are lost by that. That nobody reads it changes nothing.
+/// Tells a fault: its line, as [`ToldBy`] has it; then, of a refusal with several causes, which it was; where a file could not
+/// be read or written, its path and the system's reason; and whether commands are lost by that. That nobody reads it changes
+/// nothing.
 pub fn tell_fault<F: Write>(faults: &mut F, program: &'static str, fault: &FileFault) {
     let line = ToldBy(program, fault.fault);
     let _told = write!(faults, "{line}");
+    if let Some(cause) = fault.cause {
+        let _told = writeln!(faults, "{program}: {cause}");
+    }
     if let Some(reason) = &fault.reason {
         let _told = writeln!(faults, "{program}: {reason}");
     }

@@ -10,6 +10,7 @@ use crate::begins::begun;
 use crate::given::DebugOptions;
 use crate::start::Start;
 use board_files::read_payloads;
+use board_model::Refusal;
 use command_line::{FileFault, read_file};
 use script_lang::parse_script;
 use std::thread::Threads;
@@ -23,6 +24,27 @@ fn script_bytes(rt: &HostRuntime, path: &str) -> Result<Vec<u8>, FileFault> {
     match read_file(rt, path, MOST_BYTES) {
         Ok(bytes) => Ok(bytes),
         Err(e) => Err(FileFault::new(rt.alloc(), path, e)),
+    }
+}
+
+/// The fault of a script that is refused so.
+fn refused_script(refusal: Refusal) -> FileFault {
+    let fault = FileFault::refused(refusal);
+    match refusal {
+        Refusal::BadShape => fault.caused_by("a number of the board line is out of its range"),
+        _ => fault,
+    }
+}
+
+/// The fault where no session begins there.
+fn refused_begin(refusal: Refusal) -> FileFault {
+    let fault = FileFault::refused(refusal);
+    match refusal {
+        Refusal::BadShape => fault.caused_by("there is none of that number"),
+        Refusal::NotPlain => {
+            fault.caused_by("a line cuts power, arms a fault or pokes, or none formats the disk")
+        }
+        _ => fault,
     }
 }
 
@@ -40,10 +62,10 @@ pub fn start_read<R: Threads + Sync>(
 {
     let alloc = rt.alloc();
     let bytes = script_bytes(rt, &options.script)?;
-    let own = parse_script(alloc, &bytes).map_err(FileFault::refused)?;
+    let own = parse_script(alloc, &bytes).map_err(refused_script)?;
     let payloads = read_payloads(alloc, rt, &options.payloads)?;
     let script = begun(threads, alloc, options.begin, own, &bytes, &payloads).map_err(
-        FileFault::refused,
+        refused_begin,
     )?;
     Ok(Start { script, payloads })
 }

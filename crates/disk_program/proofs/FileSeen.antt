@@ -1,5 +1,5 @@
 -- From what an examiner makes of a disk to what the program writes of its file.
-use Rattle.std.proofs.Common.{◌≡◌, ◌≢◌, ◌⊎◌, ◌%◌, ℕ, Bool, true, false, List, [], Option, None, Some, Result, Ok, Err, IfErr, IfSome, OnOk, inl, inr, length, refl, subst}
+use Rattle.std.proofs.Common.{◌≡◌, ◌≢◌, ◌⊎◌, ◌%◌, ℕ, Bool, true, false, List, [], Option, None, Some, Result, Ok, Err, IfErr, IfOk, IfSome, OnOk, inl, inr, length, refl, subst}
 use Rattle.std.specs.Io.KnownBytes.{Appends}
 use Rattle.board_files.specs.Disks.{IsLookedAt, first_sectors}
 use Rattle.board_files.specs.Faults.{IsFileFault}
@@ -16,7 +16,7 @@ use Rattle.command_line.specs.Told.{fault_of}
 use Rattle.command_line.specs.declared.NoWork.{NoWork}
 use Rattle.command_line.specs.declared.files.FileFault.{FileFault}
 use Rattle.disk.specs.Facts.{Content, Facts, IsFresh}
-use Rattle.disk_program.specs.Examined.{IfLookedAt, IsFaultOf, IsFaultOver, IsWorked, RefusesBytes, RefusesLines, RefusesMemory, WritesMemory, WritesNothing, WritesSeen, WritesWork}
+use Rattle.disk_program.specs.Examined.{IfLookedAt, IsFaultOf, IsFaultOver, IsWorked, RefusesBytes, RefusesLines, RefusesMemory, WritesMemory, WritesNothing, WritesSeen, WritesWork, has_bad, status_of}
 use Rattle.disk_program.specs.Texts.{seen_text}
 use Rattle.disk_program.specs.Usage.{AskForNone, sbidisk}
 use Rattle.disk_program.specs.declared.usage.DiskWork.{DiskWork}
@@ -32,11 +32,11 @@ looked_at : (bytes : Option (List ℕ)) (disk : Facts) (P : Content → Type 0) 
 looked_at None disk P shows p = tt
 looked_at (Some all) disk P shows p = (shows.0, shows.1, subst P shows.2.reads p)
 
-pub writes_seen : (bytes at old now : Option (List ℕ)) (disk : Facts) (seen : Seen) → at ≡ bytes
+pub writes_seen : (bytes at old now : Option (List ℕ)) (disk : Facts) (seen : Seen) (bad : Bool) → bad ≡ has_bad seen → at ≡ bytes
     → IfSome at (λ all. (n : ℕ) × IsLookedAt n all × IsFresh (first_sectors n all) disk) → IsSeen disk.content seen
-    → Appends old now (seen_text seen) → WritesSeen bytes old now
-writes_seen bytes at old now disk seen is shows sees written =
-    (seen, looked_at bytes disk (λ c. IsSeen c seen) (rw (← is) shows) sees, written)
+    → Appends old now (seen_text seen) → WritesSeen bytes bad old now
+writes_seen bytes at old now disk seen bad says is shows sees written =
+    (seen, looked_at bytes disk (λ c. IsSeen c seen) (rw (← is) shows) sees, written, says)
 
 pub writes_memory : (bytes at old now : Option (List ℕ)) (disk : Facts) (memory : List ℕ) → at ≡ bytes
     → IfSome at (λ all. (n : ℕ) × IsLookedAt n all × IsFresh (first_sectors n all) disk) → HoldsMemory disk.content memory
@@ -98,12 +98,12 @@ memory_refused bytes at disk new fault e is same shows refuses = over_disk Refus
     by e x = absurd x
 
 -- ---- the status
-on_ok : (P Q : Type 0) (r : Result (Unit {0}) FileFault) → OnOk r P → OnOk r Q → OnOk (fault_of r) (P × Q)
-on_ok P Q (Ok done) p q = (p, q)
+on_ok : (P : Bool → Type 0) (Q : Type 0) (r : Result Bool FileFault) → IfOk r P → OnOk r Q → IfOk (fault_of r) (λ bad. P bad × Q)
+on_ok P Q (Ok bad) p q = (p, q)
 on_ok P Q (Err e) p q = tt
 
-both_err : (P Q : ProgramFault → Type 0) (r : Result (Unit {0}) FileFault) → IfErr r (λ e. P e.fault) → IfErr r (λ e. Q e.fault) → IfErr (fault_of r) (λ fault. P fault × Q fault)
-both_err P Q (Ok done) p q = tt
+both_err : (P Q : ProgramFault → Type 0) (r : Result Bool FileFault) → IfErr r (λ e. P e.fault) → IfErr r (λ e. Q e.fault) → IfErr (fault_of r) (λ fault. P fault × Q fault)
+both_err P Q (Ok bad) p q = tt
 both_err P Q (Err e) p q = (p, q)
 
 -- where the output failed anything may stand in it
@@ -111,17 +111,17 @@ pub output_failed : (fault : ProgramFault) (e : Refusal) (old now : Option (List
 output_failed fault e old now is output = λ other. let P : Refusal → Type 0 = λ x. fault ≡ Refused x in absurd (other (subst P output is))
 
 pub ends_closed : (disk_at : List ℕ → Option (List ℕ)) (work : DiskWork) (old now : Option (List ℕ)) (held : List ℕ) (closed : Bool)
-    (r : Result (Unit {0}) FileFault) → closed ≡ true → OnOk r (WritesWork disk_at work old now) → OnOk r (held ≡ [])
+    (r : Result Bool FileFault) → closed ≡ true → IfOk r (λ bad. WritesWork disk_at work bad old now) → OnOk r (held ≡ [])
     → IfErr r (λ e. IsFaultOf disk_at work e.fault) → IfErr r (λ e. WritesNothing e.fault old now) → IsWorked disk_at work old now held closed 1
 ends_closed disk_at work old now held closed r is did whole failed spared =
-    (fault_of r, rw is refl, on_ok _ _ r did whole, both_err (IsFaultOf disk_at work) (λ fault. WritesNothing fault old now) r failed spared)
+    (fault_of r, rw is refl, on_ok (λ bad. WritesWork disk_at work bad old now) (held ≡ []) r did whole, both_err (IsFaultOf disk_at work) (λ fault. WritesNothing fault old now) r failed spared)
 
 pub ends_open : (disk_at : List ℕ → Option (List ℕ)) (work : DiskWork) (old now : Option (List ℕ)) (held : List ℕ) (closed : Bool) (status : ℕ)
-    (r : Result (Unit {0}) FileFault) → closed ≡ false → status ≡ status_after (fault_of r)
-    → OnOk r (WritesWork disk_at work old now) → OnOk r (held ≡ []) → IfErr r (λ e. IsFaultOf disk_at work e.fault)
+    (r : Result Bool FileFault) → closed ≡ false → status ≡ status_of (fault_of r)
+    → IfOk r (λ bad. WritesWork disk_at work bad old now) → OnOk r (held ≡ []) → IfErr r (λ e. IsFaultOf disk_at work e.fault)
     → IfErr r (λ e. WritesNothing e.fault old now) → IsWorked disk_at work old now held closed status
 ends_open disk_at work old now held closed status r shut is did whole failed spared =
-    (fault_of r, rw shut is, on_ok _ _ r did whole, both_err (IsFaultOf disk_at work) (λ fault. WritesNothing fault old now) r failed spared)
+    (fault_of r, rw shut is, on_ok (λ bad. WritesWork disk_at work bad old now) (held ≡ []) r did whole, both_err (IsFaultOf disk_at work) (λ fault. WritesNothing fault old now) r failed spared)
 
 -- the words of a command line whose own text has an error of that kind ask for none
 pub asks_for_none : (words : List (List ℕ)) (kind : ErrorKind) (why : NoWork) → why ≡ no_work kind

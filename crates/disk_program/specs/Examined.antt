@@ -1,5 +1,5 @@
 -- What the examiner makes of a disk's file, and its status. Source: docs/CONSOLE.md, "The program `sbidisk`".
-use Rattle.std.specs.Prelude.{◌≡◌, ◌≢◌, ◌⊎◌, ◌%◌, ℕ, Bool, true, false, List, [], Option, IfErr, IfSome, OnOk, Result, length, ⊤}
+use Rattle.std.specs.Prelude.{◌≡◌, ◌≢◌, ◌⊎◌, ◌%◌, ℕ, Bool, true, false, List, [], Option, IfErr, IfOk, IfSome, Result, Ok, Err, length, ⊤}
 use Rattle.std.specs.Io.KnownBytes.{Appends}
 use Rattle.board_files.specs.Disks.{IsLookedAt, first_sectors}
 use Rattle.board_files.specs.Faults.{IsFileFault}
@@ -18,23 +18,40 @@ use Rattle.examined.specs.Memories.{HoldsBadImage, HoldsMemory, HoldsNoImage}
 use Rattle.examined.specs.Sights.{IsSeen}
 use Rattle.examined.specs.declared.sees.Seen.{Seen}
 use Rattle.store.specs.Opens.{ReadsAs}
+use Rattle.store.specs.declared.inspects.ImageSeen.{ImageSeen}
+use Rattle.store.specs.declared.inspects.ImageSeen.TheVariants.{Absent, Whole, Bad}
 
 -- P of the sectors that are looked at of a file of these bytes, where they are known
 abbrev pub IfLookedAt : Option (List ℕ) → (Content → Type 0) → Type 0
 IfLookedAt bytes P = IfSome bytes (λ all. (n : ℕ) × IsLookedAt n all × P (first_sectors n all))
 
--- the lines of what stands in the file were written, and nothing else
-abbrev pub WritesSeen : Option (List ℕ) → Option (List ℕ) → Option (List ℕ) → Type 0
-WritesSeen bytes old now = (seen : Seen) × IfLookedAt bytes (λ c. IsSeen c seen) × Appends old now (seen_text seen)
+-- ---- what is bad
+-- by whether both records are in their form, and by the image
+abbrev pub says_bad : Bool → Bool → ImageSeen → Bool
+says_bad true true Absent = false
+says_bad true true Whole = false
+says_bad true true Bad = true
+says_bad true false image = true
+says_bad false other image = true
+
+-- a line says `bad`: of a record or of the image
+abbrev pub has_bad : Seen → Bool
+has_bad seen = says_bad seen.inspection.live seen.inspection.other seen.inspection.image
+
+-- ---- what is written
+-- the lines of what stands in the file were written, and nothing else, and they say `bad` or not
+abbrev pub WritesSeen : Option (List ℕ) → Bool → Option (List ℕ) → Option (List ℕ) → Type 0
+WritesSeen bytes bad old now =
+    (seen : Seen) × IfLookedAt bytes (λ c. IsSeen c seen) × Appends old now (seen_text seen) × (bad ≡ has_bad seen)
 
 -- the memory of the image that stands in the file was written, and nothing else
 abbrev pub WritesMemory : Option (List ℕ) → Option (List ℕ) → Option (List ℕ) → Type 0
 WritesMemory bytes old now = (memory : List ℕ) × IfLookedAt bytes (λ c. HoldsMemory c memory) × Appends old now memory
 
--- what was asked for was written
-abbrev pub WritesWork : (List ℕ → Option (List ℕ)) → DiskWork → Option (List ℕ) → Option (List ℕ) → Type 0
-WritesWork disk_at (Lines path) old now = WritesSeen (disk_at path.now) old now
-WritesWork disk_at (Memory path) old now = WritesMemory (disk_at path.now) old now
+-- what was asked for was written, and a line of it says `bad` or none does
+abbrev pub WritesWork : (List ℕ → Option (List ℕ)) → DiskWork → Bool → Option (List ℕ) → Option (List ℕ) → Type 0
+WritesWork disk_at (Lines path) bad old now = WritesSeen (disk_at path.now) bad old now
+WritesWork disk_at (Memory path) bad old now = (bad ≡ false) × WritesMemory (disk_at path.now) old now
 
 -- ---- why it was not written
 -- The disk of these sectors is refused, where lines are asked for: by what it holds, or since it failed (5). The disk of a
@@ -74,10 +91,16 @@ IsFaultOf disk_at (Lines path) fault = IsFaultOver RefusesLines (disk_at path.no
 IsFaultOf disk_at (Memory path) fault = IsFaultOver RefusesMemory (disk_at path.now) fault
 
 -- ---- the status
+-- of a work that was done, by whether a line says `bad`, or of its fault
+abbrev pub status_of : Result Bool ProgramFault → ℕ
+status_of (Ok true) = 3
+status_of (Ok false) = 0
+status_of (Err fault) = let done : Result (Unit {0}) ProgramFault = Err fault in status_after done
+
 -- by whether nobody reads the output any more
-abbrev pub status_by : Bool → Result (Unit {0}) ProgramFault → ℕ
+abbrev pub status_by : Bool → Result Bool ProgramFault → ℕ
 status_by true done = 1
-status_by false done = status_after done
+status_by false done = status_of done
 
 -- nothing was written, where the fault is no failure of the output
 abbrev pub WritesNothing : ProgramFault → Option (List ℕ) → Option (List ℕ) → Type 0
@@ -86,8 +109,8 @@ WritesNothing fault old now = (fault ≡ Refused Output → ⊥) → now ≡ old
 -- The status is the one of the work, which was done whole where it has no fault, or of a fault that it may have: then nothing
 -- was written, unless the output failed. `held` is what the writer holds back.
 abbrev pub IsWorked : (List ℕ → Option (List ℕ)) → DiskWork → Option (List ℕ) → Option (List ℕ) → List ℕ → Bool → ℕ → Type 0
-IsWorked disk_at work old now held closed status = (done : Result (Unit {0}) ProgramFault) × (status ≡ status_by closed done)
-    × OnOk done (WritesWork disk_at work old now × (held ≡ []))
+IsWorked disk_at work old now held closed status = (done : Result Bool ProgramFault) × (status ≡ status_by closed done)
+    × IfOk done (λ bad. WritesWork disk_at work bad old now × (held ≡ []))
     × IfErr done (λ fault. IsFaultOf disk_at work fault × WritesNothing fault old now)
 
 -- What comes of the words: the work that they name was done, or has a fault; or they ask for none.

@@ -1,32 +1,49 @@
 //! The program over files and streams: it tells what a disk's file holds (docs/CONSOLE.md, "The program `sbidisk`").
 
-ghost use Rattle.std.specs.Prelude.{◌≡◌, ◌≤◌, [], map, IfErr, OnOk};
+ghost use Rattle.std.specs.Prelude.{◌≡◌, ◌≤◌, [], map, false, IfErr, IfOk, OnOk};
 ghost use Rattle.std.specs.Io.Buffered.{writer_buffer, writer_contents, writer_inner};
 ghost use Rattle.command_line.specs.Faults.{status_after, without_work};
 ghost use Rattle.command_line.specs.Pipes.{is_closed_pipe, pipe_contents};
-ghost use Rattle.disk_program.specs.Examined.{IsExamined, IsFaultOf, IsFaultOver, IsWorked, RefusesLines, RefusesMemory, WritesMemory, WritesNothing, WritesSeen, WritesWork};
+ghost use Rattle.command_line.specs.Told.{fault_of};
+ghost use Rattle.disk_program.specs.Examined.{IsExamined, IsFaultOf, IsFaultOver, IsWorked, RefusesLines, RefusesMemory, WritesMemory, WritesNothing, WritesSeen, WritesWork, has_bad, status_of};
 
 use crate::shows::write_seen;
 use crate::usage::{DiskWork, work_of};
-use board_files::{DiskFiles, seen_in};
+use board_files::{DiskFiles, refused_disk, seen_in};
 use command_line::{FileFault, NoWork, Pipe, end_with, show_on, without_work};
-use examined::{image_memory, see_disk, write_memory};
+use examined::{Seen, image_memory, see_disk, write_memory};
 use std::alloc::Global;
 use std::convert::AsStr;
 use std::io::{BufWriter, IsTerminal, Write};
+use store::ImageSeen;
 
 /// What the lines or the bytes are written to.
 type Out<W> = BufWriter<Pipe<W>>;
 
-/// Writes the lines that tell what the file holds.
+/// Whether a line says `bad`: of a record that is not in its form, or of the image.
+fn has_bad(seen: &Seen) -> bool
+    ensures { result ≡ has_bad seen.now }
+{
+    let seen = seen.inspection;
+    if seen.live && seen.other {
+        match seen.image {
+            ImageSeen::Absent | ImageSeen::Whole => false,
+            ImageSeen::Bad => true,
+        }
+    } else {
+        true
+    }
+}
+
+/// Writes the lines that tell what the file holds. Answers whether one says `bad`.
 #[tactic(auto, using(crate::proofs::FileSeen::writes_seen, crate::proofs::FileSeen::unread, crate::proofs::FileSeen::not_whole, crate::proofs::FileSeen::lines_refused, crate::proofs::FileSeen::unwritten, crate::proofs::FileSeen::output_failed))]
 fn look<D: DiskFiles, W: Write + Drop>(
     alloc: Global,
     files: &D,
     path: &str,
     out: &mut Out<W>,
-) -> Result<(), FileFault>
-    ensures done { OnOk result (WritesSeen (D.disk_at files.now path.now)
+) -> Result<bool, FileFault>
+    ensures done { IfOk result (λ bad. WritesSeen (D.disk_at files.now path.now) bad
         (writer_contents (pipe_contents W.contents) out.old) (writer_contents (pipe_contents W.contents) out.new)) }
     ensures flushed { OnOk result (writer_buffer out.new ≡ []) }
     ensures failed { IfErr result (λ e. IsFaultOver RefusesLines (D.disk_at files.now path.now) e.fault) }
@@ -38,10 +55,11 @@ fn look<D: DiskFiles, W: Write + Drop>(
     let (_disk, seen) = see_disk(alloc, disk);
     let seen = match seen {
         Ok(seen) => seen,
-        Err(e) => return Err(FileFault::refused(e)),
+        Err(e) => return Err(refused_disk(&file, e)),
     };
+    let is_bad = has_bad(&seen);
     match write_seen(&seen, out) {
-        Ok(()) => Ok(()),
+        Ok(()) => Ok(is_bad),
         Err(e) => Err(FileFault::refused(e)),
     }
 }
@@ -66,7 +84,7 @@ fn recall<D: DiskFiles, W: Write + Drop>(
     let (_disk, memory) = image_memory(alloc, disk);
     let memory = match memory {
         Ok(memory) => memory,
-        Err(e) => return Err(FileFault::refused(e)),
+        Err(e) => return Err(refused_disk(&file, e)),
     };
     match write_memory(&memory, out) {
         Ok(()) => Ok(()),
@@ -74,14 +92,14 @@ fn recall<D: DiskFiles, W: Write + Drop>(
     }
 }
 
-/// Does the work that the words name.
+/// Does the work that the words name. Answers whether a line says `bad`.
 fn do_work<D: DiskFiles, W: Write + Drop>(
     alloc: Global,
     files: &D,
     work: DiskWork<'_>,
     out: &mut Out<W>,
-) -> Result<(), FileFault>
-    ensures done { OnOk result (WritesWork (D.disk_at files.now) work.entry
+) -> Result<bool, FileFault>
+    ensures done { IfOk result (λ bad. WritesWork (D.disk_at files.now) work.entry bad
         (writer_contents (pipe_contents W.contents) out.old) (writer_contents (pipe_contents W.contents) out.new)) }
     ensures flushed { OnOk result (writer_buffer out.new ≡ []) }
     ensures failed { IfErr result (λ e. IsFaultOf (D.disk_at files.now) work.entry e.fault) }
@@ -90,7 +108,22 @@ fn do_work<D: DiskFiles, W: Write + Drop>(
 {
     match work {
         DiskWork::Lines(path) => look(alloc, files, path, out),
-        DiskWork::Memory(path) => recall(alloc, files, path, out),
+        DiskWork::Memory(path) => {
+            recall(alloc, files, path, out)?;
+            Ok(false)
+        }
+    }
+}
+
+/// The status of what was done, which is 3 where a line says `bad`. A fault is told.
+fn end_work<F: Write + IsTerminal>(faults: &mut F, done: Result<bool, FileFault>) -> u8
+    ensures range { result ≤ 3 }
+    ensures status { result ≡ status_of (fault_of done) }
+{
+    match done {
+        Ok(true) => 3,
+        Ok(false) => 0,
+        Err(fault) => end_with(faults, "sbidisk", &Err(fault)),
     }
 }
 
@@ -103,7 +136,7 @@ fn examine_by<D: DiskFiles, W: Write + Drop, F: Write + IsTerminal>(
     out: &mut Out<W>,
     faults: &mut F,
 ) -> u8
-    ensures range { result ≤ 2 }
+    ensures range { result ≤ 3 }
     ensures worked { IsWorked (D.disk_at files.now) work.entry
         (writer_contents (pipe_contents W.contents) out.old) (writer_contents (pipe_contents W.contents) out.new)
         (writer_buffer out.new) (is_closed_pipe (writer_inner out.new)) result }
@@ -112,7 +145,7 @@ fn examine_by<D: DiskFiles, W: Write + Drop, F: Write + IsTerminal>(
     if out.get_ref().is_closed() {
         return 1;
     }
-    end_with(faults, "sbidisk", &done)
+    end_work(faults, done)
 }
 
 /// The status where the words ask for no work. A fault of the command line was told before.
@@ -139,11 +172,12 @@ pub fn examine_on<D: DiskFiles, S: AsStr, W: Write + Drop, F: Write + IsTerminal
     out: &mut BufWriter<Pipe<W>>,
     faults: &mut F,
 ) -> u8
-    ensures range { result ≤ 2 }
+    ensures range { result ≤ 3 }
     // The status is the one of the work that the words name, or 1 where nobody reads the output any more. It is 0 only where
     // the lines or the memory of the file that they name were written whole, and nothing else, and nothing of them is held
-    // back, or where the words ask for the help or the version. A work that fails has a fault that it may have over that
-    // file, so 2 is the status of words alone that name none; and it wrote nothing, unless the output failed.
+    // back, or where the words ask for the help or the version; and 3 just where a line that was written so says `bad`. A work
+    // that fails has a fault that it may have over that file, so 2 is the status of words alone that name none; and it wrote
+    // nothing, unless the output failed.
     ensures status { IsExamined (D.disk_at files.now) (map S.text words.now)
         (writer_contents (pipe_contents W.contents) out.old) (writer_contents (pipe_contents W.contents) out.new)
         (writer_buffer out.new) (is_closed_pipe (writer_inner out.new)) result }

@@ -16,7 +16,7 @@ use std::process::ExitCode;
 /// output is gone, as any filter. It boots nothing, and the file is never written. Answers the status that
 /// docs/CONSOLE.md, "The program `sbidisk`", has.
 pub fn examine(rt: &HostRuntime) -> ExitCode
-    ensures { exit_status result ≤ 2 }
+    ensures { exit_status result ≤ 3 }
 {
     let _held = hold_streams(rt);
     let mut faults = rt.stderr();

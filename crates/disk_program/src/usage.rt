@@ -36,6 +36,7 @@ Status:
   1  standard error has 'sbidisk: refusal N', or 'sbidisk: file' where the file
      could not be read
   2  a fault of the command line
+  3  the lines were written, and one says 'bad'
 
 Refusals:
    1  the disk is not formatted

@@ -107,7 +107,7 @@ static FAULTS: [(&[u8], &[Run]); 5] = [
         b"thirteen bytes",
         &[Run {
             status: 1,
-            faults: b"sbidisk: refusal 3\n",
+            faults: b"sbidisk: refusal 3\nsbidisk: the disk's file is empty, or not whole sectors of 512 bytes\n",
             ..LINES
         }],
     ),
@@ -119,6 +119,14 @@ static FAULTS: [(&[u8], &[Run]); 5] = [
                 words: &["sbidisk", "--memory", "D"],
                 status: 1,
                 faults: b"sbidisk: refusal 8\n",
+                ..LINES
+            },
+            // The other record of a new disk is not in its form yet.
+            Run {
+                told: b"\
+inspect gate 0 live ok other bad image none\n\
+found slot 0 reason 0 image none next 0\n",
+                status: 3,
                 ..LINES
             },
         ],

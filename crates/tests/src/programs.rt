@@ -117,6 +117,10 @@ fn each_payload_file_is_for_its_slot(rt: HostRuntime) -> Result<(), Fail> {
 
 const LONG: [u8; 4097] = [0; 4097];
 
+/// What is told of a disk's file that is not whole sectors.
+const UNWHOLE: &[u8] =
+    b"sbiboard: refusal 3\nsbiboard: the disk's file is empty, or not whole sectors of 512 bytes\n";
+
 /// The digits of a payload that is longer than RAM.
 const LONG_PAYLOAD: [u8; 8194] = [b'0'; 8194];
 
@@ -135,7 +139,7 @@ static LONG_GUEST: [Run; 2] = [
         ],
         lines: b"slot 1\n",
         status: 1,
-        faults: b"sbiboard: refusal 3\n",
+        faults: b"sbiboard: refusal 3\nsbiboard: a payload is longer than the board's RAM\n",
         ..PLAIN
     },
     FORMATTED,
@@ -256,7 +260,7 @@ static FAULTS: [(&[u8], &[Run]); 9] = [
         &[Run {
             words: &OLD,
             status: 1,
-            faults: b"sbiboard: refusal 3\n",
+            faults: UNWHOLE,
             ..PLAIN
         }],
     ),
@@ -295,7 +299,7 @@ static FAULTS: [(&[u8], &[Run]); 9] = [
         &[Run {
             words: &OLD,
             status: 1,
-            faults: b"sbiboard: refusal 3\n",
+            faults: UNWHOLE,
             ..PLAIN
         }],
     ),

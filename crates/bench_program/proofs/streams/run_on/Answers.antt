@@ -35,7 +35,7 @@ returns-in-Ok g c =
     record {
       status = (
         c.run_options-done.result,
-        c.end.ensures,
+        c.end_told.ensures,
         done_or c.run_options-done.result (D 0) (E 0) F N (λ d. (options, c.in-Ok.ensures.named, d)) c.run_options-done.ensures.done,
         IfErr-weaker c.run_options-done.result Of Any (λ fault is. of_options words bytes_at input gone fault options c.in-Ok.ensures.named is) c.run_options-done.ensures.faults,
         λ is. wrong_of D E F (λ n d. (options, c.in-Ok.ensures.named, d)) (c.run_options-done.ensures.wrong is),
@@ -59,7 +59,7 @@ returns-in-Err g c =
     record {
       status = (
         c.without_work-done.result,
-        c.end-in-Err.ensures,
+        c.end.ensures,
         nothing_more (kind_of c.in-Err.text) c.without_work-done.result A (NamesConflict words) (NamesNoWork words) is c.in-Err.ensures.refused,
         line_fault (kind_of c.in-Err.text) c.without_work-done.result Of (NamesConflict words) (NamesNoWork words) is c.in-Err.ensures.refused,
         λ (wrong : done ≡ Err Wrong). never_wrong (no_work (kind_of c.in-Err.text)) done W is wrong,

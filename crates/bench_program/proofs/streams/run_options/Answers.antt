@@ -2,7 +2,7 @@ use Rattle.std.proofs.Common.{◌≡◌, ◌⊎◌, ℕ, [], inr}
 use Rattle.std.proofs.lemmas.Result.{IfErr-weaker}
 use Rattle.std.specs.Io.Buffered.{writer_buffer, writer_contents, writer_inner}
 use Rattle.command_line.specs.Pipes.{is_closed_pipe, pipe_contents}
-use Rattle.bench_program.specs.Written.{AreDone, IsFaultIn, IsFaultOf, IsMade, IsPut, IsUnread}
+use Rattle.bench_program.specs.Written.{AreDone, IsFaultIn, IsFaultOf, IsUnread, IsWritten}
 use Rattle.bench_program.specs.declared.fault.BenchFault.{BenchFault}
 use Rattle.bench_program.specs.declared.fault.BenchFault.TheVariants.{Refused}
 use Rattle.board_model.specs.declared.refusal.Refusal.TheVariants.{Memory}
@@ -15,7 +15,7 @@ returns-clause-done g c =
     let given = c.in_ok-given.given in
     let old = writer_contents (pipe_contents g.O.Write.contents) c.args.out.now in
     let now = writer_contents (pipe_contents g.O.Write.contents) c.run_work-done.new.out in
-    let D : Type 0 = IsPut options.tap (IsMade options.work given.payloads c.deref-2.result.now c.deref.result.now) 0 old now in
+    let D : Type 0 = IsWritten options given.payloads c.deref-2.result.now c.deref.result.now 0 old now in
     let E : Type 0 = AreDone options (g.P.PayloadFiles.bytes_at c.args.files.now) (g.I.Read.remaining c.args.input) 0 old now in
     let F : Type 0 = writer_buffer c.run_work-done.new.out ≡ [] in
     done_of c.run_work-done.result D E F
@@ -28,7 +28,7 @@ returns-clause-wrong g c = λ is.
     let given = c.in_ok-given.given in
     let old = writer_contents (pipe_contents g.O.Write.contents) c.args.out.now in
     let now = writer_contents (pipe_contents g.O.Write.contents) c.run_work-done.new.out in
-    let D : ℕ → Type 0 = λ n. IsPut options.tap (IsMade options.work given.payloads c.deref-2.result.now c.deref.result.now) n old now in
+    let D : ℕ → Type 0 = λ n. IsWritten options given.payloads c.deref-2.result.now c.deref.result.now n old now in
     let E : ℕ → Type 0 = λ n. AreDone options (g.P.PayloadFiles.bytes_at c.args.files.now) (g.I.Read.remaining c.args.input) n old now in
     let F : Type 0 = writer_buffer c.run_work-done.new.out ≡ [] in
     wrong_of D E F

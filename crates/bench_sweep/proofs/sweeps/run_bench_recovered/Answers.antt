@@ -27,6 +27,13 @@ returns-in_err-numbers-clause-refused g c = err_said _ _ c.from_residual-in_err-
 pub returns-then-is_empty-clause-refused : goal.returns-then-is_empty-clause-refused
 returns-then-is_empty-clause-refused g c = inr (inr (inr (inr (view c.in_ok-script.script, c.in_ok-script.ensures.value, inl refl))))
 
+pub returns-in_err-check_looks-clause-refused : goal.returns-in_err-check_looks-clause-refused
+returns-in_err-check_looks-clause-refused g c =
+    err_exit _ c.from_residual-in_err-check_looks.result c.in_err-check_looks.field-0.0 c.from_residual-in_err-check_looks.ensures.1 (⊎_elim (λ memory. inl memory) (λ blind. inr (inr (inr (inr (view c.in_ok-script.script, c.in_ok-script.ensures.value, inl blind))))) c.in_err-check_looks.ensures.refused)
+
+pub returns-in_err-check_looks-clause-wrote : goal.returns-in_err-check_looks-clause-wrote
+returns-in_err-check_looks-clause-wrote g c = IfOk-from_err c.from_residual-in_err-check_looks.result _ c.from_residual-in_err-check_looks.ensures.0
+
 pub returns-in_err-done-clause-refused : goal.returns-in_err-done-clause-refused
 returns-in_err-done-clause-refused g c = err_exit _ c.from_residual-in_err-done.result c.in_err-done.field-0.0 c.from_residual-in_err-done.ensures.1 (⊎_elim (λ memory. inl memory) (λ output. inr (inl output)) c.in_err-done.ensures.refused)
 

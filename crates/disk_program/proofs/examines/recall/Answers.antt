@@ -12,5 +12,5 @@ returns-in-Ok-write_memory-clause-done g c =
 
 pub returns-in-Err-clause-failed : goal.returns-in-Err-clause-failed
 returns-in-Err-clause-failed g c =
-    memory_refused (g.D.DiskFiles.disk_at c.args.files.now c.args.path.now) (g.D.Opened.DiskFile.bytes c.in_ok-file.file) (sim_disk.facts-value.it c.in_ok-disk.disk) _ _ c.in-Err.e c.refused.ensures c.in_ok-file.ensures.opened
+    memory_refused (g.D.DiskFiles.disk_at c.args.files.now c.args.path.now) (g.D.Opened.DiskFile.bytes c.in_ok-file.file) (sim_disk.facts-value.it c.in_ok-disk.disk) _ _ c.in-Err.e c.refused_disk.ensures c.in_ok-file.ensures.opened
     c.in_ok-disk.ensures.disk (rw c.in-Err.is at c.image_memory-disk.ensures.refused)

@@ -1,0 +1,148 @@
+//! What a part of a bench is of, by its digest: parts of other scripts, payloads or options make no whole.
+
+ghost use Rattle.std.specs.Prelude.{◌≡◌, ◌<◌, ℕ, List, IfOk, OnOk, string_bytes};
+ghost use Rattle.std.specs.Option.{option_map};
+ghost use Rattle.board.specs.Boots.{payload_at};
+ghost use Rattle.bench_program.specs.Digests.{bench_text, digest_text, is_part, message, options_text, part_tag, then_framed, with_tag};
+
+use crate::usage::Work;
+use crate::works::WorkTexts;
+use bench_sweep::{BenchKind, SweepPlan};
+use board::Payloads;
+use board_model::Slot;
+use sha2::{Digest, Sha256};
+use std::alloc::{AllocError, Global};
+
+/// Whether a part of a bench is made.
+pub fn is_part(work: Work) -> bool
+    ensures { result ≡ is_part work }
+{
+    match work {
+        Work::Judge(plan) | Work::Recover(plan) => plan.part.is_some(),
+        Work::Compare(plan) => plan.part.is_some(),
+        _ => false,
+    }
+}
+
+/// The words of a plan.
+fn bench_text(plan: SweepPlan) -> &'static str
+    ensures { result.now ≡ bench_text plan.bench plan.quiet }
+{
+    match (plan.bench, plan.quiet) {
+        (BenchKind::Cuts, false) => "sweep",
+        (BenchKind::Cuts, true) => "sweep quiet",
+        (BenchKind::Fails, false) => "faults",
+        (BenchKind::Fails, true) => "faults quiet",
+    }
+}
+
+/// The options by which a bench makes other runs, or tells of others.
+fn options_text(alloc: Global, work: Work) -> Result<String, AllocError>
+    ensures { IfOk result (λ text. string_bytes text ≡ options_text work) }
+{
+    match work {
+        Work::Judge(plan) => {
+            let bench = bench_text(plan);
+            format!(in alloc; "{bench}")
+        }
+        Work::Recover(plan) => {
+            let bench = bench_text(plan);
+            format!(in alloc; "{bench} recover")
+        }
+        Work::Compare(plan) => {
+            let (count, seed) = (plan.count, plan.seed);
+            format!(in alloc; "schedules {count} seed {seed}")
+        }
+        _ => Ok(String::new(alloc)),
+    }
+}
+
+/// Hashes a text with its length before it.
+fn feed<D: Digest>(alloc: Global, hasher: &mut D, text: &[u8]) -> Result<(), AllocError>
+    ensures { OnOk result ((m : List ℕ) → D.holds hasher.old m → D.holds hasher.new (then_framed m text.now)) }
+{
+    let length = text.len();
+    let frame = format!(in alloc; "{length}:")?;
+    hasher.update(frame.as_bytes());
+    hasher.update(text);
+    Ok(())
+}
+
+/// Hashes what a slot boots.
+fn feed_slot<D: Digest>(
+    alloc: Global,
+    hasher: &mut D,
+    payloads: &Payloads,
+    number: u32,
+) -> Result<(), AllocError>
+    requires { number < 4 }
+    ensures { OnOk result ((m : List ℕ) → D.holds hasher.old m → D.holds hasher.new (then_framed m (payload_at payloads.now number))) }
+{
+    let slot = Slot::new(number).unwrap();
+    feed(alloc, hasher, payloads.get(slot))
+}
+
+/// The digest of what each part of one bench is of: the options, the recovery, the payloads and the script.
+fn digest<D: Digest>(
+    alloc: Global,
+    work: Work,
+    payloads: &Payloads,
+    texts: WorkTexts<'_>,
+) -> Result<D::Output, AllocError>
+    ensures { IfOk result (D.digest_of (message work payloads.now texts.entry.recovery.now texts.entry.script.now)) }
+{
+    let mut hasher = D::new();
+    let options = options_text(alloc, work)?;
+    feed(alloc, &mut hasher, options.as_bytes())?;
+    feed(alloc, &mut hasher, texts.recovery)?;
+    feed_slot(alloc, &mut hasher, payloads, 0)?;
+    feed_slot(alloc, &mut hasher, payloads, 1)?;
+    feed_slot(alloc, &mut hasher, payloads, 2)?;
+    feed_slot(alloc, &mut hasher, payloads, 3)?;
+    feed(alloc, &mut hasher, texts.script)?;
+    Ok(hasher.finalize())
+}
+
+/// Its first 8 bytes, in 16 digits.
+fn digest_text(
+    alloc: Global,
+    work: Work,
+    payloads: &Payloads,
+    texts: WorkTexts<'_>,
+) -> Result<String, AllocError>
+    ensures { IfOk result (λ text. string_bytes text ≡ digest_text work payloads.now texts.entry.recovery.now texts.entry.script.now) }
+{
+    let digest = digest::<Sha256>(alloc, work, payloads, texts)?;
+    hex::encode(alloc, &digest[..8])
+}
+
+/// The digest, where a part is made.
+pub fn part_tag(
+    alloc: Global,
+    work: Work,
+    payloads: &Payloads,
+    texts: WorkTexts<'_>,
+) -> Result<Option<String>, AllocError>
+    ensures { IfOk result (λ tag. option_map string_bytes tag
+        ≡ part_tag work payloads.now texts.entry.recovery.now texts.entry.script.now) }
+{
+    if is_part(work) {
+        let tag = digest_text(alloc, work, payloads, texts)?;
+        return Ok(Some(tag));
+    }
+    Ok(None)
+}
+
+/// The text, of which the last line ends with that word too.
+pub fn with_tag(mut text: Vec<u8>, tag: &Option<String>) -> Result<Vec<u8>, AllocError>
+    ensures { IfOk result (λ v. v.items ≡ with_tag (option_map string_bytes tag.now) text.entry.items) }
+{
+    let Some(tag) = tag else {
+        return Ok(text);
+    };
+    text.truncate(text.len().saturating_sub(1));
+    text.push(b' ')?;
+    text.extend_from_slice(tag.as_bytes())?;
+    text.push(b'\n')?;
+    Ok(text)
+}

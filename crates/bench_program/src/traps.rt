@@ -1,0 +1,247 @@
+//! Harts that only trap: the first instruction of a trap's handler traps itself, and so on for ever.
+
+ghost use Rattle.std.specs.Prelude.{◌<◌, length, All, IfOk, OnOk};
+ghost use Rattle.script_lang.specs.Lines.{IsLineInRange};
+ghost use Rattle.script_lang.specs.Looks.{IsLookInRange};
+ghost use Rattle.bench_live.specs.Lives.{IsSound};
+
+use bench_live::LiveBench;
+use bench_report::{Answer, Printed, Setting};
+use board::Payloads;
+use board_model::{HartId, Refusal};
+use crew::{Crew, Sequential};
+use machine::{Did, MachineLine, Value, Word};
+use script_lang::{Line, Look, parse_script};
+use std::alloc::Global;
+use std::io::Write;
+use std::thread::Threads;
+
+/// How many turns are made to find such harts, at most. A power-on and a call count as many, and any other line as one.
+const MOST_TURNS: u64 = 2_000_000;
+
+/// As how many turns a power-on or a call counts, which may read or write the memory of the largest board.
+const LONG_LINE: u64 = 10_000;
+
+/// The CSRs of a trap, by their numbers (the ISA's volume 2, "Supervisor trap handling").
+const STVEC: u32 = 0x105;
+
+const SEPC: u32 = 0x141;
+
+const SCAUSE: u32 = 0x142;
+
+/// Where a hart stands, the begin of its handler, and what its last trap left.
+#[derive(Clone, Copy, Drop)]
+struct Trap {
+    pc: u64,
+    handler: u64,
+    at: u64,
+    cause: u64,
+}
+
+impl Trap {
+    /// The hart has just come to its handler from an instruction there.
+    fn is_from(&self, pc: u64) -> bool {
+        self.pc == self.handler && self.at == pc
+    }
+}
+
+/// As how many turns a line counts.
+fn turns_of(line: &Line) -> u64 {
+    match line {
+        Line::Turn(_, count) => u64::from(*count),
+        Line::On(_) | Line::Call(_, _) => LONG_LINE,
+        _ => 1,
+    }
+}
+
+/// What a look shows of a hart; None where the board is off.
+fn shown<C: Crew>(
+    setting: &Setting<'_, C>,
+    live: &mut LiveBench,
+    look: Look,
+) -> Result<Option<u64>, Refusal>
+    requires range { IsLookInRange setting.now.shape.now look }
+    requires sound { IsSound live.old }
+    ensures sound { OnOk result (IsSound live.new) }
+{
+    let answer = live.run(setting, &Line::Show(look))?;
+    match answer.line {
+        Printed::Shown(MachineLine::Pc(_, value)) => Ok(Some(value)),
+        Printed::Shown(MachineLine::Csr(_, _, value)) => Ok(Some(value)),
+        _ => Ok(None),
+    }
+}
+
+/// Where that hart stands; None where the board is off.
+fn trap_of<C: Crew>(
+    setting: &Setting<'_, C>,
+    live: &mut LiveBench,
+    hart: HartId,
+) -> Result<Option<Trap>, Refusal>
+    requires hart { hart < setting.now.shape.now.harts }
+    requires sound { IsSound live.old }
+    ensures sound { OnOk result (IsSound live.new) }
+{
+    let pc = shown(setting, live, Look::Pc(hart))?;
+    let handler = shown(setting, live, Look::Csr(hart, STVEC))?;
+    let at = shown(setting, live, Look::Csr(hart, SEPC))?;
+    let cause = shown(setting, live, Look::Csr(hart, SCAUSE))?;
+    match (pc, handler, at, cause) {
+        (Some(pc), Some(handler), Some(at), Some(cause)) => Ok(Some(Trap {
+            pc,
+            handler,
+            at,
+            cause,
+        })),
+        _ => Ok(None),
+    }
+}
+
+/// The bench behind those lines.
+fn bench_behind<C: Crew>(
+    setting: &Setting<'_, C>,
+    lines: &[Line],
+    payloads: &Payloads,
+) -> Result<LiveBench, Refusal>
+    requires ranges { All (IsLineInRange setting.now.shape.now) lines.now }
+    ensures sound { IfOk result (λ live. IsSound live) }
+{
+    let mut live = LiveBench::blank(setting.alloc, setting.shape, payloads)?;
+    for line in lines {
+        live.run(setting, line)?;
+    }
+    Ok(live)
+}
+
+/// Whether a hart made its turn: one that waits, or was not started, makes none.
+fn is_made(answer: &Answer) -> bool {
+    matches!(
+        answer.line,
+        Printed::Shown(MachineLine::Turn(_, _, Word::Goes(Did::Next)))
+    )
+}
+
+/// The trap from which on a hart only traps, in so many turns from there on; None where there is none.
+fn first_trap<C: Crew>(
+    setting: &Setting<'_, C>,
+    mut live: LiveBench,
+    hart: HartId,
+    count: u32,
+) -> Result<Option<Trap>, Refusal>
+    requires hart { hart < setting.now.shape.now.harts }
+    requires sound { IsSound live }
+{
+    let Some(mut before) = trap_of(setting, &mut live, hart)? else {
+        return Ok(None);
+    };
+    let mut first = before;
+    for _ in 0..count {
+        let answer = live.run(setting, &Line::Turn(hart, 1))?;
+        let Some(now) = trap_of(setting, &mut live, hart)? else {
+            return Ok(None);
+        };
+        if is_made(&answer) && now.is_from(before.pc) {
+            if before.pc == now.handler {
+                return Ok(Some(first));
+            }
+            first = now;
+        }
+        before = now;
+    }
+    Ok(None)
+}
+
+/// Tells of a hart that only traps, and of the trap with which that began.
+fn tell_trap<F: Write>(faults: &mut F, hart: HartId, trap: Trap) {
+    let number = hart.number();
+    let (handler, cause, at) = (Value(trap.handler), Value(trap.cause), Value(trap.at));
+    let _told = writeln!(
+        faults,
+        "sbibench: hart {number} traps at its handler 0x{handler}: scause 0x{cause} sepc 0x{at}"
+    );
+}
+
+/// The hart of a row at that place, behind which the bench stands, and the trap from which on it only traps; None where it does not.
+fn trap_in_row<C: Crew>(
+    setting: &Setting<'_, C>,
+    live: &mut LiveBench,
+    lines: &[Line],
+    place: usize,
+    payloads: &Payloads,
+) -> Result<Option<(HartId, Trap)>, Refusal>
+    requires ranges { All (IsLineInRange setting.now.shape.now) lines.now }
+    requires place { place < length lines.now }
+    requires sound { IsSound live.old }
+    ensures sound { OnOk result (IsSound live.new) }
+{
+    let &Line::Turn(hart, count) = &lines[place] else {
+        return Ok(None);
+    };
+    let Some(now) = trap_of(setting, live, hart)? else {
+        return Ok(None);
+    };
+    if !now.is_from(now.handler) {
+        return Ok(None);
+    }
+    let before = bench_behind(setting, &lines[..place], payloads)?;
+    match first_trap(setting, before, hart, count)? {
+        Some(first) => Ok(Some((hart, first))),
+        None => Ok(None),
+    }
+}
+
+/// Whether a line is a row of a hart of which it was told.
+fn is_told(told: &[bool; 8], line: &Line) -> bool {
+    match line {
+        Line::Turn(hart, _) => told[hart.index()],
+        _ => false,
+    }
+}
+
+/// Runs those lines, and tells of each hart that comes to trap at its own handler for ever.
+fn tell_traps_of<C: Crew, F: Write>(
+    setting: &Setting<'_, C>,
+    lines: &[Line],
+    payloads: &Payloads,
+    faults: &mut F,
+) -> Result<(), Refusal>
+    requires ranges { All (IsLineInRange setting.now.shape.now) lines.now }
+{
+    let mut live = LiveBench::blank(setting.alloc, setting.shape, payloads)?;
+    let mut left = MOST_TURNS;
+    let mut told = [false; 8];
+    for place in 0..lines.len() {
+        let line = &lines[place];
+        let Some(less) = left.checked_sub(turns_of(line)) else {
+            return Ok(());
+        };
+        left = less;
+        live.run(setting, line)?;
+        if is_told(&told, line) {
+            continue;
+        }
+        if let Some((hart, first)) = trap_in_row(setting, &mut live, lines, place, payloads)? {
+            tell_trap(faults, hart, first);
+            told[hart.index()] = true;
+        }
+    }
+    Ok(())
+}
+
+/// Tells of each hart of a script that comes to trap at its own handler for ever, which a report does not show: the cause and the
+/// place of the trap with which that began. The script is run again, with these payloads in the slots, for some first turns.
+pub fn tell_traps<R: Threads + Sync, F: Write>(
+    alloc: Global,
+    script: &[u8],
+    payloads: &Payloads,
+    faults: &mut F,
+) -> Result<(), Refusal> {
+    let script = parse_script(alloc, script)?;
+    let crew = Sequential::<R>::new([0, 1, 2, 3])?;
+    let setting = Setting {
+        alloc,
+        crew: &crew,
+        shape: &script.shape,
+    };
+    tell_traps_of(&setting, &script.lines, payloads, faults)
+}
