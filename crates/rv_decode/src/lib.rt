@@ -1,4 +1,4 @@
-//! The instruction words of RV64I with Zicsr, read and written.
+//! The instruction words of RV64I with Zicsr, read and written, and the operations that they spell.
 //!
 //! [`decode`] answers the instruction that a word of 32 bits spells, or `None` where no
 //! instruction of this profile is written so; [`encode`] writes an instruction as its one word.
@@ -7,25 +7,32 @@
 //! relation is one to one. An instruction prints as an assembler writes it.
 //! [`flatten`] gives an instruction in one flat form, for who carries it out.
 //!
+//! For each group of operations `tables` has one table, which serves the reading of a word (`.._op`), its
+//! writing (`.._code`) and its printing (`.._name`). Its numbers stand in `specs/Codes.antt`.
+//!
 //! The source is the RISC-V Unprivileged ISA 20191213, chapters 2, 5, 9 and the tables of
-//! chapter 24. M, A, F, D, C, FENCE.I and the privileged instructions other than SRET and WFI are
-//! left out: their words have no instruction here. No memory is taken.
+//! chapter 24, and the Privileged ISA 1.11, chapter 5. M, A, F, D, C, FENCE.I and the privileged
+//! instructions other than SRET and WFI are left out: their words have no instruction here. No memory is taken.
 #![tactic(auto)]
 
 mod code;
+mod csrs;
 mod display;
 mod fields;
 mod flat;
 mod instr;
+mod opcode;
+mod ops;
+mod tables;
 mod word;
 
 pub use code::{decode, encode, one_reading};
+pub use csrs::{SATP, SCAUSE, SEPC, SIE, SIP, SSCRATCH, SSTATUS, STVAL, STVEC};
 pub use fields::{
     BranchOffset, CsrNumber, CsrUimm, Imm12, Imm20, JumpOffset, Reg, Shamt, WordShamt,
 };
 pub use flat::{FlatInstr, FlatOp, flatten};
 pub use instr::Instr;
-pub use rv_codes::{
-    ArithOp, ArithWordOp, BranchOp, CsrOp, ImmOp, LoadOp, SATP, SCAUSE, SEPC, SIE, SIP, SSCRATCH,
-    SSTATUS, STVAL, STVEC, ShiftOp, StoreOp, SystemOp, UpperOp,
+pub use ops::{
+    ArithOp, ArithWordOp, BranchOp, CsrOp, ImmOp, LoadOp, ShiftOp, StoreOp, SystemOp, UpperOp,
 };
