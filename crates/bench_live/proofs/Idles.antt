@@ -5,7 +5,7 @@ use Rattle.hart.specs.State.{ArchState}
 use Rattle.hart.specs.declared.Outcome.{Outcome}
 use Rattle.hart.specs.declared.Outcome.TheVariants as outcomes
 use Rattle.hsm.specs.Views.{listed}
-use Rattle.hsm_steps.specs.States.{HartState, stopped, start_pending, started, suspended}
+use Rattle.hsm.specs.States.{HartState, stopped, start_pending, started, suspended}
 use Rattle.sbi.specs.declared.words.Word.{Word}
 use Rattle.sbi.specs.declared.words.Word.TheVariants as words
 use Rattle.sbi.specs.declared.words.LifeEnd.{LifeEnd}

@@ -6,10 +6,10 @@ use Rattle.board_model.specs.Shapes.{Size}
 use Rattle.board_model.specs.declared.durable.Reason.{Reason}
 use Rattle.board_model.specs.declared.refusal.Refusal.{Refusal}
 use Rattle.hart.specs.State.{ArchState}
-use Rattle.hsm_steps.specs.Words.{HartView}
-use Rattle.hsm_steps.specs.declared.view.Action.TheVariants.{Quieted}
-use Rattle.hsm_steps.specs.Rule.{HasNoted}
-use Rattle.hsm_steps.specs.Outcomes.{after_quiet}
+use Rattle.hsm.specs.Words.{HartView}
+use Rattle.hsm.specs.declared.view.Action.TheVariants.{Quieted}
+use Rattle.hsm.specs.Rule.{HasNoted}
+use Rattle.hsm.specs.Outcomes.{after_quiet}
 use Rattle.store.specs.Views.{size_of_store}
 use Rattle.store.specs.declared.stores.Store.{Store}
 use Rattle.sbi_abi.specs.declared.call.Call.{Call}

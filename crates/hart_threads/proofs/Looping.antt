@@ -14,8 +14,8 @@ use Rattle.sbi.specs.declared.words.Word.TheVariants.{Goes, Over}
 use Rattle.sbi_calls.specs.declared.tables.Seats.{Seats}
 use Rattle.sbi_calls.specs.declared.tables.Tables.{Tables}
 use Rattle.hsm.specs.Calls.{Sits}
-use Rattle.hsm_steps.specs.States.{IsBetweenCalls}
-use Rattle.hsm_steps.specs.declared.view.Stage.TheVariants.{Out, Running, Suspended, Quiet}
+use Rattle.hsm.specs.States.{IsBetweenCalls}
+use Rattle.hsm.specs.declared.view.Stage.TheVariants.{Out, Running, Suspended, Quiet}
 use Rattle.sbi_calls.specs.Both.{GivesBack, Acts, AreSeatsOfBoth, views, Known}
 use Rattle.susp.specs.declared.buses.Doze.{Doze}
 use Rattle.susp.specs.declared.sleeps.Sleep.{Sleep}

@@ -11,7 +11,7 @@ use Rattle.board_model.specs.Shapes.{Size}
 use Rattle.board_model.specs.declared.durable.Reason.{Reason}
 use Rattle.board_model.specs.declared.refusal.Refusal.{Refusal}
 use Rattle.hart.specs.State.{ArchState, answered, reg}
-use Rattle.hsm_steps.specs.Words.{HartView}
+use Rattle.hsm.specs.Words.{HartView}
 use Rattle.store.specs.Asked.{Asked}
 use Rattle.store.specs.Lives.{Applied}
 use Rattle.store.specs.Views.{size_of_store}

@@ -2,10 +2,10 @@
 use Rattle.std.specs.Prelude.{◌≡◌, ℕ, List, Option}
 use Rattle.board_model.specs.Shapes.{Size}
 use Rattle.hart.specs.State.{ArchState}
-use Rattle.hsm_steps.specs.Rule.{stands}
-use Rattle.hsm_steps.specs.States.{HartState, IsAt}
-use Rattle.hsm_steps.specs.Words.{HartView}
-use Rattle.hsm_steps.specs.declared.view.Stage.{Stage}
+use Rattle.hsm.specs.Rule.{stands}
+use Rattle.hsm.specs.States.{HartState, IsAt}
+use Rattle.hsm.specs.Words.{HartView}
+use Rattle.hsm.specs.declared.view.Stage.{Stage}
 use Rattle.machine.specs.Held.{shown_by}
 use Rattle.machine.specs.Machine.{Machine, hart_at, state_at}
 use Rattle.sbi_calls.specs.Both.{known}

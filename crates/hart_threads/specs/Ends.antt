@@ -6,7 +6,7 @@ use Rattle.board_model.specs.declared.durable.Entry.{Entry}
 use Rattle.hart.specs.State.{ArchState}
 use Rattle.hsm.specs.Calls.{KeepsAll, StandsBy}
 use Rattle.hsm.specs.declared.state.State.{State}
-use Rattle.hsm_steps.specs.Words.{HartView}
+use Rattle.hsm.specs.Words.{HartView}
 use Rattle.machine.specs.Machine.{Machine}
 use Rattle.susp.specs.declared.buses.Doze.{Doze}
 use Rattle.hart_threads.specs.Begun.{BeginsAs}

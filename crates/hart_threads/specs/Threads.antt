@@ -7,11 +7,11 @@ use Rattle.board_model.specs.declared.durable.Entry.{Entry}
 use Rattle.board_model.specs.Shapes.{Size}
 use Rattle.board_model.specs.declared.durable.Reason.{Reason}
 use Rattle.hart.specs.State.{ArchState, answered, reg, started as fresh}
-use Rattle.hsm_steps.specs.Words.{HartView}
-use Rattle.hsm_steps.specs.declared.view.Stage.TheVariants.{Running}
-use Rattle.hsm_steps.specs.declared.view.Action.TheVariants.{Quieted, Unquieted}
-use Rattle.hsm_steps.specs.Rule.{HasNoted}
-use Rattle.hsm_steps.specs.Outcomes.{after_quiet}
+use Rattle.hsm.specs.Words.{HartView}
+use Rattle.hsm.specs.declared.view.Stage.TheVariants.{Running}
+use Rattle.hsm.specs.declared.view.Action.TheVariants.{Quieted, Unquieted}
+use Rattle.hsm.specs.Rule.{HasNoted}
+use Rattle.hsm.specs.Outcomes.{after_quiet}
 use Rattle.sbi_abi.specs.Answers.{error_of}
 use Rattle.sbi_abi.specs.Calls.{call_of}
 use Rattle.sbi_abi.specs.declared.call.Call.{Call}

@@ -1,7 +1,7 @@
 //! A hart in whose doze its board is: it looks at the bus, and begins again once the board was woken.
 
 ghost use Rattle.std.specs.Prelude.{◌≡◌, ◌+◌, ◌≤◌, ◌<◌, ◌-◌, ◌^◌, Some};
-ghost use Rattle.hsm_steps.specs.declared.view.Stage.TheVariants.{Quiet};
+ghost use Rattle.hsm.specs.declared.view.Stage.TheVariants.{Quiet};
 ghost use Rattle.sbi_calls.specs.Both.{AreSeatsOfBoth, GivesBack, Acts, harts_of_both, known};
 ghost use Rattle.shared_store.specs.Dozes.{is_woken, doze_left};
 ghost use Rattle.shared_store.specs.Views.{bus_in};

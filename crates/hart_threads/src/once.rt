@@ -1,7 +1,7 @@
 //! What a turn of a hart on its thread takes a lock for: a step, and a durable call.
 
 ghost use Rattle.std.specs.Prelude.{◌≡◌, ◌<◌};
-ghost use Rattle.hsm_steps.specs.declared.view.Stage.TheVariants.{Running};
+ghost use Rattle.hsm.specs.declared.view.Stage.TheVariants.{Running};
 ghost use Rattle.sbi_abi.specs.Calls.{call_of};
 ghost use Rattle.sbi_calls.specs.Both.{AreTablesOf, AreSeatsOfBoth, GivesBack, Acts, known};
 ghost use Rattle.sbi.specs.Words.{stage_told};

@@ -1,7 +1,7 @@
 //! A turn of a hart that its gate let begin.
 
 ghost use Rattle.std.specs.Prelude.{◌≡◌, ◌≤◌, ◌<◌, ◌+◌, ◌-◌, ◌^◌, ℕ, Bool, true, false, Some, None, MatchOption};
-ghost use Rattle.hsm_steps.specs.declared.view.Stage.TheVariants.{Running};
+ghost use Rattle.hsm.specs.declared.view.Stage.TheVariants.{Running};
 ghost use Rattle.sbi_calls.specs.Both.{AreTablesOf, AreSeatsOfBoth, Acts, GivesBack, known};
 ghost use Rattle.sbi_calls.specs.declared.words.Turned.TheVariants.{Durable};
 ghost use Rattle.machine.specs.Held.{RestsBy};

@@ -4,11 +4,11 @@ use mathlib.Core.Logic.{dite}
 use native.Mathlib.Decide.{ℕ_discrete}
 use Rattle.tallies.specs.Sums.{total}
 use Rattle.tallies.specs.Notes.{noted, HasNoted}
-use Rattle.hsm_steps.specs.declared.view.Stage.{Stage}
-use Rattle.hsm_steps.specs.declared.view.Action.{Action}
-use Rattle.hsm_steps.specs.Words.{HartView, HartSeatView}
-use Rattle.hsm_steps.specs.Rule.{claim_of, entry_of, did, stands}
-use Rattle.hsm_steps.specs.States.{HartState, awaits, IsAt, IsIn, Shows, change_at}
+use Rattle.hsm.specs.declared.view.Stage.{Stage}
+use Rattle.hsm.specs.declared.view.Action.{Action}
+use Rattle.hsm.specs.Words.{HartView, HartSeatView}
+use Rattle.hsm.specs.Rule.{claim_of, entry_of, did, stands}
+use Rattle.hsm.specs.States.{HartState, awaits, IsAt, IsIn, Shows, change_at}
 use Rattle.hsm.specs.Calls.{KeepsOthers}
 use Rattle.tallies.proofs.Noted.{numbered}
 use Rattle.hsm.proofs.Stand.{stands_after, stands_other}

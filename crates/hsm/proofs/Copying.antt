@@ -7,12 +7,12 @@ use Rattle.std.proofs.lemmas.Bool.{le-ltb, lt-ltb, cases_lt}
 use Rattle.tallies.specs.Notes.{numbers}
 use Rattle.tallies.specs.Seats.{numbers_from}
 use Rattle.tallies.proofs.Seatings.{at_all, map_all}
-use Rattle.hsm_steps.specs.declared.view.Stage.{Stage}
-use Rattle.hsm_steps.specs.declared.view.Stage.TheVariants.{Out, Running, Quiet}
-use Rattle.hsm_steps.specs.Words.{HartView, HartSeatView}
-use Rattle.hsm_steps.specs.Rule.{IsSite, stands}
-use Rattle.hsm_steps.specs.States.{HartState, stopped, start_pending, started, suspended, Says, is_outside, is_suspended, IsAt, IsIn, Shows, change_at, grant}
-use Rattle.hsm_steps.specs.Outcomes.{opening_states, IsStartAddress, IsStartOpaque}
+use Rattle.hsm.specs.declared.view.Stage.{Stage}
+use Rattle.hsm.specs.declared.view.Stage.TheVariants.{Out, Running, Quiet}
+use Rattle.hsm.specs.Words.{HartView, HartSeatView}
+use Rattle.hsm.specs.Rule.{IsSite, stands}
+use Rattle.hsm.specs.States.{HartState, stopped, start_pending, started, suspended, Says, is_outside, is_suspended, IsAt, IsIn, Shows, change_at, grant}
+use Rattle.hsm.specs.Outcomes.{opening_states, IsStartAddress, IsStartOpaque}
 use Rattle.hsm.specs.declared.state.State.{State}
 use Rattle.hsm.specs.declared.state.State.TheVariants as codes
 use Rattle.hsm.specs.Calls.{KeepsOthers, named, state_in_word}

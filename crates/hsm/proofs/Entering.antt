@@ -4,13 +4,13 @@ use Rattle.std.specs.Int.{bit_at}
 use mathlib.Core.Logic.{dite}
 use native.Mathlib.Decide.{ℕ_discrete}
 use Rattle.tallies.specs.Notes.{noted, HasNoted}
-use Rattle.hsm_steps.specs.declared.view.Stage.{Stage}
-use Rattle.hsm_steps.specs.declared.view.Stage.TheVariants.{Out, Ready, Addressed, Loaded, Running}
-use Rattle.hsm_steps.specs.declared.view.Action.TheVariants.{Looked, Read, Entered}
-use Rattle.hsm_steps.specs.Words.{HartSeatView}
-use Rattle.hsm_steps.specs.Rule.{entry_of, stands}
-use Rattle.hsm_steps.specs.States.{HartState, start_pending, started, awaits, IsAt, Shows, Tells, change_at, entry, begin}
-use Rattle.hsm_steps.specs.Outcomes.{after_look, IsOpenStart}
+use Rattle.hsm.specs.declared.view.Stage.{Stage}
+use Rattle.hsm.specs.declared.view.Stage.TheVariants.{Out, Ready, Addressed, Loaded, Running}
+use Rattle.hsm.specs.declared.view.Action.TheVariants.{Looked, Read, Entered}
+use Rattle.hsm.specs.Words.{HartSeatView}
+use Rattle.hsm.specs.Rule.{entry_of, stands}
+use Rattle.hsm.specs.States.{HartState, start_pending, started, awaits, IsAt, Shows, Tells, change_at, entry, begin}
+use Rattle.hsm.specs.Outcomes.{after_look, IsOpenStart}
 use Rattle.hsm.specs.Calls.{is_ready}
 use Rattle.hsm.proofs.Stand.{stands_after}
 use Rattle.hsm.proofs.Alone.{shows_as, shows_next, shows_same}

@@ -2,12 +2,12 @@
 use Rattle.std.proofs.Common.{◌≡◌, ◌≢◌, ◌↔◌, ℕ, ◌<◌, Bool, true, false, IsTrue, MatchBool, if◌then◌else◌, refl, subst, ⊎_elim}
 use Rattle.std.specs.Int.{bit_at}
 use Rattle.tallies.specs.Notes.{HasNoted}
-use Rattle.hsm_steps.specs.declared.view.Stage.TheVariants.{Running, Quiet}
-use Rattle.hsm_steps.specs.declared.view.Action.TheVariants.{Quieted, Unquieted}
-use Rattle.hsm_steps.specs.Words.{HartSeatView}
-use Rattle.hsm_steps.specs.Rule.{stands}
-use Rattle.hsm_steps.specs.States.{HartState, stopped, Says, is_running, IsStarted, Shows, Tells}
-use Rattle.hsm_steps.specs.Outcomes.{after_quiet, is_alone}
+use Rattle.hsm.specs.declared.view.Stage.TheVariants.{Running, Quiet}
+use Rattle.hsm.specs.declared.view.Action.TheVariants.{Quieted, Unquieted}
+use Rattle.hsm.specs.Words.{HartSeatView}
+use Rattle.hsm.specs.Rule.{stands}
+use Rattle.hsm.specs.States.{HartState, stopped, Says, is_running, IsStarted, Shows, Tells}
+use Rattle.hsm.specs.Outcomes.{after_quiet, is_alone}
 use Rattle.hsm.specs.Calls.{KeepsOthers}
 use Rattle.hsm.proofs.Stand.{stands_after}
 use Rattle.hsm.proofs.Alone.{keeps, shows_same}

@@ -1,9 +1,9 @@
 -- What a hart's state, its stage and the first word say of one another.
 use Rattle.std.proofs.Common.{◌≡◌, ◌≢◌, ℕ, ◌+◌, true, false, true≢false, None, refl, sym, ◌∙◌, arith}
 use Rattle.std.specs.Int.{bit_at}
-use Rattle.hsm_steps.specs.declared.view.Stage.{Stage}
-use Rattle.hsm_steps.specs.declared.view.Stage.TheVariants.{Running, Suspended}
-use Rattle.hsm_steps.specs.States.{HartState, stopped, start_pending, started, suspended, awaits, Says, is_outside, is_running, is_suspended, IsAt, is_stopped, grant, entry, begin}
+use Rattle.hsm.specs.declared.view.Stage.{Stage}
+use Rattle.hsm.specs.declared.view.Stage.TheVariants.{Running, Suspended}
+use Rattle.hsm.specs.States.{HartState, stopped, start_pending, started, suspended, awaits, Says, is_outside, is_running, is_suspended, IsAt, is_stopped, grant, entry, begin}
 use Rattle.hsm.specs.Calls.{state_in_word, named, is_ready}
 
 -- ---- states and stages

@@ -2,12 +2,12 @@
 use Rattle.std.specs.Prelude.{◌≡◌, ◌≢◌, ◌⊎◌, ℕ, ◌+◌, ◌*◌, Bool, true, false, List, [], ◌∷◌, ◌==◌, if◌then◌else◌, MatchBool}
 use Rattle.std.specs.Int.{bit_at}
 use Rattle.tallies.specs.Notes.{numbers, HasNoted}
-use Rattle.hsm_steps.specs.declared.view.Stage.{Stage}
-use Rattle.hsm_steps.specs.declared.view.Stage.TheVariants.{Out, Ready, Addressed, Loaded, Running, Claiming, Half, Stored, Suspended}
-use Rattle.hsm_steps.specs.declared.view.Action.TheVariants.{Claimed, Wrote, Armed, Looked, Read, Entered}
-use Rattle.hsm_steps.specs.Words.{HartView, HartSeatView}
-use Rattle.hsm_steps.specs.Rule.{stands}
-use Rattle.hsm_steps.specs.States.{HartState, stopped, start_pending, started, suspended, IsStarted, Shows}
+use Rattle.hsm.specs.declared.view.Stage.{Stage}
+use Rattle.hsm.specs.declared.view.Stage.TheVariants.{Out, Ready, Addressed, Loaded, Running, Claiming, Half, Stored, Suspended}
+use Rattle.hsm.specs.declared.view.Action.TheVariants.{Claimed, Wrote, Armed, Looked, Read, Entered}
+use Rattle.hsm.specs.Words.{HartView, HartSeatView}
+use Rattle.hsm.specs.Rule.{stands}
+use Rattle.hsm.specs.States.{HartState, stopped, start_pending, started, suspended, IsStarted, Shows}
 use Rattle.hsm.specs.declared.state.State.{State}
 use Rattle.hsm.specs.declared.state.State.TheVariants as codes
 

@@ -2,11 +2,11 @@
 use Rattle.std.specs.Prelude.{◌≡◌, ℕ, ◌<◌, ◌==◌, nat_lt, if◌then◌else◌, Option, Some, None}
 use Rattle.tallies.specs.Notes.{numbers}
 use Rattle.tallies.specs.Seats.{numbers_from}
-use Rattle.hsm_steps.specs.declared.view.Stage.{Stage}
-use Rattle.hsm_steps.specs.declared.view.Stage.TheVariants.{Out, Running, Suspended, Quiet}
-use Rattle.hsm_steps.specs.Words.{HartSeatView}
-use Rattle.hsm_steps.specs.Rule.{stands}
-use Rattle.hsm_steps.specs.States.{HartState, stopped, start_pending, started, suspended, Shows, change_at}
+use Rattle.hsm.specs.declared.view.Stage.{Stage}
+use Rattle.hsm.specs.declared.view.Stage.TheVariants.{Out, Running, Suspended, Quiet}
+use Rattle.hsm.specs.Words.{HartSeatView}
+use Rattle.hsm.specs.Rule.{stands}
+use Rattle.hsm.specs.States.{HartState, stopped, start_pending, started, suspended, Shows, change_at}
 use Rattle.hsm.specs.Views.{state_in}
 use Rattle.hsm.specs.declared.standings.Standing.{Standing}
 use Rattle.hsm.specs.declared.standings.Standing.TheVariants as told

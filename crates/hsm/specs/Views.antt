@@ -2,12 +2,12 @@
 -- states as a value.
 use Rattle.std.specs.Prelude.{◌≡◌, ℕ, List, [], ◌∷◌, ◌==◌, nat_lt, if◌then◌else◌, Option, Some, None, length, map, get_or}
 use Rattle.tallies.specs.Seats.{numbers_from}
-use Rattle.hsm_steps.specs.declared.view.Stage.{Stage}
-use Rattle.hsm_steps.specs.declared.view.Action.{Action}
-use Rattle.hsm_steps.specs.declared.view.Action.TheVariants.{Claimed}
-use Rattle.hsm_steps.specs.Words.{HartView, HartSeatView}
-use Rattle.hsm_steps.specs.Rule.{claim_of, entry_of, did}
-use Rattle.hsm_steps.specs.States.{HartState, stopped, start_pending, started, suspended, is_running, is_suspended, Shows}
+use Rattle.hsm.specs.declared.view.Stage.{Stage}
+use Rattle.hsm.specs.declared.view.Action.{Action}
+use Rattle.hsm.specs.declared.view.Action.TheVariants.{Claimed}
+use Rattle.hsm.specs.Words.{HartView, HartSeatView}
+use Rattle.hsm.specs.Rule.{claim_of, entry_of, did}
+use Rattle.hsm.specs.States.{HartState, stopped, start_pending, started, suspended, is_running, is_suspended, Shows}
 use Rattle.hsm.specs.Calls.{stage_of}
 
 abbrev pub or_else : {B : Type 0} → Option B → Option B → Option B

@@ -2,20 +2,22 @@
 
 ghost use Rattle.std.specs.Prelude.{◌≡◌, ◌≢◌, ℕ, ◌+◌, ◌*◌, ◌<◌, ◌↔◌, true, false, IsTrue, List, [], MatchBool, MatchOption};
 ghost use Rattle.std.specs.Int.{bit_at};
-ghost use Rattle.hsm_steps.specs.Rule.{stands};
-ghost use Rattle.hsm_steps.specs.States.{IsStarted, IsBetweenCalls, is_stopped, stopped, started, suspended, change_at, grant, entry, begin};
-ghost use Rattle.hsm_steps.specs.Outcomes.{after_quiet};
-ghost use Rattle.hsm_steps.specs.Seating.{IsSeatOf, harts_of, hart_view_of_seat, harts_in};
-ghost use Rattle.hsm_steps.specs.declared.view.Stage.TheVariants.{Out, Running, Suspended, Quiet};
-ghost use Rattle.hsm_steps.specs.declared.view.Action.TheVariants.{Looked, Stopped as DidStop, Suspended as DidSuspend, Woke, Quieted, Unquieted};
+ghost use Rattle.hsm.specs.Rule.{stands};
+ghost use Rattle.hsm.specs.States.{IsStarted, IsBetweenCalls, is_stopped, stopped, started, suspended, change_at, grant, entry, begin};
+ghost use Rattle.hsm.specs.Outcomes.{after_quiet};
+ghost use Rattle.hsm.specs.Seating.{IsSeatOf, harts_of, hart_view_of_seat, harts_in};
+ghost use Rattle.hsm.specs.declared.view.Stage.TheVariants.{Out, Running, Suspended, Quiet};
+ghost use Rattle.hsm.specs.declared.view.Action.TheVariants.{Looked, Stopped as DidStop, Suspended as DidSuspend, Woke, Quieted, Unquieted};
 ghost use Rattle.hsm.specs.Calls.{stage_of, Sits, KeepsAll, KeepsOthers, IsOwnStatus, StandsBy, state_in_word, named, Starts, EntersAs, FindsNone, ActsAlone};
 ghost use Rattle.tallies.specs.Notes.{HasNoted};
 
 use crate::marks::{armed_in, claimed_in, entered_in};
 use crate::state::{State, state_in};
+use crate::table::{HartSeat, HartTable};
+use crate::{changes, entries, looks, starts};
 use board_model::{Addr, HartId, HartSet};
-use hsm_steps::{HartSeat, HartTable, SeatTable};
 use std::marker::Brand;
+use tallies::SeatTable;
 
 /// Starts the target at the address with the opaque value, if it is STOPPED, and says whether it was. The
 /// claim of the target is one step, so of all that start a hart at once just one is told true. The acting
@@ -40,13 +42,13 @@ pub fn start(
 {
     let mut seat = seat;
     let site = address.value();
-    let found = hsm_steps::claim::<Brand>(table, &mut seat, by, target, site, opaque);
+    let found = starts::claim::<Brand>(table, &mut seat, by, target, site, opaque);
     if claimed_in(found).contains(target) {
         return (seat, false);
     }
-    hsm_steps::put_address::<Brand>(table, &mut seat, by, target, site, opaque);
-    hsm_steps::put_opaque::<Brand>(table, &mut seat, by, target, site, opaque);
-    hsm_steps::arm::<Brand>(table, &mut seat, by, target, site, opaque);
+    starts::put_address::<Brand>(table, &mut seat, by, target, site, opaque);
+    starts::put_opaque::<Brand>(table, &mut seat, by, target, site, opaque);
+    starts::arm::<Brand>(table, &mut seat, by, target, site, opaque);
     (seat, true)
 }
 
@@ -73,16 +75,16 @@ pub fn try_enter_beside(
         (λ states. result.1 ≡ entry (states by)) (change_at by begin) }
 {
     let mut seat = seat;
-    let found = hsm_steps::poll::<Brand>(table, &mut seat, by);
+    let found = entries::poll::<Brand>(table, &mut seat, by);
     if !armed_in(found).contains(by) {
         return (seat, None);
     }
     if entered_in(found).contains(by) {
         return (seat, None);
     }
-    let site = hsm_steps::read_address::<Brand>(table, &mut seat, by);
-    let opaque = hsm_steps::read_opaque::<Brand>(table, &mut seat, by, site);
-    hsm_steps::enter::<Brand>(table, &mut seat, by, site, opaque);
+    let site = entries::read_address::<Brand>(table, &mut seat, by);
+    let opaque = entries::read_opaque::<Brand>(table, &mut seat, by, site);
+    entries::enter::<Brand>(table, &mut seat, by, site, opaque);
     let address = Addr::new(site).unwrap();
     (seat, Some((address, opaque)))
 }
@@ -118,7 +120,7 @@ pub fn stop(table: &HartTable, seat: HartSeat, by: HartId) -> HartSeat
         (λ _. Unit {0}) (change_at by (λ _. stopped)) }
 {
     let mut seat = seat;
-    hsm_steps::stop::<Brand>(table, &mut seat, by);
+    changes::stop::<Brand>(table, &mut seat, by);
     seat
 }
 
@@ -138,7 +140,7 @@ pub fn status(table: &HartTable, seat: HartSeat, by: HartId, hart: HartId) -> (H
         (λ states. result.1 ≡ named (states hart)) (λ states. states) }
 {
     let mut seat = seat;
-    let found = hsm_steps::look::<Brand>(table, &mut seat, by);
+    let found = looks::look::<Brand>(table, &mut seat, by);
     (seat, state_in(found, hart))
 }
 
@@ -156,7 +158,7 @@ pub fn suspend(table: &HartTable, seat: HartSeat, by: HartId) -> HartSeat
         (λ _. Unit {0}) (change_at by (λ _. suspended)) }
 {
     let mut seat = seat;
-    hsm_steps::suspend::<Brand>(table, &mut seat, by);
+    changes::suspend::<Brand>(table, &mut seat, by);
     seat
 }
 
@@ -173,7 +175,7 @@ pub fn wake(table: &HartTable, seat: HartSeat, by: HartId) -> HartSeat
         (λ _. Unit {0}) (change_at by (λ _. started)) }
 {
     let mut seat = seat;
-    hsm_steps::wake::<Brand>(table, &mut seat, by);
+    changes::wake::<Brand>(table, &mut seat, by);
     seat
 }
 
@@ -197,7 +199,7 @@ pub fn quiet(table: &HartTable, seat: HartSeat, by: HartId) -> (HartSeat, bool)
         (λ states. states) }
 {
     let mut seat = seat;
-    let found = hsm_steps::quiet::<Brand>(table, &mut seat, by);
+    let found = changes::quiet::<Brand>(table, &mut seat, by);
     let harts = table.harts();
     (seat, claimed_in(found).below(harts) == HartSet::only(by))
 }
@@ -214,6 +216,6 @@ pub fn unquiet(table: &HartTable, seat: HartSeat, by: HartId) -> HartSeat
         (λ _. Unit {0}) (λ states. states) }
 {
     let mut seat = seat;
-    hsm_steps::unquiet::<Brand>(table, &mut seat, by);
+    changes::unquiet::<Brand>(table, &mut seat, by);
     seat
 }

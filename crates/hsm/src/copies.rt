@@ -3,17 +3,17 @@
 
 ghost use Rattle.std.specs.Prelude.{◌≡◌, ◌≢◌, ◌+◌, ◌<◌, ℕ, true, IfOk, IfErr, IfSome};
 ghost use Rattle.board_model.specs.declared.refusal.Refusal.TheVariants.{Memory};
-ghost use Rattle.hsm_steps.specs.States.{stopped, start_pending, started, suspended};
-ghost use Rattle.hsm_steps.specs.Rule.{stands};
-ghost use Rattle.hsm_steps.specs.Seating.{IsSeatOf, harts_of, hart_view_of_seat, harts_in, IsOfAll};
-ghost use Rattle.hsm_steps.specs.declared.view.Stage.TheVariants.{Quiet};
+ghost use Rattle.hsm.specs.States.{stopped, start_pending, started, suspended};
+ghost use Rattle.hsm.specs.Rule.{stands};
+ghost use Rattle.hsm.specs.Seating.{IsSeatOf, harts_of, hart_view_of_seat, harts_in, IsOfAll};
+ghost use Rattle.hsm.specs.declared.view.Stage.TheVariants.{Quiet};
 ghost use Rattle.hsm.specs.Views.{AreStates, state_in, states_in};
 ghost use Rattle.hsm.specs.Copies.{Becomes, IsAtRest, IsMade, IsSettled, IsShown, stage_by, state_told};
 
 use crate::calls::{quiet, start, stop, suspend, try_enter};
 use crate::standings::{Standing, find_alone, settled_hart, standing_of};
+use crate::table::{HartSeat, HartTable};
 use board_model::{Addr, HartId, RAM_BASE, Refusal, Shape};
-use hsm_steps::{HartSeat, HartTable};
 use std::alloc::Global;
 
 /// A STOPPED hart is started by one that runs, and does not enter.

@@ -2,8 +2,8 @@
 //! table.
 
 ghost use Rattle.std.specs.Prelude.{◌≡◌, ◌<◌, ℕ, List, length, slice_set};
-ghost use Rattle.hsm_steps.specs.Words.{HartSeatView};
-ghost use Rattle.hsm_steps.specs.States.{HartState, Shows, change_at};
+ghost use Rattle.hsm.specs.Words.{HartSeatView};
+ghost use Rattle.hsm.specs.States.{HartState, Shows, change_at};
 ghost use Rattle.hsm.specs.Views.{state_in, states_in, listed, AreStates};
 
 /// The states of all harts that the view of a seat of all harts shows are those that `state_in` computes of

@@ -1,16 +1,17 @@
 //! The state of a hart with what a pending start is for.
 
 ghost use Rattle.std.specs.Prelude.{◌≡◌, ◌≢◌, ◌<◌, ℕ};
-ghost use Rattle.hsm_steps.specs.Rule.{stands};
-ghost use Rattle.hsm_steps.specs.States.{stopped};
-ghost use Rattle.hsm_steps.specs.Seating.{IsSeatOf, harts_of, hart_view_of_seat, harts_in};
-ghost use Rattle.hsm_steps.specs.declared.view.Stage.TheVariants.{Quiet};
+ghost use Rattle.hsm.specs.Rule.{stands};
+ghost use Rattle.hsm.specs.States.{stopped};
+ghost use Rattle.hsm.specs.Seating.{IsSeatOf, harts_of, hart_view_of_seat, harts_in};
+ghost use Rattle.hsm.specs.declared.view.Stage.TheVariants.{Quiet};
 ghost use Rattle.hsm.specs.Views.{state_in};
 ghost use Rattle.hsm.specs.Copies.{IsSettled, IsShown, state_told};
 
+use crate::peeks;
 use crate::state::{State, state_in};
+use crate::table::{HartSeat, HartTable};
 use board_model::{Addr, HartId, Shape};
-use hsm_steps::{HartSeat, HartTable};
 use std::marker::Brand;
 
 /// The state of a hart, and of a START_PENDING one the address and the opaque value with which it is to begin.
@@ -32,7 +33,7 @@ pub(crate) fn find_alone(table: &HartTable, seat: &mut HartSeat, hart: HartId)
     ensures alone { (t : ℕ) → t < harts_of table.now → t ≢ hart
         → state_in (hart_view_of_seat seat.old) t ≡ stopped }
 {
-    hsm_steps::peek::<Brand>(table, seat);
+    peeks::peek::<Brand>(table, seat);
 }
 
 /// A hart of which no start is pending, which every table has, by a look that the seat does not note: it stays as
@@ -46,7 +47,7 @@ pub(crate) fn settled_hart(table: &HartTable, seat: &mut HartSeat, shape: &Shape
     ensures hart { result < harts_of table.now }
     ensures settled { IsSettled (state_in (hart_view_of_seat seat.old) result) }
 {
-    let found = hsm_steps::peek::<Brand>(table, seat);
+    let found = peeks::peek::<Brand>(table, seat);
     for number in 0..u64::from(shape.harts()) {
         let hart = shape.hart(number).unwrap();
         match state_in(found, hart) {
@@ -67,14 +68,14 @@ pub fn standing_of(table: &HartTable, seat: &mut HartSeat, hart: HartId) -> Stan
     ensures same { hart_view_of_seat seat.new ≡ hart_view_of_seat seat.old }
     ensures standing { state_told result ≡ state_in (hart_view_of_seat seat.old) hart }
 {
-    let found = hsm_steps::peek::<Brand>(table, seat);
+    let found = peeks::peek::<Brand>(table, seat);
     match state_in(found, hart) {
         State::Started => Standing::Started,
         State::Stopped => Standing::Stopped,
         State::Suspended => Standing::Suspended,
         State::StartPending => {
-            let site = hsm_steps::peek_address::<Brand>(table, seat, hart);
-            let opaque = hsm_steps::peek_opaque::<Brand>(table, seat, hart);
+            let site = peeks::peek_address::<Brand>(table, seat, hart);
+            let opaque = peeks::peek_opaque::<Brand>(table, seat, hart);
             let address = Addr::new(site).unwrap();
             Standing::StartPending(address, opaque)
         }

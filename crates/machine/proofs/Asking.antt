@@ -8,7 +8,7 @@ use Rattle.hart.specs.State.{ArchState, never_started}
 use Rattle.hart.specs.Means.{Steps}
 use Rattle.hart.specs.declared.Outcome.{Outcome}
 use Rattle.hart.specs.declared.Outcome.TheVariants as outcomes
-use Rattle.hsm_steps.specs.States.{HartState, stopped, start_pending, started, suspended}
+use Rattle.hsm.specs.States.{HartState, stopped, start_pending, started, suspended}
 use Rattle.hsm.specs.Views.{listed}
 use Rattle.sbi_abi.specs.Calls.{call_of}
 use Rattle.sbi_calls.specs.declared.requests.Request.TheVariants.{Value, Start, Stop, Status, Suspend, SuspendAfresh, Send, Command}

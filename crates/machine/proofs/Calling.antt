@@ -4,10 +4,10 @@ use Rattle.atomic_table.specs.declared.shared.Seat.{Seat}
 use Rattle.board_model.specs.Shapes.{Size}
 use Rattle.hart.specs.State.{ArchState}
 use Rattle.hart.specs.declared.Outcome.TheVariants.{Ecall}
-use Rattle.hsm_steps.specs.Seating as seating
-use Rattle.hsm_steps.specs.Words.{HartSeatView, HartView}
-use Rattle.hsm_steps.specs.declared.view.Stage.TheVariants.{Out, Running, Suspended}
-use Rattle.hsm_steps.specs.Rule.{stands}
+use Rattle.hsm.specs.Seating as seating
+use Rattle.hsm.specs.Words.{HartSeatView, HartView}
+use Rattle.hsm.specs.declared.view.Stage.TheVariants.{Out, Running, Suspended}
+use Rattle.hsm.specs.Rule.{stands}
 use Rattle.hsm.specs.Calls.{ActsAlone, KeepsAll, KeepsOthers, named}
 use Rattle.hsm.specs.Views.{listed}
 use Rattle.hsm.specs.declared.state.State.{State as Code}

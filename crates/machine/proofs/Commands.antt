@@ -6,11 +6,11 @@ use Rattle.board_model.specs.Shapes.{Size}
 use Rattle.board_model.specs.declared.durable.Reason.{Reason}
 use Rattle.board_model.specs.declared.refusal.Refusal.{Refusal}
 use Rattle.hart.specs.State.{ArchState}
-use Rattle.hsm_steps.specs.Words.{HartSeatView, HartView}
-use Rattle.hsm_steps.specs.declared.view.Stage.{Stage}
-use Rattle.hsm_steps.specs.declared.view.Stage.TheVariants.{Out, Running, Suspended, Quiet}
-use Rattle.hsm_steps.specs.Rule.{stands}
-use Rattle.hsm_steps.specs.States.{HartState, stopped, started, is_outside, is_running, IsIn}
+use Rattle.hsm.specs.Words.{HartSeatView, HartView}
+use Rattle.hsm.specs.declared.view.Stage.{Stage}
+use Rattle.hsm.specs.declared.view.Stage.TheVariants.{Out, Running, Suspended, Quiet}
+use Rattle.hsm.specs.Rule.{stands}
+use Rattle.hsm.specs.States.{HartState, stopped, started, is_outside, is_running, IsIn}
 use Rattle.hsm.specs.Views.{listed}
 use Rattle.store.specs.declared.stores.Store.{Store}
 use Rattle.sbi_abi.specs.Calls.{call_of}

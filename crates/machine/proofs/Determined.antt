@@ -6,7 +6,7 @@ use Rattle.hart.specs.State.{ArchState}
 use Rattle.hart.specs.Means.{Steps, IsSame}
 use Rattle.hart.specs.declared.Outcome.{Outcome}
 use Rattle.hart.specs.declared.Outcome.TheVariants as outcomes
-use Rattle.hsm_steps.specs.States.{HartState, stopped, start_pending, started, suspended}
+use Rattle.hsm.specs.States.{HartState, stopped, start_pending, started, suspended}
 use Rattle.hsm.specs.Views.{listed}
 use Rattle.sbi_abi.specs.Calls.{call_of}
 use Rattle.sbi_calls.specs.declared.endings.Ending.{Ending}

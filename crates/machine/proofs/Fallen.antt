@@ -4,7 +4,7 @@ use Rattle.std.specs.Prelude.{length, get_or}
 use Rattle.std.proofs.lemmas.List.{get_or_past}
 use native.Mathlib.Decide.{dec_le}
 use Rattle.hart.specs.State.{ArchState, never_started}
-use Rattle.hsm_steps.specs.States.{HartState, stopped}
+use Rattle.hsm.specs.States.{HartState, stopped}
 use Rattle.hsm.specs.Views.{listed}
 use Rattle.susp.specs.Sleeps.{AreStopped}
 use Rattle.susp.specs.declared.buses.Doze.{Doze}

@@ -7,8 +7,8 @@ use mathlib.Core.Logic.{dite}
 use native.Mathlib.Decide.{ℕ_discrete}
 use Rattle.board_model.specs.Shapes.{Size}
 use Rattle.hart.specs.State.{ArchState, never_started}
-use Rattle.hsm_steps.specs.Words.{HartSeatView}
-use Rattle.hsm_steps.specs.States.{HartState}
+use Rattle.hsm.specs.Words.{HartSeatView}
+use Rattle.hsm.specs.States.{HartState}
 use Rattle.hsm.specs.Views.{states_in, AreStates}
 use Rattle.ipi.specs.Ledger.{PendingSeatView as Pairs}
 use Rattle.ipi.specs.Views.{pairs_in, ArePairs}

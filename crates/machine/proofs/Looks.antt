@@ -2,16 +2,16 @@
 use Rattle.std.proofs.Common.{◌≡◌, ℕ, List, Option, Some, sym, ap, ◌∙◌, subst}
 use Rattle.atomic_table.specs.declared.shared.Seat.{Seat}
 use Rattle.board_model.specs.Shapes.{Size}
-use Rattle.hsm_steps.specs.Words.{HartSeatView}
+use Rattle.hsm.specs.Words.{HartSeatView}
 use Rattle.hart.specs.State.{ArchState}
 use Rattle.sbi_calls.specs.declared.tables.Tables.{Tables}
 use Rattle.sbi_calls.specs.declared.tables.Seats.{Seats}
 use Rattle.sbi_calls.specs.Both.{TableState, IsTable, GivesBack, views}
 use Rattle.susp.specs.Dozes.{doze_of}
 use Rattle.susp.specs.declared.buses.Doze.{Doze}
-use Rattle.hsm_steps.specs.Seating.{harts_in}
-use Rattle.hsm_steps.specs.Rule.{stands}
-use Rattle.hsm_steps.specs.declared.view.Stage.{Stage}
+use Rattle.hsm.specs.Seating.{harts_in}
+use Rattle.hsm.specs.Rule.{stands}
+use Rattle.hsm.specs.declared.view.Stage.{Stage}
 use Rattle.machine.specs.Machine.{Machine}
 use Rattle.machine.specs.Held.{shown_by, table_of, AreWhole, IsHeld}
 use Rattle.machine.proofs.Owners.{rests_moved}

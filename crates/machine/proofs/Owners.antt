@@ -2,9 +2,9 @@
 use Rattle.std.proofs.Common.{◌≡◌, ◌≢◌, ℕ, Option, Some, None, refl, sym, ◌∙◌, subst, ne_eqb, eq-eqb, ⊎_elim, inl, inr}
 use mathlib.Core.Logic.{dite}
 use native.Mathlib.Decide.{ℕ_discrete}
-use Rattle.hsm_steps.specs.declared.view.Stage.{Stage}
-use Rattle.hsm_steps.specs.declared.view.Stage.TheVariants.{Out, Running, Suspended, Quiet}
-use Rattle.hsm_steps.specs.Rule.{stands}
+use Rattle.hsm.specs.declared.view.Stage.{Stage}
+use Rattle.hsm.specs.declared.view.Stage.TheVariants.{Out, Running, Suspended, Quiet}
+use Rattle.hsm.specs.Rule.{stands}
 use Rattle.hsm.specs.Calls.{Sits as SitsIn}
 use Rattle.ipi.specs.Pairs.{Sits}
 use Rattle.sbi_calls.specs.declared.tables.Seats.{Seats}

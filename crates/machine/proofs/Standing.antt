@@ -3,7 +3,7 @@ use Rattle.board_model.specs.declared.call_words.CallWords.{CallWords}
 use Rattle.std.proofs.Common.{◌≡◌, ℕ, zero, suc, Bool, false, Option, Some, None, refl, sym, ap, ◌∙◌, subst, inl, inr}
 use Rattle.board_model.specs.Shapes.{Size}
 use Rattle.hart.specs.State.{ArchState}
-use Rattle.hsm_steps.specs.States.{HartState, stopped, started}
+use Rattle.hsm.specs.States.{HartState, stopped, started}
 use Rattle.hsm.specs.Views.{listed}
 use Rattle.susp.specs.Dozes.{doze_of}
 use Rattle.susp.specs.declared.buses.Doze.{Doze}

@@ -2,7 +2,7 @@
 -- doze"; SBI specification 2.0, chapter 13.
 use Rattle.board_model.specs.declared.call_words.CallWords.{CallWords}
 use Rattle.std.specs.Prelude.{◌≡◌, ◌⊎◌, ℕ, zero, suc, false, Option, Some, None}
-use Rattle.hsm_steps.specs.States.{stopped}
+use Rattle.hsm.specs.States.{stopped}
 use Rattle.susp.specs.Dozes.{doze_of}
 use Rattle.susp.specs.declared.buses.Doze.{Doze}
 use Rattle.sbi_calls.specs.declared.words.Turned.{Turned}

@@ -6,7 +6,7 @@ use Rattle.board_model.specs.Shapes.{Size, ram_bytes_of}
 use Rattle.board_model.specs.Views.{reason_number}
 use Rattle.board_model.specs.declared.durable.Reason.{Reason}
 use Rattle.hart.specs.State.{ArchState, never_started, started as fresh}
-use Rattle.hsm_steps.specs.States.{HartState, stopped, started}
+use Rattle.hsm.specs.States.{HartState, stopped, started}
 use Rattle.hsm.specs.Calls.{named}
 use Rattle.hsm.specs.Views.{listed}
 use Rattle.hsm.specs.declared.state.State.{State}

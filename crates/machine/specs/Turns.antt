@@ -5,7 +5,7 @@ use Rattle.std.specs.Prelude.{◌≡◌, ◌⊎◌, ℕ, zero, suc, Bool, true, 
 use Rattle.board_model.specs.Shapes.{Size}
 use Rattle.hart.specs.State.{ArchState, put, started as fresh}
 use Rattle.hart.specs.declared.Outcome.TheVariants.{Ecall}
-use Rattle.hsm_steps.specs.States.{started}
+use Rattle.hsm.specs.States.{started}
 use Rattle.hsm.specs.Calls.{named}
 use Rattle.hsm.specs.Views.{listed}
 use Rattle.hsm.specs.declared.state.State.{State}

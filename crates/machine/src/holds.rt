@@ -1,7 +1,7 @@
 //! A call that comes to a durable command, with the one seat of all harts.
 
 ghost use Rattle.std.specs.Prelude.{◌≡◌, ◌<◌, ℕ};
-ghost use Rattle.hsm_steps.specs.declared.view.Stage.TheVariants.{Running};
+ghost use Rattle.hsm.specs.declared.view.Stage.TheVariants.{Running};
 ghost use Rattle.sbi_abi.specs.Calls.{call_of};
 ghost use Rattle.sbi_calls.specs.Both.{TableState, IsTable, AreSeatsOfBoth, GivesBack, Acts, harts_of_both};
 ghost use Rattle.sbi.specs.Helds.{HeldAlone};

@@ -1,8 +1,8 @@
 -- What is said of a turn or a call of a hart, where the store is at hand. Source: SBI specification 2.0, chapter 13;
 -- docs/BOARD.md; docs/SBI.md.
 use Rattle.std.specs.Prelude.{Bool, true, false}
-use Rattle.hsm_steps.specs.declared.view.Stage.{Stage}
-use Rattle.hsm_steps.specs.declared.view.Stage.TheVariants.{Running, Quiet}
+use Rattle.hsm.specs.declared.view.Stage.{Stage}
+use Rattle.hsm.specs.declared.view.Stage.TheVariants.{Running, Quiet}
 use Rattle.sbi_calls.specs.Words.{stage_of, ends_row}
 use Rattle.sbi_calls.specs.declared.words.Did.TheVariants.{Dozing}
 use Rattle.susp.specs.declared.sleeps.Sleep.{Sleep}

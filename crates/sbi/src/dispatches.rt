@@ -1,7 +1,7 @@
 //! Calls that come to a durable command are made.
 
 ghost use Rattle.std.specs.Prelude.{◌≡◌, ◌<◌};
-ghost use Rattle.hsm_steps.specs.declared.view.Stage.TheVariants.{Running};
+ghost use Rattle.hsm.specs.declared.view.Stage.TheVariants.{Running};
 ghost use Rattle.sbi_abi.specs.Calls.{call_of};
 ghost use Rattle.sbi_calls.specs.Both.{AreSeatsOfBoth, GivesBack, Acts, harts_of_both, known};
 ghost use Rattle.sbi.specs.Resets.{reset_of};

@@ -3,7 +3,7 @@ use Rattle.std.proofs.Common.{rules, ◌≡◌, ◌⊎◌, ℕ, ◌<◌, ◌%◌
 use Rattle.std.specs.Prelude.{nat_lt, nat_le}
 use Rattle.std.proofs.lemmas.List.{set-get_or}
 use Rattle.board_model.specs.Shapes.{Size, IsValidAddress, ram_bytes_of}
-use Rattle.hsm_steps.specs.States.{HartState, stopped, start_pending, started, suspended, grant, is_stopped}
+use Rattle.hsm.specs.States.{HartState, stopped, start_pending, started, suspended, grant, is_stopped}
 use Rattle.hsm.specs.Calls.{code_of, named}
 use Rattle.hsm.specs.Views.{listed}
 use Rattle.sbi_abi.specs.declared.ret.SbiError.{SbiError}

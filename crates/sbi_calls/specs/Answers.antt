@@ -5,9 +5,9 @@ use Rattle.std.specs.Int.{bit_at}
 use Rattle.board_model.specs.Shapes.{Size}
 use Rattle.tallies.specs.Seats.{numbers_from}
 use Rattle.hart.specs.State.{ArchState, answered, started as fresh}
-use Rattle.hsm_steps.specs.declared.view.Stage.{Stage}
-use Rattle.hsm_steps.specs.declared.view.Stage.TheVariants.{Out, Running, Suspended}
-use Rattle.hsm_steps.specs.States.{HartState, stopped, suspended, is_stopped, grant}
+use Rattle.hsm.specs.declared.view.Stage.{Stage}
+use Rattle.hsm.specs.declared.view.Stage.TheVariants.{Out, Running, Suspended}
+use Rattle.hsm.specs.States.{HartState, stopped, suspended, is_stopped, grant}
 use Rattle.hsm.specs.Calls.{code_of, named}
 use Rattle.hsm.specs.Views.{listed}
 use Rattle.ipi.specs.Views.{row_of, pairs_with}

@@ -1,11 +1,11 @@
 -- Both tables of a board, seats of them, and what the seats know.
 use Rattle.std.specs.Prelude.{◌≡◌, ℕ, Bool, List}
 use Rattle.board_model.specs.Shapes.{Size}
-use Rattle.hsm_steps.specs.Seating as harts
-use Rattle.hsm_steps.specs.declared.view.Stage.{Stage}
-use Rattle.hsm_steps.specs.Words.{HartSeatView, HartView}
-use Rattle.hsm_steps.specs.Rule.{stands}
-use Rattle.hsm_steps.specs.States.{HartState}
+use Rattle.hsm.specs.Seating as harts
+use Rattle.hsm.specs.declared.view.Stage.{Stage}
+use Rattle.hsm.specs.Words.{HartSeatView, HartView}
+use Rattle.hsm.specs.Rule.{stands}
+use Rattle.hsm.specs.States.{HartState}
 use Rattle.hsm.specs.Calls.{KeepsOthers}
 use Rattle.hsm.specs.Views.{AreStates}
 use Rattle.ipi.specs.Seating as pairs

@@ -1,7 +1,7 @@
 -- Laws of the table of answers, in the words of the calls. Source: SBI specification 2.0, chapters 7 and 9.
 use Rattle.std.specs.Prelude.{◌≡◌, ◌⊎◌, ◌↔◌, ◌<◌, ℕ, Ok, Err}
 use Rattle.board_model.specs.Shapes.{Size, IsValidAddress}
-use Rattle.hsm_steps.specs.States.{stopped}
+use Rattle.hsm.specs.States.{stopped}
 use Rattle.hsm.specs.Views.{listed}
 use Rattle.sbi_abi.specs.declared.call.Call.{Call}
 use Rattle.sbi_abi.specs.declared.call.Call.TheVariants.{HartStart, HartStatus}

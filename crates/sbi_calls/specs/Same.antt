@@ -1,7 +1,7 @@
 -- Both tables of one board.
 use Rattle.std.specs.Prelude.{◌≡◌}
-use Rattle.hsm_steps.specs.Seating as harts
-use Rattle.hsm_steps.specs.declared.table.HartTable.{HartTable}
+use Rattle.hsm.specs.Seating as harts
+use Rattle.hsm.specs.declared.table.HartTable.{HartTable}
 use Rattle.ipi.specs.Seating as pairs
 use Rattle.ipi.specs.declared.table.PendingTable.{PendingTable}
 

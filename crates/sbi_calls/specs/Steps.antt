@@ -3,11 +3,11 @@
 use Rattle.std.specs.Prelude.{◌≡◌, ℕ, zero, suc, Bool, List, Ok, Err}
 use Rattle.board_model.specs.Shapes.{Size}
 use Rattle.hart.specs.State.{ArchState}
-use Rattle.hsm_steps.specs.declared.view.Stage.{Stage}
-use Rattle.hsm_steps.specs.declared.view.Stage.TheVariants.{Out, Suspended}
-use Rattle.hsm_steps.specs.declared.view.Action.{Action}
-use Rattle.hsm_steps.specs.declared.view.Action.TheVariants.{Looked, Stopped as DidStop, Suspended as DidSuspend}
-use Rattle.hsm_steps.specs.Rule.{HasNoted as HartHasNoted}
+use Rattle.hsm.specs.declared.view.Stage.{Stage}
+use Rattle.hsm.specs.declared.view.Stage.TheVariants.{Out, Suspended}
+use Rattle.hsm.specs.declared.view.Action.{Action}
+use Rattle.hsm.specs.declared.view.Action.TheVariants.{Looked, Stopped as DidStop, Suspended as DidSuspend}
+use Rattle.hsm.specs.Rule.{HasNoted as HartHasNoted}
 use Rattle.hsm.specs.Calls.{code_of, state_in_word, stage_of, Starts}
 use Rattle.ipi.specs.Ledger.{HasNoted, PendingView}
 use Rattle.ipi.specs.declared.view.IpiAction.TheVariants.{Raised}

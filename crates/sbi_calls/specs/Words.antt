@@ -1,7 +1,7 @@
 -- What a hart did, by what follows from it. Source: docs/BOARD.md, "A turn of a hart".
 use Rattle.std.specs.Prelude.{Bool, true, false}
-use Rattle.hsm_steps.specs.declared.view.Stage.{Stage}
-use Rattle.hsm_steps.specs.declared.view.Stage.TheVariants as stages
+use Rattle.hsm.specs.declared.view.Stage.{Stage}
+use Rattle.hsm.specs.declared.view.Stage.TheVariants as stages
 use Rattle.sbi_calls.specs.declared.words.Did.{Did}
 use Rattle.sbi_calls.specs.declared.words.Did.TheVariants.{Next, Suspended, Stopped, Dozing}
 use Rattle.sbi_calls.specs.declared.words.Turned.{Turned}

@@ -1,7 +1,7 @@
 //! The dispatch of SBI calls.
 
 ghost use Rattle.std.specs.Prelude.{◌≡◌, ◌<◌, Ok};
-ghost use Rattle.hsm_steps.specs.declared.view.Stage.TheVariants.{Running};
+ghost use Rattle.hsm.specs.declared.view.Stage.TheVariants.{Running};
 ghost use Rattle.sbi_calls.specs.Requests.{IsWithin};
 ghost use Rattle.sbi_calls.specs.Answers.{stage_of_ending, DoesAlone, CallsAlone};
 ghost use Rattle.sbi_calls.specs.Steps.{Does, Calls};

@@ -1,7 +1,7 @@
 //! Requests done by the hart table.
 
 ghost use Rattle.std.specs.Prelude.{◌≡◌, ◌<◌, Ok};
-ghost use Rattle.hsm_steps.specs.declared.view.Stage.TheVariants.{Running, Out, Suspended};
+ghost use Rattle.hsm.specs.declared.view.Stage.TheVariants.{Running, Out, Suspended};
 ghost use Rattle.sbi_calls.specs.declared.requests.Request.TheVariants.{Start, Stop, Status, Suspend, SuspendAfresh};
 ghost use Rattle.sbi_calls.specs.declared.endings.Ending.TheVariants.{Stops, Suspends, SuspendsAfresh};
 ghost use Rattle.sbi_calls.specs.Both.{AreSeatsOfBoth, GivesBack, Acts, harts_of_both, known};

@@ -9,7 +9,7 @@ use Rattle.board_model.specs.declared.refusal.Refusal.{Refusal}
 use Rattle.disk.specs.declared.device.Disk.{Ghosts}
 use Rattle.disk.specs.declared.device.Lane.{Ghosts as Lanes}
 use Rattle.hart.specs.State.{ArchState}
-use Rattle.hsm_steps.specs.Words.{HartView}
+use Rattle.hsm.specs.Words.{HartView}
 use Rattle.store.specs.Follows.{FitsBoard}
 use Rattle.store.specs.Views.{size_of_store, doubt_of, journal_of}
 use Rattle.store.specs.declared.stores.Store.{Store}

@@ -11,7 +11,7 @@ use Rattle.disk.specs.declared.device.Lane.{Ghosts as Lanes}
 use Rattle.hart.specs.Means.{Steps}
 use Rattle.hart.specs.State.{ArchState}
 use Rattle.hart.specs.declared.Outcome.{Outcome}
-use Rattle.hsm_steps.specs.Words.{HartView}
+use Rattle.hsm.specs.Words.{HartView}
 use Rattle.store.specs.Asked.{Asked}
 use Rattle.store.specs.Follows.{FitsBoard}
 use Rattle.store.specs.Lives.{Life, Applied, Refused, Suspended, SuspendRefused}

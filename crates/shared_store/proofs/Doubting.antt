@@ -15,7 +15,7 @@ use Rattle.board_model.specs.declared.refusal.Refusal.TheVariants.{Down}
 use Rattle.disk.specs.declared.device.Disk.{Ghosts}
 use Rattle.disk.specs.declared.device.Lane.{Ghosts as Lanes}
 use Rattle.hart.specs.State.{ArchState}
-use Rattle.hsm_steps.specs.Words.{HartView}
+use Rattle.hsm.specs.Words.{HartView}
 use Rattle.store.specs.Asked.{Asked}
 use Rattle.store.specs.Follows.{FitsBoard}
 use Rattle.store.specs.Lives.{Life, Applied, Refused, Suspended, SuspendRefused}

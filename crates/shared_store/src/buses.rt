@@ -3,7 +3,7 @@
 ghost use Rattle.std.specs.Prelude.{◌≡◌, ◌<◌, ◌↔◌, true, IsOk, OnOk, IfErr};
 ghost use Rattle.board_model.specs.declared.refusal.Refusal.{Refusal};
 ghost use Rattle.hart.specs.Means.{Steps};
-ghost use Rattle.hsm_steps.specs.declared.view.Stage.TheVariants.{Quiet, Running};
+ghost use Rattle.hsm.specs.declared.view.Stage.TheVariants.{Quiet, Running};
 ghost use Rattle.sbi.specs.Helds.{MakesHeld};
 ghost use Rattle.sbi.specs.Words.{stage_told};
 ghost use Rattle.sbi_abi.specs.Calls.{call_of};

@@ -8,7 +8,7 @@ ghost use Rattle.store.specs.Lives.{Applied};
 ghost use Rattle.std.specs.Option.{option_to_list};
 ghost use Rattle.store.specs.Views.{size_of_store, found_state, journal_of, life_of, now_state, receipts, doubt_of, failures_at_open};
 ghost use Rattle.store.specs.Asked.{Asked};
-ghost use Rattle.hsm_steps.specs.declared.view.Stage.TheVariants.{Running};
+ghost use Rattle.hsm.specs.declared.view.Stage.TheVariants.{Running};
 ghost use Rattle.sbi_abi.specs.Calls.{call_of};
 ghost use Rattle.sbi_calls.specs.Both.{AreSeatsOfBoth, GivesBack, Acts, harts_of_both, known};
 ghost use Rattle.sbi.specs.Helds.{MakesHeld};

@@ -4,12 +4,12 @@ use Rattle.board_model.specs.declared.refusal.Refusal.{Refusal}
 use Rattle.disk.specs.declared.device.Disk.{Ghosts}
 use Rattle.disk.specs.declared.device.Lane.{Ghosts as Lanes}
 use Rattle.hsm.specs.Calls.{KeepsOthers, ActsAlone}
-use Rattle.hsm_steps.specs.Words.{HartSeatView, HartView}
-use Rattle.hsm_steps.specs.declared.view.Action.TheVariants.{Quieted, Unquieted}
-use Rattle.hsm_steps.specs.declared.view.Stage.TheVariants.{Running}
-use Rattle.hsm_steps.specs.Rule.{HasNoted}
-use Rattle.hsm_steps.specs.States.{HartState, Shows}
-use Rattle.hsm_steps.specs.Outcomes.{after_quiet}
+use Rattle.hsm.specs.Words.{HartSeatView, HartView}
+use Rattle.hsm.specs.declared.view.Action.TheVariants.{Quieted, Unquieted}
+use Rattle.hsm.specs.declared.view.Stage.TheVariants.{Running}
+use Rattle.hsm.specs.Rule.{HasNoted}
+use Rattle.hsm.specs.States.{HartState, Shows}
+use Rattle.hsm.specs.Outcomes.{after_quiet}
 use Rattle.sbi_abi.specs.declared.ret.SbiError.TheVariants.{Denied, Failed}
 use Rattle.store.specs.Views.{size_of_store}
 use Rattle.store.specs.declared.stores.Store.{Store}

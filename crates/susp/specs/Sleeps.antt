@@ -6,13 +6,13 @@ use Rattle.board_model.specs.Durable.{Suspend}
 use Rattle.board_model.specs.declared.refusal.Refusal.{Refusal}
 use Rattle.disk.specs.declared.device.Disk.{Ghosts}
 use Rattle.disk.specs.declared.device.Lane.{Ghosts as Lanes}
-use Rattle.hsm_steps.specs.Words.{HartView}
-use Rattle.hsm_steps.specs.declared.view.Stage.{Stage}
-use Rattle.hsm_steps.specs.declared.view.Stage.TheVariants.{Running, Quiet}
-use Rattle.hsm_steps.specs.declared.view.Action.TheVariants.{Quieted, Unquieted}
-use Rattle.hsm_steps.specs.Rule.{HasNoted}
-use Rattle.hsm_steps.specs.States.{HartState, stopped}
-use Rattle.hsm_steps.specs.Outcomes.{after_quiet}
+use Rattle.hsm.specs.Words.{HartView}
+use Rattle.hsm.specs.declared.view.Stage.{Stage}
+use Rattle.hsm.specs.declared.view.Stage.TheVariants.{Running, Quiet}
+use Rattle.hsm.specs.declared.view.Action.TheVariants.{Quieted, Unquieted}
+use Rattle.hsm.specs.Rule.{HasNoted}
+use Rattle.hsm.specs.States.{HartState, stopped}
+use Rattle.hsm.specs.Outcomes.{after_quiet}
 use Rattle.sbi_abi.specs.declared.ret.SbiError.{SbiError}
 use Rattle.sbi_abi.specs.declared.ret.SbiError.TheVariants.{Failed, Denied}
 use Rattle.store.specs.Follows.{FitsBoard}

@@ -1,10 +1,10 @@
 //! A board is suspended.
 
 ghost use Rattle.std.specs.Prelude.{◌≡◌, ◌<◌, ℕ};
-ghost use Rattle.hsm_steps.specs.declared.view.Stage.TheVariants.{Running, Quiet};
-ghost use Rattle.hsm_steps.specs.Rule.{stands};
+ghost use Rattle.hsm.specs.declared.view.Stage.TheVariants.{Running, Quiet};
+ghost use Rattle.hsm.specs.Rule.{stands};
 ghost use Rattle.hsm.specs.Calls.{KeepsOthers, ActsAlone};
-ghost use Rattle.hsm_steps.specs.Seating.{IsSeatOf, harts_of, hart_view_of_seat, harts_in};
+ghost use Rattle.hsm.specs.Seating.{IsSeatOf, harts_of, hart_view_of_seat, harts_in};
 ghost use Rattle.susp.specs.Checks.{IsChecked};
 ghost use Rattle.susp.specs.Sleeps.{stage_after, FallsAsleep, FallsAsleepBy, Sleeps, SleepsAlone};
 

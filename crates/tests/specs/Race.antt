@@ -1,10 +1,10 @@
 -- Three harts, of which two have started, each in a seat of its own.
 use Rattle.std.specs.Prelude.{◌<◌}
-use Rattle.hsm_steps.specs.Rule.{stands}
-use Rattle.hsm_steps.specs.Seating.{IsSeatOf, harts_of, harts_in}
-use Rattle.hsm_steps.specs.declared.table.HartTable.{HartTable}
-use Rattle.hsm_steps.specs.declared.view.Stage.TheVariants.{Out, Running}
-use Rattle.hsm_steps.specs.Words.{HartSeatView}
+use Rattle.hsm.specs.Rule.{stands}
+use Rattle.hsm.specs.Seating.{IsSeatOf, harts_of, harts_in}
+use Rattle.hsm.specs.declared.table.HartTable.{HartTable}
+use Rattle.hsm.specs.declared.view.Stage.TheVariants.{Out, Running}
+use Rattle.hsm.specs.Words.{HartSeatView}
 use Rattle.atomic_table.specs.declared.shared.Seat.{Seat}
 
 pub record AreReady (t : HartTable) (one two three : Seat (Unit {0}) HartSeatView) : Type 0 where

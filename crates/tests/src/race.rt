@@ -1,10 +1,10 @@
 //! Two harts start a third at once.
 
 ghost use Rattle.std.specs.Prelude.{◌≡◌, ◌<◌};
-ghost use Rattle.hsm_steps.specs.Rule.{stands};
-ghost use Rattle.hsm_steps.specs.Seating.{IsSeatOf, harts_of, harts_in, hart_view_of_seat};
-ghost use Rattle.hsm_steps.specs.Outcomes.{opening_view};
-ghost use Rattle.hsm_steps.specs.declared.view.Stage.TheVariants.{Running};
+ghost use Rattle.hsm.specs.Rule.{stands};
+ghost use Rattle.hsm.specs.Seating.{IsSeatOf, harts_of, harts_in, hart_view_of_seat};
+ghost use Rattle.hsm.specs.Outcomes.{opening_view};
+ghost use Rattle.hsm.specs.declared.view.Stage.TheVariants.{Running};
 ghost use Rattle.tests.specs.Race.{AreReady};
 
 use crate::two_tables::hart;

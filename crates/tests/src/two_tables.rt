@@ -1,10 +1,10 @@
 //! The use of both tables that docs/TABLES.md, "A first use", names.
 
 ghost use Rattle.std.specs.Prelude.{◌≡◌, ◌<◌};
-ghost use Rattle.hsm_steps.specs.Rule.{stands};
-ghost use Rattle.hsm_steps.specs.declared.view.Stage.TheVariants.{Out, Running};
-ghost use Rattle.hsm_steps.specs.Seating.{IsSeatOf, harts_of, hart_view_of_seat, harts_in};
-ghost use Rattle.hsm_steps.specs.Outcomes.{opening_view};
+ghost use Rattle.hsm.specs.Rule.{stands};
+ghost use Rattle.hsm.specs.declared.view.Stage.TheVariants.{Out, Running};
+ghost use Rattle.hsm.specs.Seating.{IsSeatOf, harts_of, hart_view_of_seat, harts_in};
+ghost use Rattle.hsm.specs.Outcomes.{opening_view};
 ghost use Rattle.ipi.specs.Ledger.{opening_pending_view as opening_pairs};
 ghost use Rattle.ipi.specs.Pairs.{Sits};
 ghost use Rattle.ipi.specs.Seating.{IsSeatOf as IsPairSeatOf, harts_of as targets_of, pending_view_of_seat as pairs_of};

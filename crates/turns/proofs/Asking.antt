@@ -5,9 +5,9 @@ use Rattle.board_model.specs.Shapes.{Size}
 use Rattle.hart.specs.State.{ArchState}
 use Rattle.hart.specs.declared.Outcome.{Outcome}
 use Rattle.hart.specs.declared.Outcome.TheVariants as outcomes
-use Rattle.hsm_steps.specs.Words.{HartView}
-use Rattle.hsm_steps.specs.declared.view.Stage.TheVariants.{Running}
-use Rattle.hsm_steps.specs.Rule.{stands}
+use Rattle.hsm.specs.Words.{HartView}
+use Rattle.hsm.specs.declared.view.Stage.TheVariants.{Running}
+use Rattle.hsm.specs.Rule.{stands}
 use Rattle.sbi_abi.specs.Calls.{call_of}
 use Rattle.sbi_calls.specs.declared.requests.Request.TheVariants.{Value, Start, Stop, Status, Suspend, SuspendAfresh, Send, Command}
 use Rattle.sbi_calls.specs.declared.endings.Ending.{Ending}

@@ -1,9 +1,9 @@
 -- What a look at the own state tells of a hart between two turns, and what a turn comes to.
 use Rattle.std.proofs.Common.{◌≡◌, ◌≢◌, ◌⊎◌, ◌↔◌, ℕ, zero, suc, Bool, true, false, true≢false, IsTrue, List, [], ◌∷◌, Some, None, Option, refl, sym, ap, ◌∙◌, subst, ⊎_elim, inl, get_or}
-use Rattle.hsm_steps.specs.declared.view.Stage.TheVariants.{Out, Running, Suspended}
-use Rattle.hsm_steps.specs.Words.{HartView}
-use Rattle.hsm_steps.specs.Rule.{stands}
-use Rattle.hsm_steps.specs.States.{HartState, stopped, start_pending, started, suspended, entry}
+use Rattle.hsm.specs.declared.view.Stage.TheVariants.{Out, Running, Suspended}
+use Rattle.hsm.specs.Words.{HartView}
+use Rattle.hsm.specs.Rule.{stands}
+use Rattle.hsm.specs.States.{HartState, stopped, start_pending, started, suspended, entry}
 use Rattle.hsm.specs.Calls.{Sits as SitsIn, IsOwnStatus, named}
 use Rattle.hsm.specs.declared.state.State.{State}
 use Rattle.hsm.specs.declared.state.State.TheVariants as codes

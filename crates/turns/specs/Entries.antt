@@ -2,7 +2,7 @@
 use Rattle.std.specs.Prelude.{◌≡◌, ℕ}
 use Rattle.hsm.specs.Calls.{EntersAs, FindsNone}
 use Rattle.hsm.specs.Views.{listed}
-use Rattle.hsm_steps.specs.States.{started}
+use Rattle.hsm.specs.States.{started}
 use Rattle.sbi_calls.specs.declared.tables.Seats.{Seats}
 use Rattle.sbi_calls.specs.Both.{Known, TableState, IsTable}
 use Rattle.sbi_calls.specs.Answers.{with_state}

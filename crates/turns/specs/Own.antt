@@ -7,8 +7,8 @@ use Rattle.hart.specs.State.{ArchState, started as fresh}
 use Rattle.hart.specs.Means.{Steps}
 use Rattle.hart.specs.declared.Outcome.{Outcome}
 use Rattle.hart.specs.declared.Outcome.TheVariants as outcomes
-use Rattle.hsm_steps.specs.declared.view.Stage.TheVariants.{Running}
-use Rattle.hsm_steps.specs.declared.view.Action.TheVariants.{Looked, Woke, Unquieted}
+use Rattle.hsm.specs.declared.view.Stage.TheVariants.{Running}
+use Rattle.hsm.specs.declared.view.Action.TheVariants.{Looked, Woke, Unquieted}
 use Rattle.hsm.specs.Calls.{stage_of, state_in_word, EntersAs, FindsNone}
 use Rattle.hsm.specs.declared.state.State.{State as Code}
 use Rattle.hsm.specs.declared.state.State.TheVariants as codes

@@ -1,7 +1,7 @@
 //! What comes before the step of a turn.
 
 ghost use Rattle.std.specs.Prelude.{◌≡◌, ◌<◌, ℕ, List};
-ghost use Rattle.hsm_steps.specs.declared.view.Stage.TheVariants.{Out, Running, Suspended};
+ghost use Rattle.hsm.specs.declared.view.Stage.TheVariants.{Out, Running, Suspended};
 ghost use Rattle.ipi.specs.Pairs.{Sits};
 ghost use Rattle.sbi_calls.specs.Both.{AreSeatsOfBoth, GivesBack, Acts, harts_of_both, known, pair_crew};
 ghost use Rattle.turns.specs.Turns.{Rests, RestsAs, BeginsAlone, LooksAlone, TakesAlone, EntersAlone, WakesAlone};

@@ -1,7 +1,7 @@
 //! What comes after the step of a turn.
 
 ghost use Rattle.std.specs.Prelude.{◌≡◌, ◌<◌};
-ghost use Rattle.hsm_steps.specs.declared.view.Stage.TheVariants.{Running};
+ghost use Rattle.hsm.specs.declared.view.Stage.TheVariants.{Running};
 ghost use Rattle.sbi_calls.specs.Both.{AreTablesOf, AreSeatsOfBoth, GivesBack, Acts, known};
 ghost use Rattle.turns.specs.Own.{FinishesOwn};
 ghost use Rattle.turns.specs.Turns.{Rests, FinishesAlone};

@@ -2,7 +2,7 @@
 
 ghost use Rattle.std.specs.Prelude.{◌≡◌, ◌<◌};
 ghost use Rattle.hart.specs.State.{started};
-ghost use Rattle.hsm_steps.specs.declared.view.Stage.TheVariants.{Running, Quiet};
+ghost use Rattle.hsm.specs.declared.view.Stage.TheVariants.{Running, Quiet};
 ghost use Rattle.sbi_calls.specs.Both.{AreSeatsOfBoth, GivesBack, Acts, harts_of_both, known};
 ghost use Rattle.turns.specs.Own.{ResumesOwn};
 ghost use Rattle.turns.specs.Turns.{TakesAlone};

@@ -1,8 +1,8 @@
 use Rattle.std.proofs.Common.{ℕ, sym, subst}
 use Rattle.std.proofs.Math.Logic.{∥∥₁_map}
 use Rattle.hsm.specs.Calls.{Sits, StandsBy}
-use Rattle.hsm_steps.specs.Seating.{harts_in}
-use Rattle.hsm_steps.specs.States.{IsBetweenCalls}
+use Rattle.hsm.specs.Seating.{harts_in}
+use Rattle.hsm.specs.States.{IsBetweenCalls}
 use Rattle.sbi_calls.specs.Both.{known, views}
 use Rattle.hart_threads.proofs.Looping.{between_after, sits_after}
 use Rattle.hart_threads.proofs.ends.at_rest.Goals as goal

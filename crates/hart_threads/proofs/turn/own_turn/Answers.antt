@@ -1,5 +1,5 @@
 use Rattle.std.proofs.Common.{ℕ, ◌<◌, ◌∙◌, refl, sym, subst}
-use Rattle.hsm_steps.specs.declared.view.Stage.TheVariants.{Running}
+use Rattle.hsm.specs.declared.view.Stage.TheVariants.{Running}
 use Rattle.sbi_calls.specs.Both.{GivesBack, Acts, known}
 use Rattle.machine.specs.Held.{RestsBy}
 use Rattle.std.specs.Prelude.{None}

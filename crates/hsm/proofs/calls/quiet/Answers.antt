@@ -1,5 +1,5 @@
 use Rattle.std.proofs.Common.{◌≡◌, Bool, ◌%◌, ◌^◌, ◌∙◌, refl, arith}
-use Rattle.hsm_steps.specs.Outcomes.{is_alone}
+use Rattle.hsm.specs.Outcomes.{is_alone}
 use Rattle.hsm.proofs.Bits.{low_bits}
 use Rattle.hsm.proofs.Quieting.{quiet_alone, quiet_stands, quiet_keeps}
 use Rattle.hsm.proofs.calls.quiet.Goals.{After-eq}

@@ -1,7 +1,7 @@
 use Rattle.std.proofs.Common.{◌≡◌, ◌≢◌, ◌+◌, ◌*◌, ◌<◌, sym, eq-eqb, ne_eqb, arith}
 use Rattle.std.specs.Int.{bit_at}
-use Rattle.hsm_steps.specs.declared.view.Stage.TheVariants.{Claiming, Half, Stored, Running}
-use Rattle.hsm_steps.specs.declared.view.Action.TheVariants.{Claimed, Wrote, Armed}
+use Rattle.hsm.specs.declared.view.Stage.TheVariants.{Claiming, Half, Stored, Running}
+use Rattle.hsm.specs.declared.view.Action.TheVariants.{Claimed, Wrote, Armed}
 use Rattle.tallies.specs.Notes.{HasNoted}
 use Rattle.hsm.proofs.Alone.{Goes, goes, goes_on}
 use Rattle.hsm.proofs.Bits.{set_bit, clear_bit}

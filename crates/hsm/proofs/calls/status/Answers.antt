@@ -1,9 +1,9 @@
 use Rattle.std.proofs.Common.{ℕ, rules, refl, sym, ◌∙◌, subst}
 use mathlib.Core.Logic.{dite}
 use native.Mathlib.Decide.{ℕ_discrete}
-use Rattle.hsm_steps.specs.declared.view.Stage.{Stage}
-use Rattle.hsm_steps.specs.declared.view.Action.TheVariants.{Looked}
-use Rattle.hsm_steps.specs.Rule.{stands}
+use Rattle.hsm.specs.declared.view.Stage.{Stage}
+use Rattle.hsm.specs.declared.view.Action.TheVariants.{Looked}
+use Rattle.hsm.specs.Rule.{stands}
 use Rattle.hsm.specs.Calls.{stage_of, IsOwnStatus}
 use Rattle.hsm.proofs.Stand.{stands_after, stands_own, stands_stage, stands_by}
 use Rattle.tallies.proofs.Noted.{numbered}

@@ -1,5 +1,5 @@
 use Rattle.std.proofs.Common.{[]}
-use Rattle.hsm_steps.specs.declared.view.Stage.TheVariants.{Running}
+use Rattle.hsm.specs.declared.view.Stage.TheVariants.{Running}
 use Rattle.hsm.proofs.calls.stop.Given as goal
 
 abbrev pub ghosts-stop : goal.ghosts-stop

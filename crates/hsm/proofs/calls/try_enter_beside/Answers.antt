@@ -1,9 +1,9 @@
 use Rattle.std.proofs.Common.{◌≡◌, refl, sym, subst, ℕ, ◌+◌, ◌*◌, ◌<◌, false, None, arith}
 use Rattle.std.specs.Int.{bit_at}
-use Rattle.hsm_steps.specs.declared.view.Stage.TheVariants.{Out, Ready, Addressed, Loaded, Running}
-use Rattle.hsm_steps.specs.declared.view.Action.TheVariants.{Looked, Read, Entered}
+use Rattle.hsm.specs.declared.view.Stage.TheVariants.{Out, Ready, Addressed, Loaded, Running}
+use Rattle.hsm.specs.declared.view.Action.TheVariants.{Looked, Read, Entered}
 use Rattle.tallies.specs.Notes.{HasNoted}
-use Rattle.hsm_steps.specs.States.{HartState, Shows, change_at, entry, begin}
+use Rattle.hsm.specs.States.{HartState, Shows, change_at, entry, begin}
 use Rattle.hsm.specs.Calls.{is_ready, FindsNone, EntersAs}
 use Rattle.hsm.proofs.Alone.{Goes, goes, goes_on}
 use Rattle.hsm.proofs.Bits.{set_bit, clear_bit}

@@ -1,5 +1,5 @@
-use Rattle.hsm_steps.specs.declared.view.Stage.TheVariants.{Running, Quiet}
-use Rattle.hsm_steps.specs.declared.view.Action.TheVariants.{Unquieted}
+use Rattle.hsm.specs.declared.view.Stage.TheVariants.{Running, Quiet}
+use Rattle.hsm.specs.declared.view.Action.TheVariants.{Unquieted}
 use Rattle.hsm.proofs.Stand.{stands_after}
 use Rattle.hsm.proofs.Alone.{keeps}
 use Rattle.hsm.proofs.Quieting.{unquiet_alone}

@@ -1,8 +1,8 @@
 use Rattle.std.proofs.Common.{refl}
-use Rattle.hsm_steps.specs.declared.view.Stage.TheVariants.{Running, Suspended}
-use Rattle.hsm_steps.specs.declared.view.Action.TheVariants.{Woke}
+use Rattle.hsm.specs.declared.view.Stage.TheVariants.{Running, Suspended}
+use Rattle.hsm.specs.declared.view.Action.TheVariants.{Woke}
 use Rattle.hsm.proofs.Stand.{stands_after}
-use Rattle.hsm_steps.specs.States.{started}
+use Rattle.hsm.specs.States.{started}
 use Rattle.hsm.proofs.Alone.{keeps, shows_turned}
 use Rattle.hsm.proofs.Stages.{suspends_settled}
 use Rattle.hsm.proofs.calls.wake.Goals as goal

@@ -1,5 +1,5 @@
 use Rattle.std.proofs.Common.{ap, ◌∙◌}
-use Rattle.hsm_steps.specs.States.{started, entry, begin}
+use Rattle.hsm.specs.States.{started, entry, begin}
 use Rattle.hsm.proofs.Copying.{comes, entered, stood}
 use Rattle.hsm.proofs.copies.begin.Goals as goal
 

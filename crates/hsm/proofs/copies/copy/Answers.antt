@@ -1,10 +1,10 @@
 use Rattle.std.specs.Option.{IfSome}
 use Rattle.std.proofs.Common.{ℕ, ◌<◌, sym, subst, ◌∙◌, ap}
 use Rattle.tallies.specs.Seats.{numbers_from}
-use Rattle.hsm_steps.specs.Words.{HartSeatView}
-use Rattle.hsm_steps.specs.declared.view.Stage.TheVariants.{Quiet}
-use Rattle.hsm_steps.specs.Rule.{stands}
-use Rattle.hsm_steps.specs.Seating.{harts_in}
+use Rattle.hsm.specs.Words.{HartSeatView}
+use Rattle.hsm.specs.declared.view.Stage.TheVariants.{Quiet}
+use Rattle.hsm.specs.Rule.{stands}
+use Rattle.hsm.specs.Seating.{harts_in}
 use Rattle.hsm.specs.Views.{state_in}
 use Rattle.hsm.specs.Copies.{IsShown, IsAtRest, IsSettled, stage_by}
 use Rattle.hsm.proofs.Copying.{opens, shown_of, copied_states}

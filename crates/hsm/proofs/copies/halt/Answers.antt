@@ -1,5 +1,5 @@
 use Rattle.std.proofs.Common.{refl}
-use Rattle.hsm_steps.specs.States.{stopped}
+use Rattle.hsm.specs.States.{stopped}
 use Rattle.hsm.proofs.Copying.{comes, stood}
 use Rattle.hsm.proofs.copies.halt.Goals as goal
 

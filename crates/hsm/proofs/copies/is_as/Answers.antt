@@ -1,6 +1,6 @@
 use Rattle.std.proofs.Common.{◌≡◌, ◌∙◌, ℕ, inl, inr, sym, ap, subst, arith, rules}
 use Rattle.std.proofs.lemmas.Bool.{cases_lt}
-use Rattle.hsm_steps.specs.Words.{HartSeatView}
+use Rattle.hsm.specs.Words.{HartSeatView}
 use Rattle.hsm.specs.Copies.{IsShown, state_told}
 use Rattle.hsm.specs.Views.{state_in}
 use Rattle.hsm.proofs.Copying.{same_states, shown_of}

@@ -1,5 +1,5 @@
 use Rattle.std.proofs.Common.{◌≡◌, ℕ, ◌<◌}
-use Rattle.hsm_steps.specs.Seating.{IsSeatOf, hart_view_of_seat}
+use Rattle.hsm.specs.Seating.{IsSeatOf, hart_view_of_seat}
 use Rattle.hsm.specs.Views.{state_in}
 use Rattle.hsm.proofs.copies.is_as.Given as goal
 

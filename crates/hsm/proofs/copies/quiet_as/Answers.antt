@@ -1,8 +1,8 @@
 use Rattle.std.proofs.Common.{ℕ, ◌<◌, ◌∙◌, Option, IfSome, sym, subst, inl}
-use Rattle.hsm_steps.specs.declared.view.Stage.TheVariants.{Quiet}
-use Rattle.hsm_steps.specs.States.{Shows}
-use Rattle.hsm_steps.specs.Rule.{stands}
-use Rattle.hsm_steps.specs.Seating.{harts_in}
+use Rattle.hsm.specs.declared.view.Stage.TheVariants.{Quiet}
+use Rattle.hsm.specs.States.{Shows}
+use Rattle.hsm.specs.Rule.{stands}
+use Rattle.hsm.specs.Seating.{harts_in}
 use Rattle.hsm.specs.Views.{state_in}
 use Rattle.hsm.specs.Copies.{IsShown, stage_by}
 use Rattle.hsm.proofs.Computed.{one_table, shows_seen}

@@ -1,5 +1,5 @@
 use Rattle.std.proofs.Common.{refl, ◌∙◌}
-use Rattle.hsm_steps.specs.States.{started, start_pending}
+use Rattle.hsm.specs.States.{started, start_pending}
 use Rattle.hsm.specs.Views.{state_in}
 use Rattle.hsm.proofs.Copying.{here, both}
 use Rattle.hsm.proofs.copies.run.Goals as goal

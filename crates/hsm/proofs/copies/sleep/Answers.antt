@@ -1,5 +1,5 @@
 use Rattle.std.proofs.Common.{refl}
-use Rattle.hsm_steps.specs.States.{suspended}
+use Rattle.hsm.specs.States.{suspended}
 use Rattle.hsm.proofs.Copying.{comes, stood}
 use Rattle.hsm.proofs.copies.sleep.Goals as goal
 

@@ -1,6 +1,6 @@
 use Rattle.std.proofs.Common.{◌≡◌, ℕ, ◌+◌, ◌<◌, ◌≤◌, ◌∙◌, refl, sym, subst, ap, arith}
 use Rattle.tallies.specs.Seats.{numbers_from}
-use Rattle.hsm_steps.specs.Words.{HartSeatView}
+use Rattle.hsm.specs.Words.{HartSeatView}
 use Rattle.hsm.specs.Views.{state_in}
 use Rattle.hsm.specs.Copies.{IsShown, IsAtRest, IsSettled}
 use Rattle.hsm.proofs.Copying.{so_far_first, made_at, made_last}

@@ -1,8 +1,8 @@
 use Rattle.std.proofs.Common.{◌≡◌, ℕ, refl, sym, ap, ◌∙◌, subst}
 use Rattle.hart.specs.State.{ArchState}
-use Rattle.hsm_steps.specs.Seating.{harts_in}
-use Rattle.hsm_steps.specs.declared.view.Stage.TheVariants.{Running}
-use Rattle.hsm_steps.specs.Rule.{stands}
+use Rattle.hsm.specs.Seating.{harts_in}
+use Rattle.hsm.specs.declared.view.Stage.TheVariants.{Running}
+use Rattle.hsm.specs.Rule.{stands}
 use Rattle.hsm.specs.Calls.{Sits}
 use Rattle.ipi.specs.Pairs.{Sits as SitsIn}
 use Rattle.sbi_calls.specs.Both.{GivesBack, views, pair_crew}

@@ -1,7 +1,7 @@
 use Rattle.std.proofs.Common.{ℕ, ◌<◌, Option, IfSome, refl, sym, ◌∙◌, subst}
 use Rattle.std.proofs.lemmas.Result.{err_from_is_err_and}
-use Rattle.hsm_steps.specs.declared.view.Stage.TheVariants.{Quiet}
-use Rattle.hsm_steps.specs.Rule.{stands}
+use Rattle.hsm.specs.declared.view.Stage.TheVariants.{Quiet}
+use Rattle.hsm.specs.Rule.{stands}
 use Rattle.sbi_calls.specs.declared.tables.Seats.{Seats}
 use Rattle.sbi_calls.specs.Both.{views, harts_known}
 use Rattle.hsm.specs.Copies.{stage_by}

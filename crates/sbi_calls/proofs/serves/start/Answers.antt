@@ -1,5 +1,5 @@
 use Rattle.std.proofs.Common.{Bool, ap, sym, ◌∙◌}
-use Rattle.hsm_steps.specs.States.{grant}
+use Rattle.hsm.specs.States.{grant}
 use Rattle.hsm.specs.Views.{listed}
 use Rattle.sbi_calls.specs.declared.endings.Ending.TheVariants.{Answers}
 use Rattle.sbi_calls.specs.Answers.{start_answer}

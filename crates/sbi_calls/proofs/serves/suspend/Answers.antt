@@ -1,5 +1,5 @@
 use Rattle.std.proofs.Common.{refl}
-use Rattle.hsm_steps.specs.States.{HartState, suspended}
+use Rattle.hsm.specs.States.{HartState, suspended}
 use Rattle.hsm.specs.Views.{listed}
 use Rattle.sbi_calls.proofs.serves.suspend.Goals as goal
 

@@ -1,9 +1,9 @@
 use Rattle.std.proofs.Common.{◌≡◌, Bool, List, refl, sym, ap, ◌∙◌, subst, inl, inr}
-use Rattle.hsm_steps.specs.Words.{HartView}
-use Rattle.hsm_steps.specs.declared.view.Stage.TheVariants.{Running}
-use Rattle.hsm_steps.specs.Rule.{stands}
-use Rattle.hsm_steps.specs.States.{HartState}
-use Rattle.hsm_steps.specs.Seating.{harts_in}
+use Rattle.hsm.specs.Words.{HartView}
+use Rattle.hsm.specs.declared.view.Stage.TheVariants.{Running}
+use Rattle.hsm.specs.Rule.{stands}
+use Rattle.hsm.specs.States.{HartState}
+use Rattle.hsm.specs.Seating.{harts_in}
 use Rattle.hsm.specs.Views.{listed}
 use Rattle.hsm.specs.declared.state.State.{State as Code}
 use Rattle.sbi_calls.specs.Both.{harts_of_both, known, views, IsTable}

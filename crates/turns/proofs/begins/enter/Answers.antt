@@ -1,8 +1,8 @@
 use Rattle.std.proofs.Common.{List, refl, sym, ap, ◌∙◌, subst}
-use Rattle.hsm_steps.specs.Words.{HartView}
-use Rattle.hsm_steps.specs.declared.view.Stage.TheVariants.{Out}
-use Rattle.hsm_steps.specs.Rule.{stands}
-use Rattle.hsm_steps.specs.Seating.{harts_in}
+use Rattle.hsm.specs.Words.{HartView}
+use Rattle.hsm.specs.declared.view.Stage.TheVariants.{Out}
+use Rattle.hsm.specs.Rule.{stands}
+use Rattle.hsm.specs.Seating.{harts_in}
 use Rattle.hsm.specs.Views.{listed}
 use Rattle.sbi_calls.specs.Both.{TableState, IsTable, harts_of_both, known}
 use Rattle.turns.specs.Turns.{after_take}

@@ -1,7 +1,7 @@
 use Rattle.std.proofs.Common.{◌≡◌, ℕ, List, Option, refl, sym, ap, ◌∙◌, subst}
 use Rattle.std.specs.Prelude.{slice_set, MatchOption}
-use Rattle.hsm_steps.specs.States.{HartState, started, begin}
-use Rattle.hsm_steps.specs.Seating.{harts_in}
+use Rattle.hsm.specs.States.{HartState, started, begin}
+use Rattle.hsm.specs.Seating.{harts_in}
 use Rattle.hsm.specs.Calls.{EntersAs, FindsNone}
 use Rattle.hsm.specs.Views.{listed, AreStates}
 use Rattle.sbi_calls.specs.declared.tables.Seats.{Seats}

@@ -1,5 +1,5 @@
 use Rattle.std.proofs.Common.{◌≡◌, Bool, true, refl, sym, ◌∙◌, subst}
-use Rattle.hsm_steps.specs.States.{HartState, started}
+use Rattle.hsm.specs.States.{HartState, started}
 use Rattle.hsm.specs.Views.{listed}
 use Rattle.sbi_calls.specs.declared.tables.Seats.{Seats}
 use Rattle.sbi_calls.specs.Both.{harts_of_both, known, IsTable}

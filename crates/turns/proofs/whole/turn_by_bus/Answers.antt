@@ -1,6 +1,6 @@
 use Rattle.std.proofs.Common.{refl, sym, ap, ◌∙◌, subst, ◌<◌, ℕ}
 use Rattle.hart.specs.State.{ArchState}
-use Rattle.hsm_steps.specs.declared.view.Stage.TheVariants.{Running}
+use Rattle.hsm.specs.declared.view.Stage.TheVariants.{Running}
 use Rattle.sbi_calls.specs.Both.{GivesBack, Acts}
 use Rattle.turns.specs.declared.readies.Ready.TheVariants as readies
 use Rattle.turns.specs.Turns.{Rests}

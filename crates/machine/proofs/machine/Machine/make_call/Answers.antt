@@ -3,7 +3,7 @@ use Rattle.std.specs.Prelude.{slice_set}
 use Rattle.hsm.specs.Views.{listed}
 use Rattle.sbi_abi.specs.Calls.{call_of}
 use Rattle.machine.specs.Machine.{Machine}
-use Rattle.hsm_steps.specs.declared.view.Stage.TheVariants.{Running, Quiet}
+use Rattle.hsm.specs.declared.view.Stage.TheVariants.{Running, Quiet}
 use Rattle.machine.specs.Held.{shown_by, stage_left}
 use Rattle.machine.specs.Durables.{StandsAtCall, HeldOf, MakesCall}
 use Rattle.machine.proofs.Holding.{Action, shown_as, Finds, Left, finds, seats_there, in_place, seats_found, low_number, one_shown, left}

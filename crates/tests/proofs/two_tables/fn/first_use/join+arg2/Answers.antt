@@ -1,4 +1,4 @@
-use Rattle.hsm_steps.specs.declared.view.Stage.TheVariants.{Running}
+use Rattle.hsm.specs.declared.view.Stage.TheVariants.{Running}
 use Rattle.tests.proofs.two_tables.fn.first_use.join+arg2.Goals as goal
 
 pub status-requires : goal.status-requires

@@ -1,0 +1,10 @@
+use Rattle.std.proofs.Common.{arith}
+use Rattle.hsm.proofs.Later.{unquiets_as}
+use Rattle.hsm.proofs.changes.unquiet.Goals as goal
+
+pub load-requires : goal.load-requires
+load-requires g c =
+    let t = c.args.table.now in
+    let s = c.args.seat.now in
+    let wide = t.wide in
+    rw c.requires.named (c.requires.seat.0, omega arith, unquiets_as t.table.shared.key.harts t.table.shared.key.started t.table.shared.table_id.slots s.id s.me c.args.by t.few c.requires.acts)

@@ -1,5 +1,0 @@
-pub mod Words
-pub mod Rule
-pub mod States
-pub mod Outcomes
-pub mod Seating
