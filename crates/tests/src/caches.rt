@@ -2,7 +2,7 @@
 ghost use Rattle.std.specs.Prelude.{◌≡◌};
 
 use crate::fixtures::blank_disk;
-use cached_disk::CachedDisk;
+use device_disks::CachedDisk;
 use disk::Disk;
 use simdisk::{Fill, SimDisk};
 use std::alloc::Global;

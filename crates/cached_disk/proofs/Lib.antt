@@ -1,2 +1,0 @@
-pub mod Caches
-pub mod Calls

@@ -1,2 +1,0 @@
-pub mod Cached
-pub mod Laws

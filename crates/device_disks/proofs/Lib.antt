@@ -1,0 +1,4 @@
+pub mod Kept
+pub mod Lanes
+pub mod Caches
+pub mod Calls

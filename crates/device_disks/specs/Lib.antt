@@ -1,0 +1,3 @@
+pub mod Kept
+pub mod Cached
+pub mod Laws
