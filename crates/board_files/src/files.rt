@@ -2,9 +2,9 @@
 
 ghost use Rattle.board_files.specs.Faults.{IsFileFault};
 
+use crate::sector_file::SectorFile;
 use command_line::FileFault;
 use disk::Sector;
-use file_disk::SectorFile;
 use std::alloc::Global;
 use std::io;
 
@@ -48,7 +48,7 @@ pub trait HeldFile: DiskFile {
 /// Where the files of disks are.
 pub trait BoardFiles {
     ghost use Rattle.std.specs.Prelude.{◌≡◌, ℕ, List, Option, IfOk, IfErr};
-    ghost use Rattle.file_disk.specs.Files.{IfKnown, IsDurable};
+    ghost use Rattle.board_files.specs.Files.{IfKnown, IsDurable};
     ghost use Rattle.board_files.specs.Faults.{IsFileFault};
 
     /// The file that a session has.

@@ -25,7 +25,7 @@ use Rattle.command_line.specs.Kinds.{no_work}
 use Rattle.command_line.specs.declared.NoWork.{NoWork}
 use Rattle.command_line.specs.declared.fault.ProgramFault.{ProgramFault}
 use Rattle.command_line.specs.declared.fault.ProgramFault.TheVariants.{Refused}
-use Rattle.file_disk.specs.Files.{FileKnown}
+use Rattle.board_files.specs.Files.{FileKnown}
 use Rattle.disk.specs.Facts.{Facts, Unchanged}
 use Rattle.hart_threads.specs.Ends.{Ending}
 use Rattle.board_files.specs.Named.{AreFilesOf}

@@ -14,7 +14,7 @@ use Rattle.command_line.specs.declared.NoWork.{NoWork}
 use Rattle.command_line.specs.declared.NoWork.TheVariants as whys
 use Rattle.command_line.specs.declared.fault.ProgramFault.{ProgramFault}
 use Rattle.disk.specs.Facts.{Facts}
-use Rattle.file_disk.specs.Files.{FileKnown}
+use Rattle.board_files.specs.Files.{FileKnown}
 use Rattle.board_options.specs.Parses.{AreRefused}
 use Rattle.simdisk.specs.declared.sim.SimDisk.{SimDisk}
 

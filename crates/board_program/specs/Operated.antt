@@ -20,7 +20,7 @@ use Rattle.command_line.specs.declared.NoWork.{NoWork}
 use Rattle.command_line.specs.declared.NoWork.TheVariants.{Memory, Usage}
 use Rattle.command_line.specs.declared.fault.ProgramFault.{ProgramFault}
 use Rattle.disk.specs.Facts.{Facts, IsFresh}
-use Rattle.file_disk.specs.Files.{FileKnown, IfKnown, LeavesNoMore}
+use Rattle.board_files.specs.Files.{FileKnown, IfKnown, LeavesNoMore}
 use Rattle.board_files.specs.Named.{AreFilesOf}
 use Rattle.simdisk.specs.declared.sim.SimDisk.{SimDisk}
 

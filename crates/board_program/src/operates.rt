@@ -10,12 +10,11 @@ ghost use Rattle.board_program.specs.Operated.{AskForNone, GiveNoOptions, HasLef
 
 use crate::answers::Answers;
 use crate::runs::{FileLeft, run_from_files};
-use board_files::{BoardFiles, PayloadFiles};
+use board_files::{BoardFiles, FileDisk, PayloadFiles};
 use board_options::options;
 use board_session::Streams;
 use command_line::{FileFault, NoWork, end_with, show_on, without_work};
 use disk::Disk;
-use file_disk::FileDisk;
 use simdisk::SimDisk;
 use std::alloc::Global;
 use std::convert::AsStr;

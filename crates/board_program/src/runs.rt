@@ -14,13 +14,14 @@ use crate::answers::Answers;
 use crate::disks::{TakenDisk, take_disk};
 use crate::notices::{tell_elf, tell_harts};
 use board::Payloads;
-use board_files::{BoardFiles, DiskFile, HeldFile, PayloadFiles, read_payloads};
+use board_files::{
+    BoardFiles, DiskFile, FileDisk, HeldFile, PayloadFiles, SectorFile, read_payloads,
+};
 use board_model::Refusal;
 use board_options::Options;
 use board_session::{SessionEnd, Streams, session};
 use command_line::{FileFault, first_of};
 use disk::Disk;
-use file_disk::{FileDisk, SectorFile};
 use simdisk::SimDisk;
 use std::alloc::Global;
 use std::io::{BufReader, IsTerminal, Read, Write};

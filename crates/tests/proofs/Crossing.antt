@@ -2,9 +2,9 @@
 use denote.Param.Send.{IsSend, recorded_send, sendable, struct_send}
 use denote.Struct.Declared.{shape}
 use Rattle.std.proofs.Crossing.{crosses}
-use Rattle.file_disk.specs.contracts.past.Past as Past
-use Rattle.file_disk.specs.contracts.memory_file.FileFate as FileFate
-use Rattle.file_disk.specs.contracts.memory_file.MemoryFile as MemoryFile
+use Rattle.board_files.specs.contracts.past.Past as Past
+use Rattle.board_files.specs.contracts.memory_file.FileFate as FileFate
+use Rattle.board_files.specs.contracts.memory_file.MemoryFile as MemoryFile
 
 past : IsSend (Past.the_field).row
 past = search sendable depth 20

@@ -2,9 +2,9 @@
 
 use crate::files::{formatted_file, found, opened};
 use crate::fixtures::{same, set_slot, slot_of};
+use board_files::{FileDisk, FileFate, MemoryFile};
 use board_model::{Refusal, Shape};
 use disk::Sector;
-use file_disk::{FileDisk, FileFate, MemoryFile};
 use std::alloc::Global;
 use std::process::Abort;
 use store::Store;

@@ -2,9 +2,9 @@
 ghost use Rattle.std.specs.Prelude.{◌≡◌};
 
 use crate::fixtures::{formatted, open};
+use board_files::{FileDisk, FileFate, MemoryFile};
 use board_model::Shape;
 use disk::{Disk, Sector};
-use file_disk::{FileDisk, FileFate, MemoryFile};
 use simdisk::SimDisk;
 use std::alloc::Global;
 use std::process::Abort;

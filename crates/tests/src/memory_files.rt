@@ -4,12 +4,11 @@ ghost use Rattle.std.specs.Prelude.{◌≡◌, None, Some, IfErr, IfOk};
 ghost use Rattle.board_files.specs.Faults.{IsFileFault};
 
 use crate::memory_disk::{Failing, MemoryDisk};
-use board_files::{BoardFiles, DiskFile, DiskFiles, PayloadFiles, unreached};
+use board_files::{BoardFiles, DiskFile, DiskFiles, FileFate, MemoryFile, PayloadFiles, unreached};
 use board_model::Refusal;
 use board_program::Answers;
 use command_line::FileFault;
 use disk::Sector;
-use file_disk::{FileFate, MemoryFile};
 use std::alloc::{AllocError, Global};
 use std::io::{self, Cursor, ErrorKind, IsTerminal, Read, Write};
 

@@ -4,11 +4,11 @@
 use crate::fixtures::{same, zeros_behind};
 use crate::memory_disk::MemoryDisk;
 use crate::memory_files::{Broken, FaultOutput, MemoryFiles, Page};
+use board_files::MemoryFile;
 use board_program::{FileLeft, Operated, operate_on};
 use board_session::Streams;
 use command_line::Pipe;
 use disk_program::examine_on;
-use file_disk::MemoryFile;
 use std::alloc::{AllocError, Global};
 use std::io::BufWriter;
 use std::process::Abort;

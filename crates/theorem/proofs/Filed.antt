@@ -5,7 +5,7 @@ use Rattle.board_model.specs.Durable.{DurableState}
 use Rattle.board_model.specs.Shapes.{Size}
 use Rattle.board_model.specs.declared.durable.Command.{Command}
 use Rattle.disk.specs.Facts.{Content, Facts, IsFresh, Unchanged}
-use Rattle.file_disk.specs.Files.{FileKnown, Unknown, Known, IfKnown, LeavesNoMore, EverAllowed}
+use Rattle.board_files.specs.Files.{FileKnown, Unknown, Known, IfKnown, LeavesNoMore, EverAllowed}
 use Rattle.store.specs.Answers.{StoreView, Opened}
 use Rattle.store.specs.Leaves.{IsSettled, LeftAsBefore}
 use Rattle.store.specs.Lives.{now_of}

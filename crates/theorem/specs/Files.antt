@@ -4,7 +4,7 @@ use Rattle.board_model.specs.Durable.{DurableState}
 use Rattle.board_model.specs.Shapes.{Size}
 use Rattle.board_model.specs.declared.durable.Command.{Command}
 use Rattle.disk.specs.Facts.{Content}
-use Rattle.file_disk.specs.Files.{FileFacts}
+use Rattle.board_files.specs.Files.{FileFacts}
 use Rattle.theorem.specs.Prefixes.{IsAfterFirst}
 
 -- What a file keeps of commands that were made of the state s in a row, of which so many were acknowledged. A crash now

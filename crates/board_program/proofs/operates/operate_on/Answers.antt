@@ -1,7 +1,7 @@
 use Rattle.std.proofs.Common.{inl, inr, map, refl, string_bytes}
 use Rattle.clap.specs.Words.{kind_of}
 use Rattle.command_line.specs.Told.{fault_of}
-use Rattle.file_disk.specs.contracts.filed.FileDiskDisk.TheImpl as file_disk
+use Rattle.board_files.specs.contracts.file_disk.FileDiskDisk.TheImpl as file_disk
 use Rattle.simdisk.specs.contracts.device.SimDiskDisk.TheImpl as sim_disk
 use Rattle.board_program.proofs.FilesLeft.{asks_for_none}
 use Rattle.board_program.proofs.Statuses.{gives_none, no_usage}

@@ -1,6 +1,6 @@
 use Rattle.std.proofs.Common.{string_bytes}
 use Rattle.command_line.specs.Told.{fault_of}
-use Rattle.file_disk.specs.contracts.filed.FileDiskDisk.TheImpl as file_disk
+use Rattle.board_files.specs.contracts.file_disk.FileDiskDisk.TheImpl as file_disk
 use Rattle.simdisk.specs.contracts.device.SimDiskDisk.TheImpl as sim_disk
 use Rattle.std.specs.Io.Buffered.{reader_remaining}
 use Rattle.board_program.proofs.FilesLeft.{ended_left, read_through, stayed_left}

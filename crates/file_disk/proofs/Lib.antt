@@ -1,4 +1,0 @@
-mod Beside
-mod Pushed
-mod Kept
-mod KeptFiles

@@ -1,5 +1,0 @@
-use Rattle.file_disk.proofs.KeptFiles.{is_made}
-use Rattle.file_disk.proofs.memory_file.MemoryFile.of.Goals as goal
-
-pub returns : goal.returns
-returns c = is_made _ _ _ _ c.in_ok-from_slice.ensures.items c.in_ok-from_slice-2.ensures.items c.begun.ensures
