@@ -16,8 +16,8 @@ use Rattle.store.specs.Lives.{Applied}
 use Rattle.store.specs.Views.{now_state}
 use Rattle.store.specs.declared.stores.Store.{Store}
 use Rattle.store.specs.Asked.{Asked}
-use Rattle.shared_store.specs.Heard.{Hearing, after_look, after_refusal, after_waking}
-use Rattle.shared_store.specs.Legal.{MayAnswer, MayShow}
+use Rattle.hart_threads.specs.Heard.{Hearing, after_look, after_refusal, after_waking}
+use Rattle.hart_threads.specs.Legal.{MayAnswer, MayShow}
 use Rattle.susp.specs.declared.buses.Bus.{Bus}
 use Rattle.board_console.specs.Wakes.{Wakes, MayWake}
 use Rattle.board_console.specs.declared.words.Said.{Said}

@@ -1,7 +1,7 @@
 //! What the console makes of a line.
 
 ghost use Rattle.std.specs.Prelude.{◌≡◌, true};
-ghost use Rattle.shared_store.specs.Views.{bus_in, store_in};
+ghost use Rattle.hart_threads.specs.Views.{bus_in, store_in};
 ghost use Rattle.board_console.specs.Commands.{AnswersCommand, AnswersSaid, AnswersWake, IsCommandAnswer, IsAnswerTo, IsWakeAnswer, asks_store, party};
 
 use crate::reply::Reply;
@@ -9,7 +9,7 @@ use crate::waking::Waking;
 use crate::words::Said;
 use board_model::ConsoleCommand;
 use disk::Disk;
-use shared_store::{BookPart, Heard, Journal, SharedBus, SharedStore};
+use hart_threads::{BookPart, Heard, Journal, SharedBus, SharedStore};
 
 /// Issues a command, which is answered by its word.
 fn issue<D: Disk + Drop, J: Journal>(

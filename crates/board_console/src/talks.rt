@@ -3,7 +3,7 @@
 ghost use Rattle.std.specs.Prelude.{◌≡◌, ◌++◌, ◌∷◌, [], OnOk, IfErr};
 ghost use Rattle.std.specs.Io.KnownBytes.{Appends};
 ghost use Rattle.board_model.specs.declared.refusal.Refusal.TheVariants.{Output};
-ghost use Rattle.shared_store.specs.Locks.{no_locks};
+ghost use Rattle.hart_threads.specs.Locks.{no_locks};
 ghost use Rattle.board_console.specs.Commands.{IsAnswerTo, party};
 ghost use Rattle.board_console.specs.Dialogues.{Talks, dialogue_ends, left_after, left_before, left_behind, left_without};
 ghost use Rattle.board_console.specs.Lines.{TakesLine, is_line};
@@ -16,7 +16,7 @@ use crate::words::{Said, line_said};
 use arrayvec::ArrayVec;
 use board_model::Refusal;
 use disk::Disk;
-use shared_store::{BookPart, Heard, Journal, Locks};
+use hart_threads::{BookPart, Heard, Journal, Locks};
 use std::io::{Read, Write};
 use std::sync::Wait;
 

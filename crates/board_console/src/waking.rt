@@ -2,12 +2,12 @@
 
 ghost use Rattle.std.specs.Prelude.{◌≡◌, Result};
 ghost use Rattle.board_model.specs.declared.refusal.Refusal.{Refusal};
-ghost use Rattle.shared_store.specs.Heard.{after_waking};
-ghost use Rattle.shared_store.specs.Views.{bus_in};
+ghost use Rattle.hart_threads.specs.Heard.{after_waking};
+ghost use Rattle.hart_threads.specs.Views.{bus_in};
 ghost use Rattle.board_console.specs.Wakes.{Wakes, MayWake};
 
 use board_model::Refusal;
-use shared_store::{Heard, Journal, SharedBus};
+use hart_threads::{Heard, Journal, SharedBus};
 use std::marker::Model;
 
 /// What a call of the wake-up device came to. Nothing but a call makes one, so the console answers `wake` only after one.

@@ -29,7 +29,7 @@ use Rattle.board_files.specs.Files.{FileKnown}
 use Rattle.disk.specs.Facts.{Facts, Unchanged}
 use Rattle.hart_threads.specs.Ends.{Ending}
 use Rattle.board_files.specs.Named.{AreFilesOf}
-use Rattle.shared_store.specs.Heard.{Hearing, heard_nothing}
+use Rattle.hart_threads.specs.Heard.{Hearing, heard_nothing}
 use Rattle.simdisk.specs.declared.sim.SimDisk.{SimDisk}
 
 -- ---- a session

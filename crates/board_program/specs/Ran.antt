@@ -11,7 +11,7 @@ use Rattle.command_line.specs.declared.fault.ProgramFault.{ProgramFault}
 use Rattle.command_line.specs.declared.fault.ProgramFault.TheVariants.{Refused}
 use Rattle.disk.specs.Facts.{Facts}
 use Rattle.hart_threads.specs.Ends.{Ending}
-use Rattle.shared_store.specs.Heard.{Hearing, heard_nothing}
+use Rattle.hart_threads.specs.Heard.{Hearing, heard_nothing}
 
 -- it ran over the disk that was given, until its console left so
 abbrev pub RanUntil : Options → List (List ℕ) → Facts → Facts → Option (List ℕ) → Option (List ℕ) → Option (List ℕ) → Option Left → Type 0

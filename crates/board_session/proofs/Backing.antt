@@ -7,7 +7,7 @@ use Rattle.board_model.specs.Shapes.{Size}
 use Rattle.board_model.specs.declared.durable.Entry.{Entry}
 use Rattle.tallies.specs.Closed.{AreReceiptsOf, told_in}
 use Rattle.tallies.specs.declared.book_views.PartView.{PartView}
-use Rattle.shared_store.specs.Noted.{boot_told, entries_in}
+use Rattle.hart_threads.specs.Noted.{boot_told, entries_in}
 use Rattle.hart_threads.specs.Threads.{ends_life}
 use Rattle.board_session.specs.Backs.{AreBack}
 use Rattle.board_session.specs.Sessions.{IsAcknowledged, hart_receipts}

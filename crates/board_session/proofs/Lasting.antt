@@ -5,7 +5,7 @@ use Rattle.board_model.specs.declared.durable.Entry.{Entry}
 use Rattle.hart_threads.specs.Ends.{Ending}
 use Rattle.hart_threads.specs.declared.ends.ShutBy.{ShutBy}
 use Rattle.hart_threads.specs.declared.ends.ShutBy.TheVariants.{Life, Console}
-use Rattle.shared_store.specs.Called.{IsLastOf}
+use Rattle.hart_threads.specs.Called.{IsLastOf}
 use Rattle.board_session.specs.Sessions.{AreByLast, IsBy, IsByLast}
 
 -- that command is the journal's last

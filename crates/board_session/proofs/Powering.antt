@@ -27,9 +27,9 @@ use Rattle.board.specs.Unbooted.{doubt_by, LeavesLife}
 use Rattle.board_model.specs.declared.boot_mode.BootMode.TheVariants as modes
 use Rattle.store.specs.Lives.{Life, now_of}
 use Rattle.store.specs.Taken.{are_taken}
-use Rattle.shared_store.specs.Legal.{BeginsWith}
-use Rattle.shared_store.specs.Runs.{AllCarrySteps, IsCarried}
-use Rattle.shared_store.proofs.Carrying.{none_carry, more_carry, change_carries}
+use Rattle.hart_threads.specs.Legal.{BeginsWith}
+use Rattle.hart_threads.specs.Runs.{AllCarrySteps, IsCarried}
+use Rattle.hart_threads.proofs.Carrying.{none_carry, more_carry, change_carries}
 use Rattle.board.specs.Boots.{boot_refusal, life_after}
 use Rattle.board.specs.Moments.{attempts_of, commands_by}
 use Rattle.board.proofs.Few.{few_commands, left_at}

@@ -9,7 +9,7 @@ use Rattle.disk.specs.Facts.{Facts}
 use Rattle.board.specs.Begins.{IsBegun}
 use Rattle.board.specs.Moments.{commands_by}
 use Rattle.machine.specs.Machine.{Machine}
-use Rattle.shared_store.specs.Heard.{Hearing}
+use Rattle.hart_threads.specs.Heard.{Hearing}
 use Rattle.board_console.specs.Commands.{party}
 use Rattle.board_console.specs.Dialogues.{DialogueEnds, Talks, dialogue_ends}
 use Rattle.board_console.specs.declared.talks.Left.{Left}

@@ -23,17 +23,17 @@ use Rattle.board.specs.PowersOn.{IsUnpowered}
 use Rattle.board.specs.Unbooted.{LeavesLife}
 use Rattle.machine.specs.Machine.{Machine}
 use Rattle.tallies.specs.Closed.{AreReceiptsOf}
-use Rattle.shared_store.specs.Noted.{boot_told, entries_in}
+use Rattle.hart_threads.specs.Noted.{boot_told, entries_in}
 use Rattle.hart_threads.specs.Threads.{ends_life}
 use Rattle.hart_threads.specs.Ends.{Ending, AreNumberedFrom, IsEnding}
 use Rattle.hart_threads.specs.declared.closing.AfterConsole.{AfterConsole}
 use Rattle.hart_threads.specs.declared.closing.AfterConsole.TheVariants.{RunOut, Halt}
 use Rattle.hart_threads.specs.declared.ends.ShutBy.{ShutBy}
 use Rattle.hart_threads.specs.declared.ends.ShutBy.TheVariants.{Life, Console}
-use Rattle.shared_store.specs.Called.{IsLastOf}
-use Rattle.shared_store.specs.Doubts.{IsDoubtOf}
-use Rattle.shared_store.specs.Heard.{Hearing}
-use Rattle.shared_store.specs.Runs.{CarriesSteps, AllCarrySteps}
+use Rattle.hart_threads.specs.Called.{IsLastOf}
+use Rattle.hart_threads.specs.Doubts.{IsDoubtOf}
+use Rattle.hart_threads.specs.Heard.{Hearing}
+use Rattle.hart_threads.specs.Runs.{CarriesSteps, AllCarrySteps}
 use Rattle.board_console.specs.Commands.{party}
 use Rattle.board_console.specs.Dialogues.{DialogueEnds, Talks, dialogue_ends}
 use Rattle.board_console.specs.declared.talks.Left.{Left}

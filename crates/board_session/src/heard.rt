@@ -1,10 +1,10 @@
 //! What the console of a session heard.
 
 ghost use Rattle.std.specs.Prelude.{◌≡◌};
-ghost use Rattle.shared_store.specs.Heard.{Hearing, heard_nothing};
+ghost use Rattle.hart_threads.specs.Heard.{Hearing, heard_nothing};
 
 use board_model::{Command, Durable, Refusal};
-use shared_store::{Heard, Journal};
+use hart_threads::{Heard, Journal};
 use std::marker::Model;
 
 /// What the console of a session heard of the store beside its receipts: nothing where it was not begun.

@@ -4,17 +4,18 @@ ghost use Rattle.std.specs.Prelude.{◌≡◌, ◌≤◌, ◌+◌, ℕ, List, []
 ghost use Rattle.store.specs.Leaves.{IsIdle};
 ghost use Rattle.store.specs.Taken.{are_taken};
 ghost use Rattle.store.specs.Views.{size_of_store, found_state, journal_of, life_of, doubt_of, failures_at_open};
-ghost use Rattle.shared_store.specs.Noted.{boot_told};
-ghost use Rattle.shared_store.specs.Runs.{IsCarried};
-ghost use Rattle.shared_store.specs.Views.{inside, parts_with};
+ghost use Rattle.hart_threads.specs.Noted.{boot_told};
+ghost use Rattle.hart_threads.specs.Runs.{IsCarried};
+ghost use Rattle.hart_threads.specs.Views.{inside, parts_with};
 ghost use Rattle.hart_threads.specs.Ends.{AreNumberedFrom, IsEnding};
 ghost use Rattle.board_session.specs.Backs.{AreBack};
 ghost use Rattle.board_session.specs.Sessions.{IsBy, IsOfLife};
 
 use board_model::Entry;
 use disk::Disk;
-use hart_threads::{HartEnd, HartLocal, Parted, Rested, ShutBy, Threaded};
-use shared_store::{BookPart, Heard, Unshared};
+use hart_threads::{
+    BookPart, HartEnd, HartLocal, Heard, Parted, Rested, ShutBy, Threaded, Unshared,
+};
 use std::sync::Wait;
 use store::Store;
 

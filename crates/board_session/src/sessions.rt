@@ -7,10 +7,10 @@ ghost use Rattle.board_model.specs.Shapes.{Size};
 ghost use Rattle.board_model.specs.declared.durable.Entry.{Entry};
 ghost use Rattle.board_model.specs.declared.refusal.Refusal.TheVariants.{Memory};
 ghost use Rattle.tallies.specs.BookViews.{id_of, parts_of};
-ghost use Rattle.shared_store.specs.Heard.{heard_nothing};
-ghost use Rattle.shared_store.specs.Noted.{boot_told};
-ghost use Rattle.shared_store.specs.Runs.{IsCarried};
-ghost use Rattle.shared_store.specs.Views.{parts_with};
+ghost use Rattle.hart_threads.specs.Heard.{heard_nothing};
+ghost use Rattle.hart_threads.specs.Noted.{boot_told};
+ghost use Rattle.hart_threads.specs.Runs.{IsCarried};
+ghost use Rattle.hart_threads.specs.Views.{parts_with};
 ghost use Rattle.store.specs.Formats.{WritesHead};
 ghost use Rattle.store.specs.Leaves.{IsIdle, IsKept, LeavesOnly};
 ghost use Rattle.store.specs.Opens.{FormatRefused};
@@ -36,11 +36,10 @@ use board_options::Options;
 use disk::Disk;
 use hart::Hart;
 use hart_threads::{
-    AfterConsole, BootedHarts, Closing, HartEnd, Parted, Rested, SharedBoard, Threaded, Undriven,
-    drive,
+    AfterConsole, BookPart, BootedHarts, Closing, HartEnd, Heard, Journal, Locks, NewBook, Parted,
+    Rested, SharedBoard, SharedBus, SharedStore, Threaded, Undriven, Unshared, drive,
 };
 use sbi_calls::{Seats, Tables};
-use shared_store::{BookPart, Heard, Journal, Locks, NewBook, SharedBus, SharedStore, Unshared};
 use std::alloc::{AllocError, Global};
 use std::io::{Read, Write};
 use std::marker::Brand;

@@ -16,8 +16,8 @@ use Rattle.sbi_abi.specs.declared.call.Call.{Call}
 use Rattle.sbi_abi.specs.Calls.{call_of}
 use Rattle.sbi_calls.specs.declared.words.Turned.{Turned}
 use Rattle.sbi_calls.specs.declared.words.Turned.TheVariants.{Made, Durable}
-use Rattle.shared_store.specs.Called.{AsksFor, IsToldBy}
-use Rattle.shared_store.specs.Noted.{part_after}
+use Rattle.hart_threads.specs.Called.{AsksFor, IsToldBy}
+use Rattle.hart_threads.specs.Noted.{part_after}
 use Rattle.susp.specs.declared.buses.Doze.{Doze}
 use Rattle.hart_threads.specs.Looks.{Looked}
 use Rattle.hart_threads.specs.Threads.{Seated, ComesOnce, TurnOnceBy, TurnOnce, LoopOnce, is_end, ends_life}

@@ -3,8 +3,8 @@ use Rattle.std.proofs.Common.{◌≡◌, ◌+◌, ℕ, zero, suc, Bool, List, Op
 use Rattle.board_model.specs.Shapes.{Size}
 use Rattle.board_model.specs.declared.durable.Entry.{Entry}
 use Rattle.sbi_abi.specs.declared.call.Call.{Call}
-use Rattle.shared_store.specs.Called.{IsToldBy}
-use Rattle.shared_store.specs.Noted.{part_after}
+use Rattle.hart_threads.specs.Called.{IsToldBy}
+use Rattle.hart_threads.specs.Noted.{part_after}
 use Rattle.tallies.specs.declared.book_views.PartView.{PartView}
 use Rattle.sbi_abi.specs.Calls.{call_of}
 use Rattle.sbi.specs.Words.{life_goes_on, stage_told, word_of_sleep}

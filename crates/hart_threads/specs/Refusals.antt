@@ -13,8 +13,8 @@ use Rattle.sbi.specs.Resets.{reset_of}
 use Rattle.sbi.specs.declared.resets.ResetType.{ResetType}
 use Rattle.sbi.specs.declared.words.Word.{Word}
 use Rattle.sbi.specs.declared.words.Word.TheVariants.{Goes, Over}
-use Rattle.shared_store.specs.Called.{AsksSleep}
-use Rattle.shared_store.specs.Heard.{one_more}
+use Rattle.hart_threads.specs.Called.{AsksSleep}
+use Rattle.hart_threads.specs.Heard.{one_more}
 use Rattle.store.specs.Asked.{Asked}
 use Rattle.store.specs.Lives.{Applied}
 use Rattle.store.specs.Views.{size_of_store}

@@ -22,9 +22,9 @@ use Rattle.sbi_calls.specs.Both.{Known}
 use Rattle.sbi_calls.specs.declared.words.Did.TheVariants.{Idle, Resumed, Next, Dozing}
 use Rattle.sbi_calls.specs.declared.words.Turned.{Turned}
 use Rattle.sbi_calls.specs.declared.words.Turned.TheVariants.{Made, Durable}
-use Rattle.shared_store.specs.Called.{AsksDoze, IsToldBy}
-use Rattle.shared_store.specs.Legal.{IsToldOf}
-use Rattle.shared_store.specs.Runs.{StepsMake}
+use Rattle.hart_threads.specs.Called.{AsksDoze, IsToldBy}
+use Rattle.hart_threads.specs.Legal.{IsToldOf}
+use Rattle.hart_threads.specs.Runs.{StepsMake}
 use Rattle.susp.specs.Checks.{IsChecked}
 use Rattle.susp.specs.Dozes.{dozing}
 use Rattle.susp.specs.Sleeps.{AreUnclaimed}

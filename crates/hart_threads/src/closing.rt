@@ -2,19 +2,20 @@
 
 ghost use Rattle.std.specs.Prelude.{◌≡◌, ◌<◌, ◌+◌, ◌-◌, ◌^◌, ℕ, true, IsTrue, MatchResult, is_some};
 ghost use Rattle.board_model.specs.declared.durable.Entry.{Entry};
-ghost use Rattle.shared_store.specs.Locks.{no_locks};
+ghost use Rattle.hart_threads.specs.Locks.{no_locks};
 ghost use Rattle.hart_threads.specs.Threads.{EndsLife, is_end, ends_life};
 ghost use Rattle.hart_threads.specs.declared.closing.AfterConsole.TheVariants as afters;
 ghost use Rattle.hart_threads.specs.declared.loops.Why.TheVariants.{Life};
 
+use crate::locks::Locks;
 use crate::loops::Why;
+use crate::receipts::CommandReceipt;
 use crate::threaded::Threaded;
 use board_model::Entry;
 use disk::Disk;
-use shared_store::{CommandReceipt, Journal, Locks};
 use std::marker::{Model, PhantomData};
 use std::sync::{OnceLock, OnceToken, Wait};
-use tallies::{Halt, Watch};
+use tallies::{Halt, Journal, Watch};
 
 /// What the harts do once the console has left.
 #[derive(Clone, Copy, PartialEq, Eq, Drop)]

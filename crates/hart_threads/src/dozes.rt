@@ -3,20 +3,21 @@
 ghost use Rattle.std.specs.Prelude.{◌≡◌, ◌+◌, ◌≤◌, ◌<◌, ◌-◌, ◌^◌, Some};
 ghost use Rattle.hsm.specs.declared.view.Stage.TheVariants.{Quiet};
 ghost use Rattle.sbi_calls.specs.Both.{AreSeatsOfBoth, GivesBack, Acts, harts_of_both, known};
-ghost use Rattle.shared_store.specs.Dozes.{is_woken, doze_left};
-ghost use Rattle.shared_store.specs.Views.{bus_in};
+ghost use Rattle.hart_threads.specs.Dozes.{is_woken, doze_left};
+ghost use Rattle.hart_threads.specs.Views.{bus_in};
 ghost use Rattle.hart_threads.specs.Looks.{Looked, no_looks, after_look, doze_by};
 ghost use Rattle.hart_threads.specs.Refusals.{RefusedCalls};
 ghost use Rattle.hart_threads.specs.Seated.{StandsAfterTurn};
 ghost use Rattle.hart_threads.specs.Threads.{seated, DozeOnce};
 
+use crate::buses::SharedBus;
 use board_model::HartId;
 use hart::Hart;
 use sbi::{Did, Word};
 use sbi_calls::{Seats, Tables};
-use shared_store::{Journal, SharedBus};
 use std::marker::Model;
 use susp::Doze;
+use tallies::Journal;
 use turns::resume;
 
 /// How often a hart in whose doze its board was looked at the bus, and how often it found that the board was woken. Only

@@ -13,6 +13,7 @@ ghost use Rattle.hart_threads.specs.Begun.{BeginsAs, IsFromBoot, board_of};
 use crate::closing::Closing;
 use crate::ends::{Rested, at_rest};
 use crate::gates::Gate;
+use crate::locks::Locks;
 use crate::loops::hart_loop;
 use crate::refusals::Refusals;
 use crate::seated::{ActingHart, seat_harts};
@@ -23,11 +24,11 @@ use board_model::Refusal;
 use disk::Disk;
 use hart::Hart;
 use sbi_calls::{Seats, Tables};
-use shared_store::{BookPart, Journal, Locks};
 use std::alloc::Global;
 use std::sync::Wait;
 use std::thread::Threads;
 use susp::Doze;
+use tallies::{BookPart, Journal};
 
 /// The harts that are to be driven, as the boot left them, and what their loops are given.
 #[derive(Drop)]

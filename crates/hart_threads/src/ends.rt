@@ -13,6 +13,7 @@ ghost use Rattle.hart_threads.specs.declared.loops.Why.TheVariants.{Life};
 
 use crate::closing::{HaltSet, Parted, Shut, agree};
 use crate::loops::{Ended, Why};
+use crate::receipts::CommandReceipt;
 use crate::shared::HartLocal;
 use crate::threaded::Threaded;
 use board_model::{Entry, HartId};
@@ -20,7 +21,6 @@ use hart::Hart;
 use hsm::State;
 use rv_decode::{CsrNumber, SCAUSE, SEPC, STVAL};
 use sbi_calls::{Seats, Tables};
-use shared_store::CommandReceipt;
 use std::marker::Model;
 
 /// What ended a loop before it made its turns.

@@ -3,8 +3,8 @@
 ghost use Rattle.std.specs.Prelude.{◌≡◌, ◌≤◌, ℕ, [], true, false, IsTrue, is_some};
 ghost use Rattle.std.specs.Option.{option_to_list};
 ghost use Rattle.sbi_calls.specs.Both.{AreTablesOf, GivesBack, known};
-ghost use Rattle.shared_store.specs.Locks.{no_locks};
-ghost use Rattle.shared_store.specs.Noted.{part_after};
+ghost use Rattle.hart_threads.specs.Locks.{no_locks};
+ghost use Rattle.hart_threads.specs.Noted.{part_after};
 ghost use Rattle.hart_threads.specs.declared.loops.Why.TheVariants.{Life, Closed, Gate as ByGate, Turns};
 ghost use Rattle.hart_threads.specs.Looks.{no_looks};
 ghost use Rattle.hart_threads.specs.Seated.{IsSeated, StandsAfter};
@@ -13,13 +13,14 @@ ghost use Rattle.hart_threads.specs.Threads.{seated, ends_life, LoopOnce};
 use crate::closing::{HaltPolls, Shut};
 use crate::dozes::DozeLooks;
 use crate::gates::Gate;
+use crate::locks::Locks;
+use crate::receipts::CommandReceipt;
 use crate::shared::{HartLocal, LoopBoard};
 use crate::threaded::Threaded;
 use crate::turn::{ask, tell, whole_turn};
 use crew::Crew;
 use disk::Disk;
 use hart::Hart;
-use shared_store::{CommandReceipt, Locks};
 use std::sync::Wait;
 
 /// Why a loop ended.

@@ -5,18 +5,18 @@ ghost use Rattle.hsm.specs.declared.view.Stage.TheVariants.{Running};
 ghost use Rattle.sbi_abi.specs.Calls.{call_of};
 ghost use Rattle.sbi_calls.specs.Both.{AreTablesOf, AreSeatsOfBoth, GivesBack, Acts, known};
 ghost use Rattle.sbi.specs.Words.{stage_told};
-ghost use Rattle.shared_store.specs.Called.{IsToldBy};
-ghost use Rattle.shared_store.specs.Noted.{part_after};
-ghost use Rattle.shared_store.specs.Runs.{StepsMake};
-ghost use Rattle.shared_store.specs.Locks.{no_locks};
+ghost use Rattle.hart_threads.specs.Called.{IsToldBy};
+ghost use Rattle.hart_threads.specs.Noted.{part_after};
+ghost use Rattle.hart_threads.specs.Runs.{StepsMake};
+ghost use Rattle.hart_threads.specs.Locks.{no_locks};
 ghost use Rattle.hart_threads.specs.Threads.{HeldOnce, IsDozeBy, RefusedOnce};
 
+use crate::locks::{BusLock, Locks};
 use crate::shared::{HartLocal, LoopBoard, TurnEnd};
 use crate::threaded::Threaded;
 use crew::Crew;
 use disk::Disk;
 use hart::{Hart, Outcome};
-use shared_store::{BusLock, Locks};
 use std::sync::Wait;
 use turns::MemoryBus;
 

@@ -6,14 +6,16 @@ ghost use Rattle.hsm.specs.declared.view.Stage.TheVariants.{Running};
 ghost use Rattle.sbi.specs.Words.{stage_told};
 ghost use Rattle.sbi_abi.specs.Calls.{call_of};
 ghost use Rattle.sbi_calls.specs.Both.{AreTablesOf, AreSeatsOfBoth, GivesBack, Acts, known};
-ghost use Rattle.shared_store.specs.Called.{IsToldBy};
-ghost use Rattle.shared_store.specs.Noted.{part_after};
-ghost use Rattle.shared_store.specs.Views.{bus_in, store_in};
+ghost use Rattle.hart_threads.specs.Called.{IsToldBy};
+ghost use Rattle.hart_threads.specs.Noted.{part_after};
+ghost use Rattle.hart_threads.specs.Views.{bus_in, store_in};
 ghost use Rattle.hart_threads.specs.Refusals.{RefusedCalls, none_refused, finds_failure, after_call, Denies};
 ghost use Rattle.hart_threads.specs.Threads.{HeldOnce, IsDozeBy, RefusedOnce};
 
+use crate::buses::SharedBus;
 use crate::dozes::doze_by;
 use crate::shared::{HartLocal, LoopBoard, TurnEnd};
+use crate::shared_store::SharedStore;
 use crate::threaded::Threaded;
 use crew::Crew;
 use disk::Disk;
@@ -21,8 +23,8 @@ use hart::Hart;
 use rv_decode::Reg;
 use sbi::Word;
 use sbi_abi::Call;
-use shared_store::{Journal, SharedBus, SharedStore};
 use std::marker::{Model, PhantomData};
+use tallies::Journal;
 
 /// How many calls of a hart the store of the life J refused, and the last of them. Only a call of that store counts here. A
 /// count begins anew at 2^64.

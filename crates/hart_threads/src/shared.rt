@@ -2,18 +2,21 @@
 
 ghost use Rattle.std.specs.Prelude.{◌≡◌};
 
+use crate::buses::SharedBus;
 use crate::closing::Closing;
+use crate::receipts::CommandReceipt;
 use crate::refusals::Refusals;
+use crate::shared_store::SharedStore;
 use crate::threaded::Threaded;
 use board_model::Shape;
 use disk::Disk;
 use sbi::Word;
 use sbi_calls::{Seats, Tables};
-use shared_store::{BookPart, CommandReceipt, Journal, SharedBus, SharedStore};
 use std::alloc::AllocError;
 use std::sync::Mutex;
 use store::Saving;
 use susp::Doze;
+use tallies::{BookPart, Journal};
 
 /// A board as the threads of its harts share it: the two tables, whose words change in single steps, the bus and the
 /// store, each behind its lock, what ends the loops of all harts, and what an image is written with.

@@ -5,8 +5,8 @@ ghost use Rattle.atomic_table.specs.Seated.{TableId};
 ghost use Rattle.machine.specs.Machine.{Machine, resting};
 ghost use Rattle.tallies.specs.Books.{no_book, one_page};
 
-use shared_store::Journal;
 use std::marker::Brand;
+use tallies::Journal;
 
 /// The name of the life of a board on threads, beside that of its journal: how many turns each hart is given, the lock
 /// in which the console says once what the harts do when it has left, the word that halts all loops, whether the gate may end

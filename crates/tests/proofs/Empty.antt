@@ -1,8 +1,8 @@
 -- A life in which no suspension was asked for.
 use Rattle.std.proofs.Common.{◌≡◌, ℕ, List, [], None, sym, subst}
 use Rattle.board_model.specs.Durable.{Change}
-use Rattle.shared_store.specs.Runs.{AllCarrySteps, IsCarried}
-use Rattle.shared_store.proofs.Carrying.{none_carry}
+use Rattle.hart_threads.specs.Runs.{AllCarrySteps, IsCarried}
+use Rattle.hart_threads.proofs.Carrying.{none_carry}
 use Rattle.store.specs.Lives.{Life}
 
 pub none_carried : (begun : List ℕ) (life : Life) → life.journal ≡ [] → life.doubt ≡ None → IsCarried begun life

@@ -15,10 +15,10 @@ use board_console::console;
 use board_model::{BootMode, Command, Refusal, Shape, Slot};
 use disk::{ArmedFault, Disk};
 use hart_threads::{
-    AfterConsole, BootedHarts, Closing, Gate, Rested, SharedBoard, Threaded, Why, drive,
+    AfterConsole, BookPart, BootedHarts, Closing, Gate, Heard, Journal, Locks, NewBook, Rested,
+    SharedBoard, SharedBus, SharedStore, Threaded, Unshared, Why, drive,
 };
 use rv_decode::Reg;
-use shared_store::{BookPart, Heard, Journal, Locks, NewBook, SharedBus, SharedStore, Unshared};
 use simdisk::SimDisk;
 use std::alloc::Global;
 use std::marker::Brand;

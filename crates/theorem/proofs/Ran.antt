@@ -10,10 +10,10 @@ use Rattle.store.specs.Standing.{StandsFor}
 use Rattle.board.specs.Begins.{IsBegun}
 use Rattle.board.specs.Moments.{commands_by}
 use Rattle.machine.specs.Machine.{Machine}
-use Rattle.shared_store.specs.Runs.{CarriesSteps}
+use Rattle.hart_threads.specs.Runs.{CarriesSteps}
 use Rattle.board.specs.Unbooted.{LeavesLife}
-use Rattle.shared_store.specs.Doubts.{IsDoubtOf}
-use Rattle.shared_store.specs.Heard.{Hearing}
+use Rattle.hart_threads.specs.Doubts.{IsDoubtOf}
+use Rattle.hart_threads.specs.Heard.{Hearing}
 use Rattle.board_console.specs.Commands.{party}
 use Rattle.board_console.specs.Dialogues.{DialogueEnds, dialogue_ends}
 use Rattle.board_console.specs.declared.talks.Left.{Left}

@@ -9,9 +9,9 @@ use Rattle.board.specs.Moments.{commands_by}
 use Rattle.board_model.specs.declared.boot_mode.BootMode.{BootMode}
 use Rattle.disk.specs.Facts.{Failed}
 use Rattle.machine.specs.Machine.{Machine}
-use Rattle.shared_store.specs.Doubts.{IsDoubtOf}
-use Rattle.shared_store.specs.Heard.{Hearing}
-use Rattle.shared_store.specs.Runs.{CarriesSteps, AllCarrySteps}
+use Rattle.hart_threads.specs.Doubts.{IsDoubtOf}
+use Rattle.hart_threads.specs.Heard.{Hearing}
+use Rattle.hart_threads.specs.Runs.{CarriesSteps, AllCarrySteps}
 use Rattle.board_console.specs.Commands.{party}
 use Rattle.board_console.specs.Dialogues.{DialogueEnds, dialogue_ends}
 use Rattle.board_console.specs.declared.talks.Left.{Left}

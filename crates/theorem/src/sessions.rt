@@ -9,7 +9,7 @@ ghost use Rattle.board_console.specs.Commands.{party};
 ghost use Rattle.board_console.specs.Dialogues.{dialogue_ends};
 ghost use Rattle.board_session.specs.Sessions.{IsOfLife, TalksIf, AreByLast, AreDriven};
 ghost use Rattle.machine.specs.Machine.{Machine};
-ghost use Rattle.shared_store.specs.Heard.{heard_nothing};
+ghost use Rattle.hart_threads.specs.Heard.{heard_nothing};
 ghost use Rattle.store.specs.Leaves.{IsIdle};
 ghost use Rattle.store.specs.Standing.{StandsFor};
 ghost use Rattle.store.specs.Views.{disk_of, found_state};

@@ -1,5 +1,5 @@
 use Rattle.std.proofs.Common.{◌≡◌}
-use Rattle.shared_store.specs.Locks.{no_locks}
+use Rattle.hart_threads.specs.Locks.{no_locks}
 use Rattle.board_console.specs.Commands.{party}
 use Rattle.board_console.specs.Dialogues.{dialogue_ends}
 use Rattle.board_console.proofs.Talking.{Talking}

@@ -1,6 +1,6 @@
 use Rattle.std.proofs.Common.{[], Option, None, refl, sym, subst}
 use Rattle.board_model.specs.Durable.{Change}
-use Rattle.shared_store.specs.Doubts.{IsDoubtOf}
+use Rattle.hart_threads.specs.Doubts.{IsDoubtOf}
 use Rattle.store.specs.Views.{size_of_store, now_state, journal_of, doubt_of}
 use Rattle.board_session.proofs.Backing.{at_once, none_later}
 use Rattle.board_session.proofs.Powering.{kept_reads, life_kept, life_leaves}

@@ -5,8 +5,8 @@ use Rattle.board.specs.Unbooted.{LeavesLife}
 use Rattle.disk.specs.Facts.{Failed}
 use Rattle.tallies.specs.Closed.{AreReceiptsOf, told_in}
 use Rattle.tallies.specs.declared.book_views.PartView.{PartView}
-use Rattle.shared_store.specs.Noted.{entries_in}
-use Rattle.shared_store.specs.Views.{parts_with}
+use Rattle.hart_threads.specs.Noted.{entries_in}
+use Rattle.hart_threads.specs.Views.{parts_with}
 use Rattle.store.specs.Views.{size_of_store, now_state, journal_of, doubt_of}
 use Rattle.board_session.proofs.Backing.{acknowledged}
 use Rattle.board_session.proofs.Powering.{begins_so, kept_reads, life_kept, life_leaves}

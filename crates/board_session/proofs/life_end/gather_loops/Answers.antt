@@ -1,6 +1,6 @@
 use Rattle.std.proofs.Common.{◌∙◌, List, length, sym, ap, subst, arith}
 use Rattle.tallies.specs.declared.book_views.PartView.{PartView}
-use Rattle.shared_store.specs.Views.{parts_with}
+use Rattle.hart_threads.specs.Views.{parts_with}
 use Rattle.board_session.specs.Backs.{AreBack}
 use Rattle.board_session.proofs.Backing.{one_back}
 use Rattle.board_session.proofs.life_end.gather_loops.Goals as goal

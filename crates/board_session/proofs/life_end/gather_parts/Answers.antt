@@ -1,7 +1,7 @@
 use Rattle.std.proofs.Common.{◌≡◌, ◌∙◌, List, [], Some, length, sym, ap, subst, arith}
 use Rattle.std.proofs.lemmas.List.Elements.{All-pop}
 use Rattle.tallies.specs.declared.book_views.PartView.{PartView}
-use Rattle.shared_store.specs.Views.{parts_with}
+use Rattle.hart_threads.specs.Views.{parts_with}
 use Rattle.board_session.specs.Backs.{AreBack}
 use Rattle.board_session.proofs.Backing.{fresh_back}
 use Rattle.board_session.proofs.life_end.gather_parts.Goals as goal

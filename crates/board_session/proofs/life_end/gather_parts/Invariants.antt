@@ -1,5 +1,5 @@
 use Rattle.std.proofs.Common.{◌≡◌, ◌+◌, [], All, length, vec_len}
-use Rattle.shared_store.specs.Views.{inside, parts_with}
+use Rattle.hart_threads.specs.Views.{inside, parts_with}
 use Rattle.board_session.specs.Backs.{AreBack}
 use Rattle.board_session.proofs.life_end.gather_parts.Given as goal
 

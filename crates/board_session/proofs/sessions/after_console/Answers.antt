@@ -1,4 +1,4 @@
-use Rattle.shared_store.specs.Views.{parts_with}
+use Rattle.hart_threads.specs.Views.{parts_with}
 use Rattle.board_session.proofs.Backing.{none_back}
 use Rattle.board_session.proofs.Lasting.{are_by_last}
 use Rattle.board_session.proofs.sessions.after_console.Goals as goal

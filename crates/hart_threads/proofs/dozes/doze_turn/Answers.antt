@@ -1,7 +1,7 @@
 use Rattle.std.proofs.Common.{◌≡◌, ◌∙◌, ℕ, Bool, true, false, ap, inl, inr, sym, subst}
 use Rattle.hart.specs.State.{ArchState}
 use Rattle.sbi_calls.specs.Both.{known}
-use Rattle.shared_store.specs.Dozes.{is_woken, doze_left}
+use Rattle.hart_threads.specs.Dozes.{is_woken, doze_left}
 use Rattle.hart_threads.specs.Looks.{after_look}
 use Rattle.hart_threads.proofs.Looking.{idle_once, one_look, woken_once}
 use Rattle.hart_threads.proofs.Looping.{gives_none}

@@ -2,7 +2,7 @@ use Rattle.std.proofs.Common.{◌≡◌, ℕ, ◌+◌, true, false, arith, ap, r
 use Rattle.std.specs.Prelude.{None}
 use Rattle.hart.specs.State.{ArchState}
 use Rattle.sbi_calls.specs.Both.{GivesBack, known}
-use Rattle.shared_store.specs.Noted.{part_after}
+use Rattle.hart_threads.specs.Noted.{part_after}
 use Rattle.turns.proofs.Begun.{gives_then}
 use Rattle.hart_threads.specs.Looks.{Looked, no_looks}
 use Rattle.hart_threads.specs.Seated.{IsSeated, StandsAfterTurn, StandsAfter}

@@ -1,6 +1,6 @@
 use Rattle.std.proofs.Common.{◌∙◌, Option, ap, sym, subst}
 use Rattle.sbi_calls.specs.Both.{known}
-use Rattle.shared_store.specs.Noted.{part_after}
+use Rattle.hart_threads.specs.Noted.{part_after}
 use Rattle.susp.specs.declared.buses.Doze.{Doze}
 use Rattle.hart_threads.specs.Seated.{IsSeated}
 use Rattle.hart_threads.specs.Threads.{seated}

@@ -1,0 +1,4 @@
+use Rattle.hart_threads.proofs.locks.BusLock.step.Goals as goal
+
+pub returns : goal.returns
+returns g c = let s = c.step.ensures in (_, _, s.found, s.left, s.steps)

@@ -1,0 +1,114 @@
+use Rattle.std.proofs.Common.{◌≡◌, ◌∙◌, ◌+◌, ℕ, Bool, List, ◌∷◌, length, sym, ap, arith}
+use Rattle.board_model.specs.Durable.{Change}
+use Rattle.board_model.specs.declared.durable.Entry.{Entry}
+use Rattle.tallies.specs.Books.{entries_of, told_after}
+use Rattle.tallies.specs.declared.book_views.BookView.{BookView}
+use Rattle.hart_threads.specs.Noted.{entries_in}
+use Rattle.sbi_abi.specs.Calls.{call_of}
+use Rattle.sbi_calls.specs.Both.{harts_of_both, known}
+use Rattle.store.specs.Views.{doubt_of, journal_of}
+use Rattle.hart_threads.specs.Doubts.{noted_by}
+use Rattle.hart_threads.proofs.Doubting.{hart_asks, held, noted_on}
+use Rattle.hart_threads.proofs.Calling.{made}
+use Rattle.hart_threads.proofs.Lasting.{begins_longer, grows, place_after, stays, tied_after, told_last, told_of}
+use Rattle.hart_threads.proofs.Naming.{begins_still}
+use Rattle.hart_threads.proofs.shared_store.SharedStore.call.Goals as goal
+
+pub invariant_of-self : goal.invariant_of-self
+invariant_of-self g c =
+    let old = c.args.self.now in
+    let d = c.call-seats in
+    let size = g.J.Journal.size in
+    let call = call_of c.args.hart.now in
+    let by = c.args.hart.now.id in
+    let m = made g.J.Journal.found size (harts_of_both c.args.tables.now) call c.args.hart.now d.new.hart (known c.args.seats) (known d.result.0) c.args.bus.now.bus d.new.self.bus old.store d.new.store d.result.1 old.named d.ensures.makes in
+    let same = stays size call by c.in-Goes.field-0 d.result.1 (journal_of old.store) (journal_of d.new.store) c.in-Goes.is m.adds in
+    let as_long = ap (λ (cs : List Change). length cs) same in
+    let h = held size (harts_of_both c.args.tables.now) call c.args.hart.now d.new.hart (known c.args.seats) (known d.result.0) c.args.bus.now.bus d.new.self.bus old.store d.new.store d.result.1 old.named.board d.ensures.makes in
+    let noted = c.note.ensures.noted ∙ ap (λ (b : Bool). noted_by b c.in_doubt.result old.doubts) c.is_up-was_up.ensures in
+    let before = old.counted in
+    record { named = m.named; issued = begins_still g.J.Journal.issued (journal_of old.store) (journal_of d.new.store) old.issued same; carried = d.ensures.carried; counted = omega (arith, before, as_long); few = old.few; tied = ap entries_in same ∙ old.tied; none = old.none; opened = h.opened ∙ old.opened; doubted = noted_on size (doubt_of old.store) (doubt_of d.new.store) c.in_doubt.result old.doubts c.note.new.self c.in_doubt.ensures h.turns old.doubted noted }
+
+pub last_entry-requires-after_bounds : goal.last_entry-requires-after_bounds
+last_entry-requires-after_bounds g c κs within =
+    let old = c.args.self.now in
+    let d = c.call-seats in
+    let size = g.J.Journal.size in
+    let call = call_of c.args.hart.now in
+    let by = c.args.hart.now.id in
+    let m = made g.J.Journal.found size (harts_of_both c.args.tables.now) call c.args.hart.now d.new.hart (known c.args.seats) (known d.result.0) c.args.bus.now.bus d.new.self.bus old.store d.new.store d.result.1 old.named d.ensures.makes in
+    let grown = grows size call by c.in-Over.field-0 d.result.1 (journal_of old.store) (journal_of d.new.store) c.in-Over.is m.adds in
+    let longer = grown.longer in
+    let before = old.counted in
+    omega (arith, longer, before)
+
+pub new-told-requires : goal.new-told-requires
+new-told-requires g c =
+    let old = c.args.self.now in
+    let d = c.call-seats in
+    let size = g.J.Journal.size in
+    let call = call_of c.args.hart.now in
+    let by = c.args.hart.now.id in
+    let m = made g.J.Journal.found size (harts_of_both c.args.tables.now) call c.args.hart.now d.new.hart (known c.args.seats) (known d.result.0) c.args.bus.now.bus d.new.self.bus old.store d.new.store d.result.1 old.named d.ensures.makes in
+    let grown = grows size call by c.in-Over.field-0 d.result.1 (journal_of old.store) (journal_of d.new.store) c.in-Over.is m.adds in
+    let few = grown.few in
+    let before = old.counted in
+    told_last g.J.Journal.found (journal_of d.new.store) (old.count + 1) c.in-Some.entry m.named.life.taken c.in-Some.ensures.some (omega (arith, few, before))
+
+pub invariant_of-self-in-Over : goal.invariant_of-self-in-Over
+invariant_of-self-in-Over g c =
+    let old = c.args.self.now in
+    let d = c.call-seats in
+    let size = g.J.Journal.size in
+    let call = call_of c.args.hart.now in
+    let by = c.args.hart.now.id in
+    let m = made g.J.Journal.found size (harts_of_both c.args.tables.now) call c.args.hart.now d.new.hart (known c.args.seats) (known d.result.0) c.args.bus.now.bus d.new.self.bus old.store d.new.store d.result.1 old.named d.ensures.makes in
+    let end = c.in-Over.field-0 in
+    let grown = grows size call by end d.result.1 (journal_of old.store) (journal_of d.new.store) c.in-Over.is m.adds in
+    let longer = grown.longer in
+    let few = grown.few in
+    let before = old.counted in
+    let h = held size (harts_of_both c.args.tables.now) call c.args.hart.now d.new.hart (known c.args.seats) (known d.result.0) c.args.bus.now.bus d.new.self.bus old.store d.new.store d.result.1 old.named.board d.ensures.makes in
+    let noted = c.note.ensures.noted ∙ ap (λ (b : Bool). noted_by b c.in_doubt.result old.doubts) c.is_up-was_up.ensures in
+    let note = c.note-part.ensures in
+    let entry : c.entry-noted.result ≡ c.in-Some.entry = c.entry-noted.ensures ∙ ap (λ (t : ℕ × Entry). t.1) c.new-told.ensures in
+    let tied = tied_after size call by end (journal_of old.store) (journal_of d.new.store) grown old.keeper.log (old.count + 1) c.in-Some.entry c.args.part.who c.in-Some.ensures.some old.tied
+    ∙ ap (λ (e : Entry). entries_of ((c.args.part.who, e) ∷ old.keeper.log)) (sym entry)
+    ∙ sym (ap (λ (v : BookView). entries_of v.log) note.keeper) in
+    record { named = m.named; issued = begins_longer size call by end (journal_of old.store) (journal_of d.new.store) grown g.J.Journal.issued old.issued; carried = d.ensures.carried; counted = omega (arith, longer, before); few = omega (arith, few, before); tied = tied; none = ap (λ (v : BookView). length v.parts) note.keeper ∙ old.none; opened = h.opened ∙ old.opened; doubted = noted_on size (doubt_of old.store) (doubt_of d.new.store) c.in_doubt.result old.doubts c.note.new.self c.in_doubt.ensures h.turns old.doubted noted }
+
+pub returns-in-Some-clause-told : goal.returns-in-Some-clause-told
+returns-in-Some-clause-told g c =
+    let old = c.args.self.now in
+    let d = c.call-seats in
+    let size = g.J.Journal.size in
+    let call = call_of c.args.hart.now in
+    let by = c.args.hart.now.id in
+    let m = made g.J.Journal.found size (harts_of_both c.args.tables.now) call c.args.hart.now d.new.hart (known c.args.seats) (known d.result.0) c.args.bus.now.bus d.new.self.bus old.store d.new.store d.result.1 old.named d.ensures.makes in
+    let end = c.in-Over.field-0 in
+    let grown = grows size call by end d.result.1 (journal_of old.store) (journal_of d.new.store) c.in-Over.is m.adds in
+    told_of size call by end (journal_of old.store) (journal_of d.new.store) grown d.result.1 (old.count + 1, c.in-Some.entry) c.new-told.result c.in-Over.is c.new-told.ensures c.in-Some.ensures.some
+
+pub returns-in-Some-clause-noted : goal.returns-in-Some-clause-noted
+returns-in-Some-clause-noted g c =
+    let old = c.args.self.now in
+    let d = c.call-seats in
+    let size = g.J.Journal.size in
+    let call = call_of c.args.hart.now in
+    let by = c.args.hart.now.id in
+    let m = made g.J.Journal.found size (harts_of_both c.args.tables.now) call c.args.hart.now d.new.hart (known c.args.seats) (known d.result.0) c.args.bus.now.bus d.new.self.bus old.store d.new.store d.result.1 old.named d.ensures.makes in
+    let end = c.in-Over.field-0 in
+    let grown = grows size call by end d.result.1 (journal_of old.store) (journal_of d.new.store) c.in-Over.is m.adds in
+    let place = place_after size call by end (journal_of old.store) (journal_of d.new.store) grown old.keeper.log (old.count + 1) c.in-Some.ensures.some.1 old.tied in
+    let entry : c.entry-noted.result ≡ c.in-Some.entry = c.entry-noted.ensures ∙ ap (λ (t : ℕ × Entry). t.1) c.new-told.ensures in
+    c.note-part.ensures.part ∙ ap (λ (k : ℕ). told_after k c.entry-noted.result c.args.part) (sym place)
+    ∙ ap (λ (e : Entry). told_after (old.count + 1) e c.args.part) entry
+    ∙ ap (λ (t : ℕ × Entry). told_after t.0 t.1 c.args.part) (sym c.new-told.ensures)
+
+pub note-requires-clause-asks : goal.note-requires-clause-asks
+note-requires-clause-asks g c up =
+    let old = c.args.self.now in
+    let d = c.call-seats in
+    let size = g.J.Journal.size in
+    let h = held size (harts_of_both c.args.tables.now) (call_of c.args.hart.now) c.args.hart.now d.new.hart (known c.args.seats) (known d.result.0) c.args.bus.now.bus d.new.self.bus old.store d.new.store d.result.1 old.named.board d.ensures.makes in
+    hart_asks size (doubt_of old.store) (doubt_of d.new.store) c.in_doubt.result c.in_doubt.ensures h.turns (sym c.is_up-was_up.ensures ∙ up)

@@ -1,0 +1,67 @@
+use Rattle.std.proofs.Common.{◌≡◌, ◌∙◌, [], length, vec_len, refl, arith}
+use Rattle.std.proofs.lemmas.Result.{err_from_is_err_and}
+use Rattle.tallies.specs.declared.book_views.PartView.{PartView}
+use Rattle.hart_threads.specs.Views.{parts_with}
+use Rattle.hart_threads.proofs.UntoldParts.{all_nil, all_pushed, all_off, one_more_off}
+use Rattle.hart_threads.proofs.unshared.Unshared.hand_out_all.Goals as goal
+
+pub returns-in_err-parts-clause-store : goal.returns-in_err-parts-clause-store
+returns-in_err-parts-clause-store g c = refl
+
+pub returns-in_err-parts-clause-fresh : goal.returns-in_err-parts-clause-fresh
+returns-in_err-parts-clause-fresh g c = c.requires.fresh
+
+pub returns-in_err-parts-clause-count : goal.returns-in_err-parts-clause-count
+returns-in_err-parts-clause-count g c = rw (err_from_is_err_and c.from_residual.result c.from_residual.ensures.1).1 tt
+
+pub returns-in_err-parts-clause-told : goal.returns-in_err-parts-clause-told
+returns-in_err-parts-clause-told g c = rw (err_from_is_err_and c.from_residual.result c.from_residual.ensures.1).1 tt
+
+pub returns-in_err-parts-clause-rest : goal.returns-in_err-parts-clause-rest
+returns-in_err-parts-clause-rest g c = rw (err_from_is_err_and c.from_residual.result c.from_residual.ensures.1).1 tt
+
+pub returns-in_err-parts-clause-none : goal.returns-in_err-parts-clause-none
+returns-in_err-parts-clause-none g c = rw (err_from_is_err_and c.from_residual.result c.from_residual.ensures.1).1 refl
+
+pub loop-made-init : goal.loop-made-init
+loop-made-init g c = record {
+  store = refl;
+  fresh = c.requires.fresh;
+  told = all_nil (λ (d : PartView). d.told ≡ []) c.in_ok-parts.parts.items c.in_ok-parts.ensures.items;
+  off = omega (arith, c.in_ok-parts.ensures.len);
+  made = c.in_ok-parts.ensures.len;
+  room = c.in_ok-parts.ensures.exact;
+}
+
+pub push_reserved-requires : goal.push_reserved-requires
+push_reserved-requires g c = omega (arith, c.loop-made.invariant.made, c.loop-made.invariant.room, c.loop-made-test.true)
+
+pub loop-made-smaller : goal.loop-made-smaller
+loop-made-smaller g c = omega (arith, c.loop-made-test.true)
+
+pub loop-made-preserved : goal.loop-made-preserved
+loop-made-preserved g c =
+    let was = c.loop-made.invariant in
+    record {
+      store = c.hand_out-part.ensures.store ∙ was.store;
+      fresh = c.hand_out-part.ensures.fresh;
+      told = all_pushed (λ (d : PartView). d.told ≡ []) c.loop-made.parts.items c.push_reserved.new.self.items c.hand_out-part.result c.push_reserved.ensures.items was.told c.hand_out-part.ensures.told;
+      off = one_more_off (length (parts_with c.loop-made.self)) (vec_len c.loop-made.parts) (vec_len c.push_reserved.new.self) (length (parts_with c.hand_out-part.new.self)) (length (parts_with c.args.self.now)) was.off c.hand_out-part.ensures.rest c.push_reserved.ensures.len;
+      made = omega (arith, c.push_reserved.ensures.len, was.made);
+      room = c.push_reserved.ensures.capacity ∙ was.room;
+    }
+
+pub returns-clause-store : goal.returns-clause-store
+returns-clause-store g c = c.loop-made.invariant.store
+
+pub returns-clause-fresh : goal.returns-clause-fresh
+returns-clause-fresh g c = c.loop-made.invariant.fresh
+
+pub returns-clause-count : goal.returns-clause-count
+returns-clause-count g c = all_off (vec_len c.loop-made.parts) c.loop-made.made c.args.count c.loop-made.invariant.made c.loop-made-test.false c.loop-made.auto.made-end
+
+pub returns-clause-told : goal.returns-clause-told
+returns-clause-told g c = c.loop-made.invariant.told
+
+pub returns-clause-rest : goal.returns-clause-rest
+returns-clause-rest g c = omega (arith, c.loop-made.invariant.off, c.loop-made.invariant.made, c.loop-made-test.false, c.loop-made.auto.made-end)

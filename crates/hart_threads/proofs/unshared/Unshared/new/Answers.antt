@@ -1,0 +1,80 @@
+use Rattle.std.proofs.Common.{◌≡◌, ◌∙◌, ◌+◌, ◌<◌, ◌≤◌, ℕ, List, Option, [], All, length, drop, refl, sym, ap, subst, arith}
+use Rattle.std.specs.Option.{option_to_list}
+use Rattle.board_model.specs.Durable.{Change, DurableState, fold}
+use Rattle.board_model.specs.Views.{durable_of}
+use Rattle.store.specs.Taken.{are_taken}
+use Rattle.store.specs.Views.{journal_of}
+use Rattle.tallies.specs.Books.{first_of, fresh_from}
+use Rattle.tallies.specs.declared.book_views.BookView.{BookView}
+use Rattle.tallies.specs.declared.book_views.PartView.{PartView}
+use Rattle.hart_threads.specs.Noted.{boot_told, entries_in}
+use Rattle.hart_threads.proofs.Booted.{begins_same}
+use Rattle.hart_threads.proofs.UntoldParts.{all_rest, first_told, fresh_many, fresh_told, one_off}
+use Rattle.hart_threads.proofs.unshared.Unshared.new.Goals as goal
+
+pub hand_out-part-requires : goal.hand_out-part-requires
+hand_out-part-requires g c =
+    let n = g.J.Journal.parts in
+    let some : 0 < length (fresh_from 0 n) = subst (λ (k : ℕ). 0 < k) (sym (fresh_many 0 n)) c.requires.some in
+    record { some = subst (λ (v : BookView). 0 < length v.parts) (sym c.named-book.ensures) some }
+
+pub note_journal-part-requires-clause-fresh : goal.note_journal-part-requires-clause-fresh
+note_journal-part-requires-clause-fresh g c κs within =
+    let n = g.J.Journal.parts in
+    ap (λ (d : PartView). d.told) c.hand_out-part.ensures.part ∙ ap (λ (v : BookView). (first_of v.parts).told) c.named-book.ensures ∙ first_told (fresh_from 0 n) (fresh_told 0 n)
+
+pub returns-clause-rest : goal.returns-clause-rest
+returns-clause-rest g c =
+    let n = g.J.Journal.parts in
+    let rest = c.note_journal-part.ensures.parts ∙ ap (λ (v : BookView). v.parts) c.hand_out-part.ensures.keeper ∙ ap (λ (v : BookView). drop 1 v.parts) c.named-book.ensures in
+    let some : 0 < length (fresh_from 0 n) = subst (λ (k : ℕ). 0 < k) (sym (fresh_many 0 n)) c.requires.some in
+    ap (λ (ds : List PartView). length ds + 1) rest ∙ one_off (fresh_from 0 n) some ∙ fresh_many 0 n
+
+pub returns-clause-fresh : goal.returns-clause-fresh
+returns-clause-fresh g c =
+    let n = g.J.Journal.parts in
+    let rest = c.note_journal-part.ensures.parts ∙ ap (λ (v : BookView). v.parts) c.hand_out-part.ensures.keeper ∙ ap (λ (v : BookView). drop 1 v.parts) c.named-book.ensures in
+    subst (λ (ds : List PartView). All (λ d. d.told ≡ []) ds) (sym rest) (all_rest (fresh_from 0 n) (fresh_told 0 n))
+
+pub named-book-requires-clause-book : goal.named-book-requires-clause-book
+named-book-requires-clause-book g c = c.requires.book
+
+pub named-book-requires-clause-parts : goal.named-book-requires-clause-parts
+named-book-requires-clause-parts g c = c.requires.parts
+
+pub new-doubts-requires-clause-book : goal.new-doubts-requires-clause-book
+new-doubts-requires-clause-book g c = c.requires.doubts
+
+pub new-doubts-requires-clause-parts : goal.new-doubts-requires-clause-parts
+new-doubts-requires-clause-parts g c = c.requires.two
+
+pub note_journal-part-requires-clause-few : goal.note_journal-part-requires-clause-few
+note_journal-part-requires-clause-few g c κs within = subst (λ (l : List Change). length l ≤ 4096) (sym c.requires.issued) c.requires.few
+
+pub invariant_of-whole : goal.invariant_of-whole
+invariant_of-whole g c = record {
+  named = record {
+    board = c.requires.board;
+    life = record {
+      heads = ap durable_of c.requires.found;
+      now = ap (λ (s : DurableState). fold s (journal_of c.args.store)) c.requires.found;
+      taken = ap (λ (l : List Change). are_taken g.J.Journal.found l) c.requires.issued ∙ c.requires.taken;
+    };
+  };
+  issued = begins_same g.J.Journal.issued (journal_of c.args.store) c.requires.issued;
+  carried = c.requires.carried;
+  counted = c.note_journal-part.ensures.count;
+  few = omega (arith, c.note_journal-part.ensures.count, ap (λ (l : List Change). length l) c.requires.issued, c.requires.few);
+  tied = c.note_journal-part.ensures.tied;
+  opened = c.requires.opened;
+  doubted = c.new-doubts.ensures.none ∙ sym (ap (λ (d : Option Change). entries_in (option_to_list d)) c.requires.up);
+}
+
+pub returns-clause-store : goal.returns-clause-store
+returns-clause-store g c = refl
+
+pub returns-clause-boot : goal.returns-clause-boot
+returns-clause-boot g c = c.note_journal-part.ensures.told ∙ ap boot_told c.requires.issued
+
+pub returns-clause-heard : goal.returns-clause-heard
+returns-clause-heard g c = c.new-doubts.ensures.heard

@@ -1,0 +1,26 @@
+-- What a contract sees of a store that is shared, of one that is not, and of a bus that is shared.
+use Rattle.disk.specs.declared.device.Disk.{Ghosts}
+use Rattle.disk.specs.declared.device.Lane.{Ghosts as Lanes}
+use Rattle.store.specs.declared.stores.Store.{Store}
+use Rattle.tallies.specs.declared.journal.Journal.{Ghosts as Named}
+use Rattle.std.specs.Prelude.{List}
+use Rattle.tallies.specs.declared.book_views.PartView.{PartView}
+use Rattle.susp.specs.declared.buses.Bus.{Bus}
+use Rattle.hart_threads.specs.declared.buses.SharedBus.{SharedBus}
+use Rattle.hart_threads.specs.declared.shared_store.SharedStore.{SharedStore}
+use Rattle.hart_threads.specs.declared.unshared.Unshared.{Unshared}
+
+module _ {D J L : Type 0} {g : Ghosts D L} {j : Named J} {l : Lanes L} where
+  abbrev pub store_in : SharedStore D J L g l j → Store D L g l
+  store_in kept = kept.store
+
+  abbrev pub inside : Unshared D J L g l j → Store D L g l
+  inside whole = whole.store
+
+  -- the parts that were not handed out, or are back
+  abbrev pub parts_with : Unshared D J L g l j → List PartView
+  parts_with whole = whole.keeper.parts
+
+module _ {J : Type 0} {j : Named J} where
+  abbrev pub bus_in : SharedBus J j → Bus
+  bus_in kept = kept.bus

@@ -1,0 +1,204 @@
+//! A store that knows of which life its journal is.
+
+ghost use Rattle.std.specs.Prelude.{◌≡◌, ◌≤◌, ◌<◌, length, true, None, Err, IfOk, IfSome};
+ghost use Rattle.board_model.specs.Durable.{DurableState, Change, fold, refusal_of};
+ghost use Rattle.board_model.specs.Shapes.{Size};
+ghost use Rattle.board_model.specs.Views.{change_of, durable_of};
+ghost use Rattle.store.specs.Lives.{Applied};
+ghost use Rattle.std.specs.Option.{option_to_list};
+ghost use Rattle.store.specs.Views.{size_of_store, found_state, journal_of, life_of, now_state, receipts, doubt_of, failures_at_open};
+ghost use Rattle.store.specs.Asked.{Asked};
+ghost use Rattle.hsm.specs.declared.view.Stage.TheVariants.{Running};
+ghost use Rattle.sbi_abi.specs.Calls.{call_of};
+ghost use Rattle.sbi_calls.specs.Both.{AreSeatsOfBoth, GivesBack, Acts, harts_of_both, known};
+ghost use Rattle.sbi.specs.Helds.{MakesHeld};
+ghost use Rattle.sbi.specs.Words.{stage_told};
+ghost use Rattle.tallies.specs.Books.{entries_of};
+ghost use Rattle.hart_threads.specs.Doubts.{newly_down};
+ghost use Rattle.hart_threads.specs.Noted.{entries_in, part_after, part_by};
+ghost use Rattle.hart_threads.specs.Heard.{after_look, heard_by};
+ghost use Rattle.hart_threads.specs.Called.{IsToldBy, IsLastOf};
+ghost use Rattle.hart_threads.specs.Legal.{BeginsWith, IsNamed, MayAnswer, MayShow, number_told};
+ghost use Rattle.hart_threads.specs.Runs.{IsCarried};
+
+use crate::buses::SharedBus;
+use crate::doubts::{Doubts, is_up, newly_down};
+use crate::heard::Heard;
+use crate::receipts::CommandReceipt;
+use crate::unshared::Unshared;
+use board_model::{Command, Durable, Entry, Refusal, Shape};
+use crew::Crew;
+use disk::Disk;
+use hart::Hart;
+use sbi::Word;
+use sbi_calls::{Seats, Tables};
+use store::{Saving, Store};
+use tallies::{Book, BookPart, Journal, Keeper};
+
+/// A store whose journal is J's: its open found what J says, its board has that size, its journal begins with
+/// what the boot issued, and its state now is what the journal makes of what was found. The table of commands
+/// (docs/DURABLE.md) refuses none of them, one after another. Each suspension of it carries a memory that steps of harts made
+/// of the one that the boot left.
+///
+/// A type keeps that, and a lock keeps its value's type: so it holds of every store that a lock of this type
+/// gives, whatever other threads did.
+#[derive(Drop)]
+pub struct SharedStore<D: Disk + Drop, J: Journal> {
+    pub(crate) store: Store<D>,
+    pub(crate) count: u32,
+    pub(crate) book: Book<J>,
+    pub(crate) keeper: Keeper<J>,
+    pub(crate) doubts: Doubts<J>,
+    ghost named: { IsNamed J.found J.size store },
+    ghost issued: { BeginsWith J.issued (journal_of store) },
+    ghost carried: { IsCarried J.memory (life_of store) },
+    ghost counted: { count ≡ receipts store },
+    ghost few: { count ≤ 4096 },
+    ghost tied: { entries_in (journal_of store) ≡ entries_of keeper.log },
+    ghost none: { length keeper.parts ≡ 0 },
+    ghost opened: { failures_at_open store ≡ J.failures },
+    ghost doubted: { doubts ≡ entries_in (option_to_list (doubt_of store)) },
+}
+
+impl<D: Disk + Drop, J: Journal> SharedStore<D, J> {
+    ghost use Rattle.hart_threads.specs.Views.{bus_in, store_in, inside, parts_with};
+
+    /// What is kept from one holder of the lock to the next.
+    pub fn stands(&self)
+        ensures named { IsNamed J.found J.size (store_in self.now) }
+        ensures issued { BeginsWith J.issued (journal_of (store_in self.now)) }
+        ensures carried { IsCarried J.memory (life_of (store_in self.now)) }
+    {}
+
+    /// The board's shape.
+    pub fn shape(&self) -> Shape
+        ensures { result ≡ J.size }
+    {
+        self.store.shape()
+    }
+
+    /// The durable state now, for the holder of that part, which hears of it: the part's own receipts stand in the
+    /// journal that made it.
+    pub fn now(&mut self, part: BookPart<J>, heard: &mut Heard<J>) -> (BookPart<J>, Durable)
+        ensures now { result.1 ≡ durable_of (now_state (store_in self.old)) }
+        ensures same { store_in self.new ≡ store_in self.old }
+        ensures part { result.0 ≡ part }
+        ensures may { MayShow J.found J.issued part.told result.1 }
+        ensures heard { heard.new ≡ after_look result.1 heard.old }
+    {
+        let part = self.book.recall(&mut self.keeper, part);
+        heard.show(self.store.now());
+        (part, self.store.now())
+    }
+
+    /// Issues a command, as `Store::apply`, for the holder of that part, which is told its receipt, or hears of its
+    /// refusal.
+    pub fn apply(
+        &mut self,
+        part: BookPart<J>,
+        heard: &mut Heard<J>,
+        command: Command,
+    ) -> (BookPart<J>, Result<CommandReceipt<J>, Refusal>)
+        ensures asked { Asked Applied (store_in self.old) (change_of command) (number_told result.1)
+            (store_in self.new) }
+        ensures may { MayAnswer J.found (change_of command) (number_told result.1) }
+        ensures told { IfOk result.1 (λ t. t.1 ≡ Entry.Command command) }
+        ensures noted { result.0 ≡ part_by result.1 part }
+        ensures heard { heard.new ≡ heard_by (newly_down (doubt_of (store_in self.old)) (doubt_of (store_in self.new)))
+            command result.1 heard.old }
+        ensures down { newly_down (doubt_of (store_in self.old)) (doubt_of (store_in self.new)) ≡ true
+            → result.1 ≡ Err Refusal.Down }
+    {
+        let was_up = is_up(&self.store);
+        match self.store.apply(command) {
+            Ok(receipt) => {
+                self.count = receipt.number();
+                let entry = Entry::Command(command);
+                let part = self.book.note(&mut self.keeper, part, entry);
+                (
+                    part,
+                    Ok(CommandReceipt::new(receipt.number(), Entry::Command(command))),
+                )
+            }
+            Err(refusal) => {
+                let newly = newly_down(was_up, &self.store);
+                self.doubts.tell(heard, command, refusal, newly);
+                (part, Err(refusal))
+            }
+        }
+    }
+
+    /// The durable call at which a hart stands, as `dispatch_held` with that bus, and the receipt of its command, where that
+    /// was acknowledged: then the life is over. A suspension carries the memory of the bus, which stays. A doze adds no
+    /// command, and has no receipt.
+    pub fn call<C: Crew>(
+        &mut self,
+        saving: Saving<'_, C>,
+        hart: &mut Hart,
+        seats: Seats,
+        tables: &Tables,
+        bus: &mut SharedBus<J>,
+        part: BookPart<J>,
+    ) -> (Seats, Word, Option<CommandReceipt<J>>, BookPart<J>)
+        requires seats { AreSeatsOfBoth tables.now seats }
+        requires acts { Acts hart.old.id Running seats }
+        requires hart { hart.old.id < harts_of_both tables.now }
+        ensures gives { GivesBack tables.entry.now hart.old.id seats result.0 }
+        ensures acts { Acts hart.old.id (stage_told result.1) result.0 }
+        ensures id { hart.new.id ≡ hart.old.id }
+        ensures makes { MakesHeld (harts_of_both tables.entry.now) (call_of hart.old) hart.old hart.new
+            (known seats) (known result.0) (bus_in bus.old) (bus_in bus.new) (store_in self.old) (store_in self.new)
+            result.1 }
+        ensures memory { (bus_in bus.new).ram ≡ (bus_in bus.old).ram }
+        ensures board { size_of_store (store_in self.old) ≡ J.size }
+        ensures told { IsToldBy J.size (call_of hart.old) hart.old.id result.1 result.2 }
+        ensures noted { result.3 ≡ part_after result.2 part }
+    {
+        let was_up = is_up(&self.store);
+        let (seats, word) = bus.call(saving, hart, seats, tables, &mut self.store);
+        self.doubts.note(was_up, self.store.in_doubt());
+        match word {
+            Word::Goes(_) => (seats, word, None, part),
+            Word::Over(_) => {
+                self.count += 1;
+                let Some(entry) = last_entry(&self.store, self.count) else {
+                    unreachable!()
+                };
+                let told = CommandReceipt::new(self.count, entry);
+                let noted = told.entry();
+                let part = self.book.note(&mut self.keeper, part, noted);
+                (seats, word, Some(told), part)
+            }
+        }
+    }
+
+    /// The store and its book, no longer shared.
+    pub fn unshare(self) -> Unshared<D, J>
+        ensures store { inside result ≡ store_in self }
+        ensures none { length (parts_with result) ≡ 0 }
+    {
+        let SharedStore {
+            store,
+            count,
+            book,
+            keeper,
+            doubts,
+        } = self;
+        Unshared {
+            store,
+            count,
+            book,
+            keeper,
+            doubts,
+        }
+    }
+}
+
+/// The last command of a journal of so many.
+pub(crate) fn last_entry<D: Disk + Drop>(store: &Store<D>, count: u32) -> Option<Entry>
+    requires { count ≡ receipts store.now }
+    ensures some { IfSome result (λ e. IsLastOf (journal_of store.now) count e) }
+    ensures none { result ≡ None → count ≡ 0 }
+{
+    store.entry(u64::from(count))
+}

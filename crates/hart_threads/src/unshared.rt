@@ -1,0 +1,213 @@
+//! A store with its book, before it is shared and after.
+
+ghost use Rattle.std.specs.Prelude.{◌≡◌, ◌≤◌, ◌<◌, ◌+◌, [], ◌∷◌, true, None, length, All, IfOk, IfErr, IfSome, vec_len};
+ghost use Rattle.std.specs.Option.{option_to_list};
+ghost use Rattle.store.specs.Views.{size_of_store, found_state, journal_of, life_of, receipts, doubt_of, failures_at_open};
+ghost use Rattle.tallies.specs.Books.{entries_of};
+ghost use Rattle.tallies.specs.Closed.{AreStanding, AreReceiptsOf, told_in};
+ghost use Rattle.tallies.specs.BookViews.{id_of, parts_of};
+ghost use Rattle.store.specs.Taken.{are_taken};
+ghost use Rattle.hart_threads.specs.Called.{IsLastOf};
+ghost use Rattle.hart_threads.specs.Doubts.{IsDoubtOf};
+ghost use Rattle.hart_threads.specs.Heard.{heard_nothing};
+ghost use Rattle.hart_threads.specs.Legal.{BeginsWith, IsNamed};
+ghost use Rattle.hart_threads.specs.Noted.{boot_told, entries_in};
+ghost use Rattle.hart_threads.specs.Runs.{IsCarried};
+
+use crate::doubts::Doubts;
+use crate::heard::Heard;
+use crate::shared_store::{SharedStore, last_entry};
+use board_model::Entry;
+use disk::Disk;
+use std::alloc::{AllocError, Global};
+use store::Store;
+use tallies::{Book, BookPart, Journal, Keeper, NewBook};
+
+/// A store of the life J with the book of its receipts, which one holder has: it hands out the book's parts
+/// before it is shared, and takes them back when the life has ended.
+#[derive(Drop)]
+pub struct Unshared<D: Disk + Drop, J: Journal> {
+    pub(crate) store: Store<D>,
+    pub(crate) count: u32,
+    pub(crate) book: Book<J>,
+    pub(crate) keeper: Keeper<J>,
+    pub(crate) doubts: Doubts<J>,
+    pub ghost named: { IsNamed J.found J.size store },
+    pub ghost issued: { BeginsWith J.issued (journal_of store) },
+    pub ghost carried: { IsCarried J.memory (life_of store) },
+    pub ghost counted: { count ≡ receipts store },
+    pub ghost few: { count ≤ 4096 },
+    pub ghost tied: { entries_in (journal_of store) ≡ entries_of keeper.log },
+    pub ghost opened: { failures_at_open store ≡ J.failures },
+    pub ghost doubted: { doubts ≡ entries_in (option_to_list (doubt_of store)) },
+}
+
+impl<D: Disk + Drop, J: Journal> Unshared<D, J> {
+    ghost use Rattle.hart_threads.specs.Views.{store_in, inside, parts_with};
+
+    /// The store of a life that has just begun, with two new books: its journal has what the boot issued, and the
+    /// boot's part, which goes off first, is told the receipt of each. The second book is for what is in doubt: nothing is
+    /// yet. What the life's console will hear comes with them.
+    pub fn new(
+        store: Store<D>,
+        book: NewBook,
+        doubts: NewBook,
+    ) -> (Unshared<D, J>, BookPart<J>, Heard<J>)
+        requires board { size_of_store store ≡ J.size }
+        requires found { found_state store ≡ J.found }
+        requires issued { journal_of store ≡ J.issued }
+        requires taken { are_taken J.found J.issued ≡ true }
+        requires few { length J.issued ≤ 4096 }
+        requires carried { IsCarried J.memory (life_of store) }
+        requires book { id_of book ≡ J.book }
+        requires parts { parts_of book ≡ J.parts }
+        requires some { 0 < J.parts }
+        requires up { doubt_of store ≡ None }
+        requires opened { failures_at_open store ≡ J.failures }
+        requires doubts { id_of doubts ≡ J.doubts }
+        requires two { parts_of doubts ≡ 2 }
+        ensures store { inside result.0 ≡ store }
+        ensures rest { length (parts_with result.0) + 1 ≡ J.parts }
+        ensures fresh { All (λ d. d.told ≡ []) (parts_with result.0) }
+        ensures boot { result.1.told ≡ boot_told J.issued }
+        ensures heard { result.2 ≡ heard_nothing }
+    {
+        let (book, mut keeper) = book.named::<J>();
+        let part = book.hand_out(&mut keeper);
+        let (part, count) = note_journal(&store, &book, &mut keeper, part);
+        let (doubts, heard) = Doubts::new(doubts);
+        let whole = Unshared {
+            store,
+            count,
+            book,
+            keeper,
+            doubts,
+        };
+        (whole, part, heard)
+    }
+
+    /// The next part goes off, which was told nothing.
+    pub fn hand_out(&mut self) -> BookPart<J>
+        requires some { 0 < length (parts_with self.old) }
+        requires fresh { All (λ d. d.told ≡ []) (parts_with self.old) }
+        ensures store { inside self.new ≡ inside self.old }
+        ensures rest { length (parts_with self.new) + 1 ≡ length (parts_with self.old) }
+        ensures fresh { All (λ d. d.told ≡ []) (parts_with self.new) }
+        ensures told { result.told ≡ [] }
+    {
+        self.book.hand_out(&mut self.keeper)
+    }
+
+    /// So many parts go off; none does where there is no room for them.
+    pub fn hand_out_all(
+        &mut self,
+        alloc: Global,
+        count: usize,
+    ) -> Result<Vec<BookPart<J>>, AllocError>
+        requires some { count ≤ length (parts_with self.old) }
+        requires fresh { All (λ d. d.told ≡ []) (parts_with self.old) }
+        ensures store { inside self.new ≡ inside self.old }
+        ensures fresh { All (λ d. d.told ≡ []) (parts_with self.new) }
+        ensures count { IfOk result (λ ps. vec_len ps ≡ count) }
+        ensures told { IfOk result (λ ps. All (λ d. d.told ≡ []) ps.items) }
+        ensures rest { IfOk result (λ ps. length (parts_with self.new) + count ≡ length (parts_with self.old)) }
+        ensures none { IfErr result (λ e. length (parts_with self.new) ≡ length (parts_with self.old)) }
+    {
+        let mut parts = Vec::with_capacity(alloc, count)?;
+        for made in 0..count {
+            let part = self.hand_out();
+            parts.push_reserved(part);
+        }
+        Ok(parts)
+    }
+
+    /// The store, to be shared: all parts are handed out.
+    pub fn share(self) -> SharedStore<D, J>
+        requires none { length (parts_with self) ≡ 0 }
+        ensures { store_in result ≡ inside self }
+    {
+        let Unshared {
+            store,
+            count,
+            book,
+            keeper,
+            doubts,
+        } = self;
+        SharedStore {
+            store,
+            count,
+            book,
+            keeper,
+            doubts,
+        }
+    }
+
+    /// A part comes back.
+    pub fn gather(&mut self, part: BookPart<J>)
+        ensures store { inside self.new ≡ inside self.old }
+        ensures parts { parts_with self.new ≡ part ∷ parts_with self.old }
+    {
+        self.book.gather(&mut self.keeper, part);
+    }
+
+    /// The last command of the journal, and its place; none where the journal is empty.
+    pub fn last(&self) -> Option<(u32, Entry)>
+        ensures { IfSome result (λ t. IsLastOf (journal_of (inside self.now)) t.0 t.1) }
+    {
+        let entry = last_entry(&self.store, self.count)?;
+        Some((self.count, entry))
+    }
+
+    /// The store, whose life ends here. What the parts that are back were told stands in its journal, each
+    /// command at the place of its receipt; and where all parts are back, their receipts are those of the journal's
+    /// commands, one for each. What its console heard is back too: where a command is in doubt, it was the console's, which
+    /// was told 6 for it, or a durable call of a hart asks for it.
+    pub fn close(self, heard: Heard<J>) -> Store<D>
+        ensures named { IsNamed J.found J.size result }
+        ensures issued { BeginsWith J.issued (journal_of result) }
+        ensures carried { IsCarried J.memory (life_of result) }
+        ensures same { result ≡ inside self }
+        ensures told { AreStanding (entries_in (journal_of result)) (told_in (parts_with self)) }
+        ensures all { length (parts_with self) ≡ J.parts
+            → AreReceiptsOf (entries_in (journal_of result)) (told_in (parts_with self)) }
+        ensures opened { failures_at_open result ≡ J.failures }
+        ensures doubt { IsDoubtOf J.size (doubt_of result) heard.doubt }
+    {
+        let Unshared {
+            store,
+            count: _,
+            book,
+            keeper,
+            doubts,
+        } = self;
+        book.close(keeper);
+        doubts.close(heard);
+        store
+    }
+}
+
+/// Notes the commands of a journal that no part was told of yet, in their order, for one part, which is told their
+/// receipts. Their number comes with it.
+fn note_journal<D: Disk + Drop, J: Journal>(
+    store: &Store<D>,
+    book: &Book<J>,
+    keeper: &mut Keeper<J>,
+    part: BookPart<J>,
+) -> (BookPart<J>, u32)
+    requires few { receipts store.now ≤ 4096 }
+    requires empty { keeper.old.log ≡ [] }
+    requires fresh { part.told ≡ [] }
+    ensures count { result.1 ≡ receipts store.now }
+    ensures tied { entries_in (journal_of store.now) ≡ entries_of keeper.new.log }
+    ensures parts { keeper.new.parts ≡ keeper.old.parts }
+    ensures told { result.0.told ≡ boot_told (journal_of store.now) }
+{
+    let mut part = part;
+    for count in 0..4096 {
+        let Some(entry) = store.entry(u64::from(count) + 1) else {
+            return (part, count);
+        };
+        part = book.note(keeper, part, entry);
+    }
+    (part, 4096)
+}

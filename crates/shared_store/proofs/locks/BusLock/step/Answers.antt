@@ -1,4 +1,0 @@
-use Rattle.shared_store.proofs.locks.BusLock.step.Goals as goal
-
-pub returns : goal.returns
-returns g c = let s = c.step.ensures in (_, _, s.found, s.left, s.steps)
