@@ -4,15 +4,15 @@ use Rattle.std.specs.Io.Buffered.{reader_buffer, reader_capacity, reader_inner, 
 use Rattle.std.specs.Io.KnownBytes.{prepend_known}
 use Rattle.std.specs.Option.{option_map}
 use Rattle.std.specs.declared.io.buffered.BufReader.{BufReader}
-use Rattle.board_console.specs.Commands.{party}
-use Rattle.board_console.specs.Dialogues.{dialogue_ends}
-use Rattle.board_console.specs.declared.talks.Left.{Left}
+use Rattle.board_session.specs.Commands.{party}
+use Rattle.board_session.specs.Dialogues.{dialogue_ends}
+use Rattle.board_session.specs.declared.talks.Left.{Left}
 use Rattle.board_model.specs.declared.refusal.Refusal.{Refusal}
 use Rattle.board_model.specs.declared.refusal.Refusal.TheVariants.{Memory}
-use Rattle.board_options.specs.declared.given.Options.{Options}
+use Rattle.board_session.specs.declared.given.Options.{Options}
 use Rattle.board_program.proofs.DiskBegun.{begins_unchanged}
-use Rattle.board_options.specs.Parses.{AreRefused}
-use Rattle.board_options.specs.Refused.{AreNoOptions}
+use Rattle.board_session.specs.Parses.{AreRefused}
+use Rattle.board_session.specs.Refused.{AreNoOptions}
 use Rattle.board_program.specs.Operated.{AskForNone, Begins, EndsInFile, HasLeft, IsUnread, Known, StaysInFile, known}
 use Rattle.board_program.specs.Ran.{HasRun}
 use Rattle.board_program.specs.declared.runs.FileLeft.{FileLeft}

@@ -2,7 +2,7 @@
 use Rattle.std.proofs.Common.{◌≡◌, ◌≤◌, ℕ, Bool, true, false, List, Option, Result, Ok, Err, IfErr, arith, inl, inr, refl, sym}
 use Rattle.board_files.specs.Faults.{IsFileFault}
 use Rattle.board_model.specs.declared.refusal.Refusal.{Refusal}
-use Rattle.board_options.specs.declared.given.Options.{Options}
+use Rattle.board_session.specs.declared.given.Options.{Options}
 use Rattle.board_program.specs.Operated.{AskForNone, EndsInFile, GiveNoOptions, HasLeft, IsNotBegun, Known, StaysInFile}
 use Rattle.board_program.specs.Ran.{told_of}
 use Rattle.board_program.specs.declared.runs.FileLeft.{FileLeft}
@@ -15,7 +15,7 @@ use Rattle.command_line.specs.declared.NoWork.TheVariants as whys
 use Rattle.command_line.specs.declared.fault.ProgramFault.{ProgramFault}
 use Rattle.disk.specs.Facts.{Facts}
 use Rattle.board_files.specs.Files.{FileKnown}
-use Rattle.board_options.specs.Parses.{AreRefused}
+use Rattle.board_session.specs.Parses.{AreRefused}
 use Rattle.simdisk.specs.declared.sim.SimDisk.{SimDisk}
 
 by_file : (done : Result (Unit {0}) ProgramFault) (fault : ProgramFault) → done ≡ Err fault → IsFileFault fault → status_after done ≤ 1

@@ -5,10 +5,10 @@ use Rattle.board_files.specs.Disks.{HoldsDisk, IsDiskFile, IsNoDisk, first_secto
 use Rattle.board_files.specs.Faults.{IsFileFault}
 use Rattle.board_model.specs.Shapes.{Size, sectors_of}
 use Rattle.board_model.specs.declared.refusal.Refusal.{Refusal}
-use Rattle.board_options.specs.Parses.{AreParsed, AreRefused}
-use Rattle.board_options.specs.Reads.{ReadsOptions}
-use Rattle.board_options.specs.Refused.{AreNoOptions}
-use Rattle.board_options.specs.declared.given.Options.{Options}
+use Rattle.board_session.specs.Parses.{AreParsed, AreRefused}
+use Rattle.board_session.specs.Reads.{ReadsOptions}
+use Rattle.board_session.specs.Refused.{AreNoOptions}
+use Rattle.board_session.specs.declared.given.Options.{Options}
 use Rattle.board_program.specs.Ran.{HasRun, told_of}
 use Rattle.board_program.specs.declared.runs.FileLeft.{FileLeft}
 use Rattle.board_program.specs.declared.runs.FileLeft.TheVariants.{None, AtEnd, AllAlong}

@@ -2,10 +2,10 @@
 -- and faults".
 use Rattle.std.specs.Prelude.{◌≡◌, ◌⊎◌, ℕ, List, [], Option, Result, Ok, Err}
 use Rattle.board_model.specs.declared.refusal.Refusal.{Refusal}
-use Rattle.board_console.specs.Commands.{party}
-use Rattle.board_console.specs.Dialogues.{dialogue_ends}
-use Rattle.board_console.specs.declared.talks.Left.{Left}
-use Rattle.board_options.specs.declared.given.Options.{Options}
+use Rattle.board_session.specs.Commands.{party}
+use Rattle.board_session.specs.Dialogues.{dialogue_ends}
+use Rattle.board_session.specs.declared.talks.Left.{Left}
+use Rattle.board_session.specs.declared.given.Options.{Options}
 use Rattle.board_session.specs.Sessions.{RanOver, RefusesSession, outcome_of}
 use Rattle.command_line.specs.declared.fault.ProgramFault.{ProgramFault}
 use Rattle.command_line.specs.declared.fault.ProgramFault.TheVariants.{Refused}

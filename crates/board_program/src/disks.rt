@@ -6,7 +6,7 @@ ghost use Rattle.board_program.specs.Operated.{Begins, IsUnread};
 use crate::notices::tell_shape;
 use board_files::{BoardFiles, DiskFile, disk_in, shape_in};
 use board_model::Refusal;
-use board_options::Options;
+use board_session::Options;
 use command_line::FileFault;
 use disk::Disk;
 use simdisk::SimDisk;

@@ -3,7 +3,7 @@
 use crate::hart_lines::HartLines;
 use board::Payloads;
 use board_model::{SLOTS, Shape, Slot};
-use board_options::Options;
+use board_session::Options;
 use hart_threads::HartEnd;
 use std::io::{IsTerminal, Write};
 

@@ -1,7 +1,7 @@
 //! What the program does with the words of its command line.
 
 ghost use Rattle.std.specs.Prelude.{◌≡◌, ◌≤◌, ◌⊎◌, map, string_bytes, Result};
-ghost use Rattle.board_options.specs.declared.given.Options.{Options};
+ghost use Rattle.board_session.specs.declared.given.Options.{Options};
 ghost use Rattle.command_line.specs.Faults.{status_after, without_work};
 ghost use Rattle.command_line.specs.Told.{fault_of};
 ghost use Rattle.command_line.specs.declared.NoWork.{NoWork};
@@ -11,8 +11,7 @@ ghost use Rattle.board_program.specs.Operated.{AskForNone, GiveNoOptions, HasLef
 use crate::answers::Answers;
 use crate::runs::{FileLeft, run_from_files};
 use board_files::{BoardFiles, FileDisk, PayloadFiles};
-use board_options::options;
-use board_session::Streams;
+use board_session::{Streams, options};
 use command_line::{FileFault, NoWork, end_with, show_on, without_work};
 use disk::Disk;
 use simdisk::SimDisk;

@@ -18,8 +18,7 @@ use board_files::{
     BoardFiles, DiskFile, FileDisk, HeldFile, PayloadFiles, SectorFile, read_payloads,
 };
 use board_model::Refusal;
-use board_options::Options;
-use board_session::{SessionEnd, Streams, session};
+use board_session::{Options, SessionEnd, Streams, session};
 use command_line::{FileFault, first_of};
 use disk::Disk;
 use simdisk::SimDisk;

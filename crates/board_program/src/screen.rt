@@ -4,7 +4,7 @@ ghost use Rattle.std.specs.Prelude.{None};
 
 use crate::answers::Answers;
 use board_model::Refusal;
-use board_options::Hints;
+use board_session::Hints;
 use std::io::{self, BufWriter, Printer, Write};
 
 /// Standard output, with hints on standard error once the console of a session has begun.

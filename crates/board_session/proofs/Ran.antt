@@ -10,9 +10,9 @@ use Rattle.board.specs.Begins.{IsBegun}
 use Rattle.board.specs.Moments.{commands_by}
 use Rattle.machine.specs.Machine.{Machine}
 use Rattle.hart_threads.specs.Heard.{Hearing}
-use Rattle.board_console.specs.Commands.{party}
-use Rattle.board_console.specs.Dialogues.{DialogueEnds, Talks, dialogue_ends}
-use Rattle.board_console.specs.declared.talks.Left.{Left}
+use Rattle.board_session.specs.Commands.{party}
+use Rattle.board_session.specs.Dialogues.{DialogueEnds, Talks, dialogue_ends}
+use Rattle.board_session.specs.declared.talks.Left.{Left}
 use Rattle.hart_threads.specs.Ends.{Ending}
 use Rattle.board_session.specs.Sessions.{RunsOver, Begins, IsOfLife, TalksIf, AreByLast, AreDriven, RanOver}
 

@@ -34,10 +34,10 @@ use Rattle.hart_threads.specs.Called.{IsLastOf}
 use Rattle.hart_threads.specs.Doubts.{IsDoubtOf}
 use Rattle.hart_threads.specs.Heard.{Hearing}
 use Rattle.hart_threads.specs.Runs.{CarriesSteps, AllCarrySteps}
-use Rattle.board_console.specs.Commands.{party}
-use Rattle.board_console.specs.Dialogues.{DialogueEnds, Talks, dialogue_ends}
-use Rattle.board_console.specs.declared.talks.Left.{Left}
-use Rattle.board_console.specs.declared.talks.Left.TheVariants as lefts
+use Rattle.board_session.specs.Commands.{party}
+use Rattle.board_session.specs.Dialogues.{DialogueEnds, Talks, dialogue_ends}
+use Rattle.board_session.specs.declared.talks.Left.{Left}
+use Rattle.board_session.specs.declared.talks.Left.TheVariants as lefts
 
 -- ---- over which disks a board runs
 -- that state allows the mode, and all payloads fit

@@ -21,18 +21,18 @@ ghost use Rattle.board.specs.Begins.{IsBegun};
 ghost use Rattle.board.specs.Moments.{commands_by};
 ghost use Rattle.board.specs.Views.{store_of, machine_of};
 ghost use Rattle.store.specs.Taken.{are_taken};
-ghost use Rattle.board_console.specs.Commands.{party};
-ghost use Rattle.board_console.specs.Dialogues.{Talks, dialogue_ends};
+ghost use Rattle.board_session.specs.Commands.{party};
+ghost use Rattle.board_session.specs.Dialogues.{Talks, dialogue_ends};
 ghost use Rattle.board_session.specs.Backs.{AreBack};
 ghost use Rattle.board_session.specs.Sessions.{TakesFormat, RunsOver, RefusesDisk, RefusesSession, Begins, IsOfLife, RanOver, TalksIf, outcome_of, harts_after, AreByLast, AreDriven};
 
 use crate::gate::{Open, harts_after};
+use crate::given::Options;
 use crate::heard::ConsoleHeard;
 use crate::life_end::{disk_at_once, disk_of, ends_of};
+use crate::talks::{Left, console};
 use board::{Board, BoardParts, Payloads};
-use board_console::{Left, console};
 use board_model::{Refusal, Shape};
-use board_options::Options;
 use disk::Disk;
 use hart::Hart;
 use hart_threads::{

@@ -11,8 +11,8 @@ ghost use Rattle.tests.specs.Begun.{IsBegun};
 use crate::dozing::UntilWoken;
 use crate::fixtures::{NEVER, formatted};
 use board::{Board, BoardParts, Payloads};
-use board_console::console;
 use board_model::{BootMode, Command, Refusal, Shape, Slot};
+use board_session::console;
 use disk::{ArmedFault, Disk};
 use hart_threads::{
     AfterConsole, BookPart, BootedHarts, Closing, Gate, Heard, Journal, Locks, NewBook, Rested,

@@ -1,8 +1,8 @@
 //! Lines of the console, and what they say.
 
 use crate::fixtures::same;
-use board_console::{Said, line_said};
 use board_model::ConsoleCommand;
+use board_session::{Said, line_said};
 
 /// What lines say, by docs/CONSOLE.md.
 static LINES: [(&[u8], Said); 36] = [

@@ -14,9 +14,9 @@ use Rattle.hart_threads.specs.Runs.{CarriesSteps}
 use Rattle.board.specs.Unbooted.{LeavesLife}
 use Rattle.hart_threads.specs.Doubts.{IsDoubtOf}
 use Rattle.hart_threads.specs.Heard.{Hearing}
-use Rattle.board_console.specs.Commands.{party}
-use Rattle.board_console.specs.Dialogues.{DialogueEnds, dialogue_ends}
-use Rattle.board_console.specs.declared.talks.Left.{Left}
+use Rattle.board_session.specs.Commands.{party}
+use Rattle.board_session.specs.Dialogues.{DialogueEnds, dialogue_ends}
+use Rattle.board_session.specs.declared.talks.Left.{Left}
 use Rattle.board_session.specs.Sessions.{Begins, IsOfLife, TalksIf, AreByLast, AreDriven, RanOver}
 use Rattle.hart_threads.specs.Ends.{Ending}
 use Rattle.theorem.specs.Sessions.{FindsSession}

@@ -12,9 +12,9 @@ use Rattle.machine.specs.Machine.{Machine}
 use Rattle.hart_threads.specs.Doubts.{IsDoubtOf}
 use Rattle.hart_threads.specs.Heard.{Hearing}
 use Rattle.hart_threads.specs.Runs.{CarriesSteps, AllCarrySteps}
-use Rattle.board_console.specs.Commands.{party}
-use Rattle.board_console.specs.Dialogues.{DialogueEnds, dialogue_ends}
-use Rattle.board_console.specs.declared.talks.Left.{Left}
+use Rattle.board_session.specs.Commands.{party}
+use Rattle.board_session.specs.Dialogues.{DialogueEnds, dialogue_ends}
+use Rattle.board_session.specs.declared.talks.Left.{Left}
 use Rattle.board_session.specs.Sessions.{IsAcknowledged, TalksIf}
 
 -- What an open finds after a session that began in the state s by that mode: what the commands of a journal make of s,

@@ -1,2 +1,0 @@
-pub mod Parses
-pub mod Simple
