@@ -3,7 +3,7 @@
 //! the command line.
 #![tactic(auto)]
 
-use board_program::operate;
+use board_programs::operate;
 use std::process::ExitCode;
 
 fn main(rt: HostRuntime) -> ExitCode {

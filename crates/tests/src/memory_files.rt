@@ -6,7 +6,7 @@ ghost use Rattle.board_files.specs.Faults.{IsFileFault};
 use crate::memory_disk::{Failing, MemoryDisk};
 use board_files::{BoardFiles, DiskFile, DiskFiles, FileFate, MemoryFile, PayloadFiles, unreached};
 use board_model::Refusal;
-use board_program::Answers;
+use board_programs::Answers;
 use command_line::FileFault;
 use disk::Sector;
 use std::alloc::{AllocError, Global};

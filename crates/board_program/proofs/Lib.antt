@@ -1,4 +1,0 @@
-pub mod DiskBegun
-pub mod FaultsEnded
-pub mod FilesLeft
-pub mod Statuses

@@ -1,3 +1,0 @@
-pub mod Ran
-pub mod Operated
-pub mod HartTexts

@@ -1,0 +1,189 @@
+//! The lines that tell how the harts of a session ended (docs/CONSOLE.md, "The harts").
+
+ghost use Rattle.std.specs.Prelude.{◌≡◌, Some};
+ghost use Rattle.board_programs.specs.HartTexts.{doze_text, line_text, lines_text, loop_text, place_text, reason_text, state_text, trap_text};
+
+use board_model::Value;
+use hart_threads::{HartEnd, ShutBy, Why};
+use hsm::State;
+use std::fmt;
+
+/// The name of a state.
+#[derive(Drop)]
+struct StateName(State);
+
+impl fmt::Display for StateName {
+    ghost output = { λ s. Some (state_text s.0) };
+
+    fn fmt<W: fmt::Write>(&self, f: &mut fmt::Formatter<W>) -> fmt::Result {
+        match self.0 {
+            State::Started => f.write_str("started"),
+            State::Stopped => f.write_str("stopped"),
+            State::StartPending => f.write_str("start_pending"),
+            State::Suspended => f.write_str("suspended"),
+        }
+    }
+}
+
+/// What is told of a hart by which its board dozes.
+#[derive(Drop)]
+struct DozeName(bool);
+
+impl fmt::Display for DozeName {
+    ghost output = { λ d. Some (doze_text d.0) };
+
+    fn fmt<W: fmt::Write>(&self, f: &mut fmt::Formatter<W>) -> fmt::Result {
+        if self.0 {
+            f.write_str(" dozing")
+        } else {
+            f.write_str("")
+        }
+    }
+}
+
+/// Why a loop ended.
+#[derive(Drop)]
+struct ShutReason(Why, Option<ShutBy>);
+
+impl fmt::Display for ShutReason {
+    ghost output = { λ r. Some (reason_text r.0 r.1) };
+
+    fn fmt<W: fmt::Write>(&self, f: &mut fmt::Formatter<W>) -> fmt::Result {
+        match self.0 {
+            Why::Life => f.write_str("life"),
+            Why::Gate => f.write_str("gate"),
+            Why::Turns => f.write_str("turns"),
+            Why::Closed => match self.1 {
+                Some(ShutBy::Life(_, _)) => f.write_str("life"),
+                Some(ShutBy::Console) | None => f.write_str("gate"),
+            },
+        }
+    }
+}
+
+/// Which hart, its state, and whether its board dozes by it.
+#[derive(Drop)]
+struct HartPlace {
+    number: u32,
+    state: State,
+    dozing: bool,
+}
+
+impl fmt::Display for HartPlace {
+    ghost output = { λ p. Some (place_text p.number p.state p.dozing) };
+
+    fn fmt<W: fmt::Write>(&self, f: &mut fmt::Formatter<W>) -> fmt::Result {
+        let number = self.number;
+        let (state, dozing) = (StateName(self.state), DozeName(self.dozing));
+        write!(f, "hart {number} {state}{dozing}")
+    }
+}
+
+/// Where a hart stands, and what its last trap left.
+#[derive(Drop)]
+struct Trap {
+    pc: u64,
+    scause: u64,
+    sepc: u64,
+    stval: u64,
+}
+
+impl fmt::Display for Trap {
+    ghost output = { λ t. Some (trap_text t.pc t.scause t.sepc t.stval) };
+
+    fn fmt<W: fmt::Write>(&self, f: &mut fmt::Formatter<W>) -> fmt::Result {
+        let (pc, scause) = (Value(self.pc), Value(self.scause));
+        let (sepc, stval) = (Value(self.sepc), Value(self.stval));
+        write!(
+            f,
+            "pc 0x{pc} scause 0x{scause} sepc 0x{sepc} stval 0x{stval}"
+        )
+    }
+}
+
+/// How many turns a hart made, and why its loop ended.
+#[derive(Drop)]
+struct LoopEnd {
+    made: u64,
+    why: Why,
+    by: Option<ShutBy>,
+}
+
+impl fmt::Display for LoopEnd {
+    ghost output = { λ l. Some (loop_text l.made l.why l.by) };
+
+    fn fmt<W: fmt::Write>(&self, f: &mut fmt::Formatter<W>) -> fmt::Result {
+        let (made, why) = (self.made, ShutReason(self.why, self.by));
+        write!(f, "turns {made} ended {why}")
+    }
+}
+
+fn place_of(end: &HartEnd) -> HartPlace
+    ensures number { result.number ≡ end.now.number }
+    ensures state { result.state ≡ end.now.state }
+    ensures dozing { result.dozing ≡ end.now.dozing }
+{
+    HartPlace {
+        number: end.hart().number(),
+        state: end.state(),
+        dozing: end.dozing(),
+    }
+}
+
+fn trap_of(end: &HartEnd) -> Trap
+    ensures pc { result.pc ≡ end.now.pc }
+    ensures scause { result.scause ≡ end.now.scause }
+    ensures sepc { result.sepc ≡ end.now.sepc }
+    ensures stval { result.stval ≡ end.now.stval }
+{
+    Trap {
+        pc: end.pc(),
+        scause: end.scause(),
+        sepc: end.sepc(),
+        stval: end.stval(),
+    }
+}
+
+fn loop_end_of(end: &HartEnd) -> LoopEnd
+    ensures made { result.made ≡ end.now.made }
+    ensures why { result.why ≡ end.now.why }
+    ensures by { result.by ≡ end.now.by }
+{
+    LoopEnd {
+        made: end.made(),
+        why: end.why(),
+        by: end.by(),
+    }
+}
+
+/// A hart whose loop has ended, in a line with its line feed: its number, its state as `hart_get_status` answers it, with
+/// `dozing` where its board dozes by it, its pc, `scause`, `sepc` and `stval`, how many turns it made, and why its loop
+/// ended: `life`, by its own command or another hart's; `gate`, by the console; or `turns`.
+#[derive(Drop)]
+pub struct HartLine<'a>(pub &'a HartEnd);
+
+impl<'a> fmt::Display for HartLine<'a> {
+    ghost output = { λ l. Some (line_text l.0.now) };
+
+    fn fmt<W: fmt::Write>(&self, f: &mut fmt::Formatter<W>) -> fmt::Result {
+        let (place, trap) = (place_of(self.0), trap_of(self.0));
+        let last = loop_end_of(self.0);
+        writeln!(f, "sbiboard: {place} {trap} {last}")
+    }
+}
+
+/// The lines of those harts, in their order.
+#[derive(Drop)]
+pub struct HartLines<'a>(pub &'a [HartEnd]);
+
+impl<'a> fmt::Display for HartLines<'a> {
+    ghost output = { λ l. Some (lines_text l.0.now) };
+
+    fn fmt<W: fmt::Write>(&self, f: &mut fmt::Formatter<W>) -> fmt::Result {
+        for end in self.0 {
+            let line = HartLine(end);
+            write!(f, "{line}")?;
+        }
+        Ok(())
+    }
+}

@@ -1,2 +1,0 @@
-pub mod FileSeen
-pub mod Words
