@@ -3,7 +3,20 @@
 //! refusal or a file that could not be read; 2 for a fault of the command line.
 #![tactic(auto)]
 
-use debug_program::debug;
+mod begin_words;
+mod begins;
+mod files;
+mod given;
+mod help;
+mod listening;
+mod parsed;
+mod program;
+mod start;
+mod streams;
+mod strikes;
+mod told;
+
+use crate::program::debug;
 use std::process::ExitCode;
 
 fn main(rt: HostRuntime) -> ExitCode {

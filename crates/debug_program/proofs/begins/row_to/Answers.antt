@@ -1,7 +1,0 @@
-use Rattle.debug_program.proofs.Founds.{row_stops}
-use Rattle.debug_program.proofs.begins.row_to.Goals as goal
-
-pub returns-clause-stops : goal.returns-clause-stops
-returns-clause-stops g c =
-    let found = c.in_ok-found.ensures.found in
-    row_stops c.args.wanted.bench c.args.wanted.number c.args.script.now c.args.payloads.now c.in_ok-found.found found.0 c.before_strike.result found.1 found.2 found.3 c.before_strike.ensures.stops c.before_strike.ensures.board

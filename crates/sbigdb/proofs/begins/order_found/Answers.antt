@@ -1,0 +1,24 @@
+use Rattle.std.proofs.Common.{◌∙◌, ap, List, ◌++◌, ◌∷◌, [], ℕ, inl, subst, sym}
+use Rattle.std.proofs.lemmas.Result.{IfErr-weaker, IfOk-weaker}
+use Rattle.script_lang.specs.Scripts.{Script}
+use Rattle.script_lang.specs.Spellings.{script_text}
+use Rattle.bench_orders.specs.Orders.{IsScheduleOf}
+use Rattle.bench_schedules.specs.Shown.{order_script}
+use Rattle.sbigdb.proofs.begins.order_found.Goals as goal
+
+pub returns-clause-found : goal.returns-clause-found
+returns-clause-found g c =
+    let shown = c.in_ok-show_order.ensures.shown in
+    let order : Script = order_script shown.0 shown.2.0 in
+    let text = c.deref.ensures.value ∙ (shown.2.2.text ∙ ap (λ (bytes : List ℕ). bytes ++ (script_text order ++ 10 ∷ [])) c.new-text.ensures.items) in
+    IfOk-weaker c.read_back.result _ _
+    (λ found is. (shown.0, shown.1, subst (λ (s : Script). IsScheduleOf shown.0 s) (sym is) shown.2.2.order, (shown.2.0, shown.2.1, is)))
+    (c.read_back.ensures.read order shown.2.2.reads text)
+
+pub returns-clause-refused : goal.returns-clause-refused
+returns-clause-refused g c =
+    let shown = c.in_ok-show_order.ensures.shown in
+    let order : Script = order_script shown.0 shown.2.0 in
+    let text = c.deref.ensures.value ∙ (shown.2.2.text ∙ ap (λ (bytes : List ℕ). bytes ++ (script_text order ++ 10 ∷ [])) c.new-text.ensures.items) in
+    IfErr-weaker c.read_back.result _ _ (λ e want. inl want)
+    (c.read_back.ensures.refused order shown.2.2.reads text)

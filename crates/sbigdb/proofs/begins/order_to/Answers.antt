@@ -1,0 +1,18 @@
+use Rattle.std.proofs.Common.{subst}
+use Rattle.script_lang.specs.Scripts.{Script}
+use Rattle.script_lang.specs.Views.{view}
+use Rattle.bench_orders.specs.Orders.{IsScheduleOf}
+use Rattle.sbigdb.proofs.Partings.{same_script}
+use Rattle.sbigdb.proofs.Founds.{begins_order}
+use Rattle.sbigdb.proofs.begins.order_to.Goals as goal
+
+pub script_to-requires-clause-order : goal.script_to-requires-clause-order
+script_to-requires-clause-order g c =
+    let found = c.in_ok-found.ensures.found in
+    subst (λ (s : Script). IsScheduleOf s (view c.in_ok-found.found)) (same_script _ _ _ found.1 c.requires.read) found.2
+
+pub returns-clause-begins : goal.returns-clause-begins
+returns-clause-begins g c =
+    let found = c.in_ok-found.ensures.found in
+    let told = c.script_to.ensures in
+    begins_order c.args.order c.args.script.now c.args.payloads.now c.args.own.now c.in_ok-found.found found.0 c.script_to.result found.1 c.requires.read found.3 told.board told.parts

@@ -1,0 +1,174 @@
+//! The command, its options, and what `--help` says.
+
+ghost use Rattle.std.specs.Prelude.{◌≡◌, false, codes, IfOk};
+ghost use Rattle.clap.specs.Words.{app_of, rule_of, with_rule};
+ghost use Rattle.clap.specs.declared.builder.value_parser.ValueParser.TheVariants.{Unsigned};
+ghost use Rattle.command_line.specs.Options.{number_rule, option_rule, value_rule};
+ghost use Rattle.sbigdb.specs.Usage.{sbigdb, script_rule, with_begins, with_rows};
+
+use clap::builder::ValueParser;
+use clap::{Arg, ArgAction, Command};
+use command_line::{flag, number, option, program, with_payloads};
+use std::alloc::{AllocError, Global};
+
+/// How the program is called.
+pub const USAGE: &str =
+    "sbigdb SCRIPT [--schedule K | --preemptions K --order N | --sweep --row R | \
+--faults --row R] [--p0 PATH .. --p3 PATH]";
+
+const ABOUT: &str = "\
+Debugs the modelled RISC-V board that a script leaves: speaks GDB's Remote Serial
+Protocol on standard input and output.
+
+  gdb-multiarch kernel.elf -ex 'target remote | sbigdb SCRIPT --p0 kernel.bin'
+
+Harts are threads. GDB's commands step, go on, and go back, also over power cuts
+and suspensions; nothing that it asks changes the board. `monitor LINE` runs a
+line of the script language, `monitor script` prints the session as a script that
+sbibench runs to the same reports, and `monitor help` tells the rest.
+
+--schedule and --order take a script that sbibench found: the one that its
+--schedules --show K, or --preemptions K --show N, writes. The session begins
+where the turns of that script part from those of SCRIPT. --row takes the one
+that its --sweep --show R, or --faults --show R, writes: the session begins
+before the line, or the turn, in which the cut or the failure strikes.";
+
+const STATUS: &str = "\
+Status:
+  0  the debugger has left, or the input ended
+  1  standard error has 'sbigdb: refusal N', for a malformed script
+     'sbigdb: refusal 14 line K', and 'sbigdb: file' where a file could not be read
+  2  a fault of the command line
+
+docs/DEBUGGING.md of the source shows a session, docs/SCRIPT.md has the language,
+and docs/REFUSALS.md the refusals.";
+
+/// The script's file.
+pub const SCRIPT: &str = "SCRIPT";
+
+/// How many turns a hart makes before the next one's.
+pub const QUANTUM: &str = "quantum";
+
+/// How many turns a command makes at most.
+pub const MOST: &str = "most";
+
+/// A schedule, by its number.
+pub const SCHEDULE: &str = "schedule";
+
+/// What it is drawn from.
+pub const SEED: &str = "seed";
+
+/// How many preemptions an order has at most.
+pub const PREEMPTIONS: &str = "preemptions";
+
+/// An order that differs, by its number.
+pub const ORDER: &str = "order";
+
+/// The flag of the bench of power cuts.
+pub const SWEEP: &str = "sweep";
+
+/// The flag of the bench of failures.
+pub const FAULTS: &str = "faults";
+
+/// A row of one of them, by its number.
+pub const ROW: &str = "row";
+
+/// The highest number of a schedule, an order, or a row.
+pub const MOST_NUMBER: u64 = 1_000_000;
+
+/// The most preemptions of an order.
+pub const MOST_PREEMPTIONS: u64 = 3;
+
+/// The most turns of a hart before the next one's: those of a line of a script.
+pub const MOST_QUANTUM: u64 = 1_000_000;
+
+/// The most turns of a command that can be asked for.
+pub const MOST_TURNS: u64 = 1_000_000_000;
+
+/// The script's path, which is not empty.
+fn script<'a>(alloc: Global) -> Arg<'a>
+    ensures rule { rule_of result ≡ script_rule }
+    ensures local { result.global ≡ false }
+{
+    Arg::new(alloc, SCRIPT)
+        .action(ArgAction::Set)
+        .value_parser(ValueParser::NonEmptyString)
+        .required(true)
+        .help("The file of the script whose end the session begins at")
+}
+
+/// An option with a number from 1 to `most`, which has no default.
+fn count<'a>(alloc: Global, id: &'a str, most: u64, value: &'a str, help: &'a str) -> Arg<'a>
+    ensures rule { rule_of result ≡ value_rule id.entry.now (Unsigned 1 most) }
+    ensures local { result.global ≡ false }
+{
+    option(alloc, id, value, help).value_parser(ValueParser::unsigned(1, most))
+}
+
+/// The command with the options that say by which row of a bench a session begins.
+fn with_rows<'a>(alloc: Global, command: Command<'a>) -> Result<Command<'a>, AllocError>
+    ensures { IfOk result (λ c. app_of c ≡ with_rows (app_of command.entry)) }
+{
+    let sweep = "With --row: the bench of power cuts";
+    let faults = "With --row: the bench of failures";
+    let row = "Begins where the cut or the failure of row R of the bench strikes";
+    command
+        .arg(flag(alloc, SWEEP, sweep))?
+        .arg(flag(alloc, FAULTS, faults))?
+        .arg(count(alloc, ROW, MOST_NUMBER, "R", row))
+}
+
+/// The command with the options that say by which schedule a session begins.
+fn with_schedules<'a>(alloc: Global, command: Command<'a>) -> Result<Command<'a>, AllocError>
+    ensures { IfOk result (λ c. app_of c ≡ with_rule (with_rule (app_of command.entry)
+        (value_rule (codes "schedule") (Unsigned 1 1000000))) (option_rule (codes "seed"))) }
+{
+    let schedule = "Begins where schedule K parts from the script";
+    let seed = "The number that schedules are drawn from; 1 if not given";
+    command
+        .arg(count(alloc, SCHEDULE, MOST_NUMBER, "K", schedule))?
+        .arg(option(alloc, SEED, "S", seed))
+}
+
+/// The command with the options that say by which order that differs a session begins.
+fn with_orders<'a>(alloc: Global, command: Command<'a>) -> Result<Command<'a>, AllocError>
+    ensures { IfOk result (λ c. app_of c ≡ with_rule (with_rule (app_of command.entry)
+        (value_rule (codes "preemptions") (Unsigned 1 3))) (value_rule (codes "order") (Unsigned 1 1000000))) }
+{
+    let preemptions = "With --order: orders with at most K preemptions, 1 to 3";
+    let order = "Begins where the N-th order that reports otherwise parts from the script";
+    command
+        .arg(count(alloc, PREEMPTIONS, MOST_PREEMPTIONS, "K", preemptions))?
+        .arg(count(alloc, ORDER, MOST_NUMBER, "N", order))
+}
+
+/// The command with the options that say where a session begins.
+fn with_begins<'a>(alloc: Global, command: Command<'a>) -> Result<Command<'a>, AllocError>
+    ensures { IfOk result (λ c. app_of c ≡ with_begins (app_of command.entry)) }
+{
+    let command = with_schedules(alloc, command)?;
+    let command = with_orders(alloc, command)?;
+    with_rows(alloc, command)
+}
+
+/// The command with the options of every session.
+fn with_numbers<'a>(alloc: Global, command: Command<'a>) -> Result<Command<'a>, AllocError>
+    ensures { IfOk result (λ c. app_of c ≡ with_rule (with_rule (app_of command.entry)
+        (number_rule (codes "quantum") 1000000 (codes "1000"))) (number_rule (codes "most") 1000000000 (codes "20000000"))) }
+{
+    let quantum = "How many turns a hart makes before the next one's, 1 to 1000000";
+    let most = "How many turns a command makes at most, 1 to 1000000000";
+    command
+        .arg(number(alloc, QUANTUM, MOST_QUANTUM, "1000", quantum))?
+        .arg(number(alloc, MOST, MOST_TURNS, "20000000", most))
+}
+
+/// The command.
+pub fn command<'a>(alloc: Global) -> Result<Command<'a>, AllocError>
+    ensures { IfOk result (λ c. app_of c ≡ sbigdb) }
+{
+    let command = program(alloc, "sbigdb", USAGE, ABOUT, STATUS).arg(script(alloc))?;
+    let command = with_payloads(alloc, command)?;
+    let command = with_numbers(alloc, command)?;
+    with_begins(alloc, command)
+}

@@ -1,0 +1,261 @@
+//! Where what a row of a bench arms strikes in its script.
+
+ghost use Rattle.std.specs.Prelude.{◌≡◌, ◌↔◌, ◌≤◌, ◌<◌, ◌+◌, ◌++◌, ◌∷◌, [], All, None, Some, true, false, length, take, IfErr, IfOk, OnOk};
+ghost use Rattle.board_model.specs.declared.refusal.Refusal.TheVariants.{Memory};
+ghost use Rattle.disk.specs.FaultState.{Unarmed};
+ghost use Rattle.script_lang.specs.Lines.{IsLineInRange};
+ghost use Rattle.script_lang.specs.declared.line.Line.TheVariants as lines;
+ghost use Rattle.bench_live.specs.Lives.{IsSound};
+ghost use Rattle.bench_live.specs.Pasts.{some_turns};
+ghost use Rattle.bench_report.specs.Views.{fault_state};
+ghost use Rattle.sbigdb.specs.Strikes.{ArmedBehind, RanTo, StopsBefore, count_in, hart_in};
+
+use bench_live::LiveBench;
+use bench_report::Setting;
+use bench_schedules::run_line;
+use board::Payloads;
+use board_model::{HartId, Refusal};
+use crew::{Crew, Sequential};
+use script_lang::{Line, Script};
+use simdisk::SimDisk;
+use std::alloc::Global;
+use std::thread::Threads;
+
+/// Runs lines, one after another. Refused `Memory` alone, and then the bench is of no use.
+fn run_lines<C: Crew>(
+    setting: &Setting<'_, C>,
+    lines: &[Line],
+    live: &mut LiveBench,
+) -> Result<(), Refusal>
+    requires ranges { All (IsLineInRange setting.now.shape.now) lines.now }
+    requires sound { IsSound live.old }
+    ensures sound { OnOk result (IsSound live.new) }
+    ensures ran { OnOk result (RanTo setting.now.shape.now lines.now live.old live.new) }
+    ensures refused { IfErr result (λ e. e ≡ Memory) }
+{
+    for line in lines {
+        run_line(setting, line, live)?;
+    }
+    Ok(())
+}
+
+/// Lets go of a bench. That of its board's many parts is proved here, and not beside what is done with it.
+fn release(_live: LiveBench) {}
+
+/// Whether a cut or a failure is armed on a disk. Refused `Memory` where the disk was refused memory.
+fn is_armed_on(disk: &SimDisk) -> Result<bool, Refusal>
+    ensures told { IfOk result (λ armed. (armed ≡ false) ↔ ((fault_state disk.now).armed ≡ Unarmed)) }
+    ensures refused { IfErr result (λ e. e ≡ Memory) }
+{
+    if disk.refused() != 0 {
+        return Err(Refusal::Memory);
+    }
+    Ok(disk.is_armed())
+}
+
+/// Runs lines from a blank disk on, with these payloads in the slots: whether behind the last a cut or a failure is armed that has not
+/// struck. Refused `Memory` alone.
+fn is_armed_behind<C: Crew>(
+    setting: &Setting<'_, C>,
+    payloads: &Payloads,
+    lines: &[Line],
+) -> Result<bool, Refusal>
+    requires ranges { All (IsLineInRange setting.now.shape.now) lines.now }
+    ensures told { IfOk result (λ armed. ArmedBehind armed setting.now.shape.now payloads.now lines.now) }
+    ensures refused { IfErr result (λ e. e ≡ Memory) }
+{
+    let mut live = LiveBench::blank(setting.alloc, setting.shape, payloads)?;
+    match run_lines(setting, lines, &mut live) {
+        Ok(()) => {
+            let disk = live.into_disk();
+            is_armed_on(&disk)
+        }
+        Err(e) => {
+            release(live);
+            Err(e)
+        }
+    }
+}
+
+/// The place behind the first line that arms something.
+fn place_armed(lines: &[Line]) -> usize
+    ensures few { result ≤ length lines.now }
+{
+    for i in 0..lines.len() {
+        if let Line::Arm(_) = &lines[i] {
+            return i + 1;
+        }
+    }
+    lines.len()
+}
+
+/// The place of the line within which it strikes, which is found by runs of first lines, half as many each time. Refused `Memory` alone:
+/// only a run that was refused memory can have missed it.
+fn struck_line<C: Crew>(
+    setting: &Setting<'_, C>,
+    payloads: &Payloads,
+    lines: &[Line],
+) -> Result<usize, Refusal>
+    requires ranges { All (IsLineInRange setting.now.shape.now) lines.now }
+    ensures within { IfOk result (λ place. place < length lines.now) }
+    ensures armed { IfOk result (λ place. ArmedBehind true setting.now.shape.now payloads.now (take place lines.now)) }
+    ensures struck { IfOk result (λ place. ArmedBehind false setting.now.shape.now payloads.now (take (place + 1) lines.now)) }
+    ensures refused { IfErr result (λ e. e ≡ Memory) }
+{
+    let mut low = place_armed(lines);
+    let mut high = lines.len();
+    if high <= low {
+        return Err(Refusal::Memory);
+    }
+    if !is_armed_behind(setting, payloads, &lines[..low])? {
+        return Err(Refusal::Memory);
+    }
+    if is_armed_behind(setting, payloads, lines)? {
+        return Err(Refusal::Memory);
+    }
+    while low + 1 < high {
+        let middle = low + (high - low) / 2;
+        if is_armed_behind(setting, payloads, &lines[..middle])? {
+            low = middle;
+        } else {
+            high = middle;
+        }
+    }
+    Ok(low)
+}
+
+/// Whether a cut or a failure is armed that has not struck, behind these lines and so many turns of a hart. Refused `Memory` alone.
+fn is_armed_in<C: Crew>(
+    setting: &Setting<'_, C>,
+    payloads: &Payloads,
+    front: &mut Vec<Line>,
+    hart: HartId,
+    count: u32,
+) -> Result<bool, Refusal>
+    requires ranges { All (IsLineInRange setting.now.shape.now) front.old.items }
+    requires row { IsLineInRange setting.now.shape.now (lines.Turn hart count) }
+    ensures told { IfOk result (λ armed. ArmedBehind armed setting.now.shape.now payloads.now
+        (front.old.items ++ lines.Turn hart count ∷ [])) }
+    ensures same { OnOk result (front.new.items ≡ front.old.items) }
+    ensures refused { IfErr result (λ e. e ≡ Memory) }
+{
+    let count_before = front.len();
+    front.push(Line::Turn(hart, count))?;
+    let armed = is_armed_behind(setting, payloads, front)?;
+    front.truncate(count_before);
+    Ok(armed)
+}
+
+/// How many turns of a row behind these lines are made before the one in which it strikes, found by runs of its first turns, half as many
+/// each time. Refused `Memory` alone.
+fn struck_turn<C: Crew>(
+    setting: &Setting<'_, C>,
+    payloads: &Payloads,
+    front: &mut Vec<Line>,
+    hart: HartId,
+    count: u32,
+) -> Result<u32, Refusal>
+    requires ranges { All (IsLineInRange setting.now.shape.now) front.old.items }
+    requires row { IsLineInRange setting.now.shape.now (lines.Turn hart count) }
+    requires armed { ArmedBehind true setting.now.shape.now payloads.now front.old.items }
+    requires struck { ArmedBehind false setting.now.shape.now payloads.now (front.old.items ++ lines.Turn hart count ∷ []) }
+    ensures within { IfOk result (λ k. k < count) }
+    ensures armed { IfOk result (λ k. ArmedBehind true setting.now.shape.now payloads.now (front.old.items ++ some_turns hart k)) }
+    ensures struck { IfOk result (λ k. ArmedBehind false setting.now.shape.now payloads.now
+        (front.old.items ++ lines.Turn hart (k + 1) ∷ [])) }
+    ensures same { OnOk result (front.new.items ≡ front.old.items) }
+    ensures refused { IfErr result (λ e. e ≡ Memory) }
+{
+    let mut low = 0;
+    let mut high = count;
+    while low + 1 < high {
+        let middle = low + (high - low) / 2;
+        if is_armed_in(setting, payloads, front, hart, middle)? {
+            low = middle;
+        } else {
+            high = middle;
+        }
+    }
+    Ok(low)
+}
+
+/// The hart of a row of turns.
+fn hart_in(line: &Line) -> Option<HartId>
+    ensures { result ≡ hart_in line.now }
+{
+    match line {
+        Line::Turn(hart, _) => Some(*hart),
+        _ => None,
+    }
+}
+
+/// How many turns a row of them has.
+fn count_in(line: &Line) -> u32
+    ensures { result ≡ count_in line.now }
+{
+    match line {
+        Line::Turn(_, count) => *count,
+        _ => 0,
+    }
+}
+
+/// Puts so many turns of a hart behind lines, where there are any.
+fn add_turns(lines: &mut Vec<Line>, hart: HartId, count: u32) -> Result<(), Refusal>
+    ensures added { OnOk result (lines.new.items ≡ lines.old.items ++ some_turns hart count) }
+    ensures refused { IfErr result (λ e. e ≡ Memory) }
+{
+    if count != 0 {
+        lines.push(Line::Turn(hart, count))?;
+    }
+    Ok(())
+}
+
+/// The lines up to where what they arm strikes.
+fn lines_before<C: Crew>(
+    setting: &Setting<'_, C>,
+    payloads: &Payloads,
+    lines: Vec<Line>,
+) -> Result<Vec<Line>, Refusal>
+    requires ranges { All (IsLineInRange setting.now.shape.now) lines.items }
+    ensures stops { IfOk result (λ stop. StopsBefore setting.now.shape.now payloads.now lines.items stop.items) }
+    ensures ranges { IfOk result (λ stop. All (IsLineInRange setting.now.shape.now) stop.items) }
+    ensures refused { IfErr result (λ e. e ≡ Memory) }
+{
+    let place = struck_line(setting, payloads, &lines)?;
+    let next = &lines[place];
+    let hart = hart_in(next);
+    let count = count_in(next);
+    let mut front = lines;
+    front.truncate(place);
+    match hart {
+        None => Ok(front),
+        Some(hart) => {
+            let turns = struck_turn(setting, payloads, &mut front, hart, count)?;
+            add_turns(&mut front, hart, turns)?;
+            Ok(front)
+        }
+    }
+}
+
+/// The script of a row up to where what it arms strikes, with these payloads in the slots. Refused `Memory` alone.
+pub fn before_strike<R: Threads + Sync>(
+    alloc: Global,
+    payloads: &Payloads,
+    found: Script,
+) -> Result<Script, Refusal>
+    requires ranges { All (IsLineInRange found.shape) found.lines.items }
+    ensures stops { IfOk result (λ stop. StopsBefore found.shape payloads.now found.lines.items stop.lines.items) }
+    ensures board { IfOk result (λ stop. stop.shape ≡ found.shape) }
+    ensures ranges { IfOk result (λ stop. All (IsLineInRange stop.shape) stop.lines.items) }
+    ensures refused { IfErr result (λ e. e ≡ Memory) }
+{
+    let Script { shape, lines } = found;
+    let crew = Sequential::<R>::new([0, 1, 2, 3])?;
+    let setting = Setting {
+        alloc,
+        crew: &crew,
+        shape: &shape,
+    };
+    let lines = lines_before(&setting, payloads, lines)?;
+    Ok(Script { shape, lines })
+}
