@@ -50,7 +50,8 @@ fn options_text(alloc: Global, work: Work) -> Result<String, AllocError>
             format!(in alloc; "{bench} recover")
         }
         Work::Compare(plan) => {
-            let (count, seed) = (plan.count, plan.seed);
+            let count = plan.count;
+            let seed = plan.seed;
             format!(in alloc; "schedules {count} seed {seed}")
         }
         _ => Ok(String::new(alloc)),
@@ -135,7 +136,7 @@ pub fn part_tag(
 
 /// The text, of which the last line ends with that word too.
 pub fn with_tag(mut text: Vec<u8>, tag: &Option<String>) -> Result<Vec<u8>, AllocError>
-    ensures { IfOk result (λ v. v.items ≡ with_tag (option_map string_bytes tag.now) text.entry.items) }
+    ensures { IfOk result (λ v. v.items ≡ with_tag (option_map string_bytes tag.now) text.items) }
 {
     let Some(tag) = tag else {
         return Ok(text);

@@ -357,20 +357,20 @@ pub fn run_on<
         clock,
         is_shared,
     } = telling;
+    let mut teller = Teller {
+        faults,
+        clock,
+        is_shared,
+        is_told: false,
+    };
     match options_of(alloc, words) {
         Ok(options) => {
-            let mut teller = Teller {
-                faults,
-                clock,
-                is_shared,
-                is_told: false,
-            };
             let done = run_options(alloc, threads, files, &options, input, out, &mut teller);
             end_told(&done, teller.is_told, teller.faults)
         }
         Err(text) => {
-            let done = without_work(show_on(out, faults, &text));
-            end(&done, faults)
+            let done = without_work(show_on(out, teller.faults, &text));
+            end(&done, teller.faults)
         }
     }
 }

@@ -1,0 +1,5 @@
+use Rattle.bench_live.specs.Lives.{IsSound}
+use Rattle.bench_program.proofs.traps.first_trap.Given as goal
+
+abbrev pub invariant-loop : goal.invariant-loop
+invariant-loop g l = IsSound l.live
