@@ -80,7 +80,7 @@ down old new c (inr (inr (inl did))) = (let no : ⊥ = (let is : Down ≡ Over =
 down old new c (inr (inr (inr (inl did)))) = (let no : ⊥ = (let is : Down ≡ JournalFull = did.0 in cc) in absurd no)
 down old new c (inr (inr (inr (inr did)))) = absurd (not_six (now_of old) c did.0)
 
-others : (old new : Life) (c : Change) (e : Refusal) → Refused old c e new → (e ≡ Down → ⊥) → new ≡ old
+pub others : (old new : Life) (c : Change) (e : Refusal) → Refused old c e new → (e ≡ Down → ⊥) → new ≡ old
 others old new c e (inl did) not = did.2
 others old new c e (inr (inl did)) not = absurd (not did.0)
 others old new c e (inr (inr (inl did))) not = did.2
@@ -92,7 +92,7 @@ by_refusal : (w : World) (old new : Life) (c : Change) (e : Refusal) → IsLived
 by_refusal w old new c Down lived calm up same = let did = up refl in doubtful w old new c lived calm did.0 did.1
 by_refusal w old new c e lived calm up same = (w, refl, still w old new lived (same (λ is. cc)))
 
-at_down : (old new : Life) (c : Change) (e : Refusal) → Refused old c e new → e ≡ Down → Reaches old c × (new ≡ record old { doubt = Some c })
+pub at_down : (old new : Life) (c : Change) (e : Refusal) → Refused old c e new → e ≡ Down → Reaches old c × (new ≡ record old { doubt = Some c })
 at_down old new c e did is = down old new c (subst (λ (f : Refusal). Refused old c f new) is did)
 
 pub applied : (w : World) (old new : Life) (c : Change) (result : Result ℕ Refusal) → IsLived w old → old.doubt ≡ None → Applied old c result new → Leads w (event_of c result) new

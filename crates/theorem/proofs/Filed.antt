@@ -1,9 +1,10 @@
 -- Commands over a disk that is kept in a file.
-use Rattle.std.proofs.Common.{◌≡◌, ◌⊎◌, ◌∙◌, ◌≤◌, ◌+◌, ℕ, List, inl, inr, sym, ap, subst, arith}
+use Rattle.std.proofs.Common.{◌≡◌, ◌⊎◌, ◌∙◌, ◌≤◌, ◌+◌, ℕ, List, Option, inl, inr, sym, ap, subst, arith}
 use Rattle.std.proofs.Math.Logic.{∥∥₁_map}
 use Rattle.board_model.specs.Durable.{DurableState}
 use Rattle.board_model.specs.Shapes.{Size}
 use Rattle.board_model.specs.declared.durable.Command.{Command}
+use Rattle.board_model.specs.declared.refusal.Refusal.{Refusal}
 use Rattle.disk.specs.Facts.{Content, Facts, IsFresh, Unchanged}
 use Rattle.board_files.specs.Files.{FileKnown, Unknown, Known, IfKnown, LeavesNoMore, EverAllowed}
 use Rattle.store.specs.Answers.{StoreView, Opened}
@@ -11,7 +12,7 @@ use Rattle.store.specs.Leaves.{IsSettled, LeftAsBefore}
 use Rattle.store.specs.Lives.{now_of}
 use Rattle.store.specs.Standing.{StandsFor}
 use Rattle.theorem.specs.Files.{KeepsCommands}
-use Rattle.theorem.specs.Prefixes.{IsAfterFirst}
+use Rattle.theorem.specs.Prefixes.{IsAfterFirst, in_doubt}
 use Rattle.theorem.proofs.PowerLost.{OneStanding}
 
 module _ (one : OneStanding) (memory made : Facts) (size : Size) (s : DurableState) (fresh : IsFresh memory.content memory) (same : Unchanged memory made) (stands : StandsFor memory.content size s) where
@@ -32,23 +33,23 @@ module _ (one : OneStanding) (memory made : Facts) (size : Size) (s : DurableSta
       let is = one memory.content view.size size view.life.found s (subst (λ (x : Content). StandsFor x view.size view.life.found) same.content opened.reads) stands in
       (is.0, ap now_of opened.begins ∙ is.1)
 
-  module _ (view : StoreView) (ended given : Facts) (commands : List Command) (n : ℕ) (first : memory.moment ≡ 0) (opened : Opened made view) (open_settles : IsSettled made view.disk)
+  module _ (view : StoreView) (ended given : Facts) (commands : List Command) (n : ℕ) (why : Option Refusal) (first : memory.moment ≡ 0) (opened : Opened made view) (open_settles : IsSettled made view.disk)
       (wherever : (t : ℕ) (c : Content) → t ≤ view.disk.moment → ended.since t c → view.disk.since t c ⊎ IsAfterFirst view.size (now_of view.life) commands 0 (n + 1) c)
-      (at_end : (c : Content) → ended.may_leave c → IsAfterFirst view.size (now_of view.life) commands n (n + 1) c) (back : Unchanged ended given) where
-    after_found : (least : ℕ) (c : Content) → IsAfterFirst view.size (now_of view.life) commands least (n + 1) c → IsAfterFirst size s commands least (n + 1) c
-    after_found least c is =
+      (at_end : (c : Content) → ended.may_leave c → IsAfterFirst view.size (now_of view.life) commands n (n + in_doubt why) c) (back : Unchanged ended given) where
+    after_found : (least most : ℕ) (c : Content) → IsAfterFirst view.size (now_of view.life) commands least most c → IsAfterFirst size s commands least most c
+    after_found least most c is =
         let f = found view opened in
-        subst (λ (t : DurableState). IsAfterFirst size t commands least (n + 1) c) f.1 (subst (λ (y : Size). IsAfterFirst y (now_of view.life) commands least (n + 1) c) f.0 is)
+        subst (λ (t : DurableState). IsAfterFirst size t commands least most c) f.1 (subst (λ (y : Size). IsAfterFirst y (now_of view.life) commands least most c) f.0 is)
 
     since_made : (c : Content) → given.since 0 c → IsAfterFirst size s commands 0 (n + 1) c
     since_made c left = elim (wherever 0 c (omega arith) ((back.since 0 c).0 left)) [
       | inl early ↦ (0, omega arith, omega arith, settled c (open_settles.any_moment.each c (subst (λ (t : ℕ). view.disk.since t c) (sym (same.moment ∙ first)) early)))
-      | inr is ↦ after_found 0 c is
+      | inr is ↦ after_found 0 (n + 1) c is
     ]
 
-    pub keeps : (file : FileKnown) → IfKnown file (LeavesNoMore given) → IfKnown file (EverAllowed given) → IfKnown file (KeepsCommands size s commands n)
+    pub keeps : (file : FileKnown) → IfKnown file (LeavesNoMore given) → IfKnown file (EverAllowed given) → IfKnown file (KeepsCommands size s commands n why)
     keeps Unknown now ever = tt
     keeps (Known f) now ever = record {
-      now = λ c may. after_found n c (at_end c ((back.now c).0 (now c may)));
+      now = λ c may. after_found n (n + in_doubt why) c (at_end c ((back.now c).0 (now c may)));
       ever = λ c was. ∥∥₁_map (ever c was) (since_made c);
     }

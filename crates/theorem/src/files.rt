@@ -23,19 +23,19 @@ use store::{Store, one_standing};
 /// stands for the state s, is opened, and takes a row of commands up to the first that is not acknowledged. Then each
 /// content that a crash leaves in the file, now or at any moment since the disk was made, is one that the headline
 /// allows (`KeepsCommands`). That is so of any file which does what [`SectorFile`] says of it; of a file of the system
-/// nothing is known (`IfKnown`). Answers how many commands were acknowledged, and the file.
+/// nothing is known (`IfKnown`). Answers how many commands were acknowledged, the refusal at which the row ended, and the file.
 pub fn commands_kept_in_a_file<F: SectorFile + Drop>(
     alloc: Global,
     memory: SimDisk,
     file: F,
     commands: &[Command],
-) -> Result<(usize, F), Refusal>
+) -> Result<(usize, Option<Refusal>, F), Refusal>
     requires fresh { IsFresh (⟦<SimDisk as Disk>⟧.facts memory).content (⟦<SimDisk as Disk>⟧.facts memory) }
     requires first_moment { (⟦<SimDisk as Disk>⟧.facts memory).moment ≡ 0 }
     requires durable { IfKnown (F.file_facts file) (IsDurable (⟦<SimDisk as Disk>⟧.facts memory).content) }
     ensures { IfOk result (λ kept. (size : Size) (s : DurableState)
         → StandsFor (⟦<SimDisk as Disk>⟧.facts memory).content size s
-        → IfKnown (F.file_facts kept.1) (KeepsCommands size s commands.now kept.0)) }
+        → IfKnown (F.file_facts kept.2) (KeepsCommands size s commands.now kept.0 kept.1)) }
 {
     one_standing();
     let disk = FileDisk::new(alloc, memory, file)?;
@@ -43,8 +43,8 @@ pub fn commands_kept_in_a_file<F: SectorFile + Drop>(
         Ok(store) => store,
         Err((_, refusal)) => return Err(refusal),
     };
-    let acknowledged = commands_in_a_row(&mut store, commands);
-    Ok((acknowledged, store.into_disk().into_file()))
+    let (acknowledged, refusal) = commands_in_a_row(&mut store, commands);
+    Ok((acknowledged, refusal, store.into_disk().into_file()))
 }
 
 /// *So the next boot finds it.* Where the bytes of a disk, as a crash left them in the file, stand for what some first of

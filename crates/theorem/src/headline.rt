@@ -4,7 +4,7 @@
 //! makes of it (board_model). `StandsFor c size s`: these bytes, as the content of a disk, are the state s, with
 //! the memory of its image (store). Of the facts of a disk, `may_leave` has each content that may be there where
 //! power fails now, and `since` each that might have been there where it failed at a moment since (disk).
-ghost use Rattle.std.specs.Prelude.{◌+◌, ◌++◌, ◌≤◌, ◌≡◌, ◌⊎◌, ◌∷◌, ℕ, Some, None, IfOk, IfErr, OnOk, MatchResult, length, map, take};
+ghost use Rattle.std.specs.Prelude.{◌+◌, ◌++◌, ◌<◌, ◌≤◌, ◌≡◌, ◌⊎◌, ◌∷◌, ◌↔◌, ℕ, Some, None, IfOk, IfErr, OnOk, MatchOption, MatchResult, length, map, take};
 ghost use Rattle.board_model.specs.Durable.{DurableState, Image, Change, Suspend, Consume, formatted, after, fold};
 ghost use Rattle.board_model.specs.Kept.{MayFind, found_of};
 ghost use Rattle.board_model.specs.Shapes.{Size};
@@ -21,7 +21,7 @@ ghost use Rattle.store.specs.Standing.{StandsFor};
 ghost use Rattle.store.specs.Views.{disk_of, fault_state_of, size_of_store, found_state, now_state, doubt_of, journal_of};
 ghost use Rattle.board.specs.Views.{store_of, machine_of};
 ghost use Rattle.machine.specs.Machine.{woken};
-ghost use Rattle.theorem.specs.Prefixes.{IsAfterFirst};
+ghost use Rattle.theorem.specs.Prefixes.{IsAfterFirst, in_doubt};
 
 use board::{Board, BoardParts, Payloads, Unpowered};
 use board_model::{BootMode, Command, Refusal, Shape};
@@ -36,8 +36,8 @@ use susp::Bus;
 /// *Wherever power fails, a cold boot finds the durable state after a prefix of the commands that holds every
 /// acknowledged one.* Of one command, as a run of a disk in memory: a cut or a failure is armed for any call of the
 /// disk or of a lane, the command is made, power fails, and the next cold boot finds the state before the command or
-/// the one after it; and the one after it, where it was acknowledged. Just that fault was armed since the disk was given
-/// (`armed`).
+/// the one after it; the one after it, where it was acknowledged; and the one before it, where it was refused by a number but
+/// 6. Just that fault was armed since the disk was given (`armed`).
 pub fn power_lost_in_a_command(
     alloc: Global,
     mut store: Store<SimDisk>,
@@ -53,6 +53,8 @@ pub fn power_lost_in_a_command(
         ⊎ (found_state next ≡ after (now_state store) (change_of command))) }
     ensures acknowledged { OnOk result.0 (IfOk result.1 (λ next.
         found_state next ≡ after (now_state store) (change_of command))) }
+    ensures refused { IfErr result.0 (λ e. (e ≡ Refusal.Down → ⊥)
+        → IfOk result.1 (λ next. found_state next ≡ now_state store)) }
     ensures armed { IfOk result.1 (λ next. (fault_state_of next).armings ≡ fault ∷ (fault_state_of store).armings) }
 {
     one_standing();
@@ -72,27 +74,33 @@ fn issue<D: Disk + Drop>(store: &mut Store<D>, command: &Command) -> Result<Rece
 /// *After a prefix of the commands that holds every acknowledged one.* Of a row of commands of one life, up to the
 /// first that is not acknowledged: a crash at any moment of it leaves what could have been left at its start, or
 /// what some first of the commands make of the state before it, and so for each moment from which one looks on; a
-/// crash at its end leaves what the acknowledged ones make, or these and the next one. Answers how many were
-/// acknowledged: the journal of the life grew by just these.
-pub fn commands_in_a_row<D: Disk + Drop>(store: &mut Store<D>, commands: &[Command]) -> usize
+/// crash at its end leaves what the acknowledged ones make, and where the row ended with a 6 that, or what these and the next
+/// one make: a command that was refused by another number is not kept. Answers how many were acknowledged: the journal of the
+/// life grew by just these; and the refusal at which the row ended, which is 6 just where a command is in doubt.
+pub fn commands_in_a_row<D: Disk + Drop>(
+    store: &mut Store<D>,
+    commands: &[Command],
+) -> (usize, Option<Refusal>)
     requires up { doubt_of store.old ≡ None }
     ensures wherever_power_fails { (t : ℕ) (c : Content) → t ≤ (disk_of store.old).moment
         → (disk_of store.new).since t c → (disk_of store.old).since t c
-        ⊎ IsAfterFirst (size_of_store store.old) (now_state store.old) commands.now 0 (result + 1) c }
+        ⊎ IsAfterFirst (size_of_store store.old) (now_state store.old) commands.now 0 (result.0 + 1) c }
     ensures holds_every_acknowledged_one { (c : Content) → (disk_of store.new).may_leave c
-        → IsAfterFirst (size_of_store store.old) (now_state store.old) commands.now result (result + 1) c }
-    ensures acknowledged { journal_of store.new ≡ journal_of store.old ++ map change_of (take result commands.now) }
-    ensures few { result ≤ length commands.now }
+        → IsAfterFirst (size_of_store store.old) (now_state store.old) commands.now result.0
+        (result.0 + in_doubt result.1) c }
+    ensures acknowledged { journal_of store.new ≡ journal_of store.old ++ map change_of (take result.0 commands.now) }
+    ensures ended { MatchOption result.1 (result.0 ≡ length commands.now) (λ e. result.0 < length commands.now) }
+    ensures doubtful { (result.1 ≡ Some Refusal.Down) ↔ ((c : Change) × (doubt_of store.new ≡ Some c)) }
 {
     store.stands();
     let mut acknowledged = 0;
     for command in commands {
         match issue(store, command) {
             Ok(_) => acknowledged += 1,
-            Err(_) => return acknowledged,
+            Err(refusal) => return (acknowledged, Some(refusal)),
         }
     }
-    acknowledged
+    (acknowledged, None)
 }
 
 /// *The durable state.* These bytes stand for one state of one board, or for none.

@@ -20,7 +20,7 @@ use std::io::Write;
 /// written is the text of answers to its lines. Where no line writes the disk past the firmware, these answers keep the prefix
 /// law (`prefix`). The disk that is left is the one that they tell of: each state that a crash may leave of it ends a history
 /// that they tell (`ends`). Where it counted no failure, each power-on found what all acknowledged commands make (`all`). The
-/// slots begin with any payloads.
+/// slots begin with any payloads. Which answers its lines may have at all, `a_script_and_its_report` says.
 pub fn a_script<C: Crew, W: Write>(
     alloc: Global,
     script: &[u8],
