@@ -20,7 +20,6 @@ leads_lifted does steps lift (s ∷ w) b c run =
     leads_on does b run.0 c (lift s b run.0 run.1) (leads_lifted does steps lift w run.0 c run.2)
 
 module _ {State Event : Type 0} (does : Event → State → State → Type 0) (turn : ℕ → Event) (ends : State → Type 0) (keeps : Event → State → Type 0) (local : ℕ → State → State → Type 0) (reduction : Reduction does turn ends keeps local) where
-
   -- local turns are events
   pub chain_leads : (n : ℕ) (b c : State) → Chain local n b c → Leads does b c
   chain_leads zero b c chain = ([], chain)
@@ -28,7 +27,6 @@ module _ {State Event : Type 0} (does : Event → State → State → Type 0) (t
       leads_by does (turn chain.0) b chain.1 c (reduction.turns chain.0 b chain.1 chain.2) (chain_leads n chain.1 c chain.3)
 
   module _ (set : State → Type 0) (closed : IsClosed does keeps local set) where
-
     -- all words of fewer events than that, from a state that so many local turns lead from into the set
     abbrev pub Below : ℕ → ℕ → Type 0
     Below l n =
@@ -58,17 +56,17 @@ module _ {State Event : Type 0} (does : Event → State → State → Type 0) (t
     walk l p s inner (e ∷ v) u b c z lt run is_local left =
         ⊎_elim
         (λ is. inner (u ++ v) z (omega (arith, length-append u v))
-            (runs_on does u v s c z run
-            (subst (λ x. Runs does v x z)
-            (reduction.only p b c left.0 is_local (subst (λ x. does x b left.0) is left.1))
-            left.2)))
+        (runs_on does u v s c z run
+        (subst (λ x. Runs does v x z)
+        (reduction.only p b c left.0 is_local (subst (λ x. does x b left.0) is left.1))
+        left.2)))
         (λ other. ⊎_elim
-            (λ meets. inner (u ++ e ∷ v) z (omega (arith, length-append u (e ∷ v)))
-                (runs_on does u (e ∷ v) s c z run (left.0, meets, left.2)))
-            (λ goes. walk l p s inner v (u ++ e ∷ []) left.0 goes.0 z (omega (arith, length-append u (e ∷ [])))
-                (runs_on does u (e ∷ []) s c goes.0 run (goes.0, goes.1, refl))
-                goes.2 left.2)
-            (reduction.swaps p e b c left.0 is_local other ((inner u c (omega arith) run).kept e) left.1))
+        (λ meets. inner (u ++ e ∷ v) z (omega (arith, length-append u (e ∷ v)))
+        (runs_on does u (e ∷ v) s c z run (left.0, meets, left.2)))
+        (λ goes. walk l p s inner v (u ++ e ∷ []) left.0 goes.0 z (omega (arith, length-append u (e ∷ [])))
+        (runs_on does u (e ∷ []) s c goes.0 run (goes.0, goes.1, refl))
+        goes.2 left.2)
+        (reduction.swaps p e b c left.0 is_local other ((inner u c (omega arith) run).kept e) left.1))
         (reduction.decides p e)
 
     from_set : (l : ℕ) → ((n : ℕ) → Below l n) → Below (suc l) zero
