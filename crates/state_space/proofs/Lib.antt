@@ -1,0 +1,5 @@
+pub mod AllOrders
+pub mod Slots
+pub mod Kept
+pub mod Parts
+pub mod Hashes
