@@ -1,6 +1,6 @@
 -- A set that is closed but for local turns speaks of each state that any events lead to.
-use Rattle.std.proofs.Common.{◌≡◌, ◌⊎◌, ⊎_elim, ℕ, zero, suc, ◌+◌, ◌<◌, List, [], ◌∷◌, ◌++◌, length, refl, sym, subst, arith, length-append}
-use Rattle.state_space.specs.Orders.{Runs, Leads, Chain, Reduction, IsClosed, Meets, CanEnd}
+use Rattle.std.proofs.Common.{⊎_elim, ℕ, zero, suc, ◌+◌, ◌<◌, List, [], ◌∷◌, ◌++◌, length, refl, sym, subst, arith, length-append}
+use Rattle.state_space.specs.Orders.{Runs, Leads, Only, Chain, Reduction, IsClosed, Meets, CanEnd}
 
 pub runs_on : {State Event : Type 0} (does : Event → State → State → Type 0) (u v : List Event) (b c d : State) → Runs does u b c → Runs does v c d → Runs does (u ++ v) b d
 runs_on does [] v b c d first then = subst (λ x. Runs does v x d) first then
@@ -26,14 +26,14 @@ module _ {State Event : Type 0} (does : Event → State → State → Type 0) (t
   chain_leads (suc n) b c chain =
       leads_by does (turn chain.0) b chain.1 c (reduction.turns chain.0 b chain.1 chain.2) (chain_leads n chain.1 c chain.3)
 
-  module _ (set : State → Type 0) (closed : IsClosed does keeps local set) where
+  module _ (goes : Event → Type 0) (turns_go : (p : ℕ) → goes (turn p)) (set : State → Type 0) (closed : IsClosed does keeps local set) where
     -- all words of fewer events than that, from a state that so many local turns lead from into the set
     abbrev pub Below : ℕ → ℕ → Type 0
     Below l n =
         (w : List Event) (b d z : State) → length w < l → Chain local n b d → set d → Runs does w b z
-        → Meets does ends keeps set z
+        → Meets does goes ends keeps set z
 
-    in_set : (z : State) → set z → Meets does ends keeps set z
+    in_set : (z : State) → set z → Meets does goes ends keeps set z
     in_set z has = record {
       kept = λ e. (closed z has e).0;
       joins = (z, ([], refl), has);
@@ -41,17 +41,17 @@ module _ {State Event : Type 0} (does : Event → State → State → Type 0) (t
     }
 
     -- what holds after a local turn holds before it
-    met_before : (p : ℕ) (b c : State) → local p b c → Meets does ends keeps set c → Meets does ends keeps set b
+    met_before : (p : ℕ) (b c : State) → local p b c → Meets does goes ends keeps set c → Meets does goes ends keeps set b
     met_before p b c is_local met = record {
       kept = λ e. ⊎_elim (λ is. subst (λ x. keeps x b) (sym is) (reduction.own p b c is_local)) (λ other. reduction.before p e b c is_local other (met.kept e)) (reduction.decides p e);
-      joins = (met.joins.0, leads_by does (turn p) b c met.joins.0 (reduction.turns p b c is_local) met.joins.1, met.joins.2);
+      joins = (met.joins.0, leads_by (Only goes does) (turn p) b c met.joins.0 (turns_go p, reduction.turns p b c is_local) met.joins.1, met.joins.2);
       ended = λ end. absurd (reduction.moves p b c is_local end);
     }
 
     -- From a local turn's state: the events u were walked along, before the turn to b and after it to c, and v are left.
-    walk : (l p : ℕ) (s : State) → ((w : List Event) (z : State) → length w < l → Runs does w s z → Meets does ends keeps set z) → (v u : List Event) (b c z : State) → length u + length v < l → Runs does u s c → local p b c → Runs does v b z → Meets does ends keeps set z
+    walk : (l p : ℕ) (s : State) → ((w : List Event) (z : State) → length w < l → Runs does w s z → Meets does goes ends keeps set z) → (v u : List Event) (b c z : State) → length u + length v < l → Runs does u s c → local p b c → Runs does v b z → Meets does goes ends keeps set z
     walk l p s inner [] u b c z lt run is_local is =
-        subst (λ x. Meets does ends keeps set x) (sym is)
+        subst (λ x. Meets does goes ends keeps set x) (sym is)
         (met_before p b c is_local (inner u c (omega arith) run))
     walk l p s inner (e ∷ v) u b c z lt run is_local left =
         ⊎_elim
@@ -63,9 +63,9 @@ module _ {State Event : Type 0} (does : Event → State → State → Type 0) (t
         (λ other. ⊎_elim
         (λ meets. inner (u ++ e ∷ v) z (omega (arith, length-append u (e ∷ v)))
         (runs_on does u (e ∷ v) s c z run (left.0, meets, left.2)))
-        (λ goes. walk l p s inner v (u ++ e ∷ []) left.0 goes.0 z (omega (arith, length-append u (e ∷ [])))
-        (runs_on does u (e ∷ []) s c goes.0 run (goes.0, goes.1, refl))
-        goes.2 left.2)
+        (λ swapped. walk l p s inner v (u ++ e ∷ []) left.0 swapped.0 z (omega (arith, length-append u (e ∷ [])))
+        (runs_on does u (e ∷ []) s c swapped.0 run (swapped.0, swapped.1, refl))
+        swapped.2 left.2)
         (reduction.swaps p e b c left.0 is_local other ((inner u c (omega arith) run).kept e) left.1))
         (reduction.decides p e)
 
@@ -86,12 +86,12 @@ module _ {State Event : Type 0} (does : Event → State → State → Type 0) (t
     below zero n w b d z lt chain has run = absurd (omega arith)
     below (suc l) n w b d z lt chain has run = level l (below l) n w b d z lt chain has run
 
-    pub all_orders : (n : ℕ) (start first last : State) (events : List Event) → Chain local n start first → set first → Runs does events start last → Meets does ends keeps set last
+    pub all_orders : (n : ℕ) (start first last : State) (events : List Event) → Chain local n start first → set first → Runs does events start last → Meets does goes ends keeps set last
     all_orders n start first last events chain has run =
         below (suc (length events)) n events start first last (omega arith) chain has run
 
 -- where each state of the set can end, so can one of which the set speaks
-pub can_end : {State Event : Type 0} (does : Event → State → State → Type 0) (ends : State → Type 0) (keeps : Event → State → Type 0) (set : State → Type 0) → ((x : State) → set x → CanEnd does ends x) → (z : State) → Meets does ends keeps set z → CanEnd does ends z
-can_end does ends keeps set each z met =
+pub can_end : {State Event : Type 0} (does : Event → State → State → Type 0) (goes : Event → Type 0) (ends : State → Type 0) (keeps : Event → State → Type 0) (set : State → Type 0) → ((x : State) → set x → CanEnd does goes ends x) → (z : State) → Meets does goes ends keeps set z → CanEnd does goes ends z
+can_end does goes ends keeps set each z met =
     let last = each met.joins.0 met.joins.2 in
-    (last.0, leads_on does z met.joins.0 last.0 met.joins.1 last.1, last.2)
+    (last.0, leads_on (Only goes does) z met.joins.0 last.0 met.joins.1 last.1, last.2)

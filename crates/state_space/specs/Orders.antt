@@ -10,6 +10,10 @@ Runs {State} {Event} does (event ∷ events) from to = (mid : State) × does eve
 abbrev pub Leads : {State Event : Type 0} → (Event → State → State → Type 0) → State → State → Type 0
 Leads {State} {Event} does from to = (events : List Event) × Runs does events from to
 
+-- events of that kind alone
+abbrev pub Only : {State Event : Type 0} → (Event → Type 0) → (Event → State → State → Type 0) → Event → State → State → Type 0
+Only kind does event from to = kind event × does event from to
+
 -- So many local turns lead from one state to another, each of any process.
 abbrev pub Chain : {State : Type 0} → (ℕ → State → State → Type 0) → ℕ → State → State → Type 0
 Chain local zero from to = to ≡ from
@@ -37,13 +41,14 @@ IsClosed {State} {Event} does keeps local set =
     (b : State) → set b → (e : Event) → keeps e b
     × ((c : State) → does e b c → (n : ℕ) × (d : State) × Chain local n c d × set d)
 
--- What a set says of a state: each event keeps the map there, some events lead from it into the set, and it is in the set if it is at an
--- end.
-pub record Meets {State Event : Type 0} (does : Event → State → State → Type 0) (ends : State → Type 0) (keeps : Event → State → Type 0) (set : State → Type 0) (state : State) : Type 0 where
+-- What a set says of a state: each event keeps the map there, some events by which a state goes on lead from it into the set, and it is in
+-- the set if it is at an end.
+pub record Meets {State Event : Type 0} (does : Event → State → State → Type 0) (goes : Event → Type 0) (ends : State → Type 0) (keeps : Event → State → Type 0) (set : State → Type 0) (state : State) : Type 0 where
   pub kept : (e : Event) → keeps e state
-  pub joins : (x : State) × Leads does state x × set x
+  pub joins : (x : State) × Leads (Only goes does) state x × set x
   pub ended : ends state → set state
 
--- some events lead from the state to an end
-abbrev pub CanEnd : {State Event : Type 0} → (Event → State → State → Type 0) → (State → Type 0) → State → Type 0
-CanEnd {State} does ends state = (last : State) × Leads does state last × ends last
+-- Some events by which a state goes on lead from it to an end. Failures are no such events: by a power cut any board comes to what its boot
+-- comes to.
+abbrev pub CanEnd : {State Event : Type 0} → (Event → State → State → Type 0) → (Event → Type 0) → (State → Type 0) → State → Type 0
+CanEnd {State} does goes ends state = (last : State) × Leads (Only goes does) state last × ends last

@@ -1,8 +1,8 @@
 -- Entries that are pairwise distinct.
-use Rattle.std.specs.Prelude.{◌≡◌, ◌⊎◌, ℕ, ◌+◌, ◌<◌, ◌≤◌, List, Option, None, Some}
+use Rattle.std.specs.Prelude.{◌≡◌, ◌⊎◌, ℕ, ◌+◌, ◌<◌, List}
 use Rattle.state_space.specs.declared.probes.Probed.{Probed}
 use Rattle.state_space.specs.declared.probes.Probed.TheVariants.{Found, Free, Full}
-use Rattle.state_space.specs.Tables.{EMPTY, IsTable, IsFree}
+use Rattle.state_space.specs.Tables.{IsTable, IsFree}
 
 -- no two entries are equal
 abbrev pub AreDistinct : {T : Type 0} → (ℕ → List T) → ℕ → Type 0
