@@ -18,11 +18,14 @@ bench_text Cuts true = codes "sweep quiet"
 bench_text Fails false = codes "faults"
 bench_text Fails true = codes "faults quiet"
 
+abbrev pub schedules_text : ℕ → ℕ → List ℕ
+schedules_text count seed = codes "schedules " ++ decimal count ++ codes " seed " ++ decimal seed
+
 -- the options by which a bench makes other runs, or tells of others
 abbrev pub options_text : Work → List ℕ
 options_text (Judge plan) = bench_text plan.bench plan.quiet
 options_text (Recover plan) = bench_text plan.bench plan.quiet ++ codes " recover"
-options_text (Compare plan) = codes "schedules " ++ decimal plan.count ++ codes " seed " ++ decimal plan.seed
+options_text (Compare plan) = schedules_text plan.count plan.seed
 options_text work = []
 
 -- a text behind others, with its length before it

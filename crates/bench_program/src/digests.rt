@@ -3,7 +3,7 @@
 ghost use Rattle.std.specs.Prelude.{◌≡◌, ◌<◌, ℕ, List, IfOk, OnOk, string_bytes};
 ghost use Rattle.std.specs.Option.{option_map};
 ghost use Rattle.board.specs.Boots.{payload_at};
-ghost use Rattle.bench_program.specs.Digests.{bench_text, digest_text, is_part, message, options_text, part_tag, then_framed, with_tag};
+ghost use Rattle.bench_program.specs.Digests.{bench_text, digest_text, is_part, message, options_text, part_tag, schedules_text, then_framed, with_tag};
 
 use crate::usage::Work;
 use crate::works::WorkTexts;
@@ -36,6 +36,13 @@ fn bench_text(plan: SweepPlan) -> &'static str
     }
 }
 
+/// The options of so many schedules of that seed.
+fn schedules_text(alloc: Global, count: u64, seed: u64) -> Result<String, AllocError>
+    ensures { IfOk result (λ text. string_bytes text ≡ schedules_text count seed) }
+{
+    format!(in alloc; "schedules {count} seed {seed}")
+}
+
 /// The options by which a bench makes other runs, or tells of others.
 fn options_text(alloc: Global, work: Work) -> Result<String, AllocError>
     ensures { IfOk result (λ text. string_bytes text ≡ options_text work) }
@@ -49,11 +56,7 @@ fn options_text(alloc: Global, work: Work) -> Result<String, AllocError>
             let bench = bench_text(plan);
             format!(in alloc; "{bench} recover")
         }
-        Work::Compare(plan) => {
-            let count = plan.count;
-            let seed = plan.seed;
-            format!(in alloc; "schedules {count} seed {seed}")
-        }
+        Work::Compare(plan) => schedules_text(alloc, plan.count, plan.seed),
         _ => Ok(String::new(alloc)),
     }
 }

@@ -91,6 +91,7 @@ pub fn bench<R: Threads + Sync>(rt: &HostRuntime, threads: &R) -> ExitCode
                 faults: &mut faults,
                 clock: rt,
                 is_shared,
+                is_told: false,
             };
             let input = rt.reader();
             let status = run_on(alloc, threads, rt, words, input, &mut out, telling);

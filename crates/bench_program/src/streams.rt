@@ -234,15 +234,6 @@ fn tell_traps_of<R: Threads + Sync, F: Write>(
     }
 }
 
-/// Where a work tells what is no part of what it writes, and whether its fault was told there.
-#[derive(Drop)]
-struct Teller<'a, F, C> {
-    faults: &'a mut F,
-    clock: &'a C,
-    is_shared: bool,
-    is_told: bool,
-}
-
 /// Does what the options ask for. The files of payloads and of a recovery are read before the script. How the work ended is told, and
 /// of a report first which harts only trap.
 fn run_options<
@@ -259,7 +250,7 @@ fn run_options<
     options: &BenchOptions,
     input: I,
     out: &mut BufWriter<Pipe<O>>,
-    teller: &mut Teller<'_, F, C>,
+    telling: &mut Telling<'_, F, C>,
 ) -> Result<(), BenchFault>
     requires most { IsBounded options.now.work }
     ensures done { OnOk result (IsHandedOn O.contents (AreDone options.now (P.bytes_at files.now) (I.remaining input) 0) out.old out.new) }
@@ -269,19 +260,24 @@ fn run_options<
         ⊎ IsFaultOf options.now (P.bytes_at files.now) (I.remaining input)
         (is_closed_pipe (writer_inner out.new)) fault) }
 {
-    let given = named_files(alloc, files, options, teller.faults)?;
-    let script = named_script(alloc, files, options, input, teller.faults)?;
+    let given = named_files(alloc, files, options, telling.faults)?;
+    let script = named_script(alloc, files, options, input, telling.faults)?;
     let Given { payloads, recovery } = given;
     let texts = WorkTexts {
         script: &script,
         recovery: &recovery,
     };
-    tell_traps_of::<R, F>(alloc, options.work, texts, &payloads, teller.faults);
-    let watched = Watched::new(teller.faults, teller.clock, teller.is_shared, options.work);
+    tell_traps_of::<R, F>(alloc, options.work, texts, &payloads, telling.faults);
+    let watched = Watched::new(
+        telling.faults,
+        telling.clock,
+        telling.is_shared,
+        options.work,
+    );
     let done = run_work(alloc, threads, options, payloads, texts, out, &watched);
     let is_tried = watched.end().went_on();
-    tell_work(alloc, options.work, texts, &done, is_tried, teller.faults);
-    teller.is_told = true;
+    tell_work(alloc, options.work, texts, &done, is_tried, telling.faults);
+    telling.is_told = true;
     done
 }
 
@@ -352,25 +348,15 @@ pub fn run_on<
         × (done ≡ Err Wrong → (differ : ℕ) × (0 < differ)
         × IsHandedOn O.contents (IsDone (map S.text words.now) (P.bytes_at files.now) (I.remaining input) differ) out.old out.new) }
 {
-    let Telling {
-        faults,
-        clock,
-        is_shared,
-    } = telling;
-    let mut teller = Teller {
-        faults,
-        clock,
-        is_shared,
-        is_told: false,
-    };
+    let mut telling = telling;
     match options_of(alloc, words) {
         Ok(options) => {
-            let done = run_options(alloc, threads, files, &options, input, out, &mut teller);
-            end_told(&done, teller.is_told, teller.faults)
+            let done = run_options(alloc, threads, files, &options, input, out, &mut telling);
+            end_told(&done, telling.is_told, telling.faults)
         }
         Err(text) => {
-            let done = without_work(show_on(out, teller.faults, &text));
-            end(&done, teller.faults)
+            let done = without_work(show_on(out, telling.faults, &text));
+            end(&done, telling.faults)
         }
     }
 }

@@ -18,6 +18,8 @@ pub struct Telling<'a, F, C> {
     pub clock: &'a C,
     /// What the program writes goes to a terminal too. So the line of a run is taken away before each line of that.
     pub is_shared: bool,
+    /// The fault was told already: it is false where the program begins.
+    pub is_told: bool,
 }
 
 /// A run that is watched: its line is renewed as it goes on. What is told of it goes to standard error alone. Where `is_shared`, what the run

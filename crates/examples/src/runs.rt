@@ -221,6 +221,7 @@ fn compare_held<R: Threads + Sync>(
             faults: &mut faults,
             clock: &StoppedClock,
             is_shared: false,
+            is_told: false,
         },
     );
     if status != run.status {
