@@ -47,7 +47,7 @@ pub fn add<W: Write>(out: &mut W, report: &mut Report, answer: &Answer) -> Resul
     ensures ok { OnOk result (Adds (W.contents out.old) (W.contents out.new) report.old report.new answer.now) }
     ensures err { IfErr result (λ e. (e ≡ Refusal.Output) ⊎ (e ≡ Refusal.Memory)) }
 {
-    write_answer(out, answer).map_err(unwritten)?;
+    write_answer(out, answer).map_err(|error| unwritten(error))?;
     report.lines += 1;
     if let Some(durable) = answer.found {
         report.lines += 1;
