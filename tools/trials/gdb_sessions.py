@@ -1,4 +1,4 @@
-"""Sessions of GDB itself over sbigdb, where GDB is one for x86-64 and tools/gdb-adapter stands between, for tools/try-sbigdb.
+"""Sessions of GDB itself over sbigdb, where GDB is one for x86-64 and tools/gdb-adapter stands between, for tools/trials/try-sbigdb.
 
 Beside each command of GDB stand the packets by which a reader of its own (gdb_talk.py) asks the same of a second sbigdb. Behind each
 command GDB must show the thread and the pc that this reader has then, and at the end the same script (`monitor script`) and what sbibench
@@ -15,8 +15,9 @@ import time
 
 from gdb_talk import Talk
 
-HERE = os.path.dirname(os.path.abspath(__file__))
-DATA = os.path.join(HERE, "..", "crates", "sbigdb", "data")
+TOP = os.path.dirname(os.path.dirname(os.path.dirname(os.path.abspath(__file__))))
+ADAPTER = os.path.join(TOP, "tools", "gdb-adapter")
+DATA = os.path.join(TOP, "crates", "sbigdb", "data")
 FAULTS = ("Ignoring packet error", "Bogus trace status", "Remote connection closed", "Reply contains invalid", "internal-error",
           "Remote failure reply", "replied unexpectedly", "Cannot ", "unrecognized", "rror in", "imed out", "nexpected")
 NAMES = "zero ra rsp gp tp t0 t1 t2 rbp s1 a0 a1 a2 a3 a4 a5 a6 a7 s2 s3 s4 s5 s6 s7 s8 s9 s10 s11 t3 t4 t5 t6 pc".split()
@@ -204,7 +205,7 @@ class Reader:
 def words_of_gdb(elf, target, commands, settings=()):
     """How GDB is started: as it comes, with these commands over that target."""
     first = ["set width 0", "set pagination off", f"source {DATA}/sbigdb.gdb", *settings]
-    joined = " ".join(shlex.quote(word) for word in [f"{HERE}/gdb-adapter", *target])
+    joined = " ".join(shlex.quote(word) for word in [ADAPTER, *target])
     lines = [*first, "target remote | " + joined, *commands]
     return ["gdb", "-nx", "-batch", "-d", DATA, *([elf] if elf else []), *(word for line in lines for word in ("-ex", line))]
 
@@ -415,7 +416,7 @@ def transcript(programs, name, elf):
     shutil.copy(elf, f"{folder}/crew.elf")
     os.symlink(programs[0], f"{folder}/debugger")
     with open(f"{folder}/sbigdb", "w", encoding="utf-8") as file:
-        file.write(f'#!/bin/sh\nexec {shlex.quote(HERE)}/gdb-adapter ./debugger "$@"\n')
+        file.write(f'#!/bin/sh\nexec {shlex.quote(ADAPTER)} ./debugger "$@"\n')
     os.chmod(f"{folder}/sbigdb", 0o755)
     done = subprocess.run(["gdb", "-nx", "-batch", "-ex", "set remotetimeout 600", "-x", f"{name}.gdb", "crew.elf"], cwd=folder,
                           stdin=subprocess.DEVNULL, stdout=subprocess.PIPE, stderr=subprocess.STDOUT)
@@ -443,7 +444,7 @@ def tried(programs, counting):
     """Runs all sessions: how many there are, and how many things differ."""
     folder = tempfile.mkdtemp()
     elf = f"{folder}/crew.elf"
-    subprocess.run([f"{HERE}/gdb-adapter", "--elf", f"{DATA}/crew.elf", elf], check=True)
+    subprocess.run([ADAPTER, "--elf", f"{DATA}/crew.elf", elf], check=True)
     wrong = sum(transcript(programs, name, elf) for name in ("session", "harts", "reads"))
     for name, rows in (("of conditions", CONDITIONS), ("of watchpoints", WATCHES), ("of monitor", WORDS_OF_MONITOR),
                        ("behind looks at threads", LOOKS)):
