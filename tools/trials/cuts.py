@@ -1,4 +1,4 @@
-"""What the tools here take of the rows of a bench, and of what a script leaves behind each of them (docs/SCRIPT.md, "The benches")."""
+"""What the tools here take of the rows of a bench, and of what a script leaves behind each of them (docs/BENCHES.md, "The benches")."""
 import subprocess
 
 import scripts
