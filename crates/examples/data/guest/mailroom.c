@@ -4,7 +4,7 @@
    The writer of each hart sends LETTERS letters to the reader of the next one, the last hart's to hart 0's, and each reader folds what it
    reads into a digest, in the order in which it was written. So no schedule changes a digest, whoever runs when. Hart 0 folds the
    digests into a sum, shows it, and suspends the board to disk with the sum as the opaque value, which `sbidisk` prints. Resumed, the
-   board shuts down: reason 0 where no call was refused, else 1. tools/try-guests computes the sum on its own.
+   board shuts down: reason 0 where no call was refused, else 1. tools/trials/try-guests computes the sum on its own.
 
    What it shows: the harts, the sum, the sleeps from which it woke, the calls that were refused, how often a task was preempted, how
    often a hart suspended itself, and of an unexpected trap its cause and its pc. */
