@@ -1,0 +1,5 @@
+pub mod Boards
+pub mod Held
+pub mod Events
+pub mod Touches
+pub mod Maps
