@@ -34,7 +34,7 @@ use Rattle.planned_store.specs.declared.stores.OpenStore.{OpenStore}
 use Rattle.planned_store.proofs.Committing.{done_up, done_moment, done_calls, done_wrote, unchanged_up, unchanged_moment, unchanged_calls, doubted, doubt_moment, doubt_calls, next_same, goes_done, goes_unchanged, goes_doubt}
 
 not_both : (b : Bool) → b ≡ false → b ≡ true → ⊥
-not_both b no yes = cc
+not_both b isn is = cc
 
 no_cause : (x : FaultState) (e : Refusal) → (e ≡ Device → ⊥) → (e ≡ Down → ⊥) → CausedRefusal x e x
 no_cause x Device not_device not_down = absurd (not_device refl)

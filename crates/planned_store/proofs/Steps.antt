@@ -91,7 +91,7 @@ module _ {D : Type 0} (f : D → Facts) (m : D → FaultState) where
 
     superblock_read : (n : ℕ) (got : List ℕ) (q : Plan) → n ≡ length (f a).content → 0 < n → ReadSo f m 2 a c → got ≡ sector (f a).content 0 → ReadsSuperblock n got q → Reached f m q a c
     superblock_read n got (ReadingGate size) is more read there went = (read, (subst (IsSuperblock size) there went.0, omega (arith, is, went.1)))
-    superblock_read n got (Refused NotFormatted) is more read there went = (read, some n is more, λ has. went (subst HasMagic (sym there) has))
+    superblock_read n got (Refused NotFormatted) is more read there went = (read, (some n is more, λ has. went (subst HasMagic (sym there) has)))
     superblock_read n got (Refused BadShape) is more read there went = inr (
       read,
       some n is more,

@@ -142,8 +142,9 @@ pub fn format<D: Disk>(disk: &mut D, shape: &Shape) -> Result<(), Refusal>
     requires none_out { IsIdle (D.facts disk.old) }
     ensures { FormatsTo D.facts D.fault_state shape.now disk.old result disk.new }
 {
-    let plan = Plan::format(*shape, disk.sectors());
-    run(disk, plan).formatted()
+    let mut plan = Plan::format(*shape, disk.sectors());
+    run(disk, &mut plan);
+    plan.formatted()
 }
 
 impl Plan {

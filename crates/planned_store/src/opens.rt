@@ -32,6 +32,7 @@ pub fn open<D: Disk>(disk: &mut D) -> Result<OpenStore, Refusal>
     requires none_out { IsIdle (D.facts disk.old) }
     ensures { OpensTo D.facts D.fault_state disk.old result disk.new }
 {
-    let plan = Plan::open(disk.sectors());
-    run(disk, plan).opened()
+    let mut plan = Plan::open(disk.sectors());
+    run(disk, &mut plan);
+    plan.opened()
 }

@@ -2,7 +2,7 @@
 ghost use Rattle.std.specs.Prelude.{◌≡◌, Ok, Err};
 ghost use Rattle.store.specs.Opens.{renewed_record};
 ghost use Rattle.planned_store.specs.declared.commits.CommitStep.TheVariants.{WriteRecord};
-ghost use Rattle.planned_store.specs.Plans.{asked, Puts, Goes, BeginsOpen, BeginsFormat};
+ghost use Rattle.planned_store.specs.Plans.{asked, Puts, Goes, BeginsOpen, BeginsFormat, ReadsSuperblock, ReadsRecord};
 
 use crate::commits::{Commit, GATE, RECORDS, Selected};
 use crate::formats::Formatting;
@@ -83,35 +83,41 @@ impl Plan {
     pub fn told(self, answer: Result<(), Fault>, sector: &Sector) -> Plan
         ensures { Goes self answer sector.now result }
     {
-        match self {
-            Plan::Renewing(commit) => Plan::Renewing(commit.told(answer)),
-            Plan::Committing(commit) => Plan::Committing(commit.told(answer)),
-            Plan::Formatting(format) => Plan::Formatting(format.told(answer, sector)),
-            Plan::Found(found) => Plan::Found(found),
-            Plan::Refused(refusal) => Plan::Refused(refusal),
-            opening => match answer {
-                Ok(()) => opening.read_on(sector),
-                Err(Fault) => Plan::Refused(Refusal::Device),
-            },
+        match answer {
+            Ok(()) => self.gone_well(sector),
+            Err(Fault) => self.failed(sector),
         }
     }
 
-    /// An open goes on, with what was read.
-    fn read_on(self, sector: &Sector) -> Plan
+    fn gone_well(self, sector: &Sector) -> Plan
         ensures { Goes self (Ok tt) sector.now result }
     {
         match self {
             Plan::Settling(sectors) => Plan::ReadingSuperblock(sectors),
-            Plan::ReadingSuperblock(sectors) => match parse_superblock(sector, sectors) {
-                Ok(shape) => Plan::ReadingGate(shape),
-                Err(refusal) => Plan::Refused(refusal),
-            },
+            Plan::ReadingSuperblock(sectors) => superblock_read(sectors, sector),
             Plan::ReadingGate(shape) => Plan::ReadingRecord(shape, selected(sector)),
-            Plan::ReadingRecord(shape, side) => match parse_record(sector, &shape) {
-                Ok(live) => found_so(Selected { shape, side, live }),
-                Err(refusal) => Plan::Refused(refusal),
-            },
-            other => other,
+            Plan::ReadingRecord(shape, side) => record_read(shape, side, sector),
+            Plan::Renewing(commit) => Plan::Renewing(commit.told(Ok(()))),
+            Plan::Committing(commit) => Plan::Committing(commit.told(Ok(()))),
+            Plan::Formatting(format) => Plan::Formatting(format.told(Ok(()), sector)),
+            Plan::Found(found) => Plan::Found(found),
+            Plan::Refused(refusal) => Plan::Refused(refusal),
+        }
+    }
+
+    fn failed(self, sector: &Sector) -> Plan
+        ensures { (e : Fault) → Goes self (Err e) sector.now result }
+    {
+        match self {
+            Plan::Settling(_) => Plan::Refused(Refusal::Device),
+            Plan::ReadingSuperblock(_) => Plan::Refused(Refusal::Device),
+            Plan::ReadingGate(_) => Plan::Refused(Refusal::Device),
+            Plan::ReadingRecord(..) => Plan::Refused(Refusal::Device),
+            Plan::Renewing(commit) => Plan::Renewing(commit.told(Err(Fault))),
+            Plan::Committing(commit) => Plan::Committing(commit.told(Err(Fault))),
+            Plan::Formatting(format) => Plan::Formatting(format.told(Err(Fault), sector)),
+            Plan::Found(found) => Plan::Found(found),
+            Plan::Refused(refusal) => Plan::Refused(refusal),
         }
     }
 
@@ -123,6 +129,26 @@ impl Plan {
     {
         *self = self.told(answer, sector);
         self.asks(sector)
+    }
+}
+
+/// An open goes on, once it has read sector 0 of a disk of so many sectors.
+fn superblock_read(sectors: usize, sector: &Sector) -> Plan
+    ensures { ReadsSuperblock sectors sector.now result }
+{
+    match parse_superblock(sector, sectors) {
+        Ok(shape) => Plan::ReadingGate(shape),
+        Err(refusal) => Plan::Refused(refusal),
+    }
+}
+
+/// An open goes on, once it has read the record that the gate selects.
+fn record_read(shape: Shape, side: Side, sector: &Sector) -> Plan
+    ensures { ReadsRecord shape side sector.now result }
+{
+    match parse_record(sector, &shape) {
+        Ok(live) => found_so(Selected { shape, side, live }),
+        Err(refusal) => Plan::Refused(refusal),
     }
 }
 

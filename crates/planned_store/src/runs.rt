@@ -1,5 +1,5 @@
 //! The loop of a plan's caller, over any disk.
-ghost use Rattle.std.specs.Prelude.{◌≡◌, ◌<◌, IfSome, IfNone};
+ghost use Rattle.std.specs.Prelude.{◌≡◌, ◌<◌, IsTrue, false};
 ghost use Rattle.store.specs.Leaves.{IsIdle};
 ghost use Rattle.planned_store.specs.Plans.{asked, calls_left, task_of};
 ghost use Rattle.planned_store.specs.Reached.{Reached};
@@ -9,42 +9,36 @@ use crate::plans::{Plan, Request};
 use disk::{Disk, Fault, Sector, read_sector};
 
 /// Makes each call that the plan asks for, once and in order, and tells it how each ended, until it asks for nothing more.
-pub fn run<D: Disk>(disk: &mut D, plan: Plan) -> Plan
+pub fn run<D: Disk>(disk: &mut D, plan: &mut Plan)
     requires none_out { IsIdle (D.facts disk.old) }
-    requires begins { Reached D.facts D.fault_state plan disk.old disk.old }
-    ensures reached { Reached D.facts D.fault_state result disk.old disk.new }
-    ensures ended { asked result ≡ Request.Done }
-    ensures task { task_of result ≡ task_of plan }
+    requires begins { Reached D.facts D.fault_state plan.old disk.old disk.old }
+    ensures reached { Reached D.facts D.fault_state plan.new disk.old disk.new }
+    ensures ended { asked plan.new ≡ Request.Done }
+    ensures task { task_of plan.new ≡ task_of plan.old }
     ensures none_out { IsIdle (D.facts disk.new) }
 {
     let mut sector = [0; 512];
-    let mut reached = plan;
-    loop {
-        let now = reached;
-        match turn(disk, now, &mut sector) {
-            Some(next) => reached = next,
-            None => return now,
-        }
-    }
+    while turn(disk, plan, &mut sector) {}
 }
 
-/// Makes the call that the plan asks for: the plan after it, and none where it asks for nothing.
-fn turn<D: Disk>(disk: &mut D, plan: Plan, sector: &mut Sector) -> Option<Plan>
+/// Makes the call that the plan asks for, and tells it how that ended: whether it asked for one.
+fn turn<D: Disk>(disk: &mut D, plan: &mut Plan, sector: &mut Sector) -> bool
     requires none_out { IsIdle (D.facts disk.old) }
-    requires within { IsWithin (asked plan) (D.facts disk.old).content }
-    ensures goes { (start : D) → Reached D.facts D.fault_state plan start disk.old
-        → IfSome result (λ next. Reached D.facts D.fault_state next start disk.new) }
-    ensures task { IfSome result (λ next. task_of next ≡ task_of plan) }
-    ensures fewer { IfSome result (λ next. calls_left next < calls_left plan) }
-    ensures ended { IfNone result ((asked plan ≡ Request.Done) × (disk.new ≡ disk.old)) }
+    requires within { IsWithin (asked plan.old) (D.facts disk.old).content }
+    ensures goes { (start : D) → Reached D.facts D.fault_state plan.old start disk.old
+        → Reached D.facts D.fault_state plan.new start disk.new }
+    ensures task { task_of plan.new ≡ task_of plan.old }
+    ensures fewer { IsTrue result → calls_left plan.new < calls_left plan.old }
+    ensures ended { result ≡ false → asked plan.new ≡ Request.Done }
     ensures none_out { IsIdle (D.facts disk.new) }
 {
     let request = plan.asks(sector);
     if request == Request::Done {
-        return None;
+        return false;
     }
     let answer = serve(disk, request, sector);
-    Some(plan.told(answer, sector))
+    *plan = plan.told(answer, sector);
+    true
 }
 
 /// Does what is asked.

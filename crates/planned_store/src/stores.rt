@@ -125,8 +125,8 @@ pub fn apply<D: Disk>(
     requires holds { Holds (D.facts disk.old) store.old }
     ensures { Asked D.facts D.fault_state disk.old store.old (change_of command) result disk.new store.new }
 {
-    let plan = store.plan(command)?;
-    let plan = run(disk, plan);
+    let mut plan = store.plan(command)?;
+    run(disk, &mut plan);
     store.ended(Entry::Command(command).ends_life(), &plan)
 }
 
