@@ -6,3 +6,4 @@ pub mod Committing
 pub mod Applying
 pub mod Opening
 pub mod FormatEnds
+pub mod Begins

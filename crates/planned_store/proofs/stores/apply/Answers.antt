@@ -1,0 +1,19 @@
+use Rattle.std.proofs.Common.{◌≡◌, ◌∙◌, [], Err, ap, rules}
+use Rattle.std.proofs.lemmas.Result.{err_from_is_err_and}
+use Rattle.board_model.specs.Views.{change_of}
+use Rattle.planned_store.specs.Plans.{task_of}
+use Rattle.planned_store.proofs.Applying.{refused, answered_by}
+use Rattle.planned_store.proofs.stores.apply.Goals as goal
+
+pub returns-in_err-plan : goal.returns-in_err-plan
+returns-in_err-plan g c =
+    let p = err_from_is_err_and c.from_residual.result c.from_residual.ensures.1 in
+    rw (p.1, p.2)
+    (refused g.D.Disk.facts g.D.Disk.fault_state (λ d. g.met.D.Disk.may_keep d) (λ d. g.met.D.Disk.only_now d) c.args.disk.now c.args.store.now c.requires.holds (change_of c.args.command) _
+    (λ up. c.in_err-plan.ensures.refused up (g.D.Disk.facts c.args.disk.now).content) c.in_err-plan.ensures.others (λ is. let same = c.in_err-plan.ensures.down is in cc))
+
+pub returns : goal.returns
+returns g c =
+    rw (c.ended.ensures.receipt, c.ended.ensures.store)
+    (answered_by g.D.Disk.facts g.D.Disk.fault_state (λ d. g.met.D.Disk.may_keep d) (λ d. g.met.D.Disk.only_now d) c.args.disk.now c.args.store.now c.requires.holds c.in_ok-plan.ensures.up c.args.command c.ends_life.result (c.ends_life.ensures []) c.in_ok-plan.plan c.in_ok-plan.ensures.ok
+    c.run.new.disk (g.met.D.Disk.bounded _) c.run.new.plan c.run.ensures.reached c.run.ensures.ended (c.run.ensures.task ∙ ap task_of c.in_ok-plan.ensures.ok.is))
