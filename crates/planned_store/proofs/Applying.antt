@@ -1,6 +1,6 @@
 -- A command, from its plan to its answer.
-use Rattle.std.proofs.Common.{◌≡◌, ◌∙◌, ◌⊎◌, inl, inr, ◌+◌, ◌-◌, ◌^◌, ◌≤◌, ◌<◌, ℕ, List, Bool, true, false, Result, Ok, Err, IfErr, IsErrOf, Some, None, length, refl, sym, ap, subst, arith}
-use Rattle.board_model.specs.Durable.{DurableState, Change, refusal_of, after, ends_life}
+use Rattle.std.proofs.Common.{◌≡◌, ◌∙◌, inl, inr, ◌≤◌, ℕ, Bool, true, false, Result, Err, length, refl, sym, ap, subst, arith}
+use Rattle.board_model.specs.Durable.{DurableState, Change, after, ends_life}
 use Rattle.board_model.specs.Shapes.{Size}
 use Rattle.board_model.specs.Views.{change_of}
 use Rattle.board_model.specs.declared.durable.Command.{Command}
@@ -13,16 +13,16 @@ use Rattle.layout.specs.Records.{IsInRange}
 use Rattle.layout.specs.declared.records.Record.{Record}
 use Rattle.store.specs.Answers.{GoesTo, CountedRefusal}
 use Rattle.store.specs.Commits.{IsUp}
-use Rattle.store.specs.Leaves.{LeavesOnly, StandsForEither}
+use Rattle.store.specs.Leaves.{StandsForEither}
 use Rattle.store.specs.Opens.{CausedRefusal}
 use Rattle.store.specs.Standing.{state_of}
 use Rattle.store.proofs.Answering.{the_error}
 use Rattle.store.proofs.Renewing.{four_sectors}
 use Rattle.store.proofs.States.{up_leaves, stands_for}
 use Rattle.planned_store.specs.Commits.{asked_at}
-use Rattle.planned_store.specs.Plans.{asked, Task, Opens, Commits, Formats, task_of}
+use Rattle.planned_store.specs.Plans.{asked, Commits, task_of}
 use Rattle.planned_store.specs.Reached.{CommitAt, Reached}
-use Rattle.planned_store.specs.Stores.{state_now, Holds, Reaches, Told, Applied, Asked, PlansCommand, receipt_at, receipt_of, store_at, store_after}
+use Rattle.planned_store.specs.Stores.{state_now, Holds, Reaches, Told, Asked, PlansCommand, receipt_at, receipt_of, store_at, store_after}
 use Rattle.planned_store.specs.declared.commits.Commit.{Commit}
 use Rattle.planned_store.specs.declared.commits.CommitStep.{CommitStep}
 use Rattle.planned_store.specs.declared.commits.CommitStep.TheVariants.{WriteRecord, SyncRecord, WriteGate, SyncGate, Committed, Unchanged, InDoubt}

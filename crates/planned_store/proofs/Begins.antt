@@ -1,7 +1,7 @@
 -- Of which task a plan is when it begins.
-use Rattle.std.proofs.Common.{◌≡◌, ◌∙◌, ◌⊎◌, inl, inr, ◌≤◌, ◌<◌, ℕ, ap}
+use Rattle.std.proofs.Common.{◌≡◌, ◌∙◌, inl, inr, ℕ, ap}
 use Rattle.board_model.specs.Shapes.{Size}
-use Rattle.planned_store.specs.Plans.{BeginsOpen, BeginsFormat, FormatBegins, Task, Opens, Formats, task_of}
+use Rattle.planned_store.specs.Plans.{BeginsOpen, BeginsFormat, FormatBegins, Opens, Formats, task_of}
 use Rattle.planned_store.specs.declared.formats.Formatting.{Formatting as Format}
 use Rattle.planned_store.specs.declared.plans.Plan.{Plan}
 

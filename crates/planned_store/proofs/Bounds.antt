@@ -1,15 +1,14 @@
 -- The calls of a plan are of sectors that the disk has, and each leaves fewer to come.
-use Rattle.std.proofs.Common.{◌≡◌, ◌∙◌, ◌+◌, ◌-◌, ◌≤◌, ◌<◌, ℕ, List, Result, Ok, Err, length, refl, sym, ap, subst, arith}
+use Rattle.std.proofs.Common.{◌≡◌, ◌+◌, ◌-◌, ◌≤◌, ◌<◌, ℕ, List, Ok, Err, length, refl, sym, ap, subst, arith}
 use Rattle.board_model.specs.Shapes.{Size, sectors_of}
-use Rattle.board_model.specs.declared.refusal.Refusal.{Refusal}
-use Rattle.board_model.specs.declared.refusal.Refusal.TheVariants.{NotFormatted, BadShape, BadRecord, Device}
+use Rattle.board_model.specs.declared.refusal.Refusal.TheVariants.{Device}
 use Rattle.disk.specs.Facts.{Facts, Content}
 use Rattle.disk.specs.FaultState.{FaultState}
 use Rattle.layout.specs.declared.records.Record.{Record}
-use Rattle.store.specs.Standing.{selected, Selects}
+use Rattle.store.specs.Standing.{selected}
 use Rattle.planned_store.specs.Commits.{Answer, asked_at, step_after, left_at}
-use Rattle.planned_store.specs.Plans.{asked, Goes, ReadsSuperblock, ReadsRecord, FormatGoes, SuperblockStep, format_asks, format_left, calls_left, Task, Opens, task_of}
-use Rattle.planned_store.specs.Reached.{CommitAt, FormatAt, Reached, FoundAt}
+use Rattle.planned_store.specs.Plans.{asked, Goes, ReadsSuperblock, ReadsRecord, FormatGoes, SuperblockStep, format_asks, format_left, calls_left, Opens, task_of}
+use Rattle.planned_store.specs.Reached.{CommitAt, FormatAt, Reached}
 use Rattle.planned_store.specs.Served.{IsWithin}
 use Rattle.planned_store.specs.declared.commits.CommitStep.{CommitStep}
 use Rattle.planned_store.specs.declared.commits.CommitStep.TheVariants.{WriteRecord, SyncRecord, WriteGate, SyncGate, Committed, Unchanged, InDoubt}

@@ -1,5 +1,5 @@
 -- Calls of a disk one after another, told of a disk of which nothing is lent.
-use Rattle.std.proofs.Common.{◌≡◌, ◌∙◌, ◌+◌, ◌≤◌, ℕ, Result, Ok, Err, sym, subst, arith}
+use Rattle.std.proofs.Common.{◌∙◌, ◌+◌, ◌≤◌, ℕ, Result, Ok, Err, sym, subst, arith}
 use Rattle.disk.specs.Calls.{MakesCalls}
 use Rattle.disk.specs.Facts.{Content, Facts, Stays}
 use Rattle.disk.specs.FaultState.{FaultState, Cause}

@@ -1,14 +1,13 @@
 -- What a commit that has ended has made of a disk on which a crash left its first record selected.
-use Rattle.std.proofs.Common.{◌≡◌, ◌∙◌, inl, inr, ◌+◌, ◌-◌, ◌≤◌, ◌<◌, ℕ, List, [], ◌∷◌, Result, Ok, Err, length, refl, sym, ap, subst, arith}
+use Rattle.std.proofs.Common.{◌≡◌, ◌∙◌, ◌+◌, ◌-◌, ◌<◌, ℕ, Result, Ok, Err, ap, subst, arith}
 use Rattle.board_model.specs.Durable.{DurableState}
 use Rattle.board_model.specs.Shapes.{Size}
-use Rattle.board_model.specs.declared.refusal.Refusal.{Refusal}
 use Rattle.board_model.specs.declared.refusal.Refusal.TheVariants.{Device, Down}
 use Rattle.disk.specs.Calls.{MakesCalls}
-use Rattle.disk.specs.Facts.{Facts, Content, sector, Torn, Written, Only, LeavesSince, Failed, counted, most}
-use Rattle.disk.specs.FaultState.{FaultState, Cause}
+use Rattle.disk.specs.Facts.{Facts, Content, sector, Torn, LeavesSince}
+use Rattle.disk.specs.FaultState.{FaultState}
 use Rattle.disk.specs.Moments.{called_then, leaves_weaker}
-use Rattle.layout.specs.Records.{record_of, gate_of, selected_by, IsInRange}
+use Rattle.layout.specs.Records.{record_of, gate_of, IsInRange}
 use Rattle.layout.specs.declared.records.Record.{Record}
 use Rattle.layout.specs.declared.records.Version.TheVariants.{Two}
 use Rattle.layout.proofs.SpelledRecords.{selected_by-gate_of}
@@ -18,10 +17,10 @@ use Rattle.store.specs.Leaves.{LeavesOnly, LeavesEither, StandsForEither, WroteA
 use Rattle.store.specs.Standing.{selected, state_of}
 use Rattle.store.proofs.Answering.{goes_to, wrote}
 use Rattle.store.proofs.Called.{called_apart}
-use Rattle.store.proofs.Contents.{gate_selects, kept_live, stands_there, areas_then, torn_areas}
+use Rattle.store.proofs.Contents.{gate_selects, kept_live, stands_there, areas_then}
 use Rattle.store.proofs.States.{of_areas, state_same, up_leaves, doubt_leaves, either_stands}
 use Rattle.store.proofs.Steps.{while_recorded, while_selected, in_doubt, committed, still_up}
-use Rattle.planned_store.specs.Reached.{Made, Recorded, Gated, CommitAt}
+use Rattle.planned_store.specs.Reached.{Recorded, CommitAt}
 use Rattle.planned_store.specs.declared.commits.CommitStep.TheVariants.{Committed, Unchanged, InDoubt}
 
 module _ {D : Type 0} (f : D → Facts) (m : D → FaultState) (may_keep : (d : D) → (f d).may_leave (f d).content) (only_now : (d : D) (c : Content) → (f d).since (f d).moment c → (f d).may_leave c)

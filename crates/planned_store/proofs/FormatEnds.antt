@@ -1,20 +1,20 @@
 -- A format, from the end of its plan to what `format` of the crate `store` promises.
-use Rattle.std.proofs.Common.{◌≡◌, ◌∙◌, ◌⊎◌, inl, inr, ◌+◌, ◌≤◌, ◌<◌, ℕ, Result, Ok, Err, length, refl, sym, ap, subst, arith}
+use Rattle.std.proofs.Common.{◌≡◌, ◌∙◌, inl, inr, ◌≤◌, ◌<◌, ℕ, Ok, Err, length, refl, sym, ap, subst, arith}
 use Rattle.board_model.specs.Shapes.{Size, sectors_of}
 use Rattle.board_model.specs.declared.refusal.Refusal.TheVariants.{BadShape, AlreadyFormatted, Device}
-use Rattle.disk.specs.Facts.{Facts, Content, Lent, sector, Passes, Stays, counted, most}
+use Rattle.disk.specs.Facts.{Facts, Lent, most}
 use Rattle.disk.specs.FaultState.{FaultState}
 use Rattle.disk.specs.Moments.{passes_none}
-use Rattle.layout.specs.Records.{selected_by, gate_of, record_of, IsInRange}
+use Rattle.layout.specs.Records.{selected_by, IsInRange}
 use Rattle.layout.proofs.SpelledRecords.{selected_by-gate_of}
 use Rattle.store.specs.Commits.{IsUp}
-use Rattle.store.specs.Formats.{formatted_record, HeadInOrder, WritesHead}
+use Rattle.store.specs.Formats.{formatted_record, HeadInOrder}
 use Rattle.store.proofs.Formatting.{head_read}
 use Rattle.store.proofs.Found.{settled}
 use Rattle.store.proofs.States.{up_leaves}
 use Rattle.planned_store.specs.Formats.{answer_at, formatted_by, FormatsTo}
-use Rattle.planned_store.specs.Plans.{asked, format_asks, Task, Formats, task_of}
-use Rattle.planned_store.specs.Reached.{Made, Unmarked, HasHead, FormatAt, Reached}
+use Rattle.planned_store.specs.Plans.{asked, format_asks, Formats, task_of}
+use Rattle.planned_store.specs.Reached.{Unmarked, FormatAt, Reached}
 use Rattle.planned_store.specs.declared.formats.FormatStep.{FormatStep}
 use Rattle.planned_store.specs.declared.formats.FormatStep.TheVariants as formats
 use Rattle.planned_store.specs.declared.plans.Plan.{Plan}

@@ -1,19 +1,17 @@
 -- A call of a format makes of what was reached what its next step has reached.
-use Rattle.std.proofs.Common.{◌≡◌, ◌∙◌, ◌⊎◌, inl, inr, ◌+◌, ◌≤◌, ◌<◌, ℕ, List, [], ◌∷◌, Result, Ok, Err, length, refl, sym, ap, subst, arith}
+use Rattle.std.proofs.Common.{◌≡◌, ◌∙◌, inl, inr, ◌+◌, ◌≤◌, ℕ, List, Result, Ok, Err, length, sym, ap, subst, arith}
 use Rattle.board_model.specs.Shapes.{Size, sectors_of}
 use Rattle.disk.specs.Calls.{MakesCalls}
-use Rattle.disk.specs.Facts.{Facts, Content, sector, Torn, Written, Passes, Stays, Only}
+use Rattle.disk.specs.Facts.{Facts, Content, sector, Torn, Passes, Stays, Only}
 use Rattle.disk.specs.FaultState.{FaultState}
 use Rattle.disk.specs.Moments.{called_then, passes_weaker}
-use Rattle.layout.specs.Records.{record_of, gate_of}
 use Rattle.layout.specs.Superblocks.{HasMagic, IsSuperblock}
-use Rattle.store.specs.Formats.{formatted_record, HeadInOrder}
-use Rattle.store.specs.Leaves.{IsMarked}
+use Rattle.store.specs.Formats.{HeadInOrder}
 use Rattle.store.proofs.Contents.{stands_there}
-use Rattle.store.proofs.Formatting.{order_behind, order_marked, passes_behind, passes_marked}
+use Rattle.store.proofs.Formatting.{order_behind, order_marked, passes_marked}
 use Rattle.planned_store.specs.Commits.{Answer}
 use Rattle.planned_store.specs.Plans.{FormatPuts, FormatGoes, SuperblockStep, format_asks}
-use Rattle.planned_store.specs.Reached.{Made, Behind, Unmarked, HasHead, FormatAt}
+use Rattle.planned_store.specs.Reached.{Made, Behind, HasHead, FormatAt}
 use Rattle.planned_store.specs.Served.{IsServed}
 use Rattle.planned_store.specs.declared.formats.FormatStep.{FormatStep}
 use Rattle.planned_store.specs.declared.formats.FormatStep.TheVariants as formats
@@ -139,8 +137,8 @@ module _ {D : Type 0} (f : D → Facts) (m : D → FaultState) (size : Size) (by
       (inr (
         at.0,
         loosely 6 Behind HeadInOrder (f a) (f c) (m a) (m c) (Err tt) order_behind
-        (stopped 4 6 Behind (f a) (f c) (m a) (m c) tt (omega arith)
-        (called_stays 3 1 Behind (f a) (f b) (f c) (m a) (m b) (m c) tt (Err tt) at.1 (stopped 1 1 Stays (f b) (f c) (m b) (m c) e (omega arith) served.0))),
+            (stopped 4 6 Behind (f a) (f c) (m a) (m c) tt (omega arith)
+            (called_stays 3 1 Behind (f a) (f b) (f c) (m a) (m b) (m c) tt (Err tt) at.1 (stopped 1 1 Stays (f b) (f c) (m b) (m c) e (omega arith) served.0))),
       ))
   format_on formats.WriteSuperblock t (Ok v) at puts served went = by formats.SyncSuperblock t went (
     at.0,

@@ -1,5 +1,5 @@
 -- An open, from the end of its plan to what `Store::open` promises.
-use Rattle.std.proofs.Common.{◌≡◌, ◌∙◌, ◌⊎◌, inl, inr, ◌+◌, ◌-◌, ◌≤◌, ◌<◌, ℕ, Result, Ok, Err, length, refl, sym, ap, subst, arith}
+use Rattle.std.proofs.Common.{◌≡◌, ◌∙◌, inl, inr, ◌-◌, ◌≤◌, ◌<◌, ℕ, Ok, Err, length, refl, sym, ap, subst, arith}
 use Rattle.board_model.specs.Durable.{DurableState}
 use Rattle.board_model.specs.Shapes.{Size, sectors_of}
 use Rattle.board_model.specs.declared.refusal.Refusal.{Refusal}
@@ -9,7 +9,6 @@ use Rattle.disk.specs.Facts.{Facts, Content, Lent, Stays, LeavesSince, counted, 
 use Rattle.disk.specs.FaultState.{FaultState, Cause}
 use Rattle.layout.specs.Records.{IsInRange}
 use Rattle.layout.specs.declared.records.Record.{Record}
-use Rattle.layout.specs.declared.records.Version.{Version}
 use Rattle.layout.specs.declared.records.Version.TheVariants.{One, Two}
 use Rattle.store.specs.Commits.{SameAreas, SelectsEither, IsUp}
 use Rattle.store.specs.Leaves.{Leaves, ReadsAlone, IsSettled}
@@ -23,16 +22,14 @@ use Rattle.store.proofs.Renewing.{renewed_moment, leaves_two, in_range_two, stil
 use Rattle.store.proofs.States.{up_leaves}
 use Rattle.planned_store.specs.Commits.{asked_at}
 use Rattle.planned_store.specs.Opens.{opened_at, opened_by, OpensTo}
-use Rattle.planned_store.specs.Plans.{asked, Task, Opens, task_of}
+use Rattle.planned_store.specs.Plans.{asked, Opens, task_of}
 use Rattle.planned_store.specs.Reached.{Made, CommitAt, ReadSo, FoundAt, RefusedAt, Reached}
-use Rattle.planned_store.specs.declared.commits.Commit.{Commit}
 use Rattle.planned_store.specs.declared.commits.CommitStep.{CommitStep}
 use Rattle.planned_store.specs.declared.commits.CommitStep.TheVariants.{WriteRecord, SyncRecord, WriteGate, SyncGate, Committed, Unchanged, InDoubt}
 use Rattle.planned_store.specs.declared.commits.Selected.{Selected}
 use Rattle.planned_store.specs.declared.plans.Plan.{Plan}
 use Rattle.planned_store.specs.declared.plans.Plan.TheVariants.{Settling, ReadingSuperblock, ReadingGate, ReadingRecord, Found, Renewing, Committing, Formatting, Refused}
 use Rattle.planned_store.specs.declared.plans.Request.TheVariants.{Done}
-use Rattle.planned_store.specs.declared.stores.OpenStore.{OpenStore}
 use Rattle.planned_store.proofs.Calls.{stopped}
 use Rattle.planned_store.proofs.Committing.{done_up, done_moment, done_calls, unchanged_moment, unchanged_calls, doubt_moment, doubt_calls}
 

@@ -1,8 +1,8 @@
 -- What an open by a plan makes of a disk: each clause of `Store::open` of the crate `store`, but that it is never refused
 -- memory. Source: docs/STORE.md, "Opening".
-use Rattle.std.specs.Prelude.{◌≡◌, ◌⊎◌, ◌<◌, ℕ, Result, Ok, Err, IfOk, IfErr, MatchResult, length, false}
+use Rattle.std.specs.Prelude.{◌≡◌, ◌⊎◌, ◌<◌, Result, Ok, Err, IfOk, IfErr, MatchResult, length}
 use Rattle.board_model.specs.Durable.{DurableState}
-use Rattle.board_model.specs.Shapes.{Size, sectors_of}
+use Rattle.board_model.specs.Shapes.{Size}
 use Rattle.board_model.specs.declared.refusal.Refusal.{Refusal}
 use Rattle.board_model.specs.declared.refusal.Refusal.TheVariants.{BadShape, Device}
 use Rattle.disk.specs.Facts.{Facts, counted}

@@ -1,16 +1,14 @@
 -- The calls of a plan, one after another. Source: docs/STORE.md, "The calls of the disk".
-use Rattle.std.specs.Prelude.{◌≡◌, ◌⊎◌, ◌+◌, ◌≤◌, ◌<◌, ℕ, List, Result, Ok, Err, OnOk}
+use Rattle.std.specs.Prelude.{◌≡◌, ◌⊎◌, ◌+◌, ◌≤◌, ◌<◌, ℕ, List, Ok, Err}
 use Rattle.board_model.specs.Shapes.{Size, sectors_of}
-use Rattle.board_model.specs.declared.refusal.Refusal.{Refusal}
 use Rattle.board_model.specs.declared.refusal.Refusal.TheVariants.{NotFormatted, BadShape, BadRecord, Device}
 use Rattle.layout.specs.Records.{selected_by, IsRecord, gate_of, record_of}
-use Rattle.layout.specs.Superblocks.{HasMagic, IsSuperblock, superblock_of}
+use Rattle.layout.specs.Superblocks.{HasMagic, IsSuperblock}
 use Rattle.layout.specs.declared.records.Record.{Record}
 use Rattle.layout.specs.declared.records.Version.TheVariants.{One, Two}
 use Rattle.store.specs.Formats.{formatted_record}
 use Rattle.store.specs.Opens.{renewed_record}
 use Rattle.planned_store.specs.Commits.{Answer, asked_in, PutsIn, step_after, left_at}
-use Rattle.planned_store.specs.declared.commits.Commit.{Commit}
 use Rattle.planned_store.specs.declared.commits.CommitStep.TheVariants.{WriteRecord}
 use Rattle.planned_store.specs.declared.commits.Selected.{Selected}
 use Rattle.planned_store.specs.declared.formats.Formatting.{Formatting as Format}

@@ -1,5 +1,5 @@
 -- What a caller does that was asked for a call of the disk: the call, once, and its answer told.
-use Rattle.std.specs.Prelude.{◌≡◌, ◌+◌, ◌<◌, ℕ, List, [], ◌∷◌, length, OnOk}
+use Rattle.std.specs.Prelude.{◌≡◌, ◌<◌, ℕ, List, [], ◌∷◌, length, OnOk}
 use Rattle.disk.specs.Calls.{MakesCalls}
 use Rattle.disk.specs.Facts.{Facts, Content, sector, Torn, Written, Stays, Only}
 use Rattle.disk.specs.FaultState.{FaultState}

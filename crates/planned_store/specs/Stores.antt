@@ -1,5 +1,5 @@
 -- An open store, and what a command does to it and to its disk. Source: docs/STORE.md, "A commit"; docs/DURABLE.md.
-use Rattle.std.specs.Prelude.{◌≡◌, ◌⊎◌, ◌+◌, ◌-◌, ◌^◌, ◌≤◌, ◌<◌, ℕ, Bool, true, false, Result, Ok, Err, Option, Some, None, OnOk, IfErr, IsErrOf, MatchResult, length}
+use Rattle.std.specs.Prelude.{◌≡◌, ◌⊎◌, ◌+◌, ◌-◌, ◌^◌, ◌≤◌, ◌<◌, ℕ, Bool, true, false, Result, Ok, Err, Some, None, OnOk, IfErr, MatchResult}
 use Rattle.board_model.specs.Durable.{DurableState, Change, refusal_of, after, ends_life}
 use Rattle.board_model.specs.Shapes.{Size}
 use Rattle.board_model.specs.Views.{number_of_refusal, change_of}

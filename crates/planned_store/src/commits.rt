@@ -3,9 +3,9 @@ ghost use Rattle.std.specs.Prelude.{◌≡◌, Ok, Err};
 ghost use Rattle.planned_store.specs.Commits.{asked_in, PutsIn, step_after, made_by};
 
 use crate::plans::Request;
+use board_model::Shape;
 use disk::{Fault, Sector};
 use layout::{Record, Side, gate_bytes, record_bytes};
-use board_model::Shape;
 
 /// The sector of the gate.
 pub(crate) const GATE: usize = 1;

@@ -7,6 +7,7 @@
 
 mod commits;
 mod formats;
+mod laws;
 mod opens;
 mod plans;
 mod runs;
@@ -14,6 +15,7 @@ mod stores;
 
 pub use commits::{Commit, CommitStep, Selected};
 pub use formats::{FormatStep, Formatting, format};
+pub use laws::open_stores_stand;
 pub use opens::open;
 pub use plans::{Plan, Request};
 pub use runs::run;

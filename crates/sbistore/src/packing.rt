@@ -1,24 +1,29 @@
 //! The plan and the open store, to the numbers and bytes that C keeps, and back.
 
+ghost use Rattle.std.specs.Prelude.{◌≤◌};
+
 use crate::state::Sbistore;
 use board_model::Shape;
 use disk::Sector;
 use layout::{Record, Side, parse_record, record_bytes};
-use planned_store::{
-    Commit, CommitStep, FormatStep, Formatting, OpenStore, Plan, Selected,
-};
+use planned_store::{Commit, CommitStep, FormatStep, Formatting, OpenStore, Plan, Selected};
 
 /// No plan is under way.
 pub const NONE: u32 = 0;
 
 const SETTLING: u32 = 1;
+
 const READING_SUPERBLOCK: u32 = 2;
+
 const READING_GATE: u32 = 3;
+
 const READING_RECORD: u32 = 4;
 
 /// The first step of a renewal, of a command and of a format; their other steps come after it.
 const RENEWING: u32 = 5;
+
 const COMMITTING: u32 = 9;
+
 const FORMATTING: u32 = 13;
 
 /// Keeps a plan that asks for a call.
@@ -97,7 +102,10 @@ pub fn plan_of(store: &Sbistore) -> Option<Plan> {
         READING_GATE => Some(Plan::ReadingGate(shape_of(store)?)),
         READING_RECORD => Some(Plan::ReadingRecord(shape_of(store)?, Side::new(store.side)?)),
         RENEWING..COMMITTING => Some(Plan::Renewing(commit_of(store, store.phase - RENEWING)?)),
-        COMMITTING..FORMATTING => Some(Plan::Committing(commit_of(store, store.phase - COMMITTING)?)),
+        COMMITTING..FORMATTING => Some(Plan::Committing(commit_of(
+            store,
+            store.phase - COMMITTING,
+        )?)),
         _ => format_of(store),
     }
 }

@@ -1,4 +1,4 @@
-use Rattle.std.proofs.Common.{◌≡◌, ℕ}
+use Rattle.std.proofs.Common.{◌≡◌}
 use Rattle.planned_store.specs.Plans.{calls_left, task_of}
 use Rattle.planned_store.specs.Reached.{Reached}
 use Rattle.planned_store.proofs.runs.run.Given as goal

@@ -1,5 +1,4 @@
-use Rattle.std.proofs.Common.{◌≡◌, ◌∙◌, rules, sym, subst}
-use Rattle.planned_store.specs.Plans.{asked}
+use Rattle.std.proofs.Common.{◌≡◌, ◌∙◌, rules, subst}
 use Rattle.planned_store.specs.Served.{IsServed}
 use Rattle.planned_store.specs.declared.plans.Request.{Request}
 use Rattle.planned_store.specs.declared.plans.Request.TheVariants.{Done}
