@@ -227,10 +227,12 @@ int main(int count, char **words)
     cut_format(&now);
     while (cuts < wanted) {
         uint32_t kind = 1 + draw(7);
+        uint32_t one = draw(10) == 0 ? 4 + draw(9) : draw(4);
+        uint32_t other = draw(10) == 0 ? 8 * draw(2) : 1 + draw(7);
         if (draw(50) == 0)
             cut_format(&now);
         cut_open(&now);
-        cut_command(&now, kind, draw(10) == 0 ? 4 + draw(9) : draw(4), draw(10) == 0 ? 8 * draw(2) : 1 + draw(7));
+        cut_command(&now, kind, one, other);
     }
     printf("state %lu bytes\n", (unsigned long)sizeof(struct sbistore));
     printf("commands slot %lu reset %lu consume %lu discard %lu tries %lu good %lu attempt %lu\n", commands[1], commands[2], commands[3],

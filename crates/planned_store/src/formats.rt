@@ -140,7 +140,8 @@ fn new_record() -> Record
 /// Formats a disk for a board of that shape, as `format` of the crate `store` does.
 pub fn format<D: Disk>(disk: &mut D, shape: &Shape) -> Result<(), Refusal>
     requires none_out { IsIdle (D.facts disk.old) }
-    ensures { FormatsTo D.facts D.fault_state shape.now disk.old result disk.new }
+    ensures formats { FormatsTo D.facts D.fault_state shape.now disk.old result disk.new }
+    ensures none_out { IsIdle (D.facts disk.new) }
 {
     let mut plan = Plan::format(*shape, disk.sectors());
     run(disk, &mut plan);

@@ -1,7 +1,8 @@
 //! An open by its plan.
-ghost use Rattle.std.specs.Prelude.{◌≡◌};
+ghost use Rattle.std.specs.Prelude.{◌≡◌, IfOk};
 ghost use Rattle.store.specs.Leaves.{IsIdle};
 ghost use Rattle.planned_store.specs.Opens.{opened_by, OpensTo};
+ghost use Rattle.planned_store.specs.Stores.{Holds};
 
 use crate::commits::CommitStep;
 use crate::plans::Plan;
@@ -30,7 +31,9 @@ impl Plan {
 /// Opens a disk, as `Store::open` of the crate `store` does.
 pub fn open<D: Disk>(disk: &mut D) -> Result<OpenStore, Refusal>
     requires none_out { IsIdle (D.facts disk.old) }
-    ensures { OpensTo D.facts D.fault_state disk.old result disk.new }
+    ensures opens { OpensTo D.facts D.fault_state disk.old result disk.new }
+    ensures holds { IfOk result (λ store. Holds (D.facts disk.new) store) }
+    ensures none_out { IsIdle (D.facts disk.new) }
 {
     let mut plan = Plan::open(disk.sectors());
     run(disk, &mut plan);

@@ -119,7 +119,8 @@ impl OpenStore {
 /// Issues a command, as `Store::apply` of the crate `store` does.
 pub fn apply<D: Disk>(disk: &mut D, store: &mut OpenStore, command: Command) -> Result<u64, Refusal>
     requires holds { Holds (D.facts disk.old) store.old }
-    ensures { Asked D.facts D.fault_state disk.old store.old (change_of command) result disk.new store.new }
+    ensures asked { Asked D.facts D.fault_state disk.old store.old (change_of command) result disk.new store.new }
+    ensures holds { Holds (D.facts disk.new) store.new }
 {
     let mut plan = store.plan(command)?;
     run(disk, &mut plan);
