@@ -63,6 +63,8 @@ mod packets;
 #[cfg(test)]
 mod plains;
 #[cfg(test)]
+mod planned;
+#[cfg(test)]
 mod programs;
 #[cfg(test)]
 mod race;
