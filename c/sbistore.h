@@ -70,7 +70,7 @@ enum {
 struct sbistore {
     uint64_t number;   /* of a request the sector, from 0; after SBISTORE_DONE the code */
     uint64_t receipts; /* how many commands were acknowledged since the open */
-    uint64_t hidden[6];
+    uint64_t hidden[7];
     uint8_t records[2 * SBISTORE_SECTOR];
 };
 

@@ -2,6 +2,13 @@
 //! asked for, and tells how each ended. Here is what turns that state into the values of the crate `planned_store`, and back.
 #![tactic(auto)]
 
+ghost use Rattle.std.specs.Prelude.{◌≡◌, ◌<◌};
+ghost use Rattle.planned_store.specs.Commits.{Answer};
+ghost use Rattle.planned_store.specs.Plans.{asked, Puts, Goes};
+ghost use Rattle.planned_store.specs.declared.plans.Plan.{Plan};
+ghost use Rattle.sbistore.specs.Next.{IsAnswer, AsksFor, NextOf};
+ghost use Rattle.sbistore.specs.Packed.{IsPacked, IsSound, packed_by};
+
 mod packing;
 mod state;
 
@@ -53,7 +60,10 @@ pub extern "C" fn sbistore_command(store: &mut Sbistore, kind: u32, one: u32, ot
 /// Tells how the last request ended, 0 where it went well, and asks for the next one: 0 done, 1 read, 2 write, 3 sync.
 /// The first call after a begin has nothing to tell.
 #[unsafe(no_mangle)]
-pub extern "C" fn sbistore_next(store: &mut Sbistore, failed: u32, sector: &mut [u8; 512]) -> u32 {
+pub extern "C" fn sbistore_next(store: &mut Sbistore, failed: u32, sector: &mut [u8; 512]) -> u32
+    ensures { (plan : Plan) → IsPacked plan store.old
+        → NextOf plan store.old failed sector.old result store.new sector.new }
+{
     if store.phase == NONE {
         return DONE;
     }
@@ -61,26 +71,44 @@ pub extern "C" fn sbistore_next(store: &mut Sbistore, failed: u32, sector: &mut 
         end(store, SPOILT);
         return DONE;
     };
-    let plan = if store.asked == 0 {
-        plan
-    } else {
-        plan.told(answer(failed), sector)
-    };
+    let plan = gone_on(store.asked, plan, failed, sector);
     ask(store, &plan, sector)
 }
 
+/// The plan once it is told how its last call ended, where one was asked for.
+fn gone_on(asked: u32, plan: Plan, failed: u32, sector: &Sector) -> Plan
+    ensures first { asked ≡ 0 → result ≡ plan }
+    ensures told { 0 < asked → (answer : Answer) × IsAnswer failed answer × Goes plan answer sector.now result }
+{
+    if asked == 0 {
+        plan
+    } else {
+        plan.told(answer(failed), sector)
+    }
+}
+
 /// Asks for the call that comes next, or ends the plan.
-fn ask(store: &mut Sbistore, plan: &Plan, sector: &mut Sector) -> u32 {
-    let (kind, number) = match plan.asks(sector) {
-        Request::Read(number) => (READ, number),
-        Request::Write(number) => (WRITE, number),
-        Request::Sync => (SYNC, 0),
+fn ask(store: &mut Sbistore, plan: &Plan, sector: &mut Sector) -> u32
+    ensures asks { IsSound plan.now → AsksFor (asked plan.now) plan.now result store.new }
+    ensures bytes { Puts plan.now sector.new }
+{
+    match plan.asks(sector) {
+        Request::Read(number) => keep_asked(store, plan, READ, number),
+        Request::Write(number) => keep_asked(store, plan, WRITE, number),
+        Request::Sync => keep_asked(store, plan, SYNC, 0),
         Request::Done => {
             let code = finish(store, plan);
             end(store, code);
-            return DONE;
+            DONE
         }
-    };
+    }
+}
+
+/// Keeps a plan that asks for a call of that kind.
+fn keep_asked(store: &mut Sbistore, plan: &Plan, kind: u32, number: usize) -> u32
+    ensures kind { result ≡ kind }
+    ensures store { store.new ≡ record (packed_by plan.now store.old) { asked = 1; number = number } }
+{
     pack(store, plan);
     store.asked = 1;
     store.number = number as u64;
@@ -117,7 +145,9 @@ fn command_of(kind: u32, one: u32, other: u32) -> Option<Command> {
     }
 }
 
-fn answer(failed: u32) -> Result<(), Fault> {
+fn answer(failed: u32) -> Result<(), Fault>
+    ensures { IsAnswer failed result }
+{
     if failed == 0 { Ok(()) } else { Err(Fault) }
 }
 

@@ -30,8 +30,9 @@ pub struct Sbistore {
     /// How many commands of this life were acknowledged.
     pub receipts: u64,
     pub(crate) sectors: u64,
-    /// Which step of which plan is asked for; 0 where none is.
+    /// Which plan is under way, and for a commit and a format which step of it; 0 where none is.
     pub(crate) phase: u32,
+    pub(crate) step: u32,
     /// 0 until the first request of a plan.
     pub(crate) asked: u32,
     pub(crate) opened: u32,
