@@ -1,11 +1,8 @@
 -- The numbers and bytes that C keeps are those of one plan, which goes on as the loop's.
-use Rattle.std.proofs.Common.{◌≡◌, ◌∙◌, ◌⊎◌, inl, inr, ⊎_elim, ◌+◌, ◌≤◌, ◌<◌, ℕ, List, Option, Some, None, Result, Ok, Err, refl, sym, ap, subst, arith}
+use Rattle.std.proofs.Common.{◌≡◌, ◌∙◌, ⊎_elim, ◌≤◌, ◌<◌, ℕ, List, Option, Some, Ok, Err, refl, sym, subst, arith}
 use Rattle.std.proofs.lemmas.Bool.{cases_eq}
 use Rattle.board_model.specs.Shapes.{Size, IsSize}
-use Rattle.board_model.specs.declared.refusal.Refusal.{Refusal}
-use Rattle.layout.specs.Records.{record_of, IsRecord, IsInRange}
-use Rattle.layout.specs.declared.records.Record.{Record}
-use Rattle.store.specs.Opens.{renewed_record}
+use Rattle.layout.specs.Records.{IsRecord, IsInRange}
 use Rattle.store.proofs.Renewing.{in_range_two}
 use Rattle.planned_store.specs.Commits.{Answer, asked_at, step_after}
 use Rattle.planned_store.specs.Plans.{asked, format_asks, Goes, ReadsSuperblock, ReadsRecord}
@@ -21,7 +18,7 @@ use Rattle.planned_store.specs.declared.plans.Plan.TheVariants.{Settling, Readin
 use Rattle.planned_store.specs.declared.plans.Request.{Request}
 use Rattle.planned_store.specs.declared.plans.Request.TheVariants.{Read, Write, Sync, Done}
 use Rattle.sbistore.specs.Next.{AsksFor}
-use Rattle.sbistore.specs.Packed.{step_number, format_number, HasShape, HasSelected, HasCommit, IsPacked, packed_by, IsSelectedSound, IsSound}
+use Rattle.sbistore.specs.Packed.{step_number, format_number, HasShape, HasCommit, IsPacked, packed_by, IsSelectedSound, IsSound}
 use Rattle.sbistore.specs.declared.state.Sbistore.{Sbistore}
 
 pub some_is : {A : Type 0} (x y : A) → Some x ≡ Some y → x ≡ y

@@ -1,5 +1,5 @@
 -- What a call of C makes of the plan that the state keeps: what the loop of the crate `planned_store` makes of it.
-use Rattle.std.specs.Prelude.{◌≡◌, ◌<◌, ℕ, List, Result, Ok, Err}
+use Rattle.std.specs.Prelude.{◌≡◌, ◌<◌, ℕ, List, Ok, Err}
 use Rattle.planned_store.specs.Commits.{Answer}
 use Rattle.planned_store.specs.Plans.{asked, Puts, Goes}
 use Rattle.planned_store.specs.declared.plans.Plan.{Plan}

@@ -21,11 +21,17 @@ use planned_store::{Commit, CommitStep, FormatStep, Formatting, OpenStore, Plan,
 pub const NONE: u32 = 0;
 
 const SETTLING: u32 = 1;
+
 const READING_SUPERBLOCK: u32 = 2;
+
 const READING_GATE: u32 = 3;
+
 const READING_RECORD: u32 = 4;
+
 const RENEWING: u32 = 5;
+
 const COMMITTING: u32 = 6;
+
 const FORMATTING: u32 = 7;
 
 /// Keeps a plan.

@@ -12,7 +12,7 @@ returns c plan packed =
     let same : c.in-Some.plan ≡ plan = some_is _ _ (c.in-Some.ensures plan packed) in
     let first : c.args.store.now.asked ≡ 0 → next ≡ plan = λ none. c.gone_on-plan.ensures.first none ∙ same in
     let told : 0 < c.args.store.now.asked → (r : Answer) × IsAnswer c.args.failed r × Goes plan r c.args.sector.now next =
-        λ some. let t = c.gone_on-plan.ensures.told some in (t.0, t.1, subst (λ (p : Plan). Goes p t.0 c.args.sector.now next) same t.2) in
+    λ some. let t = c.gone_on-plan.ensures.told some in (t.0, t.1, subst (λ (p : Plan). Goes p t.0 c.args.sector.now next) same t.2) in
     record {
       next = next;
       first = first;
