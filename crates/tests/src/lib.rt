@@ -63,8 +63,6 @@ mod packets;
 #[cfg(test)]
 mod plains;
 #[cfg(test)]
-mod planned;
-#[cfg(test)]
 mod programs;
 #[cfg(test)]
 mod race;
