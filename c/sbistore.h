@@ -1,0 +1,113 @@
+/* sbistore.h: a small durable state on a device of 512-byte sectors, which no power cut undoes or leaves half done.
+ *
+ * The library makes no call of its own: it takes no memory, starts no thread and calls nothing back. It says which call of the device
+ * comes next, and you make it:
+ *
+ *     static uint32_t run(struct sbistore *store)
+ *     {
+ *         uint8_t sector[SBISTORE_SECTOR];
+ *         uint32_t failed = 0;
+ *         for (;;)
+ *             switch (sbistore_next(store, failed, sector)) {
+ *             case SBISTORE_READ:  failed = my_read(store->number, sector);  break;
+ *             case SBISTORE_WRITE: failed = my_write(store->number, sector); break;
+ *             case SBISTORE_SYNC:  failed = my_sync();                       break;
+ *             default:             return (uint32_t)store->number;
+ *             }
+ *     }
+ *
+ * What it promises holds for a caller that makes each call once, in the order that it is asked for, tells how it ended, and lets
+ * nothing else write the device; and for a device that does what docs/DISK.md says: until a sync has gone well a crash may leave any
+ * bytes in the sectors that were written since the last one, and nowhere else. docs/STORE.md has the form of the disk.
+ *
+ * At power-on: sbistore_open, run. For each command: sbistore_command, run. A new device once: sbistore_format, run. One state is used by
+ * one thread at a time. All numbers are in the byte order of the machine.
+ */
+#ifndef SBISTORE_H
+#define SBISTORE_H
+
+#include <stddef.h>
+#include <stdint.h>
+
+#define SBISTORE_SECTOR 512
+
+/* The codes. After each but 6 a crash leaves the durable state that it left before the command; after 6 that one or the one after it,
+ * which the next open finds out. */
+enum {
+    SBISTORE_OK = 0,
+    SBISTORE_NOT_FORMATTED = 1,  /* open: the device does not begin with the mark */
+    SBISTORE_ALREADY = 2,        /* format: the device begins with the mark, and is left as it was */
+    SBISTORE_BAD_SHAPE = 3,      /* a number of the board is out of its range, or the device is too small or of no board */
+    SBISTORE_BAD_RECORD = 4,     /* open: the selected record is not in its form */
+    SBISTORE_DEVICE = 5,         /* a call of the device failed; the state is as it was. Of a format see docs/STORE.md */
+    SBISTORE_DOWN = 6,           /* the gate could not be written: a command is in doubt. Every later one answers 6 until an open */
+    SBISTORE_OVER = 7,           /* a reset has ended this life: open again */
+    SBISTORE_NO_IMAGE = 8,       /* consume or discard without an image */
+    SBISTORE_BAD_SLOT = 9,       /* a slot above 3 */
+    SBISTORE_FULL = 10,          /* 2^64 - 1 commands of this life were acknowledged */
+    SBISTORE_BAD_TRIES = 19,     /* a trial has 1 to 7 boots */
+    SBISTORE_NO_TRIAL = 20,      /* good or attempt where no trial stands */
+    SBISTORE_NOT_OPEN = 100,     /* no open has gone well in this state, or a format was begun since */
+    SBISTORE_NO_COMMAND = 101,   /* no such command */
+    SBISTORE_SPOILT = 102        /* the state is not as a call of the library left it */
+};
+
+/* The requests. */
+enum { SBISTORE_DONE, SBISTORE_READ, SBISTORE_WRITE, SBISTORE_SYNC };
+
+/* The commands, and what they carry. Each but a reset may be followed by others. */
+enum {
+    SBISTORE_SLOT = 1,    /* one: the boot slot, 0 to 3. A trial is dropped */
+    SBISTORE_RESET = 2,   /* one: the reason, 0 none, else a system failure. It ends the life */
+    SBISTORE_CONSUME = 3, /* the image is dropped, since its hart is resumed */
+    SBISTORE_DISCARD = 4, /* the image is dropped unused */
+    SBISTORE_TRIES = 5,   /* one: the boot slot, 0 to 3; other: for so many boots, 1 to 7, after which it falls back */
+    SBISTORE_GOOD = 6,    /* the slot on trial is kept */
+    SBISTORE_ATTEMPT = 7  /* a boot uses up one of the trial's, or falls back where none is left: before each boot, where a trial stands */
+};
+
+/* The library's state. Zero it before its first use (memset), and read the first two fields alone. It may be moved between calls. */
+struct sbistore {
+    uint64_t number;   /* of a request the sector, from 0; after SBISTORE_DONE the code */
+    uint64_t receipts; /* how many commands were acknowledged since the open */
+    uint64_t hidden[7];
+    uint8_t records[2 * SBISTORE_SECTOR];
+};
+
+/* The durable state (docs/DURABLE.md). */
+struct sbistore_state {
+    uint64_t next;          /* the serial of the next suspension */
+    uint32_t slot;          /* the boot slot, 0 to 3 */
+    uint32_t reason;        /* of the last reset: 0 none, 1 system failure */
+    uint32_t on_trial;      /* 1 where the slot is on trial, and then */
+    uint32_t fallback;      /*   the slot to fall back to, 0 to 3, and */
+    uint32_t left;          /*   how many boots are left, 0 to 7 */
+    uint32_t has_image;     /* 1 where an image stands, and then its */
+    uint64_t image_serial;  /*   serial, */
+    uint64_t image_address; /*   the address at which it is resumed, */
+    uint64_t image_opaque;  /*   the value that is then in a1, and */
+    uint32_t image_hart;    /*   the hart, 0 to 7 */
+    uint32_t padding;       /* 0 */
+};
+
+/* Begins a format of a device of so many SECTORS, for a board of 1 to 8 HARTS, 1 to 256 PAGES of 4,096 bytes and 1 to 4 LANES (1, 1, 1
+ * where no memory is suspended: 26 sectors). Codes 0, 2, 3, 5. After 0 the slot is 0, with no reason, no trial and no image. Nothing is
+ * then open. */
+void sbistore_format(struct sbistore *store, size_t sectors, uint64_t harts, uint64_t pages, uint64_t lanes);
+
+/* Begins an open of a device of so many SECTORS. Codes 0, 1, 3, 4, 5. It settles what the last life left in doubt, and of a device
+ * that an older firmware wrote it writes the record anew. */
+void sbistore_open(struct sbistore *store, size_t sectors);
+
+/* Begins the command of that KIND. Codes 0, 5 to 10, 19, 20, 100, 101: 6, 7, 10, 9, 19, 8 and 20 before any call of the device. */
+void sbistore_command(struct sbistore *store, uint32_t kind, uint32_t one, uint32_t other);
+
+/* Tells how the last request ended (FAILED is 0 where it went well; the first call after a begin has nothing to tell), and answers the
+ * next one: SBISTORE_READ, sector store->number into SECTOR; SBISTORE_WRITE, SECTOR to sector store->number; SBISTORE_SYNC, make durable
+ * what was written; SBISTORE_DONE, store->number is the code. */
+uint32_t sbistore_next(struct sbistore *store, uint32_t failed, uint8_t sector[SBISTORE_SECTOR]);
+
+/* The durable state of the open store, without a command in doubt: 0, or 100 where none is open. No call of the device is made. */
+uint32_t sbistore_look(const struct sbistore *store, struct sbistore_state *state);
+
+#endif

@@ -1,0 +1,208 @@
+-- A command, from its plan to its answer.
+use Rattle.std.proofs.Common.{◌≡◌, ◌∙◌, inl, inr, ◌≤◌, ℕ, Bool, true, false, Result, Err, length, refl, sym, ap, subst, arith}
+use Rattle.board_model.specs.Durable.{DurableState, Change, after, ends_life}
+use Rattle.board_model.specs.Shapes.{Size}
+use Rattle.board_model.specs.Views.{change_of}
+use Rattle.board_model.specs.declared.durable.Command.{Command}
+use Rattle.board_model.specs.declared.refusal.Refusal.{Refusal}
+use Rattle.board_model.specs.declared.refusal.Refusal.TheVariants.{Device, Down}
+use Rattle.disk.specs.Facts.{Facts, Content, Lent, counted, most}
+use Rattle.disk.specs.FaultState.{FaultState}
+use Rattle.disk.specs.Moments.{leaves_none}
+use Rattle.layout.specs.Records.{IsInRange}
+use Rattle.layout.specs.declared.records.Record.{Record}
+use Rattle.store.specs.Answers.{GoesTo, CountedRefusal}
+use Rattle.store.specs.Commits.{IsUp}
+use Rattle.store.specs.Leaves.{StandsForEither}
+use Rattle.store.specs.Opens.{CausedRefusal}
+use Rattle.store.specs.Standing.{state_of}
+use Rattle.store.proofs.Answering.{the_error}
+use Rattle.store.proofs.Renewing.{four_sectors}
+use Rattle.store.proofs.States.{up_leaves, stands_for}
+use Rattle.planned_store.specs.Commits.{asked_at}
+use Rattle.planned_store.specs.Plans.{asked, Commits, task_of}
+use Rattle.planned_store.specs.Reached.{CommitAt, Reached}
+use Rattle.planned_store.specs.Stores.{state_now, Holds, Reaches, Told, Asked, PlansCommand, receipt_at, receipt_of, store_at, store_after}
+use Rattle.planned_store.specs.declared.commits.Commit.{Commit}
+use Rattle.planned_store.specs.declared.commits.CommitStep.{CommitStep}
+use Rattle.planned_store.specs.declared.commits.CommitStep.TheVariants.{WriteRecord, SyncRecord, WriteGate, SyncGate, Committed, Unchanged, InDoubt}
+use Rattle.planned_store.specs.declared.commits.Selected.{Selected}
+use Rattle.planned_store.specs.declared.plans.Plan.{Plan}
+use Rattle.planned_store.specs.declared.plans.Plan.TheVariants.{Settling, ReadingSuperblock, ReadingGate, ReadingRecord, Found, Renewing, Committing, Formatting, Refused}
+use Rattle.planned_store.specs.declared.plans.Request.TheVariants.{Done}
+use Rattle.planned_store.specs.declared.stores.OpenStore.{OpenStore}
+use Rattle.planned_store.proofs.Committing.{done_up, done_moment, done_calls, done_wrote, unchanged_up, unchanged_moment, unchanged_calls, doubted, doubt_moment, doubt_calls, next_same, goes_done, goes_unchanged, goes_doubt}
+
+not_both : (b : Bool) → b ≡ false → b ≡ true → ⊥
+not_both b isn is = cc
+
+no_cause : (x : FaultState) (e : Refusal) → (e ≡ Device → ⊥) → (e ≡ Down → ⊥) → CausedRefusal x e x
+no_cause x Device not_device not_down = absurd (not_device refl)
+no_cause x Down not_device not_down = absurd (not_down refl)
+no_cause x e not_device not_down = refl
+
+no_count : (n : ℕ) (e : Refusal) → (e ≡ Device → ⊥) → (e ≡ Down → ⊥) → CountedRefusal n e n
+no_count n Device not_device not_down = absurd (not_device refl)
+no_count n Down not_device not_down = absurd (not_down refl)
+no_count n e not_device not_down = refl
+
+module _ {D : Type 0} (f : D → Facts) (m : D → FaultState) (may_keep : (d : D) → (f d).may_leave (f d).content) (only_now : (d : D) (c : Content) → (f d).since (f d).moment c → (f d).may_leave c)
+    (a : D) (old : OpenStore) (holds : Holds (f a) old) where
+  abbrev now : DurableState
+  now = state_now old (f a).content
+
+  -- ---- no call was made
+  refused_goes : old.down ≡ false → (t : DurableState) (e : Refusal) → (e ≡ Down → ⊥) → GoesTo (f a) (f a) old.selected.shape now t (Err e)
+  refused_goes up t e not_down = record {
+    any_moment = leaves_none (f a) (StandsForEither old.selected.shape now t) (only_now a) (λ x left. inl (stands_for old.selected.shape old.selected.side old.selected.live (f a).content x (holds.up up x left)));
+    acknowledged = tt;
+    unchanged = λ _. up_leaves (f a) old.selected.shape old.selected.side old.selected.live (holds.up up);
+    in_doubt = λ is. absurd (not_down (the_error e Down is));
+  }
+
+  pub refused : (c : Change) (e : Refusal) → (old.down ≡ false → Told old now c (Err e) old now) → (old.down ≡ false → (e ≡ Device → ⊥) × (e ≡ Down → ⊥)) → (old.down ≡ true → ◌≡◌ {A = Result ℕ Refusal} (Err e) (Err Down))
+      → Asked f m a old c (Err e) a old
+  refused c e told others down = record {
+    answered = λ up. record {
+      told = told up;
+      leaves = refused_goes up (after now c) e (others up).1;
+      written = tt;
+      cause = no_cause (m a) e (others up).0 (others up).1;
+      counts = no_count (f a).failures e (others up).0 (others up).1;
+      calls = tt;
+    };
+    down = λ is. (down is, refl, refl);
+    untouched = λ _ _. (refl, refl);
+    holds = holds;
+    as_long = refl;
+    no_fewer = omega arith;
+  }
+
+  -- ---- a commit was made
+  module _ (up : old.down ≡ false) (command : Command) (ends : Bool) (ends_is : ends ≡ ends_life (change_of command)) (plan : Plan) (plans : PlansCommand old command plan) where
+    abbrev size : Size
+    size = old.selected.shape
+
+    abbrev c : Change
+    c = change_of command
+
+    is_up : IsUp (f a) size old.selected.side old.selected.live
+    is_up = holds.up up
+
+    range : IsInRange size plans.next
+    range = (plans.follows size).in_range (is_up (f a).content (may_keep a)).selects.is.0
+
+    makes : state_of size plans.next (f a).content ≡ after now c
+    makes = (plans.follows size).state (f a).content
+
+    reaches : Reaches old now c
+    reaches = (plans.going, plans.room, plans.allowed size (f a).content)
+
+    pub enough : 4 ≤ length (f a).content
+    enough = four_sectors (f a) size old.selected.side old.selected.live is_up (may_keep a)
+
+    abbrev commit_of : Record → CommitStep → Commit
+    commit_of next step = record { from = old.selected; next = next; step = step }
+
+    module _ (b : D) where
+      abbrev Answers : Commit → Type 0
+      Answers k = Asked f m a old c (receipt_at old k.step) b (store_at old ends k k.step)
+
+      at_done : CommitAt f m old.selected.side plans.next Committed a b → Answers (commit_of plans.next Committed)
+      at_done at =
+          let calls = done_calls f m may_keep only_now size old.selected.side old.selected.live plans.next holds.known a b is_up range at in
+          let one = done_up f m may_keep only_now size old.selected.side old.selected.live plans.next holds.known a b is_up range at in
+          record {
+            answered = λ _. record {
+              told = (reaches, omega (arith, plans.room), refl, ends_is, refl, refl, next_same (f a) (f b) size old.selected.side old.selected.live plans.next holds.known (after now c) makes calls.content);
+              leaves = goes_done (f a) (f b) size old.selected.side old.selected.live plans.next holds.known (after now c) makes (counted old.receipts 1)
+                  (done_moment f m may_keep only_now size old.selected.side old.selected.live plans.next holds.known a b is_up range at) calls.content one;
+              written = done_wrote f m may_keep only_now size old.selected.side old.selected.live plans.next holds.known a b is_up range at (plans.follows size).version;
+              cause = calls.cause.ok;
+              counts = calls.failures.ok;
+              calls = calls.calls.ok;
+            };
+            down = λ is. absurd (not_both old.down up is);
+            untouched = tt;
+            holds = record { none_out = ap (λ (l : Lent). l.lanes) calls.lent ∙ holds.none_out; known = omega arith; up = λ _. one };
+            as_long = calls.content.as_long;
+            no_fewer = omega (arith, calls.failures.ok);
+          }
+
+      at_unchanged : (bounded : (f a).failures ≤ most) → CommitAt f m old.selected.side plans.next Unchanged a b → Answers (commit_of plans.next Unchanged)
+      at_unchanged bounded at =
+          let calls = unchanged_calls f m may_keep only_now size old.selected.side old.selected.live plans.next holds.known a b is_up range at in
+          let one = unchanged_up f m may_keep only_now size old.selected.side old.selected.live plans.next holds.known a b is_up range at in
+          record {
+            answered = λ _. record {
+              told = inl (refl, reaches, refl);
+              leaves = goes_unchanged (f a) (f b) size old.selected.side old.selected.live plans.next holds.known (after now c) makes
+                  (unchanged_moment f m may_keep only_now size old.selected.side old.selected.live plans.next holds.known a b is_up range at) calls.content one;
+              written = tt;
+              cause = calls.cause.err;
+              counts = omega (arith, calls.failures.err);
+              calls = tt;
+            };
+            down = λ is. absurd (not_both old.down up is);
+            untouched = λ not_device not_down. absurd (not_device refl);
+            holds = record { none_out = ap (λ (l : Lent). l.lanes) calls.lent ∙ holds.none_out; known = holds.known; up = λ _. one };
+            as_long = calls.content.as_long;
+            no_fewer = omega (arith, calls.failures.err, bounded);
+          }
+
+      at_doubt : (bounded : (f a).failures ≤ most) → CommitAt f m old.selected.side plans.next InDoubt a b → Answers (commit_of plans.next InDoubt)
+      at_doubt bounded at =
+          let calls = doubt_calls f m may_keep only_now size old.selected.side old.selected.live plans.next holds.known a b is_up range at in
+          record {
+            answered = λ _. record {
+              told = inr (inl (refl, reaches, refl));
+              leaves = goes_doubt (f a) (f b) size old.selected.side old.selected.live plans.next holds.known (after now c) makes
+                  (doubt_moment f m may_keep only_now size old.selected.side old.selected.live plans.next holds.known a b is_up range at) calls.content
+                  (doubted f m may_keep only_now size old.selected.side old.selected.live plans.next holds.known a b is_up range at);
+              written = tt;
+              cause = calls.cause.err;
+              counts = omega (arith, calls.failures.err);
+              calls = tt;
+            };
+            down = λ is. absurd (not_both old.down up is);
+            untouched = λ not_device not_down. absurd (not_down refl);
+            holds = record { none_out = ap (λ (l : Lent). l.lanes) calls.lent ∙ holds.none_out; known = holds.known; up = λ is. absurd (not_both true is refl) };
+            as_long = calls.content.as_long;
+            no_fewer = omega (arith, calls.failures.err, bounded);
+          }
+
+      at_step : (bounded : (f a).failures ≤ most) (step : CommitStep) → CommitAt f m old.selected.side plans.next step a b → asked_at old.selected.side step ≡ Done → Answers (commit_of plans.next step)
+      at_step bounded WriteRecord at is = cc
+      at_step bounded SyncRecord at is = cc
+      at_step bounded WriteGate at is = cc
+      at_step bounded SyncGate at is = cc
+      at_step bounded Committed at is = at_done at
+      at_step bounded Unchanged at is = at_unchanged bounded at
+      at_step bounded InDoubt at is = at_doubt bounded at
+
+      -- the commit that has ended is the one that began
+      same_commit : (bounded : (f a).failures ≤ most) (from : Selected) (next : Record) (step : CommitStep) → from ≡ old.selected → next ≡ plans.next → CommitAt f m from.side next step a b → asked_at from.side step ≡ Done
+          → Answers (record { from = from; next = next; step = step })
+      same_commit bounded from next step from_is next_is at ended =
+          subst (λ (s : Selected). Answers (record { from = s; next = next; step = step })) (sym from_is)
+          (subst (λ (n : Record). Answers (commit_of n step)) (sym next_is)
+          (at_step bounded step
+          (subst (λ (n : Record). CommitAt f m old.selected.side n step a b) next_is (subst (λ (s : Selected). CommitAt f m s.side next step a b) from_is at))
+          (subst (λ (s : Selected). asked_at s.side step ≡ Done) from_is ended)))
+
+      pub answered_by : (bounded : (f a).failures ≤ most) (q : Plan) → Reached f m q a b → asked q ≡ Done → task_of q ≡ Commits old.selected plans.next → Asked f m a old c (receipt_of old q) b (store_after old ends q)
+      answered_by bounded (Committing k) at ended task = same_commit bounded k.from k.next k.step (from_of k.from old.selected k.next plans.next task) (next_of k.from old.selected k.next plans.next task) at.2 ended
+        where
+          from_of : (s t : Selected) (n o : Record) → Commits s n ≡ Commits t o → s ≡ t
+          from_of s t n o is = cc
+
+          next_of : (s t : Selected) (n o : Record) → Commits s n ≡ Commits t o → n ≡ o
+          next_of s t n o is = cc
+      answered_by bounded (Settling n) at ended task = cc
+      answered_by bounded (ReadingSuperblock n) at ended task = cc
+      answered_by bounded (ReadingGate z) at ended task = cc
+      answered_by bounded (ReadingRecord z side) at ended task = cc
+      answered_by bounded (Found found) at ended task = cc
+      answered_by bounded (Renewing k) at ended task = cc
+      answered_by bounded (Formatting k) at ended task = cc
+      answered_by bounded (Refused e) at ended task = cc

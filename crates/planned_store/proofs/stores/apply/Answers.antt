@@ -1,0 +1,27 @@
+use Rattle.std.proofs.Common.{◌∙◌, [], ap}
+use Rattle.std.proofs.lemmas.Result.{err_from_is_err_and}
+use Rattle.board_model.specs.Views.{change_of}
+use Rattle.planned_store.specs.Plans.{task_of}
+use Rattle.planned_store.specs.Stores.{Asked, receipt_of, store_after}
+use Rattle.planned_store.proofs.stores.apply.Given.{Over}
+use Rattle.planned_store.proofs.stores.apply.Goals.{After-ended}
+use Rattle.planned_store.proofs.Applying.{refused, answered_by}
+use Rattle.planned_store.proofs.stores.apply.Goals as goal
+
+pub returns-in_err-plan-clause-asked : goal.returns-in_err-plan-clause-asked
+returns-in_err-plan-clause-asked g c =
+    let p = err_from_is_err_and c.from_residual.result c.from_residual.ensures.1 in
+    rw (p.1, p.2)
+    (refused g.D.Disk.facts g.D.Disk.fault_state (λ d. g.met.D.Disk.may_keep d) (λ d. g.met.D.Disk.only_now d) c.args.disk.now c.args.store.now c.requires.holds (change_of c.args.command) _
+    (λ up. c.in_err-plan.ensures.refused up (g.D.Disk.facts c.args.disk.now).content) c.in_err-plan.ensures.others (λ is. let same = c.in_err-plan.ensures.down is in cc))
+
+asked_so : (g : Over) (c : After-ended g) → Asked g.D.Disk.facts g.D.Disk.fault_state c.args.disk.now c.args.store.now (change_of c.args.command) (receipt_of c.args.store.now c.run.new.plan) c.run.new.disk (store_after c.args.store.now c.ends_life.result c.run.new.plan)
+asked_so g c =
+    answered_by g.D.Disk.facts g.D.Disk.fault_state (λ d. g.met.D.Disk.may_keep d) (λ d. g.met.D.Disk.only_now d) c.args.disk.now c.args.store.now c.requires.holds c.in_ok-plan.ensures.up c.args.command c.ends_life.result (c.ends_life.ensures []) c.in_ok-plan.plan c.in_ok-plan.ensures.ok
+    c.run.new.disk (g.met.D.Disk.bounded _) c.run.new.plan c.run.ensures.reached c.run.ensures.ended (c.run.ensures.task ∙ ap task_of c.in_ok-plan.ensures.ok.is)
+
+pub returns-clause-asked : goal.returns-clause-asked
+returns-clause-asked g c = rw (c.ended.ensures.receipt, c.ended.ensures.store) (asked_so g (goal.at.returns-clause-asked g c).After-ended)
+
+pub returns-clause-holds : goal.returns-clause-holds
+returns-clause-holds g c = rw c.ended.ensures.store ((asked_so g (goal.at.returns-clause-holds g c).After-ended).holds)

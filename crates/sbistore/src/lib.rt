@@ -1,0 +1,204 @@
+//! libsbistore.a: the store for C, as planned calls (c/sbistore.h). The caller keeps the state, makes the calls of its device that are
+//! asked for, and tells how each ended. Here is what turns that state into the values of the crate `planned_store`, and back.
+#![tactic(auto)]
+
+ghost use Rattle.std.specs.Prelude.{◌≡◌, ◌<◌};
+ghost use Rattle.planned_store.specs.Commits.{Answer};
+ghost use Rattle.planned_store.specs.Plans.{asked, Puts, Goes};
+ghost use Rattle.planned_store.specs.declared.plans.Plan.{Plan};
+ghost use Rattle.sbistore.specs.Next.{IsAnswer, AsksFor, NextOf};
+ghost use Rattle.sbistore.specs.Packed.{IsPacked, IsSound, packed_by};
+
+mod packing;
+mod state;
+
+use board_model::{Command, Entry, Reason, Refusal, Shape};
+use disk::{Fault, Sector};
+use packing::{NONE, keep, pack, plan_of, store_of};
+use planned_store::{Plan, Request};
+use state::{DONE, Durable, NO_COMMAND, NOT_OPEN, READ, SPOILT, SYNC, Sbistore, WRITE, tell};
+
+/// Begins an open of a device of so many sectors. What was open in this state is no more.
+#[unsafe(no_mangle)]
+pub extern "C" fn sbistore_open(store: &mut Sbistore, sectors: usize) {
+    store.opened = 0;
+    begin(store, &Plan::open(sectors));
+}
+
+/// Begins a format of a device of so many sectors, for a board of that shape. What was open in this state is no more.
+#[unsafe(no_mangle)]
+pub extern "C" fn sbistore_format(
+    store: &mut Sbistore,
+    sectors: usize,
+    harts: u64,
+    pages: u64,
+    lanes: u64,
+) {
+    store.opened = 0;
+    match Shape::new(harts, pages, lanes) {
+        Ok(shape) => begin(store, &Plan::format(shape, sectors)),
+        Err(refusal) => end(store, refusal.code()),
+    }
+}
+
+/// Begins a command: its kind, and what it carries.
+#[unsafe(no_mangle)]
+pub extern "C" fn sbistore_command(store: &mut Sbistore, kind: u32, one: u32, other: u32) {
+    let Some(command) = command_of(kind, one, other) else {
+        return end(store, NO_COMMAND);
+    };
+    let Some(open) = store_of(store) else {
+        return end(store, NOT_OPEN);
+    };
+    store.ends = Entry::Command(command).ends_life() as u32;
+    match open.plan(command) {
+        Ok(plan) => begin(store, &plan),
+        Err(refusal) => end(store, refusal.code()),
+    }
+}
+
+/// Tells how the last request ended, 0 where it went well, and asks for the next one: 0 done, 1 read, 2 write, 3 sync.
+/// The first call after a begin has nothing to tell.
+#[unsafe(no_mangle)]
+pub extern "C" fn sbistore_next(store: &mut Sbistore, failed: u32, sector: &mut [u8; 512]) -> u32
+    ensures { (plan : Plan) → IsPacked plan store.old
+        → NextOf plan store.old failed sector.old result store.new sector.new }
+{
+    if store.phase == NONE {
+        return DONE;
+    }
+    let Some(plan) = plan_of(store) else {
+        end(store, SPOILT);
+        return DONE;
+    };
+    let plan = gone_on(store.asked, plan, failed, sector);
+    ask(store, &plan, sector)
+}
+
+/// The plan once it is told how its last call ended, where one was asked for.
+fn gone_on(asked: u32, plan: Plan, failed: u32, sector: &Sector) -> Plan
+    ensures first { asked ≡ 0 → result ≡ plan }
+    ensures told { 0 < asked → (answer : Answer) × IsAnswer failed answer × Goes plan answer sector.now result }
+{
+    if asked == 0 {
+        plan
+    } else {
+        plan.told(answer(failed), sector)
+    }
+}
+
+/// Asks for the call that comes next, or ends the plan.
+fn ask(store: &mut Sbistore, plan: &Plan, sector: &mut Sector) -> u32
+    ensures asks { IsSound plan.now → AsksFor (asked plan.now) plan.now result store.new }
+    ensures bytes { Puts plan.now sector.new }
+{
+    match plan.asks(sector) {
+        Request::Read(number) => keep_asked(store, plan, READ, number),
+        Request::Write(number) => keep_asked(store, plan, WRITE, number),
+        Request::Sync => keep_asked(store, plan, SYNC, 0),
+        Request::Done => {
+            let code = finish(store, plan);
+            end(store, code);
+            DONE
+        }
+    }
+}
+
+/// Keeps a plan that asks for a call of that kind.
+fn keep_asked(store: &mut Sbistore, plan: &Plan, kind: u32, number: usize) -> u32
+    ensures kind { result ≡ kind }
+    ensures store { store.new ≡ record (packed_by plan.now store.old) { asked = 1; number = number } }
+{
+    pack(store, plan);
+    store.asked = 1;
+    store.number = number as u64;
+    kind
+}
+
+/// The durable state of an open store: 0, or 100 where none is open.
+#[unsafe(no_mangle)]
+pub extern "C" fn sbistore_look(store: &Sbistore, durable: &mut Durable) -> u32 {
+    match store_of(store) {
+        Some(open) => {
+            tell(&open.now(), durable);
+            0
+        }
+        None => NOT_OPEN,
+    }
+}
+
+/// The command of that kind.
+fn command_of(kind: u32, one: u32, other: u32) -> Option<Command> {
+    match kind {
+        1 => Some(Command::Slot(one)),
+        2 => Some(Command::Reset(if one == 0 {
+            Reason::NoReason
+        } else {
+            Reason::SystemFailure
+        })),
+        3 => Some(Command::Consume),
+        4 => Some(Command::Discard),
+        5 => Some(Command::Tries(one, other)),
+        6 => Some(Command::Good),
+        7 => Some(Command::Attempt),
+        _ => None,
+    }
+}
+
+fn answer(failed: u32) -> Result<(), Fault>
+    ensures { IsAnswer failed result }
+{
+    if failed == 0 { Ok(()) } else { Err(Fault) }
+}
+
+/// The plan is under way, and its first call is still to be asked for.
+fn begin(store: &mut Sbistore, plan: &Plan) {
+    let mut scratch = [0; 512];
+    if plan.asks(&mut scratch) == Request::Done {
+        let code = finish(store, plan);
+        end(store, code);
+    } else {
+        pack(store, plan);
+        store.asked = 0;
+    }
+}
+
+/// No plan is under way: this is the code of the last one.
+fn end(store: &mut Sbistore, code: u32) {
+    store.phase = NONE;
+    store.number = code as u64;
+}
+
+/// What a plan that has ended makes of the open store, and its code.
+fn finish(store: &mut Sbistore, plan: &Plan) -> u32 {
+    match plan {
+        Plan::Committing(_) => finish_command(store, plan),
+        Plan::Formatting(_) => code_of(plan.formatted()),
+        _ => match plan.opened() {
+            Ok(open) => {
+                keep(store, &open);
+                0
+            }
+            Err(refusal) => refusal.code(),
+        },
+    }
+}
+
+fn finish_command(store: &mut Sbistore, plan: &Plan) -> u32 {
+    let Some(mut open) = store_of(store) else {
+        return SPOILT;
+    };
+    let receipt = open.ended(store.ends != 0, plan);
+    keep(store, &open);
+    match receipt {
+        Ok(_) => 0,
+        Err(refusal) => refusal.code(),
+    }
+}
+
+fn code_of(answer: Result<(), Refusal>) -> u32 {
+    match answer {
+        Ok(()) => 0,
+        Err(refusal) => refusal.code(),
+    }
+}

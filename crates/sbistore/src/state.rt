@@ -1,0 +1,97 @@
+//! What C keeps for the library: numbers and bytes alone (c/sbistore.h).
+
+/// Nothing more is asked for, and `number` is the code.
+pub const DONE: u32 = 0;
+
+/// Sector `number` is to be read.
+pub const READ: u32 = 1;
+
+/// Sector `number` is to be written.
+pub const WRITE: u32 = 2;
+
+/// What was written is to be made durable.
+pub const SYNC: u32 = 3;
+
+/// The code of a command or a look where no store is open.
+pub const NOT_OPEN: u32 = 100;
+
+/// The code of a command of no kind.
+pub const NO_COMMAND: u32 = 101;
+
+/// The code of a state that no call of the library left so.
+pub const SPOILT: u32 = 102;
+
+/// The state of the library: of an open store, and of the plan that is under way.
+#[derive(Drop)]
+#[repr(C)]
+pub struct Sbistore {
+    /// The sector of a request; after the last one the code.
+    pub number: u64,
+    /// How many commands of this life were acknowledged.
+    pub receipts: u64,
+    pub(crate) sectors: u64,
+    /// Which plan is under way, and for a commit and a format which step of it; 0 where none is.
+    pub(crate) phase: u32,
+    pub(crate) step: u32,
+    /// 0 until the first request of a plan.
+    pub(crate) asked: u32,
+    pub(crate) opened: u32,
+    pub(crate) over: u32,
+    pub(crate) down: u32,
+    /// Whether the command ends the life.
+    pub(crate) ends: u32,
+    pub(crate) harts: u32,
+    pub(crate) pages: u32,
+    pub(crate) lanes: u32,
+    pub(crate) side: u32,
+    /// The record that is selected, and the one that a commit writes, as their sectors have them.
+    pub(crate) live: [u8; 512],
+    pub(crate) next: [u8; 512],
+}
+
+/// The durable state, without the image's memory.
+#[derive(Drop)]
+#[repr(C)]
+pub struct Durable {
+    /// The serial of the next suspension.
+    pub next: u64,
+    pub slot: u32,
+    pub reason: u32,
+    pub on_trial: u32,
+    pub fallback: u32,
+    pub left: u32,
+    pub has_image: u32,
+    pub image_serial: u64,
+    pub image_address: u64,
+    pub image_opaque: u64,
+    pub image_hart: u32,
+    pub padding: u32,
+}
+
+/// Tells the durable state.
+pub(crate) fn tell(state: &board_model::Durable, told: &mut Durable) {
+    told.next = state.next;
+    told.slot = state.slot.number();
+    told.reason = state.reason.number();
+    told.on_trial = 0;
+    told.fallback = 0;
+    told.left = 0;
+    told.has_image = 0;
+    told.image_serial = 0;
+    told.image_address = 0;
+    told.image_opaque = 0;
+    told.image_hart = 0;
+    told.padding = 0;
+    if let Some(trial) = state.trial {
+        told.on_trial = 1;
+        told.fallback = trial.fallback.number();
+        told.left = trial.left.number();
+    }
+    if let Some(image) = state.image {
+        told.has_image = 1;
+        told.image_serial = image.serial;
+        told.image_address = image.address.value();
+        told.image_opaque = image.opaque;
+        told.image_hart = image.hart.number();
+    }
+}
