@@ -19,10 +19,9 @@ use bench_schedules::{
 };
 use bench_sweep::{RecoveryFile, SweepPlan, WantedRow, run_bench, run_bench_recovered, show_row};
 use board::Payloads;
-use board_model::Refusal;
+use board_model::{Refusal, unwritten};
 use crew::Sequential;
 use jobs::{Jobs, Progress};
-use report_lines::unwritten;
 use script_lang::parse_script;
 use std::alloc::Global;
 use std::io::Write;
