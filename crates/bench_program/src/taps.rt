@@ -151,7 +151,7 @@ fn write_shown<W: Write>(out: &mut W, shown: bool) -> Result<(), Refusal>
 }
 
 /// Writes what the Test Anything Protocol has behind the tests that failed: the comment, and the last test.
-#[tactic(auto, using(report_lines::proofs::Written::appended))]
+#[tactic(auto, using(board_model::proofs::Written::appended))]
 fn write_end<W: Write>(
     out: &mut W,
     well: bool,
