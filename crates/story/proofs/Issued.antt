@@ -1,5 +1,5 @@
 -- What is seen of a command and of a suspension that found no other in doubt.
-use Rattle.std.proofs.Common.{◌≡◌, ◌⊎◌, ◌∙◌, ◌+◌, ◌<◌, ℕ, List, Option, Some, None, Result, Ok, Err, MatchResult, inl, inr, refl, sym, ap, subst, length, false}
+use Rattle.std.proofs.Common.{◌≡◌, ◌⊎◌, ◌∙◌, ◌+◌, ◌<◌, ℕ, List, Option, Some, None, Result, Ok, Err, MatchResult, inl, inr, refl, sym, ap, subst, length, true, false}
 use Rattle.board_model.specs.Durable.{DurableState, Change, Suspend, refusal_of}
 use Rattle.board_model.specs.Shapes.{Size}
 use Rattle.board_model.specs.Views.{number_of_refusal}

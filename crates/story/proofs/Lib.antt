@@ -1,6 +1,6 @@
 pub mod Stays
 pub mod Issued
-pub mod Asks
+pub mod Told
 pub mod Opens
 pub mod Lists
 pub mod Loads

@@ -11,7 +11,7 @@ use Rattle.store.specs.Lives.{Life, now_of, Applied, IsLoaded, LoadRefused}
 use Rattle.susp.specs.Wakes.{IsWoken}
 use Rattle.story.specs.Story.{Now, Unloaded, Loads, Resumes, Commands}
 use Rattle.story.specs.Told.{IsOn, seen_of}
-use Rattle.story.specs.declared.story.Seen.TheVariants.{Read, Woke, Denied}
+use Rattle.story.specs.declared.asks.Seen.TheVariants.{Read, Woke, Denied}
 use Rattle.story.proofs.Stays.{moved, still}
 use Rattle.story.proofs.Issued.{issued}
 

@@ -7,16 +7,18 @@ use Rattle.board_model.specs.declared.durable.Durable.{Durable}
 use Rattle.board_model.specs.declared.refusal.Refusal.{Refusal}
 use Rattle.board_model.specs.declared.refusal.Refusal.TheVariants.{Device, Memory}
 use Rattle.disk.specs.Facts.{Content, Facts, Unchanged, IsLeft}
-use Rattle.disk.specs.FaultState.{FaultState, fault_state_left}
+use Rattle.disk.specs.FaultState.{FaultState, fault_state_left, fault_state_armed}
+use Rattle.disk.specs.declared.device.ArmedFault.{ArmedFault}
 use Rattle.store.specs.Answers as answers
 use Rattle.store.specs.Answers.{StoreView}
 use Rattle.store.specs.Leaves.{IsKept, Leaves, LeavesOnly, LeavesEither, NoMore}
 use Rattle.store.specs.Lives.{Life, now_of}
 use Rattle.store.specs.Opens.{CausedRefusal}
 use Rattle.store.specs.Standing.{StandsFor}
-use Rattle.story.specs.Story.{Now, begin, unpowered, cut_off, begun_in, May, Opens}
+use Rattle.story.specs.Story.{Now, begin, unpowered, arming, cut_off, begun_in, May, Opens}
 use Rattle.story.specs.Told.{IsOn, IsOff}
-use Rattle.story.specs.declared.story.Seen.TheVariants.{Opened, Denied}
+use Rattle.story.specs.declared.asks.Seen.{Seen}
+use Rattle.story.specs.declared.asks.Seen.TheVariants.{Opened, Denied}
 use Rattle.story.proofs.Stays.{no_doubt}
 
 -- of a disk of which a crash leaves no more
@@ -28,21 +30,52 @@ fewer_leaves : (old new : Facts) → ((c : Content) → new.may_leave c → old.
 unfolding Leaves
 fewer_leaves old new fewer size s (c, may, stands) = (c, fewer c may, stands)
 
-pub fewer : (size : Size) (w : Now) (old new : Facts) (m n : FaultState) → ((c : Content) → new.may_leave c → old.may_leave c) → IsOff size w old m → IsOff size (record w { faults = n; on = false }) new n
-fewer size w old new m n less off = record {
-  kept = fewer_kept old new size less off.kept;
-  only = λ z s leaves. off.only z s (fewer_leaves old new less z s leaves);
-  faults = refl;
+-- it is of no matter whether one was open
+pub as_off : (size : Size) (w : Now) (disk : Facts) (m : FaultState) → IsOff size w disk m → IsOff size (unpowered w) disk m
+as_off size w disk m off = record { kept = off.kept; only = off.only; faults = off.faults; on = refl; whole = off.whole }
+
+pub opens_from : (w v : Now) (seen : Seen) → Opens (unpowered w) seen v → Opens w seen v
+opens_from w v (Opened found) is = is
+opens_from w v (Denied e) is = is
+opens_from w v seen is = absurd is
+
+left_fewer : (disk left : Facts) → IsLeft disk left → (c : Content) → left.may_leave c → disk.may_leave c
+left_fewer disk left gone c may = subst disk.may_leave (sym (gone.fresh.durable c may)) gone.left
+
+-- power fails
+pub cut : (size : Size) (w : Now) (disk left : Facts) (m n : FaultState) → IsOff size w disk m → IsLeft disk left → n ≡ fault_state_left m → IsOff size (cut_off w) left n
+cut size w disk left m n off gone same = record {
+  kept = fewer_kept disk left size (left_fewer disk left gone) off.kept;
+  only = λ z s leaves. off.only z s (fewer_leaves disk left (left_fewer disk left gone) z s leaves);
+  faults = ap fault_state_left off.faults ∙ sym same;
   on = refl;
   whole = off.whole;
 }
 
-pub left_fewer : (disk left : Facts) → IsLeft disk left → (c : Content) → left.may_leave c → disk.may_leave c
-left_fewer disk left gone c may = subst disk.may_leave (sym (gone.fresh.durable c may)) gone.left
+-- a fault is armed
+pub armed_off : (size : Size) (w : Now) (old new : Facts) (m n : FaultState) (fault : ArmedFault) → IsOff size w old m → Unchanged old new → n ≡ fault_state_armed fault m → IsOff size (arming fault w) new n
+armed_off size w old new m n fault off same armed = record {
+  kept = fewer_kept old new size (λ c may. (same.now c).0 may) off.kept;
+  only = λ z s leaves. off.only z s (fewer_leaves old new (λ c may. (same.now c).0 may) z s leaves);
+  faults = ap (fault_state_armed fault) off.faults ∙ sym armed;
+  on = off.on;
+  whole = off.whole;
+}
+
+pub armed_on : (size : Size) (w : Now) (old new : StoreView) (fault : ArmedFault) → IsOn size w old → new.size ≡ old.size → new.life ≡ old.life → new.fault_state ≡ fault_state_armed fault old.fault_state → IsOn size (arming fault w) new
+armed_on size w old new fault on board life armed = record {
+  board = board ∙ on.board;
+  state = on.state ∙ ap now_of (sym life);
+  doubt = on.doubt ∙ ap (λ (l : Life). l.doubt) (sym life);
+  over = on.over ∙ ap (λ (l : Life). l.over) (sym life);
+  receipts = on.receipts ∙ ap (λ (l : Life). length l.journal) (sym life);
+  faults = ap (fault_state_armed fault) on.faults ∙ sym armed;
+  on = on.on;
+  whole = on.whole;
+}
 
 pub stands_at_end : (size : Size) (w : Now) (disk : Facts) (m : FaultState) → IsOff size w disk m → (c : Content) → disk.may_leave c → (s : DurableState) × May w s × StandsFor c size s
-unfolding IsKept
-unfolding Leaves
+unfolding IsKept Leaves
 stands_at_end size w disk m off c may = let is = off.kept c may in (is.0, (off.only size is.0 (c, may, is.1)).1, is.1)
 
 -- a formatted one

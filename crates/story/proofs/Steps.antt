@@ -3,10 +3,10 @@ use Rattle.std.proofs.Common.{◌≡◌, ◌⊎◌, inl, inr, true}
 use Rattle.board_model.specs.Shapes.{Size}
 use Rattle.story.specs.Story.{Now, Answers, Calls, Step}
 use Rattle.story.specs.Told.{IsCall}
-use Rattle.story.specs.declared.story.Asked.{Asked}
-use Rattle.story.specs.declared.story.Asked.TheVariants as asked
-use Rattle.story.specs.declared.story.Seen.{Seen}
-use Rattle.story.specs.declared.story.Seen.TheVariants.{NotOpen}
+use Rattle.story.specs.declared.asks.Asked.{Asked}
+use Rattle.story.specs.declared.asks.Asked.TheVariants as asked
+use Rattle.story.specs.declared.asks.Seen.{Seen}
+use Rattle.story.specs.declared.asks.Seen.TheVariants.{NotOpen}
 
 -- an open store answers
 answers : (size : Size) (w v : Now) (a : Asked) → Answers size w a NotOpen v → ⊥

@@ -10,10 +10,10 @@ use Rattle.disk.specs.FaultState.{FaultState, Cause, fault_state_armed, fault_st
 use Rattle.disk.specs.declared.device.ArmedFault.{ArmedFault}
 use Rattle.hart.specs.State.{started}
 use Rattle.store.specs.Follows.{FitsBoard}
-use Rattle.story.specs.declared.story.Asked.{Asked}
-use Rattle.story.specs.declared.story.Asked.TheVariants as asked
-use Rattle.story.specs.declared.story.Seen.{Seen}
-use Rattle.story.specs.declared.story.Seen.TheVariants.{Opened, Acked, Read, Woke, Denied, NotOpen, Done}
+use Rattle.story.specs.declared.asks.Asked.{Asked}
+use Rattle.story.specs.declared.asks.Asked.TheVariants as asked
+use Rattle.story.specs.declared.asks.Seen.{Seen}
+use Rattle.story.specs.declared.asks.Seen.TheVariants.{Opened, Acked, Read, Woke, Denied, NotOpen, Done}
 
 -- The disk, as what was seen tells it: the state that the acknowledged commands make of the formatted one; the
 -- command in doubt, where there is one; whether a store is open, and then whether its life is over, and how many

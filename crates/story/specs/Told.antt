@@ -11,12 +11,12 @@ use Rattle.store.specs.Leaves.{IsIdle, IsKept, Leaves}
 use Rattle.store.specs.Lives.{now_of}
 use Rattle.store.specs.Views.{view_of}
 use Rattle.story.specs.Story.{Now, May}
-use Rattle.story.specs.declared.story.Asked.{Asked}
-use Rattle.story.specs.declared.story.Asked.TheVariants as asked
-use Rattle.story.specs.declared.story.Power.{Power}
-use Rattle.story.specs.declared.story.Power.TheVariants.{Off, On}
-use Rattle.story.specs.declared.story.Seen.{Seen}
-use Rattle.story.specs.declared.story.Seen.TheVariants.{Acked, Denied}
+use Rattle.story.specs.declared.asks.Asked.{Asked}
+use Rattle.story.specs.declared.asks.Asked.TheVariants as asked
+use Rattle.story.specs.declared.power.Power.{Power}
+use Rattle.story.specs.declared.power.Power.TheVariants.{Off, On}
+use Rattle.story.specs.declared.asks.Seen.{Seen}
+use Rattle.story.specs.declared.asks.Seen.TheVariants.{Acked, Denied}
 
 -- in an open store
 pub record IsOn (size : Size) (w : Now) (store : StoreView) : Type 0 where
@@ -30,10 +30,10 @@ pub record IsOn (size : Size) (w : Now) (store : StoreView) : Type 0 where
   pub whole : (s : DurableState) → May w s → IsWhole size s
 
 -- without one: each crash leaves what an open may find
-pub record IsOff (size : Size) (w : Now) (disk : Facts) (faults : FaultState) : Type 0 where
+pub record IsOff (size : Size) (w : Now) (disk : Facts) (m : FaultState) : Type 0 where
   pub kept : IsKept disk size
   pub only : (z : Size) (s : DurableState) → Leaves disk z s → (z ≡ size) × May w s
-  pub faults : w.faults ≡ faults
+  pub faults : w.faults ≡ m
   pub on : w.on ≡ false
   pub whole : (s : DurableState) → May w s → IsWhole size s
 

@@ -1,9 +1,12 @@
 //! A story of one disk.
 #![tactic(auto)]
 
-mod story;
+mod asks;
+mod power;
+mod stories;
 
-pub use story::{Asked, Seen, story};
+pub use asks::{Asked, Seen};
+pub use stories::story;
 
 #[cfg(test)]
 mod tests;

@@ -3,9 +3,9 @@ use Rattle.board_model.specs.Durable.{Suspend}
 use Rattle.store.specs.Views.{view_of}
 use Rattle.story.specs.Story.{Now, Suspends}
 use Rattle.story.specs.Told.{IsOn}
-use Rattle.story.specs.declared.story.Seen.{Seen}
-use Rattle.story.proofs.Asks.{suspends}
-use Rattle.story.proofs.story.suspension_seen.Goals as goal
+use Rattle.story.specs.declared.asks.Seen.{Seen}
+use Rattle.story.proofs.Told.{suspends}
+use Rattle.story.proofs.stories.suspension_seen.Goals as goal
 
 pub returns : goal.returns
 returns g c = λ size w on.

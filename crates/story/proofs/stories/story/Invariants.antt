@@ -2,7 +2,7 @@ use Rattle.std.proofs.Common.{◌≡◌, ◌≤◌, length, take, vec_len, vec_c
 use Rattle.simdisk.specs.contracts.device.SimDiskDisk.TheImpl as sim_disk
 use Rattle.story.specs.Story.{Now, begin, Tells}
 use Rattle.story.specs.Told.{IsAt}
-use Rattle.story.proofs.story.story.Given as goal
+use Rattle.story.proofs.stories.story.Given as goal
 
 -- what was seen so far is a story of what was asked so far
 abbrev pub invariant-loop-ask : goal.invariant-loop-ask

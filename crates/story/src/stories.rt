@@ -11,65 +11,16 @@ ghost use Rattle.store.specs.Views.{view_of};
 ghost use Rattle.story.specs.Story.{Now, begin, unpowered, cut_off, arming, May, Opens, Commands, Suspends, Loads, Resumes, Answers, Calls, Step, Tells};
 ghost use Rattle.story.specs.Told.{IsOn, IsOff, IsAt, IsCall, seen_of};
 
-use board_model::{Command, Durable, Refusal, Shape, shape_in_range};
+use crate::asks::{Asked, Seen};
+use crate::power::{Power, Resting};
+use board_model::{Command, Refusal, Shape, shape_in_range};
 use crew::Crew;
 use disk::{ArmedFault, Disk};
-use hart::Hart;
 use ram::Ram;
 use simdisk::{Fill, SimDisk};
 use std::alloc::Global;
 use store::{Receipt, Resumption, Saving, Store, format, kept_disks, whole_images_load};
 use susp::wake_image;
-
-/// What is asked of a disk.
-#[derive(Drop)]
-pub enum Asked {
-    /// It is opened. A life that was going on ends.
-    Open,
-    /// This command is issued.
-    Command(Command),
-    /// This memory is suspended, to be resumed there.
-    Suspend(Ram, Resumption),
-    /// The memory of the image that stands is read.
-    Load,
-    /// A board goes on with the image that stands.
-    Resume,
-    /// This fault is armed, in place of an older one.
-    Arm(ArmedFault),
-    /// Power fails, and leaves this.
-    Cut(Fill),
-}
-
-/// What is seen then.
-#[derive(Drop)]
-pub enum Seen {
-    /// The open told this state.
-    Opened(Durable),
-    /// The command or the suspension was acknowledged.
-    Acked(Receipt),
-    /// This memory was read.
-    Read(Ram),
-    /// A board goes on: its one STARTED hart, and its memory.
-    Woke(Hart, Ram),
-    /// The call was refused. A command that was refused `Down` is in doubt.
-    Denied(Refusal),
-    /// No store is open, and nothing was done.
-    NotOpen,
-    /// It is armed, or power failed.
-    Done,
-}
-
-/// A disk of which nothing is lent.
-struct Resting {
-    disk: SimDisk,
-    ghost idle: { IsIdle (⟦<SimDisk as Disk>⟧.facts disk) },
-}
-
-/// The disk between two steps: without a store, or in one.
-enum Power {
-    Off(Resting),
-    On(Store<SimDisk>),
-}
 
 /// *The theorem, as a run.* Formats a disk, does what is asked, in its order, and answers what was seen of each, and the
 /// disk as it then is. What was seen is a story: the state that an open finds is what the acknowledged commands make of
@@ -130,7 +81,10 @@ fn left(power: Power) -> SimDisk
         (⟦<SimDisk as Disk>⟧.facts result) (⟦<SimDisk as Disk>⟧.fault_state result) }
 {
     match power {
-        Power::Off(Resting { disk }) => disk,
+        Power::Off(resting) => {
+            let Resting { disk } = resting;
+            disk
+        }
         Power::On(store) => store.into_disk(),
     }
 }
@@ -157,7 +111,8 @@ fn armed(power: Power, fault: ArmedFault) -> Power
     ensures { (size : Size) (w : Now) → IsAt size w power → IsAt size (arming fault w) result }
 {
     match power {
-        Power::Off(Resting { mut disk }) => {
+        Power::Off(resting) => {
+            let Resting { mut disk } = resting;
             disk.arm(fault);
             Power::Off(Resting { disk })
         }

@@ -3,9 +3,9 @@ use Rattle.board_model.specs.Views.{change_of}
 use Rattle.store.specs.Views.{view_of}
 use Rattle.story.specs.Story.{Now, Commands}
 use Rattle.story.specs.Told.{IsOn}
-use Rattle.story.specs.declared.story.Seen.{Seen}
-use Rattle.story.proofs.Asks.{fits_command, commanded}
-use Rattle.story.proofs.story.command_seen.Goals as goal
+use Rattle.story.specs.declared.asks.Seen.{Seen}
+use Rattle.story.proofs.Told.{fits_command, commanded}
+use Rattle.story.proofs.stories.command_seen.Goals as goal
 
 pub returns : goal.returns
 returns c = λ size w on.
