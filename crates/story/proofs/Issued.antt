@@ -94,7 +94,7 @@ module _ (size : Size) (w : Now) (old new : StoreView) (hart address opaque : â„
       )
   refused e (inr (inr (inl did))) why = (
     w,
-    inr (goes size w old new on board suspension (fits_here did.1) calm did.2, did.0, refl),
+    inr (goes size w old new on board suspension (fits_here did.1) calm did.2, (did.0, refl)),
     still size w old new on board did.3 (subst (Î» (x : Refusal). CausedRefusal old.fault_state x new.fault_state) did.0 why),
   )
   refused e (inr (inr (inr (inl did)))) why =

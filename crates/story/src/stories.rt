@@ -8,7 +8,7 @@ ghost use Rattle.disk.specs.Facts.{Content};
 ghost use Rattle.store.specs.Leaves.{IsIdle, IsMarked};
 ghost use Rattle.store.specs.Standing.{StandsFor};
 ghost use Rattle.store.specs.Views.{view_of};
-ghost use Rattle.story.specs.Story.{Now, begin, unpowered, cut_off, arming, May, Opens, Commands, Suspends, Loads, Resumes, Answers, Calls, Step, Tells};
+ghost use Rattle.story.specs.Story.{Now, begin, unpowered, cut_off, arming, May, Opens, Commands, Suspends, Loads, Resumes, Answers, Step, Tells};
 ghost use Rattle.story.specs.Told.{IsOn, IsOff, IsAt, IsCall, seen_of};
 
 use crate::asks::{Asked, Seen};
@@ -144,7 +144,7 @@ fn called<C: Crew>(
 ) -> (Power, Seen)
     requires { IsCall call.now }
     ensures { (w : Now) → IsAt shape.now w power
-        → (v : Now) × Calls shape.now w call.now result.1 v × IsAt shape.now v result.0 }
+        → (v : Now) × Step shape.now w call.now result.1 v × IsAt shape.now v result.0 }
 {
     match power {
         Power::Off(resting) => (Power::Off(resting), Seen::NotOpen),

@@ -13,4 +13,5 @@ returns-in-Off c = λ size w at.
 pub returns-in-On : goal.returns-in-On
 returns-in-On c = λ size w at.
     let P : Power → Type 0 = λ p. IsAt size w p in
-    armed_on size w (view_of c.in-On.store) (view_of c.arm.new.self) c.args.fault (subst P c.in-On.is at) c.arm.ensures.board c.arm.ensures.life c.arm.ensures.armed
+    let did = c.arm-in-On.ensures in
+    armed_on size w (view_of c.in-On.store) (view_of c.arm-in-On.new.self) c.args.fault (subst P c.in-On.is at) did.board did.life did.armed

@@ -4,7 +4,7 @@ use Rattle.story.proofs.Opens.{opens, refuses}
 use Rattle.story.proofs.stories.open.Goals as goal
 
 pub returns-in-Ok : goal.returns-in-Ok
-returns-in-Ok c = λ size w off. opens size w _ _ (view_of c.in-Ok.store) c.found.result off c.in-Ok.ensures.opened c.in-Ok.ensures.cause c.found.ensures
+returns-in-Ok c = λ size w off. opens size w _ _ (view_of c.in-Ok.store) c.found-found.result off c.in-Ok.ensures.opened c.in-Ok.ensures.cause c.found-found.ensures
 
 pub returns-in-Err : goal.returns-in-Err
 returns-in-Err c = λ size w off.

@@ -2,8 +2,8 @@ use Rattle.std.proofs.Common.{refl, sym, subst}
 use Rattle.story.specs.Story.{Now, unpowered, arming, cut_off, Step}
 use Rattle.story.specs.Told.{IsAt}
 use Rattle.story.specs.declared.asks.Asked.{Asked}
+use Rattle.story.specs.declared.asks.Seen.TheVariants.{Done}
 use Rattle.story.proofs.Opens.{opens_from}
-use Rattle.story.proofs.Steps.{as_step}
 use Rattle.story.proofs.stories.step.Goals as goal
 
 pub returns-in-Open : goal.returns-in-Open
@@ -16,11 +16,14 @@ returns-in-Open g c = λ w at.
 pub returns-in-Arm : goal.returns-in-Arm
 returns-in-Arm g c = λ w at.
     let size = c.args.shape.now in
-    let P : Asked → Type 0 = λ a. (v : Now) × Step size w a _ v × IsAt size v c.armed.result in
+    let P : Asked → Type 0 = λ a. (v : Now) × Step size w a Done v × IsAt size v c.armed.result in
     subst P (sym c.in-Arm.is) (arming _ w, (refl, refl), c.armed.ensures size w at)
 
 pub returns-in-Cut : goal.returns-in-Cut
 returns-in-Cut g c = λ w at.
     let size = c.args.shape.now in
-    let P : Asked → Type 0 = λ a. (v : Now) × Step size w a _ v × IsAt size v c.cut.result in
-    subst P (sym c.in-Cut.is) (cut_off w, (refl, refl), c.cut.ensures size (unpowered w) (c.left-2.ensures.off size w at))
+    let P : Asked → Type 0 = λ a. (v : Now) × Step size w a Done v × IsAt size v c.cut.result in
+    subst P (sym c.in-Cut.is) (cut_off w, (refl, refl), c.cut.ensures size (unpowered w) (c.left-in-Cut.ensures.off size w at))
+
+pub returns-in_default : goal.returns-in_default
+returns-in_default g c = λ w at. c.called.ensures w at
