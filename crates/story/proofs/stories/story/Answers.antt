@@ -1,5 +1,5 @@
 use Rattle.std.proofs.Common.{◌≡◌, List, [], refl, sym, subst, arith, take}
-use Rattle.std.proofs.lemmas.List.{take-all}
+use Rattle.std.proofs.lemmas.List.{take_all}
 use Rattle.simdisk.specs.contracts.device.SimDiskDisk.TheImpl as sim_disk
 use Rattle.story.specs.Story.{Now, begin, unpowered, Tells}
 use Rattle.story.specs.declared.asks.Asked.{Asked}
@@ -35,4 +35,4 @@ returns-clause-told g c =
     let inv = c.loop-ask.invariant.told in
     let off = c.left.ensures.off size inv.0 inv.2 in
     let P : List Asked → Type 0 = λ xs. Tells size (begin (sim_disk.ghosts.fault_state c.args.disk)) xs c.loop-ask.seen.items inv.0 in
-    (inv.0, subst P (take-all c.args.asked.now c.loop-ask.ask-index c.loop-ask-test.false) inv.1, sym off.faults, stands_at_end size (unpowered inv.0) _ _ off)
+    (inv.0, subst P (take_all c.loop-ask.ask-index c.args.asked.now c.loop-ask-test.false) inv.1, sym off.faults, stands_at_end size (unpowered inv.0) _ _ off)
