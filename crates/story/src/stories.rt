@@ -1,5 +1,5 @@
 //! What whoever runs the firmware asks of one disk, and what is seen, as one run.
-ghost use Rattle.std.specs.Prelude.{◌≡◌, ◌⊎◌, ◌<◌, ℕ, length, IfOk, IfErr};
+ghost use Rattle.std.specs.Prelude.{◌≡◌, ◌⊎◌, ◌<◌, ℕ, None, length, IfOk, IfErr};
 ghost use Rattle.board_model.specs.Durable.{DurableState, Suspend};
 ghost use Rattle.board_model.specs.Shapes.{Size, sectors_of, ram_bytes_of};
 ghost use Rattle.board_model.specs.Views.{change_of};
@@ -7,7 +7,7 @@ ghost use Rattle.board_model.specs.declared.refusal.Refusal.{Refusal};
 ghost use Rattle.disk.specs.Facts.{Content};
 ghost use Rattle.store.specs.Leaves.{IsIdle, IsMarked};
 ghost use Rattle.store.specs.Standing.{StandsFor};
-ghost use Rattle.store.specs.Views.{view_of};
+ghost use Rattle.store.specs.Views.{doubt_of, view_of};
 ghost use Rattle.story.specs.Story.{Now, begin, unpowered, cut_off, arming, May, Opens, Commands, Suspends, Loads, Resumes, Answers, Step, Tells};
 ghost use Rattle.story.specs.Told.{IsOn, IsOff, IsAt, IsCall, seen_of};
 
@@ -232,9 +232,18 @@ fn resume_seen(alloc: Global, shape: &Shape, store: &mut Store<SimDisk>) -> Seen
     ensures { (w : Now) → IsOn shape.now w (view_of store.old)
         → (v : Now) × Resumes shape.now w result v × IsOn shape.now v (view_of store.new) }
 {
-    if let Some(_doubt) = store.in_doubt() {
-        return Seen::Denied(Refusal::Down);
+    match store.in_doubt() {
+        Some(_doubt) => Seen::Denied(Refusal::Down),
+        None => wake_seen(alloc, shape, store),
     }
+}
+
+/// A board goes on with the image, of a store without a command in doubt.
+fn wake_seen(alloc: Global, shape: &Shape, store: &mut Store<SimDisk>) -> Seen
+    requires { doubt_of store.old ≡ None }
+    ensures { (w : Now) → IsOn shape.now w (view_of store.old)
+        → (v : Now) × Resumes shape.now w result v × IsOn shape.now v (view_of store.new) }
+{
     let mut ram = match Ram::new(alloc, *shape) {
         Ok(ram) => ram,
         Err(refusal) => return Seen::Denied(refusal),
