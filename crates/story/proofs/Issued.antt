@@ -1,17 +1,17 @@
 -- What is seen of a command and of a suspension that found no other in doubt.
-use Rattle.std.proofs.Common.{◌≡◌, ◌⊎◌, ◌∙◌, ◌+◌, ◌<◌, ℕ, List, Option, Some, None, Result, Ok, Err, MatchResult, inl, inr, refl, sym, ap, subst, length, true, false}
+use Rattle.std.proofs.Common.{◌≡◌, ◌∙◌, ◌+◌, ◌<◌, ℕ, List, Some, None, Result, Ok, Err, MatchResult, inl, inr, refl, sym, ap, subst, true, false}
 use Rattle.board_model.specs.Durable.{DurableState, Change, Suspend, refusal_of}
 use Rattle.board_model.specs.Shapes.{Size}
 use Rattle.board_model.specs.Views.{number_of_refusal}
 use Rattle.board_model.proofs.Table.{of_table}
 use Rattle.board_model.specs.declared.refusal.Refusal.{Refusal}
-use Rattle.board_model.specs.declared.refusal.Refusal.TheVariants.{BadShape, Device, Down, Over, JournalFull, Memory}
-use Rattle.disk.specs.FaultState.{FaultState, Cause}
+use Rattle.board_model.specs.declared.refusal.Refusal.TheVariants.{Device, Down, Over, JournalFull}
+use Rattle.disk.specs.FaultState.{FaultState}
 use Rattle.store.specs.Answers.{StoreView}
 use Rattle.store.specs.Follows.{FitsBoard}
-use Rattle.store.specs.Lives.{Life, now_of, Reaches, Refused, Applied, SuspendRefused, SuspendApplied, Suspended}
+use Rattle.store.specs.Lives.{now_of, Refused, Applied, SuspendRefused, SuspendApplied, Suspended}
 use Rattle.store.specs.Opens.{CausedRefusal}
-use Rattle.story.specs.Story.{Now, acknowledged, Takes, Fits, Goes, Denies, Commands, Suspends}
+use Rattle.story.specs.Story.{Now, acknowledged, Fits, Denies, Commands, Suspends}
 use Rattle.story.specs.Told.{IsOn, seen_of}
 use Rattle.story.proofs.Stays.{moved, still, takes, goes, made, doubted, reseen}
 
@@ -86,8 +86,7 @@ module _ (size : Size) (w : Now) (old new : StoreView) (hart address opaque : �
   refused : (e : Refusal) → SuspendRefused (FitsBoard old.size memory hart address) old.life suspension e new.life → CausedRefusal old.fault_state e new.fault_state → Answer (Err e)
   refused e (inl did) why = as_command (Err e) (denied size w old new suspension on calm (fits_here did.0) board e did.1 why)
   refused e (inr (inl did)) why =
-      as_command (Err e)
-      (
+      as_command (Err e) (
         w,
         inr (inr (inr (inr (inr (inl (did.0, (on.doubt ∙ calm, on.over ∙ did.2, subst (λ (n : ℕ). n < 4096) (sym on.receipts) did.3), (λ fits. did.1 (fits_there fits)), refl)))))),
         still size w old new on board did.4 (subst (λ (x : Refusal). CausedRefusal old.fault_state x new.fault_state) did.0 why),
@@ -98,15 +97,13 @@ module _ (size : Size) (w : Now) (old new : StoreView) (hart address opaque : �
     still size w old new on board did.3 (subst (λ (x : Refusal). CausedRefusal old.fault_state x new.fault_state) did.0 why),
   )
   refused e (inr (inr (inr (inl did)))) why =
-      as_command (Err e)
-      (
+      as_command (Err e) (
         w,
         inr (inr (inr (inl (did.0, on.doubt ∙ calm, on.over ∙ did.1, refl)))),
         still size w old new on board did.2 (subst (λ (x : Refusal). CausedRefusal old.fault_state x new.fault_state) did.0 why),
       )
   refused e (inr (inr (inr (inr did)))) why =
-      as_command (Err e)
-      (
+      as_command (Err e) (
         w,
         inr (inr (inr (inr (inl (did.0, on.doubt ∙ calm, on.over ∙ did.1, on.receipts ∙ did.2, refl))))),
         still size w old new on board did.3 (subst (λ (x : Refusal). CausedRefusal old.fault_state x new.fault_state) did.0 why),

@@ -1,16 +1,16 @@
 -- What is seen of a load and of a resume.
-use Rattle.std.proofs.Common.{◌≡◌, ◌⊎◌, ◌∙◌, ℕ, List, Option, Some, None, Result, Ok, Err, inl, inr, refl, sym, ap, subst, length}
-use Rattle.board_model.specs.Durable.{DurableState, Image, Change, Consume, IsWhole}
+use Rattle.std.proofs.Common.{◌≡◌, ◌⊎◌, ◌∙◌, ℕ, List, None, Ok, Err, inl, inr, refl, sym, ap, subst}
+use Rattle.board_model.specs.Durable.{DurableState, Consume, IsWhole}
 use Rattle.board_model.specs.Shapes.{Size}
 use Rattle.board_model.specs.declared.refusal.Refusal.{Refusal}
 use Rattle.board_model.specs.declared.refusal.Refusal.TheVariants.{Device, NoImage}
 use Rattle.disk.specs.FaultState.{FaultState, Cause}
 use Rattle.hart.specs.State.{ArchState}
 use Rattle.store.specs.Answers.{StoreView, Answered}
-use Rattle.store.specs.Lives.{Life, now_of, Applied, IsLoaded, LoadRefused}
+use Rattle.store.specs.Lives.{now_of, Applied, IsLoaded, LoadRefused}
 use Rattle.susp.specs.Wakes.{IsWoken}
-use Rattle.story.specs.Story.{Now, Unloaded, Loads, Resumes, Commands}
-use Rattle.story.specs.Told.{IsOn, seen_of}
+use Rattle.story.specs.Story.{Now, Unloaded, Loads, Resumes}
+use Rattle.story.specs.Told.{IsOn}
 use Rattle.story.specs.declared.asks.Seen.TheVariants.{Read, Woke, Denied}
 use Rattle.story.proofs.Stays.{moved, still}
 use Rattle.story.proofs.Issued.{issued}
@@ -25,8 +25,7 @@ module _ (size : Size) (w : Now) (old new : StoreView) (on : IsOn size w old) (b
   pub not_loaded : (memory : List ℕ) (e : Refusal) → LoadRefused old.size (now_of old.life) memory old.disk old.fault_state e new.disk new.fault_state → new.life ≡ old.life
       → (e ≡ Device) ⊎ ((e ≡ NoImage) × ((now_of old.life).image ≡ None)) → (v : Now) × Unloaded w e v × IsOn size v new
   not_loaded memory e why life (inl is) =
-      let failed = subst (λ (x : Refusal). LoadRefused old.size (now_of old.life) memory old.disk old.fault_state x new.disk new.fault_state) is why in
-      (
+      let failed = subst (λ (x : Refusal). LoadRefused old.size (now_of old.life) memory old.disk old.fault_state x new.disk new.fault_state) is why in (
         record w { faults = new.fault_state },
         inr (inl (is, subst (λ (m : FaultState). Cause m new.fault_state) (sym on.faults) failed.2, refl)),
         moved size w old new on board life,

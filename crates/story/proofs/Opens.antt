@@ -1,5 +1,5 @@
 -- A disk in a story without a store: it is opened, left by a store, armed or cut.
-use Rattle.std.proofs.Common.{◌≡◌, ◌⊎◌, ◌∙◌, ℕ, List, Option, Some, None, inl, inr, refl, sym, ap, subst, length, false}
+use Rattle.std.proofs.Common.{◌≡◌, ◌⊎◌, ◌∙◌, Option, Some, None, inl, inr, refl, sym, ap, subst, length, false}
 use Rattle.board_model.specs.Durable.{DurableState, Change, formatted, after, IsWhole}
 use Rattle.board_model.specs.Shapes.{Size}
 use Rattle.board_model.specs.Views.{durable_of}
@@ -112,6 +112,7 @@ opens size w disk m store found off opened same is = (
   where
     may : (store.size ≡ size) × May w store.life.found
     may = off.only store.size store.life.found opened.earlier
+
     whole : (s : DurableState) → May (begun_in store.life.found w) s → IsWhole size s
     whole s (inl is) = subst (IsWhole size) (sym is) (off.whole store.life.found may.1)
     whole s (inr (c, doubt, is)) = absurd (no_doubt None c refl doubt)

@@ -1,10 +1,9 @@
 -- An open store in a story: after a call that leaves its life, or makes one command of it.
-use Rattle.std.proofs.Common.{◌≡◌, ◌⊎◌, ◌∙◌, ◌+◌, ◌<◌, ◌++◌, ◌∷◌, ℕ, List, [], Option, Some, None, inl, inr, refl, sym, ap, subst, length, false}
+use Rattle.std.proofs.Common.{◌≡◌, ◌∙◌, ◌+◌, ◌<◌, ◌++◌, ◌∷◌, ℕ, List, [], Option, Some, None, inl, inr, refl, sym, ap, subst, length, false}
 use Rattle.std.proofs.lemmas.List.{length_push}
 use Rattle.board_model.specs.Durable.{DurableState, Change, Suspend, refusal_of, after, fold, ends_life, IsWhole, CarriesWhole}
 use Rattle.board_model.specs.Shapes.{Size}
 use Rattle.board_model.proofs.Steps.{whole_after}
-use Rattle.disk.specs.FaultState.{FaultState}
 use Rattle.store.specs.Answers.{StoreView}
 use Rattle.store.specs.Lives.{Life, now_of, Reaches, IsReseen}
 use Rattle.story.specs.Story.{Now, acknowledged, May, Takes, Fits, Goes}

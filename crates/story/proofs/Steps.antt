@@ -1,5 +1,5 @@
 -- A call of an open store is a step.
-use Rattle.std.proofs.Common.{◌≡◌, ◌⊎◌, inl, inr, true}
+use Rattle.std.proofs.Common.{◌≡◌, inl, inr, true}
 use Rattle.board_model.specs.Shapes.{Size}
 use Rattle.story.specs.Story.{Now, Answers, Calls, Step}
 use Rattle.story.specs.Told.{IsCall}

@@ -1,22 +1,20 @@
 -- What is seen of the calls of an open store.
-use Rattle.std.proofs.Common.{◌≡◌, ◌⊎◌, ◌∙◌, ℕ, List, Option, Some, None, Result, Ok, Err, MatchResult, inl, inr, refl, sym, ap, subst}
-use Rattle.board_model.specs.Durable.{DurableState, Image, Change, Suspend, Consume}
+use Rattle.std.proofs.Common.{◌≡◌, ◌∙◌, ℕ, List, Option, Some, None, Result, Err, inl, refl, sym, subst}
+use Rattle.board_model.specs.Durable.{Change, Suspend}
 use Rattle.board_model.specs.Shapes.{Size}
 use Rattle.board_model.specs.Views.{change_of}
 use Rattle.board_model.specs.declared.durable.Command.{Command}
 use Rattle.board_model.specs.declared.durable.Command.TheVariants as commands
 use Rattle.board_model.specs.declared.refusal.Refusal.{Refusal}
-use Rattle.board_model.specs.declared.refusal.Refusal.TheVariants.{Device, Down, NoImage, Memory}
-use Rattle.disk.specs.FaultState.{FaultState}
+use Rattle.board_model.specs.declared.refusal.Refusal.TheVariants.{Down}
 use Rattle.disk.specs.declared.device.Disk.{Ghosts}
 use Rattle.disk.specs.declared.device.Lane.{Ghosts as Lanes}
-use Rattle.store.specs.Answers.{StoreView}
 use Rattle.store.specs.Asked.{Asked}
 use Rattle.store.specs.Follows.{FitsBoard}
-use Rattle.store.specs.Lives.{Life, Applied, Suspended}
+use Rattle.store.specs.Lives.{Applied, Suspended}
 use Rattle.store.specs.Views.{view_of, size_of_store, doubt_of}
 use Rattle.store.specs.declared.stores.Store.{Store}
-use Rattle.story.specs.Story.{Now, Fits, Denies, Commands, Suspends}
+use Rattle.story.specs.Story.{Now, Fits, Commands, Suspends}
 use Rattle.story.specs.Told.{IsOn, seen_of}
 use Rattle.story.proofs.Issued.{issued, suspended}
 

@@ -7,7 +7,7 @@ use Rattle.disk.specs.Facts.{Facts}
 use Rattle.disk.specs.FaultState.{FaultState}
 use Rattle.simdisk.specs.contracts.device.SimDiskDisk.TheImpl as sim_disk
 use Rattle.store.specs.Answers.{StoreView}
-use Rattle.store.specs.Leaves.{IsIdle, IsKept, Leaves}
+use Rattle.store.specs.Leaves.{IsKept, Leaves}
 use Rattle.store.specs.Lives.{now_of}
 use Rattle.store.specs.Views.{view_of}
 use Rattle.story.specs.Story.{Now, May}

@@ -56,13 +56,7 @@ pub fn story<C: Crew>(
 }
 
 /// What is asked is done.
-fn step<C: Crew>(
-    alloc: Global,
-    shape: &Shape,
-    crew: &C,
-    power: Power,
-    ask: &Asked,
-) -> (Power, Seen)
+fn step<C: Crew>(alloc: Global, shape: &Shape, crew: &C, power: Power, ask: &Asked) -> (Power, Seen)
     ensures { (w : Now) → IsAt shape.now w power
         → (v : Now) × Step shape.now w ask.now result.1 v × IsAt shape.now v result.0 }
 {

@@ -44,6 +44,7 @@ const fn denied(code: u64) -> Told {
 }
 
 const NOT_OPEN: Told = (7, 0, 0);
+
 const DONE: Told = (8, 0, 0);
 
 const BASE: u64 = 0x8000_0000;
@@ -131,7 +132,7 @@ fn an_image_goes_on_once(rt: HostRuntime) -> Result<(), Fail> {
         Asked::Cut(Fill::Alternating),
         Asked::Open,
         Asked::Load,
-        Asked::Resume
+        Asked::Resume,
     ]?;
     let wanted = [
         opened(0, 0),
@@ -159,7 +160,12 @@ fn an_image_goes_on_once(rt: HostRuntime) -> Result<(), Fail> {
 #[test]
 fn a_command_in_doubt_is_settled_by_the_open(rt: HostRuntime) -> Result<(), Fail> {
     let alloc = rt.alloc();
-    for (fill, slot) in [(Fill::New, 3), (Fill::Old, 0), (Fill::Byte(1), 3), (Fill::Byte(2), 0)] {
+    for (fill, slot) in [
+        (Fill::New, 3),
+        (Fill::Old, 0),
+        (Fill::Byte(1), 3),
+        (Fill::Byte(2), 0),
+    ] {
         let asked = vec![in alloc;
             Asked::Open,
             Asked::Arm(ArmedFault::CutAt(3)),
@@ -170,7 +176,7 @@ fn a_command_in_doubt_is_settled_by_the_open(rt: HostRuntime) -> Result<(), Fail
             Asked::Cut(fill),
             Asked::Open,
             Asked::Cut(Fill::Old),
-            Asked::Open
+            Asked::Open,
         ]?;
         let wanted = [
             opened(0, 0),
@@ -202,7 +208,7 @@ fn a_refused_command_is_not_found(rt: HostRuntime) -> Result<(), Fail> {
         Asked::Arm(ArmedFault::FailAt(2)),
         Asked::Command(Command::Slot(3)),
         Asked::Cut(Fill::New),
-        Asked::Open
+        Asked::Open,
     ]?;
     let wanted = [
         opened(0, 0),
@@ -239,7 +245,7 @@ fn a_lane_that_fails_leaves_the_image(rt: HostRuntime) -> Result<(), Fail> {
         suspend(&rt, alloc, 77, 88),
         Asked::Cut(Fill::New),
         Asked::Open,
-        Asked::Resume
+        Asked::Resume,
     ]?;
     let wanted = [
         opened(0, 0),

@@ -1,7 +1,7 @@
-use Rattle.std.proofs.Common.{◌≡◌, List, [], refl, sym, subst, arith, take}
+use Rattle.std.proofs.Common.{List, [], refl, sym, subst, arith}
 use Rattle.std.proofs.lemmas.List.{take_all}
 use Rattle.simdisk.specs.contracts.device.SimDiskDisk.TheImpl as sim_disk
-use Rattle.story.specs.Story.{Now, begin, unpowered, Tells}
+use Rattle.story.specs.Story.{begin, unpowered, Tells}
 use Rattle.story.specs.declared.asks.Asked.{Asked}
 use Rattle.story.specs.declared.asks.Seen.{Seen}
 use Rattle.story.proofs.Lists.{more}
