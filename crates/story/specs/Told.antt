@@ -1,0 +1,54 @@
+-- How a disk stands in a story, between two steps of the run.
+use Rattle.std.specs.Prelude.{◌≡◌, ℕ, true, false, Result, Ok, Err, length}
+use Rattle.board_model.specs.Durable.{DurableState, IsWhole}
+use Rattle.board_model.specs.Shapes.{Size}
+use Rattle.board_model.specs.declared.refusal.Refusal.{Refusal}
+use Rattle.disk.specs.Facts.{Facts}
+use Rattle.disk.specs.FaultState.{FaultState}
+use Rattle.simdisk.specs.contracts.device.SimDiskDisk.TheImpl as sim_disk
+use Rattle.store.specs.Answers.{StoreView}
+use Rattle.store.specs.Leaves.{IsKept, Leaves}
+use Rattle.store.specs.Lives.{now_of}
+use Rattle.store.specs.Views.{view_of}
+use Rattle.story.specs.Story.{Now, May}
+use Rattle.story.specs.declared.asks.Asked.{Asked}
+use Rattle.story.specs.declared.asks.Asked.TheVariants as asked
+use Rattle.story.specs.declared.power.Power.{Power}
+use Rattle.story.specs.declared.power.Power.TheVariants.{Off, On}
+use Rattle.story.specs.declared.asks.Seen.{Seen}
+use Rattle.story.specs.declared.asks.Seen.TheVariants.{Acked, Denied}
+
+-- in an open store
+pub record IsOn (size : Size) (w : Now) (store : StoreView) : Type 0 where
+  pub board : store.size ≡ size
+  pub state : w.state ≡ now_of store.life
+  pub doubt : w.doubt ≡ store.life.doubt
+  pub over : w.over ≡ store.life.over
+  pub receipts : w.receipts ≡ length store.life.journal
+  pub faults : w.faults ≡ store.fault_state
+  pub on : w.on ≡ true
+  pub whole : (s : DurableState) → May w s → IsWhole size s
+
+-- without one: each crash leaves what an open may find
+pub record IsOff (size : Size) (w : Now) (disk : Facts) (m : FaultState) : Type 0 where
+  pub kept : IsKept disk size
+  pub only : (z : Size) (s : DurableState) → Leaves disk z s → (z ≡ size) × May w s
+  pub faults : w.faults ≡ m
+  pub on : w.on ≡ false
+  pub whole : (s : DurableState) → May w s → IsWhole size s
+
+abbrev pub IsAt : Size → Now → Power → Type 0
+IsAt size w (Off resting) = IsOff size w (sim_disk.ghosts.facts resting.disk) (sim_disk.ghosts.fault_state resting.disk)
+IsAt size w (On store) = IsOn size w (view_of store)
+
+-- what is asked of an open store
+abbrev pub IsCall : Asked → Type 0
+IsCall asked.Open = ⊥
+IsCall (asked.Arm fault) = ⊥
+IsCall (asked.Cut fill) = ⊥
+IsCall a = Unit {0}
+
+-- what is seen of a command that is answered so
+abbrev pub seen_of : Result ℕ Refusal → Seen
+seen_of (Ok n) = Acked n
+seen_of (Err e) = Denied e

@@ -1,0 +1,12 @@
+//! A story of one disk.
+#![tactic(auto)]
+
+mod asks;
+mod power;
+mod stories;
+
+pub use asks::{Asked, Seen};
+pub use stories::story;
+
+#[cfg(test)]
+mod tests;
