@@ -28,7 +28,7 @@ pub enum ElfFault {
     #[error("the ELF file has no segment to load")]
     NoSegment,
     #[error("segment {0} is not within the RAM, which begins at 0x80000000 and has {1} bytes")]
-    OutsideRam(u16, u64),
+    OutsideRam(u16, u32),
     #[error("segment {0} begins before the end of the one before it: segments overlap, or are not in ascending order")]
     Overlapping(u16),
     #[error("the entry is at {0:#x}, and a board starts at 0x80000000")]

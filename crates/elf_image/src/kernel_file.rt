@@ -51,7 +51,7 @@ impl<'a> Elf<'a> {
     /// What a RAM of so many bytes holds of it, from 0x80000000 on, up to the last byte that the file has; what comes after is zero.
     /// A segment stands where it is loaded (`p_paddr`), as objcopy and other loaders have it. Faults: a segment is not within the
     /// RAM, also where it runs (`p_vaddr`); segments overlap; the entry is not 0x80000000; memory was refused.
-    pub fn load(&self, alloc: Global, ram_bytes: u64) -> Result<Vec<u8>, ElfFault>
+    pub fn load(&self, alloc: Global, ram_bytes: u32) -> Result<Vec<u8>, ElfFault>
         ensures ok { IfOk result (λ memory. IsLoaded self.now.bytes.now memory.items) }
         ensures misplaced { IfErr result (IsMisplaced self.now.bytes.now ram_bytes) }
     {

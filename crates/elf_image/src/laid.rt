@@ -22,8 +22,8 @@ fn lay(memory: &mut Vec<u8>, bytes: &[u8], segment: &Segment) -> Result<(), Allo
 }
 
 /// The memory of a file whose segments are in it, and fit a RAM.
-pub fn laid(alloc: Global, bytes: &[u8], ghost_ram: u64) -> Result<Vec<u8>, AllocError>
-    requires fits { AreLaidOut bytes.now ghost_ram }
+pub fn laid(alloc: Global, bytes: &[u8], ram: u32) -> Result<Vec<u8>, AllocError>
+    requires fits { AreLaidOut bytes.now ram }
     requires inside { (k : ℕ) → Loads bytes.now k → IsInFile bytes.now (segment_at bytes.now k) }
     ensures { IfOk result (λ memory. IsLoaded bytes.now memory.items) }
 {

@@ -3,11 +3,12 @@
 mod trapped;
 
 use crate::{Elf, ElfFault, is_elf, parse};
+use std::alloc::Global;
 use std::process::Abort;
 use trapped::{FILE, MEMORY};
 
 /// The RAM of a board of one page.
-const RAM: u64 = 4096;
+const RAM: u32 = 4096;
 
 /// What `nm -S` says of the file: each name with its address and size.
 static NAMES: [(&[u8], u64, u64); 5] = [
@@ -47,7 +48,7 @@ static MISPLACED: [(usize, u8, ElfFault); 3] = [
     (144, 0, ElfFault::Overlapping(1)),
 ];
 
-fn parsed<'a>(rt: &HostRuntime, file: &'a [u8]) -> Elf<'a> {
+fn parsed<'a>(rt: &impl Abort, file: &'a [u8]) -> Elf<'a> {
     match parse(file) {
         Ok(elf) => elf,
         Err(fault) => rt.panic(fault),
@@ -86,24 +87,24 @@ fn symbols_are_those_of_nm(rt: HostRuntime) {
     assert!(rt; elf.symbol_at(0x7fff_ffff).is_none());
 }
 
-fn fault_of(rt: &HostRuntime, place: usize, byte: u8) -> Option<ElfFault> {
+fn fault_of(alloc: Global, place: usize, byte: u8) -> Option<ElfFault> {
     let mut file = FILE;
     if let Some(at) = file.get_mut(place) {
         *at = byte;
     }
     match parse(&file) {
         Err(fault) => Some(fault),
-        Ok(elf) => elf.load(rt.alloc(), RAM).err(),
+        Ok(elf) => elf.load(alloc, RAM).err(),
     }
 }
 
 #[test]
 fn faults_are_told(rt: HostRuntime) {
     for &(place, byte, fault) in &WRONG {
-        assert!(rt; fault_of(&rt, place, byte) == Some(fault), "at {place}");
+        assert!(rt; fault_of(rt.alloc(), place, byte) == Some(fault), "at {place}");
     }
     for &(place, byte, fault) in &MISPLACED {
-        assert!(rt; fault_of(&rt, place, byte) == Some(fault), "at {place}");
+        assert!(rt; fault_of(rt.alloc(), place, byte) == Some(fault), "at {place}");
     }
     assert!(rt; !is_elf(b"\x7fEL") && is_elf(b"\x7fELF"));
     assert!(rt; parse(b"\x7fELF").err() == Some(ElfFault::CutOff));
