@@ -27,9 +27,9 @@ module _ (memory part : List ℕ) (start : ℕ) (room : length memory ≤ start)
 
 -- The memory of the first k segments, and after it segment k's bytes at their place: the memory of one segment more.
 module _ (bytes : List ℕ) (k : ℕ) (memory more : List ℕ) (loads : Loads bytes k) (room : length memory ≤ start_of (segment_at bytes k))
-         (inside : IsPart (segment_at bytes k).offset (segment_at bytes k).file_bytes bytes) (has : 0 < (segment_at bytes k).file_bytes)
-         (before : IsLoadedTo bytes k memory)
-         (is : more ≡ memory ++ replicate (start_of (segment_at bytes k) - length memory) 0 ++ part_of (segment_at bytes k).offset (segment_at bytes k).file_bytes bytes) where
+    (inside : IsPart (segment_at bytes k).offset (segment_at bytes k).file_bytes bytes) (has : 0 < (segment_at bytes k).file_bytes)
+    (before : IsLoadedTo bytes k memory)
+    (is : more ≡ memory ++ replicate (start_of (segment_at bytes k) - length memory) 0 ++ part_of (segment_at bytes k).offset (segment_at bytes k).file_bytes bytes) where
   abbrev s : Segment
   s = segment_at bytes k
 
@@ -73,33 +73,34 @@ module _ (bytes : List ℕ) (k : ℕ) (memory more : List ℕ) (loads : Loads by
 
   pub loaded_more : IsLoadedTo bytes (k + 1) more
   loaded_more = record {
-      file = λ j i below l small. file_of j i (cases_lt j k) below l small;
-      zero = λ place none. zero_at place (cases_lt place (length memory)) (cases_lt place (start_of s)) (cases_lt place (start_of s + s.file_bytes)) none;
-      reaches = λ j place below byte. reach_of j place (cases_lt j k) below byte;
-      ends = λ place last. (k, omega arith, record { loads = loads; from = omega (arith, long, last, has); to = omega (arith, long, last) })
-    }
+    file = λ j i below l small. file_of j i (cases_lt j k) below l small;
+    zero = λ place none. zero_at place (cases_lt place (length memory)) (cases_lt place (start_of s)) (cases_lt place (start_of s + s.file_bytes)) none;
+    reaches = λ j place below byte. reach_of j place (cases_lt j k) below byte;
+    ends = λ place last. (k, omega arith, record { loads = loads; from = omega (arith, long, last, has); to = omega (arith, long, last) });
+  }
 
 -- The first k segments end before segment k begins.
 pub room_before : (bytes : List ℕ) (ram k : ℕ) (memory : List ℕ) → AreLaidOut bytes ram → ((j : ℕ) → Loads bytes j → IsInFile bytes (segment_at bytes j))
     → Loads bytes k → IsLoadedTo bytes k memory → length memory ≤ start_of (segment_at bytes k)
 room_before bytes ram k memory laid inside loads before =
     elim (cases_lt 0 (length memory)) [
-      inl some ↦
-        let last = before.ends (length memory - 1) (omega arith) in
-        let j = last.0 in
-        let l = last.2.loads in
-        omega (arith, last.2.to, (inside j l).1, laid.ascend k loads j last.1 l, (laid.fit j l).0.0)
-    | inr none ↦ omega arith ]
+      | inl some ↦
+          let last = before.ends (length memory - 1) (omega arith) in
+          let j = last.0 in
+          let l = last.2.loads in
+          omega (arith, last.2.to, (inside j l).1, laid.ascend k loads j last.1 l, (laid.fit j l).0.0)
+      | inr none ↦ omega arith
+    ]
 
 -- A segment without file bytes changes nothing.
 pub loaded_same : (bytes : List ℕ) (k : ℕ) (memory : List ℕ) → (Loads bytes k → 0 < (segment_at bytes k).file_bytes → ⊥) → IsLoadedTo bytes k memory
     → IsLoadedTo bytes (k + 1) memory
 loaded_same bytes k memory nothing before = record {
-    file = λ j i below l small. before.file j i (under j below (λ same. nothing (at_k j same l) (some_at_k j i same small))) l small;
-    zero = λ place none. before.zero place (λ j below byte. none j (omega arith) byte);
-    reaches = λ j place below byte. before.reaches j place (under j below (λ same. nothing (at_k j same byte.loads) (byte_at_k j place same byte))) byte;
-    ends = λ place last. let e = before.ends place last in (e.0, omega (arith, e.1), e.2)
-  } where
+  file = λ j i below l small. before.file j i (under j below (λ same. nothing (at_k j same l) (some_at_k j i same small))) l small;
+  zero = λ place none. before.zero place (λ j below byte. none j (omega arith) byte);
+  reaches = λ j place below byte. before.reaches j place (under j below (λ same. nothing (at_k j same byte.loads) (byte_at_k j place same byte))) byte;
+  ends = λ place last. let e = before.ends place last in (e.0, omega (arith, e.1), e.2);
+} where
   under : (j : ℕ) → j < k + 1 → (j ≡ k → ⊥) → j < k
   under j below other = omega (arith, other)
 

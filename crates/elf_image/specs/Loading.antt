@@ -11,7 +11,7 @@ pub record IsFileByte (bytes : List ℕ) (k place : ℕ) : Type 0 where
 -- The memory holds each file byte of the first n segments at its place, and zero at each other place. It ends with a file byte.
 pub record IsLoadedTo (bytes : List ℕ) (n : ℕ) (memory : List ℕ) : Type 0 where
   pub file : (k i : ℕ) → k < n → Loads bytes k → i < (segment_at bytes k).file_bytes
-    → slice_index memory (start_of (segment_at bytes k) + i) ≡ slice_index bytes ((segment_at bytes k).offset + i)
+      → slice_index memory (start_of (segment_at bytes k) + i) ≡ slice_index bytes ((segment_at bytes k).offset + i)
   pub zero : (place : ℕ) → ((k : ℕ) → k < n → IsFileByte bytes k place → ⊥) → slice_index memory place ≡ 0
   pub reaches : (k place : ℕ) → k < n → IsFileByte bytes k place → place < length memory
   pub ends : (place : ℕ) → length memory ≡ place + 1 → (k : ℕ) × (k < n) × IsFileByte bytes k place

@@ -18,24 +18,24 @@ HasHeaders bytes = (number_at 2 54 bytes ≡ 56) × IsPart (number_at 8 32 bytes
 -- the segment of an entry: p_type, p_offset, p_vaddr, p_paddr, p_filesz, p_memsz
 abbrev pub segment_of : List ℕ → Segment
 segment_of entry = record {
-    kind = number_at 4 0 entry;
-    offset = number_at 8 8 entry;
-    runs_at = number_at 8 16 entry;
-    loaded_at = number_at 8 24 entry;
-    file_bytes = number_at 8 32 entry;
-    memory_bytes = number_at 8 40 entry
-  }
+  kind = number_at 4 0 entry;
+  offset = number_at 8 8 entry;
+  runs_at = number_at 8 16 entry;
+  loaded_at = number_at 8 24 entry;
+  file_bytes = number_at 8 32 entry;
+  memory_bytes = number_at 8 40 entry;
+}
 
 -- a segment without its first n bytes
 abbrev pub cut_by : ℕ → Segment → Segment
 cut_by n s = record {
-    kind = s.kind;
-    offset = s.offset + n;
-    runs_at = s.runs_at + n;
-    loaded_at = s.loaded_at + n;
-    file_bytes = s.file_bytes - n;
-    memory_bytes = s.memory_bytes - n
-  }
+  kind = s.kind;
+  offset = s.offset + n;
+  runs_at = s.runs_at + n;
+  loaded_at = s.loaded_at + n;
+  file_bytes = s.file_bytes - n;
+  memory_bytes = s.memory_bytes - n;
+}
 
 -- Linkers put the file's own headers, from its first byte on, into a segment below the code: what of it is below RAM is left out.
 abbrev pub without_headers : Segment → Segment

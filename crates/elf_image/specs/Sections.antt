@@ -16,11 +16,11 @@ HasSections bytes =
 -- the section of an entry: sh_type, sh_offset, sh_size, sh_link
 abbrev pub section_of : List ℕ → Section
 section_of entry = record {
-    kind = number_at 4 4 entry;
-    offset = number_at 8 24 entry;
-    size = number_at 8 32 entry;
-    link = number_at 4 40 entry
-  }
+  kind = number_at 4 4 entry;
+  offset = number_at 8 24 entry;
+  size = number_at 8 32 entry;
+  link = number_at 4 40 entry;
+}
 
 -- section k of a file
 unfoldable pub section_at : List ℕ → ℕ → Section
@@ -53,4 +53,4 @@ bytes_of bytes s = part_of s.offset s.size bytes
 pub record AreTables (bytes symbols names : List ℕ) : Type 0 where
   pub none : HasNoSymbols bytes → (symbols ≡ []) × (names ≡ [])
   pub some : (k : ℕ) → IsSymbolSection bytes k → HasTables bytes k
-    × (symbols ≡ bytes_of bytes (section_at bytes k)) × (names ≡ bytes_of bytes (section_at bytes (section_at bytes k).link))
+      × (symbols ≡ bytes_of bytes (section_at bytes k)) × (names ≡ bytes_of bytes (section_at bytes (section_at bytes k).link))

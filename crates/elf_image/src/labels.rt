@@ -9,6 +9,7 @@ use crate::symbols::names_from;
 
 /// `STT_FUNC`, and `STT_NOTYPE`.
 const FUNCTION: u8 = 2;
+
 const UNTYPED: u8 = 0;
 /// The first of the reserved sections (`SHN_LORESERVE`).
 const RESERVED: u16 = 0xff00;
@@ -20,7 +21,11 @@ fn is_label(names: &[u8], entry: &[u8]) -> bool
     let section = u16_at(entry, 6);
     let kind = byte_at(entry, 4) % 16;
     let letter = byte_at(names_from(names, entry), 0);
-    0 < section && section < RESERVED && (kind == FUNCTION || kind == UNTYPED) && letter != 0 && letter != b'$'
+    0 < section
+        && section < RESERVED
+        && (kind == FUNCTION || kind == UNTYPED)
+        && letter != 0
+        && letter != b'$'
 }
 
 /// Whether symbol `k` names code, at or below the address.
@@ -75,8 +80,8 @@ pub fn label_at<'a>(tables: &Tables<'a>, address: u64) -> Option<(&'a [u8], u64)
     ensures { MatchOption result
         ((k : ℕ) → k < symbols_of tables.now.symbols.now → IsAtOrBelow tables.now.symbols.now tables.now.names.now address k → ⊥)
         (λ r. (k : ℕ) × IsNearest tables.now.symbols.now tables.now.names.now address (symbols_of tables.now.symbols.now) k
-            × (r.0.now ≡ name_of tables.now.names.now (entry_at tables.now.symbols.now k))
-            × (r.1 ≡ address - address_of (entry_at tables.now.symbols.now k))) }
+        × (r.0.now ≡ name_of tables.now.names.now (entry_at tables.now.symbols.now k))
+        × (r.1 ≡ address - address_of (entry_at tables.now.symbols.now k))) }
 {
     match nearest(tables, address) {
         None => None,

@@ -4,10 +4,10 @@
 //! the System V gABI for 64 bits in little-endian order; RISC-V's machine number and its mapping symbols are those of the RISC-V psABI.
 #![tactic(auto)]
 
-mod kernel_file;
 mod fault;
 mod fields;
 mod header;
+mod kernel_file;
 mod labels;
 mod laid;
 mod program;
@@ -15,9 +15,9 @@ mod reach;
 mod sections;
 mod symbols;
 
-pub use kernel_file::{Elf, parse};
 pub use fault::ElfFault;
 pub use header::is_elf;
+pub use kernel_file::{Elf, parse};
 pub use symbols::Symbol;
 
 #[cfg(test)]

@@ -89,14 +89,17 @@ impl Segment {
         ensures { IsTrue result ↔ IsInFile bytes.now self.now }
     {
         let len = bytes.len() as u64;
-        self.offset <= len && self.file_bytes <= len - self.offset && self.file_bytes <= self.memory_bytes
+        self.offset <= len
+            && self.file_bytes <= len - self.offset
+            && self.file_bytes <= self.memory_bytes
     }
 
     /// Whether it is loaded to, and runs in, a RAM of so many bytes.
     pub fn fits_ram(&self, ram: u64) -> bool
         ensures { IsTrue result ↔ FitsRam ram self.now }
     {
-        is_in_ram(ram, self.loaded_at, self.memory_bytes) && is_in_ram(ram, self.runs_at, self.memory_bytes)
+        is_in_ram(ram, self.loaded_at, self.memory_bytes)
+            && is_in_ram(ram, self.runs_at, self.memory_bytes)
     }
 }
 

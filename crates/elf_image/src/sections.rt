@@ -89,7 +89,10 @@ fn tables_of(bytes: &[u8], k: u16) -> Option<Tables<'_>>
     if section.link >= sections(bytes) as u32 {
         return None;
     }
-    match (section.bytes(bytes), Section::at(bytes, section.link).bytes(bytes)) {
+    match (
+        section.bytes(bytes),
+        Section::at(bytes, section.link).bytes(bytes),
+    ) {
         (Some(symbols), Some(names)) => Some(Tables { symbols, names }),
         _ => None,
     }
@@ -105,7 +108,10 @@ pub fn symbol_tables(bytes: &[u8]) -> Result<Tables<'_>, ElfFault>
         return Err(ElfFault::SectionHeaders);
     }
     match symbol_section(bytes) {
-        None => Ok(Tables { symbols: &[], names: &[] }),
+        None => Ok(Tables {
+            symbols: &[],
+            names: &[],
+        }),
         Some(k) => match tables_of(bytes, k) {
             None => Err(ElfFault::SymbolTable),
             Some(tables) => Ok(tables),

@@ -101,10 +101,16 @@ fn fault_of(alloc: Global, place: usize, byte: u8) -> Option<ElfFault> {
 #[test]
 fn faults_are_told(rt: HostRuntime) {
     for &(place, byte, fault) in &WRONG {
-        assert!(rt; fault_of(rt.alloc(), place, byte) == Some(fault), "at {place}");
+        assert!(rt;
+            fault_of(rt.alloc(), place, byte) == Some(fault),
+            "at {place}"
+        );
     }
     for &(place, byte, fault) in &MISPLACED {
-        assert!(rt; fault_of(rt.alloc(), place, byte) == Some(fault), "at {place}");
+        assert!(rt;
+            fault_of(rt.alloc(), place, byte) == Some(fault),
+            "at {place}"
+        );
     }
     assert!(rt; !is_elf(b"\x7fEL") && is_elf(b"\x7fELF"));
     assert!(rt; parse(b"\x7fELF").err() == Some(ElfFault::CutOff));
