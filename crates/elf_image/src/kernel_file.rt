@@ -57,19 +57,32 @@ impl<'a> Elf<'a> {
     {
         check_layout(self.bytes, ram_bytes)?;
         check_bytes(self.bytes)?;
-        match laid(alloc, self.bytes, ram_bytes) {
+        match laid(alloc, self.bytes) {
             Ok(memory) => Ok(memory),
             Err(_) => Err(ElfFault::Memory),
         }
     }
 
     /// The first symbol of that name in the table.
-    pub fn symbol(&self, name: &[u8]) -> Option<Symbol> {
+    pub fn symbol(&self, name: &[u8]) -> Option<Symbol>
+        ensures { MatchOption result
+            ((k : ℕ) → k < symbols_of self.now.tables.symbols.now
+            → HasName self.now.tables.names.now name.now (entry_at self.now.tables.symbols.now k) → ⊥)
+            (λ s. (k : ℕ) × IsFirstNamed self.now.tables.symbols.now self.now.tables.names.now name.now k
+            × (s ≡ symbol_of (entry_at self.now.tables.symbols.now k))) }
+    {
         first_named(&self.tables, name)
     }
 
     /// The name of the nearest symbol at or below the address that names code, and how many bytes below it is.
-    pub fn symbol_at(&self, address: u64) -> Option<(&'a [u8], u64)> {
+    pub fn symbol_at(&self, address: u64) -> Option<(&'a [u8], u64)>
+        ensures { MatchOption result
+            ((k : ℕ) → k < symbols_of self.now.tables.symbols.now
+            → IsAtOrBelow self.now.tables.symbols.now self.now.tables.names.now address k → ⊥)
+            (λ r. (k : ℕ) × IsNearest self.now.tables.symbols.now self.now.tables.names.now address (symbols_of self.now.tables.symbols.now) k
+            × (r.0.now ≡ name_of self.now.tables.names.now (entry_at self.now.tables.symbols.now k))
+            × (r.1 ≡ address - address_of (entry_at self.now.tables.symbols.now k))) }
+    {
         label_at(&self.tables, address)
     }
 }

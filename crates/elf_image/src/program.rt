@@ -84,6 +84,13 @@ impl Segment {
         self.kind == LOADED && 0 < self.memory_bytes
     }
 
+    /// Whether it takes memory, and the file has bytes of it.
+    pub fn has_bytes(&self) -> bool
+        ensures { IsTrue result ↔ (TakesMemory self.now × (0 < self.now.file_bytes)) }
+    {
+        self.takes_memory() && 0 < self.file_bytes
+    }
+
     /// Whether its bytes are in the file, and no more than its memory.
     fn is_in_file(&self, bytes: &[u8]) -> bool
         ensures { IsTrue result ↔ IsInFile bytes.now self.now }
