@@ -1,6 +1,5 @@
 -- What a file has to be, and what each fault says of it.
 use Rattle.std.specs.Prelude.{◌≡◌, ◌≢◌, ℕ, ◌<◌, List, length, slice_index, ⊤}
-use Rattle.elf_image.specs.Fields.{number_at}
 use Rattle.elf_image.specs.Header.{IsElf, IsRiscv64, machine_of, type_of, entry_of}
 use Rattle.elf_image.specs.Program.{HasHeaders, Loads, IsInFile, FitsRam, IsAfterAll, segment_at, ram_base}
 use Rattle.elf_image.specs.Sections.{HasSections, HasTables, IsSymbolSection}

@@ -1,5 +1,5 @@
 -- The memory that a kernel's file makes, as bytes from the start of RAM on; what is past the end of the bytes is zero.
-use Rattle.std.specs.Prelude.{◌≡◌, ℕ, ◌+◌, ◌<◌, ◌≤◌, ◌⊎◌, List, [], length, slice_index}
+use Rattle.std.specs.Prelude.{◌≡◌, ℕ, ◌+◌, ◌<◌, ◌≤◌, List, length, slice_index}
 use Rattle.elf_image.specs.Program.{Loads, segment_at, segments_of, start_of}
 
 -- a place of the memory holds a byte of the file by segment k

@@ -1,5 +1,5 @@
 -- The program headers. Source: System V gABI, "Program Header": entries of 56 bytes, of which those of type PT_LOAD (1) are loaded.
-use Rattle.std.specs.Prelude.{◌≡◌, ℕ, ◌+◌, ◌-◌, ◌*◌, ◌<◌, ◌≤◌, List, length, drop, min, nat_lt, ◌==◌, ◌&&◌, if◌then◌else◌}
+use Rattle.std.specs.Prelude.{◌≡◌, ℕ, ◌+◌, ◌-◌, ◌*◌, ◌<◌, ◌≤◌, List, drop, min, nat_lt, ◌==◌, ◌&&◌, if◌then◌else◌}
 use Rattle.elf_image.specs.Fields.{number_at, IsPart}
 use Rattle.elf_image.specs.declared.program.Segment.{Segment}
 

@@ -1,6 +1,6 @@
 -- Symbols. Source: System V gABI, "Symbol Table": entries of 24 bytes, and "String Table": a name ends at a zero. RISC-V psABI,
 -- "Mapping Symbol": names that begin with $ mark code and data, and name nothing.
-use Rattle.std.specs.Prelude.{◌≡◌, ◌≢◌, ℕ, ◌-◌, ◌*◌, ◌/◌, ◌%◌, ◌<◌, ◌≤◌, ◌⊎◌, List, length, drop, slice_index, slice_get, Some, IsTrue, nat_eq, take_while, not, ◌==◌}
+use Rattle.std.specs.Prelude.{◌≡◌, ◌≢◌, ℕ, ◌*◌, ◌/◌, ◌%◌, ◌<◌, ◌≤◌, ◌⊎◌, List, length, drop, slice_index, slice_get, Some, IsTrue, nat_eq, take_while, not, ◌==◌}
 use Rattle.std.specs.List.{starts_with}
 use Rattle.elf_image.specs.Fields.{number_at}
 use Rattle.elf_image.specs.declared.symbols.Symbol.{Symbol}

@@ -1,6 +1,5 @@
-use Rattle.std.proofs.Common.{◌≡◌, ◌∙◌, ℕ, ◌+◌, ◌-◌, ◌<◌, ◌≤◌, List, length, refl, sym, ap, drop, arith, length-drop}
+use Rattle.std.proofs.Common.{◌∙◌, length, sym, ap, arith, length-drop}
 use Rattle.byteorder.specs.Endian.{little_number}
-use Rattle.elf_image.specs.Fields.{number_at}
 use Rattle.elf_image.proofs.Numbers.{number_at-none, number_at-some}
 use Rattle.elf_image.proofs.fields.u16_at.Goals as goal
 
