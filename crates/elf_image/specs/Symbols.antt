@@ -1,0 +1,60 @@
+-- Symbols. Source: System V gABI, "Symbol Table": entries of 24 bytes, and "String Table": a name ends at a zero. RISC-V psABI,
+-- "Mapping Symbol": names that begin with $ mark code and data, and name nothing.
+use Rattle.std.specs.Prelude.{◌≡◌, ◌≢◌, ℕ, ◌*◌, ◌/◌, ◌%◌, ◌<◌, ◌≤◌, ◌⊎◌, List, length, drop, slice_index, slice_get, Some, IsTrue, nat_eq, take_while, not, ◌==◌}
+use Rattle.std.specs.List.{starts_with}
+use Rattle.elf_image.specs.Fields.{number_at}
+use Rattle.elf_image.specs.declared.symbols.Symbol.{Symbol}
+
+-- how many symbols a table has
+abbrev pub symbols_of : List ℕ → ℕ
+symbols_of table = length table / 24
+
+-- the bytes from symbol k on
+abbrev pub entry_at : List ℕ → ℕ → List ℕ
+entry_at table k = drop (24 * k) table
+
+-- st_value
+abbrev pub address_of : List ℕ → ℕ
+address_of entry = number_at 8 8 entry
+
+-- st_value and st_size
+abbrev pub symbol_of : List ℕ → Symbol
+symbol_of entry = record { address = number_at 8 8 entry; size = number_at 8 16 entry }
+
+-- the names from st_name on
+abbrev pub names_from : List ℕ → List ℕ → List ℕ
+names_from names entry = drop (number_at 4 0 entry) names
+
+-- the symbol has that name: it stands at st_name, and a zero after it
+abbrev pub HasName : List ℕ → List ℕ → List ℕ → Type 0
+HasName names name entry =
+    IsTrue (starts_with nat_eq (names_from names entry) name) × (slice_get (names_from names entry) (length name) ≡ Some 0)
+
+-- the symbol's name
+abbrev pub name_of : List ℕ → List ℕ → List ℕ
+name_of names entry = take_while (λ b. not (b == 0)) (names_from names entry)
+
+-- symbol k is the first of that name
+pub record IsFirstNamed (table names name : List ℕ) (k : ℕ) : Type 0 where
+  pub there : k < symbols_of table
+  pub named : HasName names name (entry_at table k)
+  pub first : (j : ℕ) → j < k → HasName names name (entry_at table j) → ⊥
+
+-- The symbol names code: a function (STT_FUNC, 2), or one without a type (STT_NOTYPE, 0), as assembly's labels are, in a section
+-- (st_shndx is neither SHN_UNDEF nor reserved), and neither without a name nor a mapping symbol.
+abbrev pub IsLabel : List ℕ → List ℕ → Type 0
+IsLabel names entry =
+    (0 < number_at 2 6 entry) × (number_at 2 6 entry < 65280)
+    × ((slice_index entry 4 % 16 ≡ 2) ⊎ (slice_index entry 4 % 16 ≡ 0))
+    × (slice_index (names_from names entry) 0 ≢ 0) × (slice_index (names_from names entry) 0 ≢ 36)
+
+-- symbol k names code, at or below the address
+pub record IsAtOrBelow (table names : List ℕ) (address k : ℕ) : Type 0 where
+  pub label : IsLabel names (entry_at table k)
+  pub below : address_of (entry_at table k) ≤ address
+
+-- no symbol of the first n that names code is nearer below the address than symbol k
+pub record IsNearest (table names : List ℕ) (address n k : ℕ) : Type 0 where
+  pub there : k < n
+  pub candidate : IsAtOrBelow table names address k
+  pub nearest : (j : ℕ) → j < n → IsAtOrBelow table names address j → address_of (entry_at table j) ≤ address_of (entry_at table k)
