@@ -29,10 +29,14 @@
 #include <stddef.h>
 #include <stdint.h>
 
+#ifdef __cplusplus
+extern "C" {
+#endif
+
 #define SBISTORE_SECTOR 512
 
-/* The codes. After each but 6 a crash leaves the durable state that it left before the command; after 6 that one or the one after it,
- * which the next open finds out. */
+/* The codes. After 0 a crash leaves the durable state after the command. After 6 it leaves that one or the one before it, which the next
+ * open finds out. After each other code it leaves the one before. */
 enum {
     SBISTORE_OK = 0,
     SBISTORE_NOT_FORMATTED = 1,  /* open: the device does not begin with the mark */
@@ -107,7 +111,12 @@ void sbistore_command(struct sbistore *store, uint32_t kind, uint32_t one, uint3
  * what was written; SBISTORE_DONE, store->number is the code. */
 uint32_t sbistore_next(struct sbistore *store, uint32_t failed, uint8_t sector[SBISTORE_SECTOR]);
 
-/* The durable state of the open store, without a command in doubt: 0, or 100 where none is open. No call of the device is made. */
+/* The durable state of the open store, without a command in doubt: 0, or 100 where none is open, and STATE is then left as it was. No
+ * call of the device is made. */
 uint32_t sbistore_look(const struct sbistore *store, struct sbistore_state *state);
+
+#ifdef __cplusplus
+}
+#endif
 
 #endif

@@ -1,15 +1,9 @@
--- The calls of a plan are of sectors that the disk has, and each leaves fewer to come.
-use Rattle.std.proofs.Common.{◌≡◌, ◌+◌, ◌-◌, ◌≤◌, ◌<◌, ℕ, List, Ok, Err, length, refl, sym, ap, subst, arith}
-use Rattle.board_model.specs.Shapes.{Size, sectors_of}
+-- Each call of a plan leaves fewer to come, and the plan stays one of the same task.
+use Rattle.std.proofs.Common.{◌≡◌, ◌<◌, ℕ, List, Ok, Err, refl, sym, ap, subst, arith}
+use Rattle.board_model.specs.Shapes.{Size}
 use Rattle.board_model.specs.declared.refusal.Refusal.TheVariants.{Device}
-use Rattle.disk.specs.Facts.{Facts, Content}
-use Rattle.disk.specs.FaultState.{FaultState}
-use Rattle.layout.specs.declared.records.Record.{Record}
-use Rattle.store.specs.Standing.{selected}
 use Rattle.planned_store.specs.Commits.{Answer, asked_at, step_after, left_at}
 use Rattle.planned_store.specs.Plans.{asked, Goes, ReadsSuperblock, ReadsRecord, FormatGoes, SuperblockStep, format_asks, format_left, calls_left, Opens, task_of}
-use Rattle.planned_store.specs.Reached.{CommitAt, FormatAt, Reached}
-use Rattle.planned_store.specs.Served.{IsWithin}
 use Rattle.planned_store.specs.declared.commits.CommitStep.{CommitStep}
 use Rattle.planned_store.specs.declared.commits.CommitStep.TheVariants.{WriteRecord, SyncRecord, WriteGate, SyncGate, Committed, Unchanged, InDoubt}
 use Rattle.planned_store.specs.declared.formats.FormatStep.{FormatStep}
@@ -113,56 +107,3 @@ goes_task (Committing k) q r got more went = ap task_of went
 goes_task (Formatting k) q r got more went = ap task_of went.2
 goes_task (Found found) q r got more went = absurd (more refl)
 goes_task (Refused e) q r got more went = absurd (more refl)
-
--- ---- the disk has the sector
-module _ {D : Type 0} (f : D → Facts) (m : D → FaultState) (a b : D) where
-  commit_within : (side : ℕ) (next : Record) (step : CommitStep) → side < 2 → 4 ≤ length (f a).content → CommitAt f m side next step a b → IsWithin (asked_at side step) (f b).content
-  commit_within side next WriteRecord known enough at = subst (λ (d : D). 2 + (1 - side) < length (f d).content) (sym at) (omega (arith, enough))
-  commit_within side next SyncRecord known enough at = tt
-  commit_within side next WriteGate known enough at = omega (arith, enough, at.called.content.as_long)
-  commit_within side next SyncGate known enough at = tt
-  commit_within side next Committed known enough at = tt
-  commit_within side next Unchanged known enough at = tt
-  commit_within side next InDoubt known enough at = tt
-
-some_sectors : (size : Size) (n : ℕ) → sectors_of size ≤ n → 4 ≤ n
-some_sectors size n le = few n (sectors_of size) le (omega arith)
-  where
-    few : (n k : ℕ) → k ≤ n → 8 ≤ k → 4 ≤ n
-    few n k le more = omega arith
-
-module _ {D : Type 0} (f : D → Facts) (m : D → FaultState) (a b : D) where
-  format_within : (size : Size) (step : FormatStep) → FormatAt f m size step a b → IsWithin (format_asks step) (f b).content
-  format_within size formats.ReadSuperblock at = subst (λ (d : D). 0 < length (f d).content) (sym at.0) (omega (arith, some_sectors size (length (f a).content) at.1))
-  format_within size formats.WriteRecord at = subst (λ (c : Content). 2 < length c) (sym at.1.content) (omega (arith, some_sectors size (length (f a).content) at.0.enough))
-  format_within size formats.WriteGate at = omega (arith, some_sectors size (length (f a).content) at.0.enough, at.1.content.as_long)
-  format_within size formats.SyncGate at = tt
-  format_within size formats.WriteSuperblock at = omega (arith, some_sectors size (length (f a).content) at.0.enough, at.1.content.as_long)
-  format_within size formats.SyncSuperblock at = tt
-  format_within size formats.Formatted at = tt
-  format_within size formats.TooSmall at = tt
-  format_within size formats.Marked at = tt
-  format_within size formats.Failed at = tt
-
-  as_long : (f b).content ≡ (f a).content → (k : ℕ) → k < length (f a).content → k < length (f b).content
-  as_long same k less = subst (λ (c : Content). k < length c) (sym same) less
-
-  few_sides : (side : ℕ) → side ≡ selected (f a).content → side < 2
-  few_sides side is = omega (arith, is)
-
-  record_within : (size : Size) (side : ℕ) → sectors_of size ≤ length (f a).content → side < 2 → 2 + side < length (f a).content
-  record_within size side enough known = omega (arith, some_sectors size (length (f a).content) enough, known)
-
-  pub reached_within : (p : Plan) → Reached f m p a b → IsWithin (asked p) (f b).content
-  reached_within (Settling n) at = tt
-  reached_within (ReadingSuperblock n) at = as_long at.0.called.content 0 (omega (arith, at.1, at.2))
-  reached_within (ReadingGate size) at = as_long at.0.called.content 1 (omega (arith, some_sectors size (length (f a).content) at.1.1))
-  reached_within (ReadingRecord size side) at = as_long at.0.called.content (2 + side) (record_within size side at.1.1 (few_sides side at.2))
-  reached_within (Found found) at = tt
-  reached_within (Renewing k) at = commit_within f m at.0 b k.from.side k.next k.step at.1.known (renew_enough k.from.shape at.0 at.1.selects.enough at.1.read.called.content) at.4
-    where
-      renew_enough : (size : Size) (d : D) → sectors_of size ≤ length (f a).content → (f d).content ≡ (f a).content → 4 ≤ length (f d).content
-      renew_enough size d enough same = subst (λ (c : Content). 4 ≤ length c) (sym same) (some_sectors size (length (f a).content) enough)
-  reached_within (Committing k) at = commit_within f m a b k.from.side k.next k.step at.0 at.1 at.2
-  reached_within (Formatting k) at = format_within k.shape k.step at
-  reached_within (Refused e) at = tt

@@ -1,5 +1,5 @@
 -- The numbers and bytes that C keeps are those of one plan, which goes on as the loop's.
-use Rattle.std.proofs.Common.{◌≡◌, ◌∙◌, ⊎_elim, ◌≤◌, ◌<◌, ℕ, List, Option, Some, Ok, Err, refl, sym, subst, arith}
+use Rattle.std.proofs.Common.{◌≡◌, ⊎_elim, ◌<◌, ℕ, List, Option, Some, Ok, Err, refl, sym, subst, arith}
 use Rattle.std.proofs.lemmas.Bool.{cases_eq}
 use Rattle.board_model.specs.Shapes.{Size, IsSize}
 use Rattle.layout.specs.Records.{IsRecord, IsInRange}
@@ -10,15 +10,12 @@ use Rattle.planned_store.specs.declared.commits.Commit.{Commit}
 use Rattle.planned_store.specs.declared.commits.CommitStep.{CommitStep}
 use Rattle.planned_store.specs.declared.commits.CommitStep.TheVariants.{WriteRecord, SyncRecord, WriteGate, SyncGate, Committed, Unchanged, InDoubt}
 use Rattle.planned_store.specs.declared.commits.Selected.{Selected}
-use Rattle.planned_store.specs.declared.formats.Formatting.{Formatting as Format}
 use Rattle.planned_store.specs.declared.formats.FormatStep.{FormatStep}
 use Rattle.planned_store.specs.declared.formats.FormatStep.TheVariants as formats
 use Rattle.planned_store.specs.declared.plans.Plan.{Plan}
 use Rattle.planned_store.specs.declared.plans.Plan.TheVariants.{Settling, ReadingSuperblock, ReadingGate, ReadingRecord, Found, Renewing, Committing, Formatting, Refused}
-use Rattle.planned_store.specs.declared.plans.Request.{Request}
-use Rattle.planned_store.specs.declared.plans.Request.TheVariants.{Read, Write, Sync, Done}
-use Rattle.sbistore.specs.Next.{AsksFor}
-use Rattle.sbistore.specs.Packed.{step_number, format_number, HasShape, HasCommit, IsPacked, packed_by, IsSelectedSound, IsSound}
+use Rattle.planned_store.specs.declared.plans.Request.TheVariants.{Done}
+use Rattle.sbistore.specs.Packed.{step_number, format_number, HasShape, HasCommit, IsPacked, IsSelectedSound, IsSound}
 use Rattle.sbistore.specs.declared.state.Sbistore.{Sbistore}
 
 pub some_is : {A : Type 0} (x y : A) → Some x ≡ Some y → x ≡ y
@@ -26,28 +23,6 @@ some_is x y is = cc
 
 -- ---- the plan of a phase
 module _ (s : Sbistore) (r : Option Plan) where
-  pub at_settling : s.phase ≡ 1 → ((n : ℕ) → s.sectors ≡ n → r ≡ Some (Settling n)) → (plan : Plan) → IsPacked plan s → r ≡ Some plan
-  at_settling is exact (Settling n) packed = exact n packed.1
-  at_settling is exact (ReadingSuperblock n) packed = absurd (omega (arith, is, packed.0))
-  at_settling is exact (ReadingGate size) packed = absurd (omega (arith, is, packed.0))
-  at_settling is exact (ReadingRecord size side) packed = absurd (omega (arith, is, packed.0))
-  at_settling is exact (Renewing c) packed = absurd (omega (arith, is, packed.0))
-  at_settling is exact (Committing c) packed = absurd (omega (arith, is, packed.0))
-  at_settling is exact (Formatting f) packed = absurd (omega (arith, is, packed.0))
-  at_settling is exact (Found found) packed = absurd packed
-  at_settling is exact (Refused e) packed = absurd packed
-
-  pub at_superblock : s.phase ≡ 2 → ((n : ℕ) → s.sectors ≡ n → r ≡ Some (ReadingSuperblock n)) → (plan : Plan) → IsPacked plan s → r ≡ Some plan
-  at_superblock is exact (Settling n) packed = absurd (omega (arith, is, packed.0))
-  at_superblock is exact (ReadingSuperblock n) packed = exact n packed.1
-  at_superblock is exact (ReadingGate size) packed = absurd (omega (arith, is, packed.0))
-  at_superblock is exact (ReadingRecord size side) packed = absurd (omega (arith, is, packed.0))
-  at_superblock is exact (Renewing c) packed = absurd (omega (arith, is, packed.0))
-  at_superblock is exact (Committing c) packed = absurd (omega (arith, is, packed.0))
-  at_superblock is exact (Formatting f) packed = absurd (omega (arith, is, packed.0))
-  at_superblock is exact (Found found) packed = absurd packed
-  at_superblock is exact (Refused e) packed = absurd packed
-
   pub at_gate : s.phase ≡ 3 → ((size : Size) → HasShape size s → r ≡ Some (ReadingGate size)) → (plan : Plan) → IsPacked plan s → r ≡ Some plan
   at_gate is exact (Settling n) packed = absurd (omega (arith, is, packed.0))
   at_gate is exact (ReadingSuperblock n) packed = absurd (omega (arith, is, packed.0))
@@ -69,123 +44,6 @@ module _ (s : Sbistore) (r : Option Plan) where
   at_record is exact (Formatting f) packed = absurd (omega (arith, is, packed.0))
   at_record is exact (Found found) packed = absurd packed
   at_record is exact (Refused e) packed = absurd packed
-
-  pub at_renewing : s.phase ≡ 5 → ((c : Commit) → HasCommit c s → r ≡ Some (Renewing c)) → (plan : Plan) → IsPacked plan s → r ≡ Some plan
-  at_renewing is exact (Settling n) packed = absurd (omega (arith, is, packed.0))
-  at_renewing is exact (ReadingSuperblock n) packed = absurd (omega (arith, is, packed.0))
-  at_renewing is exact (ReadingGate size) packed = absurd (omega (arith, is, packed.0))
-  at_renewing is exact (ReadingRecord size side) packed = absurd (omega (arith, is, packed.0))
-  at_renewing is exact (Renewing c) packed = exact c packed.1
-  at_renewing is exact (Committing c) packed = absurd (omega (arith, is, packed.0))
-  at_renewing is exact (Formatting f) packed = absurd (omega (arith, is, packed.0))
-  at_renewing is exact (Found found) packed = absurd packed
-  at_renewing is exact (Refused e) packed = absurd packed
-
-  pub at_committing : s.phase ≡ 6 → ((c : Commit) → HasCommit c s → r ≡ Some (Committing c)) → (plan : Plan) → IsPacked plan s → r ≡ Some plan
-  at_committing is exact (Settling n) packed = absurd (omega (arith, is, packed.0))
-  at_committing is exact (ReadingSuperblock n) packed = absurd (omega (arith, is, packed.0))
-  at_committing is exact (ReadingGate size) packed = absurd (omega (arith, is, packed.0))
-  at_committing is exact (ReadingRecord size side) packed = absurd (omega (arith, is, packed.0))
-  at_committing is exact (Renewing c) packed = absurd (omega (arith, is, packed.0))
-  at_committing is exact (Committing c) packed = exact c packed.1
-  at_committing is exact (Formatting f) packed = absurd (omega (arith, is, packed.0))
-  at_committing is exact (Found found) packed = absurd packed
-  at_committing is exact (Refused e) packed = absurd packed
-
-  pub at_formatting : s.phase ≡ 7 → ((f : Format) → HasShape f.shape s → s.step ≡ format_number f.step → s.step < 6 → r ≡ Some (Formatting f)) → (plan : Plan) → IsPacked plan s → r ≡ Some plan
-  at_formatting is exact (Settling n) packed = absurd (omega (arith, is, packed.0))
-  at_formatting is exact (ReadingSuperblock n) packed = absurd (omega (arith, is, packed.0))
-  at_formatting is exact (ReadingGate size) packed = absurd (omega (arith, is, packed.0))
-  at_formatting is exact (ReadingRecord size side) packed = absurd (omega (arith, is, packed.0))
-  at_formatting is exact (Renewing c) packed = absurd (omega (arith, is, packed.0))
-  at_formatting is exact (Committing c) packed = absurd (omega (arith, is, packed.0))
-  at_formatting is exact (Formatting f) packed = exact f packed.1 packed.2 packed.3
-  at_formatting is exact (Found found) packed = absurd packed
-  at_formatting is exact (Refused e) packed = absurd packed
-
-  pub some_phase : (plan : Plan) → IsPacked plan s → (1 ≤ s.phase) × (s.phase ≤ 7)
-  some_phase (Settling n) packed = (omega (arith, packed.0), omega (arith, packed.0))
-  some_phase (ReadingSuperblock n) packed = (omega (arith, packed.0), omega (arith, packed.0))
-  some_phase (ReadingGate size) packed = (omega (arith, packed.0), omega (arith, packed.0))
-  some_phase (ReadingRecord size side) packed = (omega (arith, packed.0), omega (arith, packed.0))
-  some_phase (Renewing c) packed = (omega (arith, packed.0), omega (arith, packed.0))
-  some_phase (Committing c) packed = (omega (arith, packed.0), omega (arith, packed.0))
-  some_phase (Formatting f) packed = (omega (arith, packed.0), omega (arith, packed.0))
-  some_phase (Found found) packed = absurd packed
-  some_phase (Refused e) packed = absurd packed
-
--- ---- a plan that asks for a call is kept
-step_few : (side : ℕ) (step : CommitStep) → (asked_at side step ≡ Done → ⊥) → step_number step < 4
-step_few side WriteRecord more = omega arith
-step_few side SyncRecord more = omega arith
-step_few side WriteGate more = omega arith
-step_few side SyncGate more = omega arith
-step_few side Committed more = absurd (more refl)
-step_few side Unchanged more = absurd (more refl)
-step_few side InDoubt more = absurd (more refl)
-
-format_few : (step : FormatStep) → (format_asks step ≡ Done → ⊥) → format_number step < 6
-format_few formats.ReadSuperblock more = omega arith
-format_few formats.WriteRecord more = omega arith
-format_few formats.WriteGate more = omega arith
-format_few formats.SyncGate more = omega arith
-format_few formats.WriteSuperblock more = omega arith
-format_few formats.SyncSuperblock more = omega arith
-format_few formats.Formatted more = absurd (more refl)
-format_few formats.TooSmall more = absurd (more refl)
-format_few formats.Marked more = absurd (more refl)
-format_few formats.Failed more = absurd (more refl)
-
-module _ (s : Sbistore) (n : ℕ) where
-  abbrev asking : Plan → Sbistore
-  asking plan = record (packed_by plan s) { asked = 1; number = n }
-
-  packs : (plan : Plan) → IsSound plan → (asked plan ≡ Done → ⊥) → IsPacked plan (asking plan)
-  packs (Settling k) sound more = (refl, refl)
-  packs (ReadingSuperblock k) sound more = (refl, refl)
-  packs (ReadingGate size) sound more = (refl, record { valid = sound; harts = refl; pages = refl; lanes = refl })
-  packs (ReadingRecord size side) sound more = (refl, record { valid = sound.0; harts = refl; pages = refl; lanes = refl }, refl, sound.1)
-  packs (Renewing c) sound more = (
-    refl,
-    record {
-      from = record { shape = record { valid = sound.0.0; harts = refl; pages = refl; lanes = refl }; side = refl; known = sound.0.1; live = refl; range = sound.0.2 };
-      next = refl;
-      range = sound.1;
-      step = refl;
-      going = step_few c.from.side c.step more;
-    },
-  )
-  packs (Committing c) sound more = (
-    refl,
-    record {
-      from = record { shape = record { valid = sound.0.0; harts = refl; pages = refl; lanes = refl }; side = refl; known = sound.0.1; live = refl; range = sound.0.2 };
-      next = refl;
-      range = sound.1;
-      step = refl;
-      going = step_few c.from.side c.step more;
-    },
-  )
-  packs (Formatting f) sound more = (refl, record { valid = sound; harts = refl; pages = refl; lanes = refl }, refl, format_few f.step more)
-  packs (Found found) sound more = absurd (more refl)
-  packs (Refused e) sound more = absurd (more refl)
-
-  pub asks_read : (plan : Plan) → IsSound plan → asked plan ≡ Read n → AsksFor (asked plan) plan 1 (asking plan)
-  asks_read plan sound is =
-      let packed = packs plan sound (λ done. let same : Read n ≡ Done = sym is ∙ done in cc) in
-      subst (λ (q : Request). AsksFor q plan 1 (asking plan)) (sym is) (refl, refl, refl, packed)
-
-  pub asks_write : (plan : Plan) → IsSound plan → asked plan ≡ Write n → AsksFor (asked plan) plan 2 (asking plan)
-  asks_write plan sound is =
-      let packed = packs plan sound (λ done. let same : Write n ≡ Done = sym is ∙ done in cc) in
-      subst (λ (q : Request). AsksFor q plan 2 (asking plan)) (sym is) (refl, refl, refl, packed)
-
-  pub asks_sync : (plan : Plan) → IsSound plan → asked plan ≡ Sync → AsksFor (asked plan) plan 3 (asking plan)
-  asks_sync plan sound is =
-      let packed = packs plan sound (λ done. let same : Sync ≡ Done = sym is ∙ done in cc) in
-      subst (λ (q : Request). AsksFor q plan 3 (asking plan)) (sym is) (refl, refl, packed)
-
-pub asks_none : (s : Sbistore) (plan : Plan) → asked plan ≡ Done → AsksFor (asked plan) plan 0 s
-asks_none s plan is = subst (λ (q : Request). AsksFor q plan 0 s) (sym is) refl
 
 -- ---- a plan that is kept is sound, and asks for a call
 commit_sound : (c : Commit) (s : Sbistore) → HasCommit c s → IsSelectedSound c.from × IsInRange c.from.shape c.next
