@@ -28,6 +28,7 @@ fn expand_next<S: System>(
     ensures searched { OnOk result (IsSearched (S.rules (S.setting system.new)) (S.stands system.new) graph.new) }
     ensures width { OnOk result (row_width graph.new.rows ≡ row_width graph.old.rows) }
     ensures found_width { found_width found.new ≡ found_width found.old }
+    ensures halted { result ≡ Ok false → expanded_of graph.new < count_of graph.new }
     ensures expanded { result ≡ Ok true → expanded_of graph.new ≡ expanded_of graph.old + 1 }
 {
     found.clear();
