@@ -2,9 +2,9 @@
 use Rattle.std.proofs.Common.{◌≡◌, ◌⊎◌, ⊎_elim, ℕ, zero, suc, ◌+◌, ◌-◌, ◌<◌, ◌≤◌, List, [], ◌∷◌, refl, sym, ap, subst, ◌∙◌, arith}
 use Rattle.std.proofs.lemmas.Bool.{cases_lt}
 use Rattle.state_space.specs.declared.graph.Graph.{Graph}
-use Rattle.state_space.specs.Orders.{Runs, Leads, Chain, IsClosed, CanEnd}
+use Rattle.state_space.specs.Orders.{Runs, Leads, Only, Chain, IsClosed, CanEnd}
 use Rattle.state_space.specs.Systems.{Rules, Moves, IsExpanded}
-use Rattle.state_space.specs.Graphs.{count_of, expanded_of, row_at, first_step, end_step, target_of, event_of, StepOf, IsEnd, IsSearched, IsFound, IsCovered}
+use Rattle.state_space.specs.Graphs.{count_of, expanded_of, row_at, first_step, end_step, target_of, event_of, StepOf, IsEnd, IsSearched, IsFound, IsCovered, IsEndless}
 use Rattle.state_space.specs.Deads.{ReachesEnd}
 use Rattle.state_space.proofs.AllOrders.{runs_on, leads_on, leads_by}
 
@@ -40,55 +40,54 @@ module _ {State : Type 0} (rules : Rules State) (stands : List ℕ → State →
   found_reached b found = reach_below (suc found.0) found.0 b (omega arith) found.1 found.2
 
   -- where a row reaches an end, so does its state
-  pub end_reached : (k : ℕ) (b : State) → ReachesEnd graph k → stands (row_at graph k) b → CanEnd (Moves rules) rules.is_end b
+  pub end_reached : (k : ℕ) (b : State) → ReachesEnd rules.goes graph k → stands (row_at graph k) b → CanEnd (Moves rules) rules.goes rules.is_end b
   end_reached k b reaches has = along reaches.1.0 k b reaches.0 reaches.1.1 reaches.2 has
     where
-      along : (w : List ℕ) (k : ℕ) (b : State) (last : ℕ) → Runs (StepOf graph) w k last → IsEnd graph last → stands (row_at graph k) b → CanEnd (Moves rules) rules.is_end b
+      along : (w : List ℕ) (k : ℕ) (b : State) (last : ℕ) → Runs (Only (λ i. rules.goes (event_of graph i)) (StepOf graph)) w k last → IsEnd graph last → stands (row_at graph k) b → CanEnd (Moves rules) rules.goes rules.is_end b
       along [] k b last is end has =
           (b, ([], refl), (searched.ends k b (subst (λ m. IsEnd graph m) is end).0 has).0 (subst (λ m. IsEnd graph m) is end))
       along (i ∷ w) k b last run end has =
-          let to = stepped i k run.0 b run.1 has in
+          let to = stepped i k run.0 b run.1.1 has in
           let on = along w run.0 to.0 last run.2 end to.2 in
-          (on.0, leads_by (Moves rules) (event_of graph i) b to.0 on.0 to.1 on.1, on.2)
+          (on.0, leads_by (Only rules.goes (Moves rules)) (event_of graph i) b to.0 on.0 (run.1.0, to.1) on.1, on.2)
 
   module _ (all : expanded_of graph ≡ count_of graph) where
-    -- A set of rows from which each step leads back into it makes a set of states that is closed.
-    pub covered_by : (set : ℕ → Type 0) → ((i j k : ℕ) → set j → StepOf graph i j k → set k) → IsCovered rules (λ b. (k : ℕ) × (k < count_of graph) × set k × stands (row_at graph k) b)
-    covered_by set closed b found =
+    -- A set of rows from which each step of a kind leads back into it makes a set of states that is closed under such steps.
+    pub covered_by : (kind set : ℕ → Type 0) → ((i j k : ℕ) → set j → StepOf graph i j k → kind (event_of graph i) → set k) → (b : State) → (k : ℕ) × (k < count_of graph) × set k × stands (row_at graph k) b → rules.keeps b × ((e : ℕ) (mid : State) → kind e → rules.steps e b mid → (to : State) × rules.settles mid to × ((k : ℕ) × (k < count_of graph) × set k × stands (row_at graph k) to))
+    covered_by kind set closed b found =
         let k : ℕ = found.0 in
         let expanded : k < expanded_of graph = omega (arith, found.1, all) in
         let here = searched.expanded k b expanded found.3 in (
           here.keeps,
-          λ e mid did.
+          λ e mid is_kind did.
               let was = here.complete e mid did in
               let i : ℕ = first_step graph k + was.0 in
               let within : i < end_step graph k = omega (arith, was.2) in
               let step : StepOf graph i k (target_of graph i) = (expanded, omega arith, within, refl) in
-              (was.1, was.4, (target_of graph i, searched.whole.lead i (omega (arith, searched.whole.within k expanded)), closed i k (target_of graph i) found.2 step, was.5)),
+              (was.1, was.4, (target_of graph i, searched.whole.lead i (omega (arith, searched.whole.within k expanded)), closed i k (target_of graph i) found.2 step (subst kind (sym was.3) is_kind), was.5)),
         )
 
     -- the states found
     pub found_covered : IsCovered rules (IsFound stands graph)
     found_covered b found =
-        let here = covered_by (λ k. Unit {0}) (λ i j k has step. tt) b (found.0, found.1, tt, found.2) in
-        (here.0, λ e mid did. let to = here.1 e mid did in (to.0, to.1, (to.2.0, to.2.1, to.2.3)))
+        let here = covered_by (λ e. Unit {0}) (λ k. Unit {0}) (λ i j k has step kind. tt) b (found.0, found.1, tt, found.2) in
+        (here.0, λ e mid did. let to = here.1 e mid tt did in (to.0, to.1, (to.2.0, to.2.1, to.2.3)))
 
-    -- the states of rows that reach no end
-    pub dead_covered : IsCovered rules (λ b. (k : ℕ) × (k < count_of graph) × (ReachesEnd graph k → ⊥) × stands (row_at graph k) b)
-    dead_covered =
-        covered_by (λ k. ReachesEnd graph k → ⊥)
-        (λ i j k dead step reaches. dead (reaches.0, leads_by (StepOf graph) i j k reaches.0 step reaches.1, reaches.2))
-
-    -- none of which is at an end
-    pub dead_goes : (k : ℕ) (b : State) → k < count_of graph → (ReachesEnd graph k → ⊥) → stands (row_at graph k) b → rules.is_end b → ⊥
-    dead_goes k b lt dead has end =
-        dead (k, ([], refl), (searched.ends k b (omega (arith, lt, all)) has).1 end)
+    -- the states of rows that reach no end have none
+    pub dead_endless : IsEndless rules (λ b. (k : ℕ) × (k < count_of graph) × (ReachesEnd rules.goes graph k → ⊥) × stands (row_at graph k) b)
+    dead_endless b found = (
+      λ end. found.2 (found.0, ([], refl), (searched.ends found.0 b (omega (arith, found.1, all)) found.3).1 end),
+      (covered_by rules.goes (λ k. ReachesEnd rules.goes graph k → ⊥)
+          (λ i j k dead step goes reaches. dead (reaches.0, leads_by (Only (λ n. rules.goes (event_of graph n)) (StepOf graph)) i j k reaches.0 (goes, step) reaches.1, reaches.2)) b found).1,
+    )
 
 -- Where the events' steps are those of the rules, and what they settle to is reached by local turns, a set that is covered is closed: so
 -- what a search found speaks of every order (`all_orders`).
 pub closed_by_cover : {State Event : Type 0} (does : Event → State → State → Type 0) (keeps : Event → State → Type 0) (local : ℕ → State → State → Type 0) (rules : Rules State) (number : Event → ℕ) (set : State → Type 0) → ((e : Event) (b c : State) → does e b c → rules.steps (number e) b c) → ((b : State) → rules.keeps b → (e : Event) → keeps e b) → ((c d : State) → rules.settles c d → (n : ℕ) × Chain local n c d) → IsCovered rules set → IsClosed does keeps local set
-closed_by_cover does keeps local rules number set steps kept settles cover b has e =
-    (kept b (cover b has).0 e, λ c did.
-        let to = (cover b has).1 (number e) c (steps e b c did) in
-        let chain = settles c to.0 to.1 in
-        (chain.0, to.0, chain.1, to.2))
+closed_by_cover does keeps local rules number set steps kept settles cover b has e = (
+  kept b (cover b has).0 e,
+  λ c did.
+      let to = (cover b has).1 (number e) c (steps e b c did) in
+      let chain = settles c to.0 to.1 in
+      (chain.0, to.0, chain.1, to.2),
+)

@@ -86,3 +86,9 @@ abbrev pub IsCovered : {State : Type 0} → Rules State → (State → Type 0) �
 IsCovered {State} rules set =
     (b : State) → set b → rules.keeps b
     × ((e : ℕ) (mid : State) → rules.steps e b mid → (to : State) × rules.settles mid to × set to)
+
+-- The set has no end: none of its states is at one, and each step by which a state goes on settles to one of the set.
+abbrev pub IsEndless : {State : Type 0} → Rules State → (State → Type 0) → Type 0
+IsEndless {State} rules set =
+    (b : State) → set b → (rules.is_end b → ⊥)
+    × ((e : ℕ) (mid : State) → rules.goes e → rules.steps e b mid → (to : State) × rules.settles mid to × set to)

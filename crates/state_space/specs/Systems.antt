@@ -3,11 +3,12 @@ use Rattle.std.specs.Prelude.{◌≡◌, ℕ, ◌<◌, List}
 use Rattle.state_space.specs.declared.systems.Expansion.{Expansion}
 use Rattle.state_space.specs.declared.systems.Expansion.TheVariants.{Goes, Ends, Halts}
 
--- Where the system starts, before it has settled; what an event makes of a state; what a state settles to; which states keep the system's
--- map; and which are at an end. Where nothing has to settle, a state settles to itself.
+-- Where the system starts, before it has settled; what an event makes of a state; by which events a state goes on where nothing fails; what
+-- a state settles to; which states keep the system's map; and which are at an end. Where nothing has to settle, a state settles to itself.
 pub record Rules (State : Type 0) : Type 1 where
   pub start : State
   pub steps : ℕ → State → State → Type 0
+  pub goes : ℕ → Type 0
   pub settles : State → State → Type 0
   pub keeps : State → Type 0
   pub is_end : State → Type 0

@@ -6,24 +6,25 @@ ghost use Rattle.state_space.specs.Deads.{ReachesEnd, AreReaching, IsStuck, AreS
 
 use crate::graph::Graph;
 use crate::refusal::Refused;
+use crate::systems::System;
 use std::alloc::Global;
 
-/// Whether a row is at an end, or a step leads from it to a row that is marked.
+/// Whether a row is at an end, or a step by which the system goes on leads from it to a row that is marked.
 #[inline]
 #[tactic(auto, using(crate::proofs::Dead::reaches_end, crate::proofs::Dead::reaches_by, crate::proofs::Dead::stuck_made))]
-fn reaches(graph: &Graph, marks: &[bool], row: usize) -> bool
+fn reaches<S: System>(system: &S, graph: &Graph, marks: &[bool], row: usize) -> bool
     requires whole { IsWhole graph.now }
     requires row { row < expanded_of graph.now }
     requires marks { length marks.now ≡ count_of graph.now }
-    requires reaching { AreReaching graph.now marks.now }
-    ensures reaches { result ≡ true → ReachesEnd graph.now row }
-    ensures stuck { result ≡ false → IsStuck graph.now marks.now row }
+    requires reaching { AreReaching (S.rules (S.setting system.now)).goes graph.now marks.now }
+    ensures reaches { result ≡ true → ReachesEnd (S.rules (S.setting system.now)).goes graph.now row }
+    ensures stuck { result ≡ false → IsStuck (S.rules (S.setting system.now)).goes graph.now marks.now row }
 {
     if graph.is_end(row) {
         return true;
     }
     for step in graph.first_step(row)..graph.end_step(row) {
-        if marks[graph.target(step)] {
+        if system.goes(graph.event(step)) && marks[graph.target(step)] {
             return true;
         }
     }
@@ -33,17 +34,17 @@ fn reaches(graph: &Graph, marks: &[bool], row: usize) -> bool
 /// Marks a row where it reaches an end, and answers whether it was marked by this.
 #[inline]
 #[tactic(auto, using(crate::proofs::Dead::reaching_more))]
-fn mark(graph: &Graph, marks: &mut [bool], row: usize) -> bool
+fn mark<S: System>(system: &S, graph: &Graph, marks: &mut [bool], row: usize) -> bool
     requires whole { IsWhole graph.now }
     requires all { expanded_of graph.now ≡ count_of graph.now }
     requires row { row < count_of graph.now }
     requires marks { length marks.old ≡ count_of graph.now }
-    requires reaching { AreReaching graph.now marks.old }
-    ensures reaching { AreReaching graph.now marks.new }
+    requires reaching { AreReaching (S.rules (S.setting system.now)).goes graph.now marks.old }
+    ensures reaching { AreReaching (S.rules (S.setting system.now)).goes graph.now marks.new }
     ensures same { result ≡ false → marks.new ≡ marks.old }
-    ensures stuck { result ≡ false → slice_index_or marks.old row false ≡ false → IsStuck graph.now marks.old row }
+    ensures stuck { result ≡ false → slice_index_or marks.old row false ≡ false → IsStuck (S.rules (S.setting system.now)).goes graph.now marks.old row }
 {
-    if marks[row] || !reaches(graph, marks, row) {
+    if marks[row] || !reaches(system, graph, marks, row) {
         return false;
     }
     marks[row] = true;
@@ -51,56 +52,60 @@ fn mark(graph: &Graph, marks: &mut [bool], row: usize) -> bool
 }
 
 /// Goes over all rows, from the last on and then from the first on, and answers whether any was marked.
-fn go_over(graph: &Graph, marks: &mut [bool]) -> bool
+fn go_over<S: System>(system: &S, graph: &Graph, marks: &mut [bool]) -> bool
     requires whole { IsWhole graph.now }
     requires all { expanded_of graph.now ≡ count_of graph.now }
     requires marks { length marks.old ≡ count_of graph.now }
-    requires reaching { AreReaching graph.now marks.old }
-    ensures reaching { AreReaching graph.now marks.new }
-    ensures stuck { result ≡ false → AreStuck graph.now marks.new }
+    requires reaching { AreReaching (S.rules (S.setting system.now)).goes graph.now marks.old }
+    ensures reaching { AreReaching (S.rules (S.setting system.now)).goes graph.now marks.new }
+    ensures stuck { result ≡ false → AreStuck (S.rules (S.setting system.now)).goes graph.now marks.new }
 {
     for down in (0..graph.count()).rev() {
-        let _marked = mark(graph, marks, down);
+        let _marked = mark(system, graph, marks, down);
     }
     let mut any = false;
     for up in 0..graph.count() {
-        any |= mark(graph, marks, up);
+        any |= mark(system, graph, marks, up);
     }
     any
 }
 
-/// Of each row of a graph that is all expanded, whether some steps lead from it to an end.
+/// Of each row of a graph that is all expanded, whether some steps lead from it to an end. Steps by failures do not count.
 #[tactic(auto, using(crate::proofs::Dead::reaching_none))]
-pub fn reaching(alloc: Global, graph: &Graph) -> Result<Vec<bool>, Refused>
+pub fn reaching<S: System>(alloc: Global, system: &S, graph: &Graph) -> Result<Vec<bool>, Refused>
     requires whole { IsWhole graph.now }
     requires all { expanded_of graph.now ≡ count_of graph.now }
     ensures each { IfOk result (λ marks. length marks.items ≡ count_of graph.now) }
-    ensures reaching { IfOk result (λ marks. AreReaching graph.now marks.items) }
-    ensures stuck { IfOk result (λ marks. AreStuck graph.now marks.items) }
+    ensures reaching { IfOk result (λ marks. AreReaching (S.rules (S.setting system.now)).goes graph.now marks.items) }
+    ensures stuck { IfOk result (λ marks. AreStuck (S.rules (S.setting system.now)).goes graph.now marks.items) }
 {
     let mut marks = vec![in alloc; false; graph.count()]?;
     for pass in 0..graph.count() {
-        if !go_over(graph, &mut marks) {
+        if !go_over(system, graph, &mut marks) {
             return Ok(marks);
         }
     }
-    if go_over(graph, &mut marks) {
+    if go_over(system, graph, &mut marks) {
         return Err(Refused::Numbers);
     }
     Ok(marks)
 }
 
-/// The first row from which no steps lead to an end, of a graph that is all expanded.
+/// The first row from which no steps lead to an end, of a graph that is all expanded. Steps by failures do not count.
 #[tactic(auto, using(crate::proofs::Dead::dead_row))]
-pub fn first_dead(alloc: Global, graph: &Graph) -> Result<Option<usize>, Refused>
+pub fn first_dead<S: System>(
+    alloc: Global,
+    system: &S,
+    graph: &Graph,
+) -> Result<Option<usize>, Refused>
     requires whole { IsWhole graph.now }
     requires all { expanded_of graph.now ≡ count_of graph.now }
-    ensures none { IfOk result (λ dead. IfNone dead ((k : ℕ) → k < count_of graph.now → ReachesEnd graph.now k)) }
+    ensures none { IfOk result (λ dead. IfNone dead ((k : ℕ) → k < count_of graph.now → ReachesEnd (S.rules (S.setting system.now)).goes graph.now k)) }
     ensures within { IfOk result (λ dead. IfSome dead (λ row. row < count_of graph.now)) }
-    ensures dead { IfOk result (λ dead. IfSome dead (λ row. ReachesEnd graph.now row → ⊥)) }
-    ensures first { IfOk result (λ dead. IfSome dead (λ row. (k : ℕ) → k < row → ReachesEnd graph.now k)) }
+    ensures dead { IfOk result (λ dead. IfSome dead (λ row. ReachesEnd (S.rules (S.setting system.now)).goes graph.now row → ⊥)) }
+    ensures first { IfOk result (λ dead. IfSome dead (λ row. (k : ℕ) → k < row → ReachesEnd (S.rules (S.setting system.now)).goes graph.now k)) }
 {
-    let marks = reaching(alloc, graph)?;
+    let marks = reaching(alloc, system, graph)?;
     for row in 0..marks.len() {
         if !marks[row] {
             return Ok(Some(row));

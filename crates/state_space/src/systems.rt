@@ -16,7 +16,7 @@ pub enum Expansion {
 
 /// A system whose states are told as rows of numbers. Its tables may grow from call to call, and what a row stands for stays.
 pub trait System: Drop {
-    ghost use Rattle.std.specs.Prelude.{◌≡◌, ℕ, List, length, IfOk};
+    ghost use Rattle.std.specs.Prelude.{◌≡◌, ℕ, List, length, IfOk, true, false};
     ghost use Rattle.state_space.specs.Systems.{Rules, IsExpanded, Says, UnlessHalts};
     ghost use Rattle.state_space.specs.Successors.{found_count, found_event, found_row, found_width};
 
@@ -54,6 +54,11 @@ pub trait System: Drop {
             (found_event found.new) (found_row found.new) b)) }
         ensures ends { IfOk result (λ said. (b : State) → stands self.old row.now b
             → Says said ((rules (setting self.new)).is_end b)) };
+
+    /// Whether a state goes on by such an event where nothing fails. By a failure it comes to no end.
+    fn goes(&self, event: u8) -> bool
+        ensures goes { result ≡ true → (rules (setting self.now)).goes event }
+        ensures fails { result ≡ false → (rules (setting self.now)).goes event → ⊥ };
 
     /// How much memory the system's tables take, in bytes.
     fn bytes(&self) -> u64;

@@ -4,9 +4,9 @@ use Rattle.state_space.proofs.Dead.{reaching_none}
 use Rattle.state_space.proofs.ends.reaching.Goals as goal
 
 pub loop-pass-init : goal.loop-pass-init
-loop-pass-init c =
+loop-pass-init g c =
     let items : c.in_ok-marks.marks.items ≡ replicate c.count.result false = search rules in
     record {
       each = sym c.in_ok-marks.marks.ok.0 ∙ c.in_ok-marks.ensures.len ∙ c.count.ensures;
-      reaching = subst (AreReaching c.args.graph.now) (sym items) (reaching_none c.args.graph.now c.count.result);
+      reaching = subst (AreReaching (g.S.System.rules (g.S.System.setting c.args.system.now)).goes c.args.graph.now) (sym items) (reaching_none (g.S.System.rules (g.S.System.setting c.args.system.now)).goes c.args.graph.now c.count.result);
     }

@@ -1,4 +1,4 @@
-use Rattle.state_space.proofs.Tells.{found_reached, found_covered, end_reached, dead_covered, dead_goes}
+use Rattle.state_space.proofs.Tells.{found_reached, found_covered, end_reached, dead_endless}
 use Rattle.state_space.proofs.told.search_tells.Goals as goal
 
 pub returns-clause-reached : goal.returns-clause-reached
@@ -15,8 +15,4 @@ returns-clause-can_end g c system graph k b searched reaches has =
 
 pub returns-clause-dead : goal.returns-clause-dead
 returns-clause-dead g c system graph searched all =
-    dead_covered (g.S.System.rules (g.S.System.setting system)) (g.S.System.stands system) (g.met.S.System.one system) graph searched all
-
-pub returns-clause-goes : goal.returns-clause-goes
-returns-clause-goes g c system graph k b searched all lt dead has end =
-    dead_goes (g.S.System.rules (g.S.System.setting system)) (g.S.System.stands system) (g.met.S.System.one system) graph searched all k b lt dead has end
+    dead_endless (g.S.System.rules (g.S.System.setting system)) (g.S.System.stands system) (g.met.S.System.one system) graph searched all
