@@ -3,3 +3,8 @@ pub mod Slots
 pub mod Kept
 pub mod Parts
 pub mod Hashes
+pub mod Grown
+pub mod Tells
+pub mod Growth
+pub mod Dead
+pub mod Walked

@@ -1,26 +1,41 @@
-//! The search of any system of states and events: what a set of states says of all orders of events, and exact stores of rows and of
-//! slices of words.
+//! The search of any system of states and events.
 #![tactic(auto)]
 
 mod distinct;
+mod ends;
+mod explores;
+mod found;
+mod graph;
 mod hash;
 mod interner;
+mod limits;
 mod orders;
 mod pools;
 mod probes;
 mod refusal;
 mod row_pool;
 mod rows;
+mod systems;
 #[cfg(test)]
 mod tests;
+mod told;
+mod ways;
 mod word_pool;
 
 pub use distinct::Distinct;
+pub use ends::{first_dead, reaching};
+pub use explores::explore;
+pub use found::Successors;
+pub use graph::Graph;
 pub use interner::Interner;
+pub use limits::{Limits, Verdict};
 pub use orders::{Orders, all_orders};
 pub use pools::Pool;
 pub use probes::Probed;
 pub use refusal::Refused;
 pub use row_pool::RowPool;
 pub use rows::Rows;
+pub use systems::{Expansion, System};
+pub use told::search_tells;
+pub use ways::way_to;
 pub use word_pool::WordPool;

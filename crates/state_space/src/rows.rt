@@ -41,7 +41,8 @@ impl Rows {
     #[inline]
     pub fn get(&self, number: usize) -> &[u32]
         requires { number < row_count self.now }
-        ensures { result.now ≡ row_of self.now number }
+        ensures row { result.now ≡ row_of self.now number }
+        ensures width { length result.now ≡ row_width self.now }
     {
         self.entries.get(number)
     }

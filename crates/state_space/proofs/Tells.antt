@@ -1,0 +1,93 @@
+-- What a graph that is all expanded tells of the states.
+use Rattle.std.proofs.Common.{◌≡◌, ◌⊎◌, ⊎_elim, ℕ, zero, suc, ◌+◌, ◌-◌, ◌<◌, ◌≤◌, List, [], ◌∷◌, refl, sym, ap, subst, ◌∙◌, arith}
+use Rattle.std.proofs.lemmas.Bool.{cases_lt}
+use Rattle.state_space.specs.declared.graph.Graph.{Graph}
+use Rattle.state_space.specs.Orders.{Runs, Leads, Only, Chain, IsClosed, CanEnd}
+use Rattle.state_space.specs.Systems.{Rules, Moves, IsExpanded}
+use Rattle.state_space.specs.Graphs.{count_of, expanded_of, row_at, first_step, end_step, target_of, event_of, StepOf, IsEnd, IsSearched, IsFound, IsCovered, IsEndless}
+use Rattle.state_space.specs.Deads.{ReachesEnd}
+use Rattle.state_space.proofs.AllOrders.{runs_on, leads_on, leads_by}
+
+module _ {State : Type 0} (rules : Rules State) (stands : List ℕ → State → Type 0) (one : (r : List ℕ) (b c : State) → stands r b → stands r c → b ≡ c) (graph : Graph) (searched : IsSearched rules stands graph) where
+  -- a step of the graph is a move of the state
+  stepped : (i j k : ℕ) (b : State) → StepOf graph i j k → stands (row_at graph j) b → (to : State) × Moves rules (event_of graph i) b to × stands (row_at graph k) to
+  stepped i j k b step has =
+      let at : first_step graph j + (i - first_step graph j) ≡ i = omega (arith, step.1) in
+      let to = (searched.expanded j b step.0 has).sound (i - first_step graph j) (omega (arith, step.1, step.2)) in (
+        to.0,
+        subst (λ n. Moves rules (event_of graph n) b to.0) at to.1,
+        subst (λ n. stands (row_at graph n) to.0) (ap (target_of graph) at ∙ sym step.3) to.2,
+      )
+
+  reach_below : (n k : ℕ) (b : State) → k < n → k < count_of graph → stands (row_at graph k) b → Leads (Moves rules) searched.start.0 b
+  reach_below zero k b lt within has = absurd (omega arith)
+  reach_below (suc n) k b lt within has =
+      ⊎_elim
+      (λ some.
+      let from = searched.reached k within some in
+      let c = searched.known from.0 (omega (arith, from.1)) in
+      let to = stepped from.2.0 from.0 k c.0 from.2.1 c.1 in
+      leads_on (Moves rules) searched.start.0 c.0 b
+      (reach_below n from.0 c.0 (omega (arith, from.1)) (omega (arith, from.1)) c.1)
+      (event_of graph from.2.0 ∷ [], (to.0, to.1, one (row_at graph k) b to.0 has to.2)))
+      (λ none.
+      let is : k ≡ 0 = omega arith in
+      ([], one (row_at graph 0) b searched.start.0 (subst (λ m. stands (row_at graph m) b) is has) searched.start.2))
+      (cases_lt 0 k)
+
+  -- each state found is reached from the start
+  pub found_reached : (b : State) → IsFound stands graph b → Leads (Moves rules) searched.start.0 b
+  found_reached b found = reach_below (suc found.0) found.0 b (omega arith) found.1 found.2
+
+  -- where a row reaches an end, so does its state
+  pub end_reached : (k : ℕ) (b : State) → ReachesEnd rules.goes graph k → stands (row_at graph k) b → CanEnd (Moves rules) rules.goes rules.is_end b
+  end_reached k b reaches has = along reaches.1.0 k b reaches.0 reaches.1.1 reaches.2 has
+    where
+      along : (w : List ℕ) (k : ℕ) (b : State) (last : ℕ) → Runs (Only (λ i. rules.goes (event_of graph i)) (StepOf graph)) w k last → IsEnd graph last → stands (row_at graph k) b → CanEnd (Moves rules) rules.goes rules.is_end b
+      along [] k b last is end has =
+          (b, ([], refl), (searched.ends k b (subst (λ m. IsEnd graph m) is end).0 has).0 (subst (λ m. IsEnd graph m) is end))
+      along (i ∷ w) k b last run end has =
+          let to = stepped i k run.0 b run.1.1 has in
+          let on = along w run.0 to.0 last run.2 end to.2 in
+          (on.0, leads_by (Only rules.goes (Moves rules)) (event_of graph i) b to.0 on.0 (run.1.0, to.1) on.1, on.2)
+
+  module _ (all : expanded_of graph ≡ count_of graph) where
+    -- A set of rows from which each step of a kind leads back into it makes a set of states that is closed under such steps.
+    pub covered_by : (kind set : ℕ → Type 0) → ((i j k : ℕ) → set j → StepOf graph i j k → kind (event_of graph i) → set k) → (b : State) → (k : ℕ) × (k < count_of graph) × set k × stands (row_at graph k) b → rules.keeps b × ((e : ℕ) (mid : State) → kind e → rules.steps e b mid → (to : State) × rules.settles mid to × ((k : ℕ) × (k < count_of graph) × set k × stands (row_at graph k) to))
+    covered_by kind set closed b found =
+        let k : ℕ = found.0 in
+        let expanded : k < expanded_of graph = omega (arith, found.1, all) in
+        let here = searched.expanded k b expanded found.3 in (
+          here.keeps,
+          λ e mid is_kind did.
+              let was = here.complete e mid did in
+              let i : ℕ = first_step graph k + was.0 in
+              let within : i < end_step graph k = omega (arith, was.2) in
+              let step : StepOf graph i k (target_of graph i) = (expanded, omega arith, within, refl) in
+              (was.1, was.4, (target_of graph i, searched.whole.lead i (omega (arith, searched.whole.within k expanded)), closed i k (target_of graph i) found.2 step (subst kind (sym was.3) is_kind), was.5)),
+        )
+
+    -- the states found
+    pub found_covered : IsCovered rules (IsFound stands graph)
+    found_covered b found =
+        let here = covered_by (λ e. Unit {0}) (λ k. Unit {0}) (λ i j k has step kind. tt) b (found.0, found.1, tt, found.2) in
+        (here.0, λ e mid did. let to = here.1 e mid tt did in (to.0, to.1, (to.2.0, to.2.1, to.2.3)))
+
+    -- the states of rows that reach no end have none
+    pub dead_endless : IsEndless rules (λ b. (k : ℕ) × (k < count_of graph) × (ReachesEnd rules.goes graph k → ⊥) × stands (row_at graph k) b)
+    dead_endless b found = (
+      λ end. found.2 (found.0, ([], refl), (searched.ends found.0 b (omega (arith, found.1, all)) found.3).1 end),
+      (covered_by rules.goes (λ k. ReachesEnd rules.goes graph k → ⊥)
+          (λ i j k dead step goes reaches. dead (reaches.0, leads_by (Only (λ n. rules.goes (event_of graph n)) (StepOf graph)) i j k reaches.0 (goes, step) reaches.1, reaches.2)) b found).1,
+    )
+
+-- Where the events' steps are those of the rules, and what they settle to is reached by local turns, a set that is covered is closed: so
+-- what a search found speaks of every order (`all_orders`).
+pub closed_by_cover : {State Event : Type 0} (does : Event → State → State → Type 0) (keeps : Event → State → Type 0) (local : ℕ → State → State → Type 0) (rules : Rules State) (number : Event → ℕ) (set : State → Type 0) → ((e : Event) (b c : State) → does e b c → rules.steps (number e) b c) → ((b : State) → rules.keeps b → (e : Event) → keeps e b) → ((c d : State) → rules.settles c d → (n : ℕ) × Chain local n c d) → IsCovered rules set → IsClosed does keeps local set
+closed_by_cover does keeps local rules number set steps kept settles cover b has e = (
+  kept b (cover b has).0 e,
+  λ c did.
+      let to = (cover b has).1 (number e) c (steps e b c did) in
+      let chain = settles c to.0 to.1 in
+      (chain.0, to.0, chain.1, to.2),
+)

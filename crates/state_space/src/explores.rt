@@ -1,0 +1,86 @@
+//! The search, breadth first.
+
+ghost use Rattle.std.specs.Prelude.{◌≡◌, ◌<◌, ◌≤◌, ◌+◌, ℕ, IfOk, OnOk, IfSome, true, false};
+ghost use Rattle.state_space.specs.Graphs.{IsSearched, count_of, expanded_of};
+ghost use Rattle.state_space.specs.Numbered.{row_width};
+ghost use Rattle.state_space.specs.Searches.{IsVerdict};
+ghost use Rattle.state_space.specs.Successors.{found_width};
+
+use crate::found::Successors;
+use crate::graph::Graph;
+use crate::limits::{Limits, Verdict};
+use crate::refusal::Refused;
+use crate::systems::{Expansion, System};
+use std::alloc::Global;
+
+/// Expands the next row, and answers whether the system wants to go on.
+#[inline]
+fn expand_next<S: System>(
+    system: &mut S,
+    graph: &mut Graph,
+    found: &mut Successors,
+) -> Result<bool, Refused>
+    requires next { expanded_of graph.old < count_of graph.old }
+    requires searched { IsSearched (S.rules (S.setting system.old)) (S.stands system.old) graph.old }
+    requires width { row_width graph.old.rows ≡ S.width (S.setting system.old) }
+    requires found_width { found_width found.old ≡ S.width (S.setting system.old) }
+    ensures setting { S.setting system.new ≡ S.setting system.old }
+    ensures searched { OnOk result (IsSearched (S.rules (S.setting system.new)) (S.stands system.new) graph.new) }
+    ensures width { OnOk result (row_width graph.new.rows ≡ row_width graph.old.rows) }
+    ensures found_width { found_width found.new ≡ found_width found.old }
+    ensures halted { result ≡ Ok false → expanded_of graph.new < count_of graph.new }
+    ensures expanded { result ≡ Ok true → expanded_of graph.new ≡ expanded_of graph.old + 1 }
+{
+    found.clear();
+    let next = graph.expanded();
+    match system.expand(graph.row(next), found)? {
+        Expansion::Halts => Ok(false),
+        Expansion::Goes => {
+            graph.add(found, false)?;
+            Ok(true)
+        }
+        Expansion::Ends => {
+            graph.add(found, true)?;
+            Ok(true)
+        }
+    }
+}
+
+/// Which limit is reached, if one is.
+#[inline]
+fn reached<S: System>(system: &S, graph: &Graph, limits: Limits) -> Option<Verdict>
+    ensures { IfSome result (λ verdict. (expanded count : ℕ) → expanded < count → IsVerdict verdict expanded count) }
+{
+    if limits.rows <= graph.count() {
+        return Some(Verdict::AtRows);
+    }
+    if limits.bytes <= graph.bytes().saturating_add(system.bytes()) {
+        return Some(Verdict::AtBytes);
+    }
+    None
+}
+
+/// Searches a system from its start, breadth first: each row that is found is expanded once, in the order in which they are found. An
+/// `Err` is never a verdict.
+pub fn explore<S: System>(
+    alloc: Global,
+    system: &mut S,
+    limits: Limits,
+) -> Result<(Graph, Verdict), Refused>
+    ensures setting { S.setting system.new ≡ S.setting system.old }
+    ensures searched { IfOk result (λ made. IsSearched (S.rules (S.setting system.new)) (S.stands system.new) made.0) }
+    ensures verdict { IfOk result (λ made. IsVerdict made.1 (expanded_of made.0) (count_of made.0)) }
+{
+    let start = system.start()?;
+    let mut graph = Graph::new(alloc, &start)?;
+    let mut found = Successors::new(alloc, start.len());
+    'rows: while graph.expanded() < graph.count() {
+        if let Some(verdict) = reached(system, &graph, limits) {
+            return Ok((graph, verdict));
+        }
+        if !expand_next(system, &mut graph, &mut found)? {
+            return Ok((graph, Verdict::Halted));
+        }
+    }
+    Ok((graph, Verdict::Closed))
+}
