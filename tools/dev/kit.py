@@ -66,7 +66,7 @@ def take_kept():
     if not hasattr(main, "Kept"):
         return
     main.Crate.cuts_libraries, main.Crate.allowed = True, main.handles_of(top)
-    found = [it for it in main.crates_of(top) if not it.is_program]
+    found = [it for it in main.crates_of(top) if not it.is_program and not it.is_static]
     kept = main.Kept(found)
     for crate in found:
         if not crate.is_built():

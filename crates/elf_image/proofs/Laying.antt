@@ -92,6 +92,18 @@ room_before bytes ram k memory laid inside loads before =
       | inr none ↦ omega arith
     ]
 
+-- The memory is within the RAM.
+pub within_ram : (bytes : List ℕ) (ram n : ℕ) (memory : List ℕ) → AreLaidOut bytes ram → ((j : ℕ) → Loads bytes j → IsInFile bytes (segment_at bytes j))
+    → IsLoadedTo bytes n memory → length memory ≤ ram
+within_ram bytes ram n memory laid inside loaded =
+    elim (cases_lt 0 (length memory)) [
+      | inl some ↦
+          let last = loaded.ends (length memory - 1) (omega arith) in
+          let l = last.2.loads in
+          omega (arith, last.2.to, (inside last.0 l).1, (laid.fit last.0 l).0.0, (laid.fit last.0 l).0.1)
+      | inr none ↦ omega arith
+    ]
+
 -- A segment without file bytes changes nothing.
 pub loaded_same : (bytes : List ℕ) (k : ℕ) (memory : List ℕ) → (Loads bytes k → 0 < (segment_at bytes k).file_bytes → ⊥) → IsLoadedTo bytes k memory
     → IsLoadedTo bytes (k + 1) memory

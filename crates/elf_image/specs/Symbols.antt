@@ -53,8 +53,9 @@ pub record IsAtOrBelow (table names : List ℕ) (address k : ℕ) : Type 0 where
   pub label : IsLabel names (entry_at table k)
   pub below : address_of (entry_at table k) ≤ address
 
--- no symbol of the first n that names code is nearer below the address than symbol k
+-- no symbol of the first n that names code is nearer below the address than symbol k, and none before it is as near
 pub record IsNearest (table names : List ℕ) (address n k : ℕ) : Type 0 where
   pub there : k < n
   pub candidate : IsAtOrBelow table names address k
   pub nearest : (j : ℕ) → j < n → IsAtOrBelow table names address j → address_of (entry_at table j) ≤ address_of (entry_at table k)
+  pub first : (j : ℕ) → j < k → IsAtOrBelow table names address j → address_of (entry_at table j) < address_of (entry_at table k)

@@ -1,9 +1,10 @@
 //! A kernel's ELF file.
 
-ghost use Rattle.std.specs.Prelude.{◌≡◌, ℕ, ◌-◌, ◌<◌, IfOk, IfErr, OnOk, IsOk, MatchOption, MatchResult};
+ghost use Rattle.std.specs.Prelude.{◌≡◌, ℕ, ◌-◌, ◌<◌, ◌≤◌, vec_len, IfOk, IfErr, OnOk, IsOk, MatchOption, MatchResult};
 ghost use Rattle.elf_image.specs.Header.{entry_of};
 ghost use Rattle.elf_image.specs.Kernel.{IsFaulty, IsKernel, IsMisplaced};
 ghost use Rattle.elf_image.specs.Loading.{IsLoaded};
+ghost use Rattle.elf_image.specs.Program.{AreLaidOut};
 ghost use Rattle.elf_image.specs.Sections.{AreTables};
 ghost use Rattle.elf_image.specs.Symbols.{HasName, IsAtOrBelow, IsFirstNamed, IsNearest, address_of, entry_at, name_of, symbol_of, symbols_of};
 
@@ -49,10 +50,15 @@ impl<'a> Elf<'a> {
     }
 
     /// What a RAM of so many bytes holds of it, from 0x80000000 on, up to the last byte that the file has; what comes after is zero.
-    /// A segment stands where it is loaded (`p_paddr`), as objcopy and other loaders have it. Faults: a segment is not within the
-    /// RAM, also where it runs (`p_vaddr`); segments overlap; the entry is not 0x80000000; memory was refused.
+    ///
+    /// A segment stands where it is loaded (`p_paddr`), as objcopy and other loaders have it. The file's own headers are left out
+    /// where the linker put them below RAM: the part below RAM of a segment that begins with the file's first byte and runs where it
+    /// is loaded. Faults: a segment is not within the RAM, or not where it runs (`p_vaddr`), since no hart translates addresses; it
+    /// begins before the end of those before it in the table; the entry is not 0x80000000; memory was refused.
     pub fn load(&self, alloc: Global, ram_bytes: u32) -> Result<Vec<u8>, ElfFault>
+        ensures placed { OnOk result (AreLaidOut self.now.bytes.now ram_bytes) }
         ensures ok { IfOk result (λ memory. IsLoaded self.now.bytes.now memory.items) }
+        ensures within { IfOk result (λ memory. vec_len memory ≤ ram_bytes) }
         ensures misplaced { IfErr result (IsMisplaced self.now.bytes.now ram_bytes) }
     {
         check_layout(self.bytes, ram_bytes)?;
@@ -74,7 +80,8 @@ impl<'a> Elf<'a> {
         first_named(&self.tables, name)
     }
 
-    /// The name of the nearest symbol at or below the address that names code, and how many bytes below it is.
+    /// The name of the nearest symbol at or below the address that names code, and how many bytes below the address it is; of several
+    /// at one address the first. Code is named by functions, and by the untyped labels of a section, but not by mapping symbols as `$x`.
     pub fn symbol_at(&self, address: u64) -> Option<(&'a [u8], u64)>
         ensures { MatchOption result
             ((k : ℕ) → k < symbols_of self.now.tables.symbols.now
