@@ -1,2 +1,3 @@
 pub mod Packed
+pub mod Ends
 pub mod Next

@@ -3,9 +3,12 @@
 #![tactic(auto)]
 
 ghost use Rattle.std.specs.Prelude.{◌≡◌, ◌<◌};
+ghost use Rattle.board_model.specs.Shapes.{IsSize, board_size};
 ghost use Rattle.planned_store.specs.Commits.{Answer};
-ghost use Rattle.planned_store.specs.Plans.{asked, Puts, Goes};
+ghost use Rattle.planned_store.specs.Opens.{opened_by};
+ghost use Rattle.planned_store.specs.Plans.{asked, Puts, Goes, BeginsOpen, BeginsFormat};
 ghost use Rattle.planned_store.specs.declared.plans.Plan.{Plan};
+ghost use Rattle.sbistore.specs.Ends.{EndsOpen, answer_code, Ended, Begun};
 ghost use Rattle.sbistore.specs.Next.{IsAnswer, AsksFor, NextOf};
 ghost use Rattle.sbistore.specs.Packed.{IsPacked, IsSound, packed_by};
 
@@ -20,7 +23,9 @@ use state::{DONE, Durable, NO_COMMAND, NOT_OPEN, READ, SPOILT, SYNC, Sbistore, W
 
 /// Begins an open of a device of so many sectors. What was open in this state is no more.
 #[unsafe(no_mangle)]
-pub extern "C" fn sbistore_open(store: &mut Sbistore, sectors: usize) {
+pub extern "C" fn sbistore_open(store: &mut Sbistore, sectors: usize)
+    ensures { (plan : Plan) × BeginsOpen sectors plan × Begun plan store.new }
+{
     store.opened = 0;
     begin(store, &Plan::open(sectors));
 }
@@ -33,7 +38,10 @@ pub extern "C" fn sbistore_format(
     harts: u64,
     pages: u64,
     lanes: u64,
-) {
+)
+    ensures { IsSize (board_size harts pages lanes)
+        → (plan : Plan) × BeginsFormat sectors (board_size harts pages lanes) plan × Begun plan store.new }
+{
     store.opened = 0;
     match Shape::new(harts, pages, lanes) {
         Ok(shape) => begin(store, &Plan::format(shape, sectors)),
@@ -91,14 +99,14 @@ fn gone_on(asked: u32, plan: Plan, failed: u32, sector: &Sector) -> Plan
 fn ask(store: &mut Sbistore, plan: &Plan, sector: &mut Sector) -> u32
     ensures asks { IsSound plan.now → AsksFor (asked plan.now) plan.now result store.new }
     ensures bytes { Puts plan.now sector.new }
+    ensures ends { IsSound plan.now → asked plan.now ≡ Request.Done → Ended plan.now store.new }
 {
     match plan.asks(sector) {
         Request::Read(number) => keep_asked(store, plan, READ, number),
         Request::Write(number) => keep_asked(store, plan, WRITE, number),
         Request::Sync => keep_asked(store, plan, SYNC, 0),
         Request::Done => {
-            let code = finish(store, plan);
-            end(store, code);
+            finish(store, plan);
             DONE
         }
     }
@@ -113,6 +121,14 @@ fn keep_asked(store: &mut Sbistore, plan: &Plan, kind: u32, number: usize) -> u3
     store.asked = 1;
     store.number = number as u64;
     kind
+}
+
+/// Keeps a plan that has not asked for a call yet.
+fn keep_begun(store: &mut Sbistore, plan: &Plan)
+    ensures { store.new ≡ record (packed_by plan.now store.old) { asked = 0 } }
+{
+    pack(store, plan);
+    store.asked = 0;
 }
 
 /// The durable state of an open store: 0, or 100 where none is open.
@@ -152,51 +168,63 @@ fn answer(failed: u32) -> Result<(), Fault>
 }
 
 /// The plan is under way, and its first call is still to be asked for.
-fn begin(store: &mut Sbistore, plan: &Plan) {
+fn begin(store: &mut Sbistore, plan: &Plan)
+    ensures { IsSound plan.now → Begun plan.now store.new }
+{
     let mut scratch = [0; 512];
     if plan.asks(&mut scratch) == Request::Done {
-        let code = finish(store, plan);
-        end(store, code);
+        finish(store, plan);
     } else {
-        pack(store, plan);
-        store.asked = 0;
+        keep_begun(store, plan);
     }
 }
 
 /// No plan is under way: this is the code of the last one.
-fn end(store: &mut Sbistore, code: u32) {
+fn end(store: &mut Sbistore, code: u32)
+    ensures { store.new ≡ record store.old { phase = 0; number = code } }
+{
     store.phase = NONE;
     store.number = code as u64;
 }
 
 /// What a plan that has ended makes of the open store, and its code.
-fn finish(store: &mut Sbistore, plan: &Plan) -> u32 {
+fn finish(store: &mut Sbistore, plan: &Plan)
+    ensures { IsSound plan.now → Ended plan.now store.new }
+{
     match plan {
         Plan::Committing(_) => finish_command(store, plan),
-        Plan::Formatting(_) => code_of(plan.formatted()),
-        _ => match plan.opened() {
-            Ok(open) => {
-                keep(store, &open);
-                0
-            }
-            Err(refusal) => refusal.code(),
-        },
+        Plan::Formatting(_) => end(store, code_of(plan.formatted())),
+        _ => finish_open(store, plan),
     }
 }
 
-fn finish_command(store: &mut Sbistore, plan: &Plan) -> u32 {
+fn finish_open(store: &mut Sbistore, plan: &Plan)
+    ensures { IsSound plan.now → EndsOpen (opened_by plan.now) store.new }
+{
+    match plan.opened() {
+        Ok(open) => {
+            keep(store, &open);
+            end(store, 0);
+        }
+        Err(refusal) => end(store, refusal.code()),
+    }
+}
+
+fn finish_command(store: &mut Sbistore, plan: &Plan) {
     let Some(mut open) = store_of(store) else {
-        return SPOILT;
+        return end(store, SPOILT);
     };
     let receipt = open.ended(store.ends != 0, plan);
     keep(store, &open);
     match receipt {
-        Ok(_) => 0,
-        Err(refusal) => refusal.code(),
+        Ok(_) => end(store, 0),
+        Err(refusal) => end(store, refusal.code()),
     }
 }
 
-fn code_of(answer: Result<(), Refusal>) -> u32 {
+fn code_of(answer: Result<(), Refusal>) -> u32
+    ensures { result ≡ answer_code answer }
+{
     match answer {
         Ok(()) => 0,
         Err(refusal) => refusal.code(),

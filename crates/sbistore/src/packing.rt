@@ -9,7 +9,8 @@ ghost use Rattle.planned_store.specs.declared.commits.Selected.{Selected};
 ghost use Rattle.planned_store.specs.declared.formats.Formatting.{Formatting};
 ghost use Rattle.planned_store.specs.declared.formats.FormatStep.{FormatStep};
 ghost use Rattle.planned_store.specs.declared.plans.Plan.{Plan};
-ghost use Rattle.sbistore.specs.Packed.{step_number, format_number, HasShape, HasSelected, HasCommit, IsPacked, with_shape, with_selected, with_commit, packed_by};
+ghost use Rattle.sbistore.specs.Ends.{Keeps};
+ghost use Rattle.sbistore.specs.Packed.{IsSelectedSound, step_number, format_number, HasShape, HasSelected, HasCommit, IsPacked, with_shape, with_selected, with_commit, packed_by};
 
 use crate::state::Sbistore;
 use board_model::Shape;
@@ -257,10 +258,12 @@ pub fn store_of(store: &Sbistore) -> Option<OpenStore> {
 }
 
 /// Keeps an open store.
-pub fn keep(store: &mut Sbistore, open: &OpenStore) {
-    pack_selected(store, &open.selected);
-    store.receipts = open.receipts;
-    store.over = open.over as u32;
-    store.down = open.down as u32;
+pub fn keep(store: &mut Sbistore, life: &OpenStore)
+    ensures { IsSelectedSound life.now.selected → Keeps life.now store.new }
+{
+    pack_selected(store, &life.selected);
+    store.receipts = life.receipts;
+    store.over = life.over as u32;
+    store.down = life.down as u32;
     store.opened = 1;
 }
