@@ -8,3 +8,4 @@ pub mod Tells
 pub mod Growth
 pub mod Dead
 pub mod Walked
+pub mod Stairs

@@ -1,6 +1,5 @@
 -- The successors of a row.
 use Rattle.std.specs.Prelude.{ℕ, List, slice_index}
-use Rattle.std.specs.Vec.{vec_len}
 use Rattle.state_space.specs.declared.found.Successors.{Successors}
 use Rattle.state_space.specs.Stores.{row_entry}
 

@@ -42,7 +42,8 @@ fn mark<S: System>(system: &S, graph: &Graph, marks: &mut [bool], row: usize) ->
     requires reaching { AreReaching (S.rules (S.setting system.now)).goes graph.now marks.old }
     ensures reaching { AreReaching (S.rules (S.setting system.now)).goes graph.now marks.new }
     ensures same { result ≡ false → marks.new ≡ marks.old }
-    ensures stuck { result ≡ false → slice_index_or marks.old row false ≡ false → IsStuck (S.rules (S.setting system.now)).goes graph.now marks.old row }
+    ensures stuck { result ≡ false → slice_index_or marks.old row false ≡ false
+        → IsStuck (S.rules (S.setting system.now)).goes graph.now marks.old row }
 {
     if marks[row] || !reaches(system, graph, marks, row) {
         return false;
@@ -100,10 +101,12 @@ pub fn first_dead<S: System>(
 ) -> Result<Option<usize>, Refused>
     requires whole { IsWhole graph.now }
     requires all { expanded_of graph.now ≡ count_of graph.now }
-    ensures none { IfOk result (λ dead. IfNone dead ((k : ℕ) → k < count_of graph.now → ReachesEnd (S.rules (S.setting system.now)).goes graph.now k)) }
+    ensures none { IfOk result (λ dead. IfNone dead ((k : ℕ) → k < count_of graph.now
+        → ReachesEnd (S.rules (S.setting system.now)).goes graph.now k)) }
     ensures within { IfOk result (λ dead. IfSome dead (λ row. row < count_of graph.now)) }
     ensures dead { IfOk result (λ dead. IfSome dead (λ row. ReachesEnd (S.rules (S.setting system.now)).goes graph.now row → ⊥)) }
-    ensures first { IfOk result (λ dead. IfSome dead (λ row. (k : ℕ) → k < row → ReachesEnd (S.rules (S.setting system.now)).goes graph.now k)) }
+    ensures first { IfOk result (λ dead. IfSome dead (λ row. (k : ℕ) → k < row
+        → ReachesEnd (S.rules (S.setting system.now)).goes graph.now k)) }
 {
     let marks = reaching(alloc, system, graph)?;
     for row in 0..marks.len() {

@@ -1,6 +1,8 @@
 //! The search of any system of states and events.
 #![tactic(auto)]
 
+#[cfg(test)]
+mod climbs;
 mod distinct;
 mod ends;
 mod explores;

@@ -1,7 +1,5 @@
 use Rattle.std.proofs.Common.{ap, sym, subst, ◌∙◌, true, false}
 use Rattle.state_space.specs.Graphs.{IsSearched, expanded_of, row_at}
-use Rattle.state_space.specs.Successors.{found_count, found_event, found_row}
-use Rattle.state_space.specs.Systems.{IsExpanded}
 use Rattle.state_space.proofs.Grown.{searched_grown, searched_kept, unless_goes, unless_ends, ended_goes, ended_ends}
 use Rattle.state_space.proofs.explores.expand_next.Goals as goal
 

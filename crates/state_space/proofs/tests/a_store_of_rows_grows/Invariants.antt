@@ -3,4 +3,4 @@ use Rattle.state_space.specs.Numbered.{row_width}
 use Rattle.state_space.proofs.tests.a_store_of_rows_grows.Given as goal
 
 abbrev pub invariant-loop-n : goal.invariant-loop-n
-invariant-loop-n l = row_width l.rows ≡ 2
+invariant-loop-n g l = row_width l.rows ≡ 2

@@ -1,4 +1,3 @@
-use Rattle.std.proofs.Common.{◌≡◌}
 use Rattle.state_space.specs.Growing.{IsGrowing}
 use Rattle.state_space.proofs.graph.Graph.add_steps.Given as goal
 

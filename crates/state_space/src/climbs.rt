@@ -1,0 +1,103 @@
+//! What a search tells of a toy: somebody goes up five stairs one by one, and from each but the last he may fall to the ground. The third
+//! is his goal. There is no way down but a fall, which is a failure: so who is past the third comes to no end.
+
+use super::*;
+use std::alloc::Global;
+use std::test::Fail;
+
+const LIMITS: Limits = Limits {
+    rows: 100,
+    bytes: 1_000_000,
+};
+
+#[derive(Drop)]
+struct Climb {
+    alloc: Global,
+}
+
+impl System for Climb {
+    ghost use Rattle.std.specs.Prelude.{◌≡◌, ℕ, [], ◌∷◌, slice_index};
+    ghost use Rattle.state_space.specs.Stairs.{climbing};
+    ghost use Rattle.std.proofs.Common.{sym, ap, ◌∙◌};
+
+    ghost State = { ℕ };
+
+    ghost Setting = { Unit {0} };
+
+    ghost setting = { λ _. tt };
+
+    ghost rules = { λ _. climbing };
+
+    ghost width = { λ _. 1 };
+
+    ghost stands = { λ _ row b. row ≡ b ∷ [] };
+
+    ghost one = { λ system r b c hb hc. ap (λ l. slice_index l 0) (sym hb ∙ hc) };
+
+    fn start(&mut self) -> Result<Vec<u32>, Refused> {
+        Ok(vec![in self.alloc; 0]?)
+    }
+
+    fn expand(&mut self, row: &[u32], found: &mut Successors) -> Result<Expansion, Refused> {
+        let stair = row[0];
+        if 5 <= stair {
+            return Ok(Expansion::Goes);
+        }
+        found.push(0, &[stair + 1])?;
+        found.push(1, &[0])?;
+        Ok(if stair == 3 {
+            Expansion::Ends
+        } else {
+            Expansion::Goes
+        })
+    }
+
+    fn goes(&self, event: u8) -> bool {
+        event == 0
+    }
+
+    fn bytes(&self) -> u64 {
+        0
+    }
+}
+
+#[test]
+fn a_climb_past_its_goal_is_dead(rt: HostRuntime) -> Result<(), Fail> {
+    let mut climb = Climb { alloc: rt.alloc() };
+    let (graph, verdict) = explore(rt.alloc(), &mut climb, LIMITS)?;
+    assert_eq!(rt; graph.count(), 6);
+    assert_eq!(rt; graph.steps(), 10);
+    if verdict != Verdict::Closed {
+        return Err("open".into());
+    }
+    assert_eq!(rt; first_dead(rt.alloc(), &climb, &graph)?, Some(4));
+    let way = way_to(rt.alloc(), &graph, 4)?.ok_or("no way")?;
+    assert_eq!(rt; way.as_slice(), [0, 0, 0, 0].as_slice());
+    Ok(())
+}
+
+#[test]
+fn a_climb_reaches_limits(rt: HostRuntime) -> Result<(), Fail> {
+    let mut climb = Climb { alloc: rt.alloc() };
+    let (graph, verdict) = explore(
+        rt.alloc(),
+        &mut climb,
+        Limits {
+            rows: 4,
+            bytes: 1_000_000,
+        },
+    )?;
+    assert_eq!(rt; verdict, Verdict::AtRows);
+    assert_eq!(rt; graph.count(), 4);
+    assert_eq!(rt; graph.expanded(), 3);
+    let (_graph, verdict) = explore(
+        rt.alloc(),
+        &mut climb,
+        Limits {
+            rows: 100,
+            bytes: 0,
+        },
+    )?;
+    assert_eq!(rt; verdict, Verdict::AtBytes);
+    Ok(())
+}
