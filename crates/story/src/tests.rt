@@ -8,40 +8,42 @@ use ram::{Ram, Width};
 use simdisk::{Fill, SimDisk};
 use std::alloc::Global;
 use std::process::Abort;
-use std::test::Fail;
 use std::thread::Threads;
 use store::Resumption;
+
+/// What is asked. A memory that is suspended begins and ends with these doubles.
+#[derive(Clone, Copy)]
+enum Ask {
+    Open,
+    Slot(u32),
+    Command(Command),
+    Suspend(u64, u64),
+    Load,
+    Resume,
+    Arm(ArmedFault),
+    Cut(Fill),
+}
+
+use Ask::{Arm, Cut, Load, Open, Resume, Slot, Suspend};
+
+/// What is asked, and what is seen of it.
+type Row = (Ask, Told);
 
 /// What was seen, in numbers: its kind, and what it carries.
 type Told = (u32, u64, u64);
 
-/// An open that found this slot and this next serial.
-const fn opened(slot: u64, next: u64) -> Told {
-    (1, slot, next)
-}
-
-/// An open that found this slot, this next serial, and an image.
-const fn opened_with_image(slot: u64, next: u64) -> Told {
-    (2, slot, next)
-}
-
-const fn acked(number: u64) -> Told {
-    (3, number, 0)
-}
-
+/// An open that found that slot and that next serial.
+const OPENED: u32 = 1;
+/// The same, and an image.
+const WITH_IMAGE: u32 = 2;
+/// A receipt of that number.
+const ACKED: u32 = 3;
 /// A memory that begins and ends so.
-const fn read(first: u64, last: u64) -> Told {
-    (4, first, last)
-}
-
+const READ: u32 = 4;
 /// A board goes on at that pc, with a memory that begins so.
-const fn woke(pc: u64, first: u64) -> Told {
-    (5, pc, first)
-}
-
-const fn denied(code: u64) -> Told {
-    (6, code, 0)
-}
+const WOKE: u32 = 5;
+/// A refusal of that code.
+const DENIED: u32 = 6;
 
 const NOT_OPEN: Told = (7, 0, 0);
 
@@ -61,14 +63,18 @@ fn double(ram: &Ram, address: u64) -> u64 {
 fn told(seen: &Seen) -> Told {
     match seen {
         Seen::Opened(found) => (
-            if found.image.is_some() { 2 } else { 1 },
+            if found.image.is_some() {
+                WITH_IMAGE
+            } else {
+                OPENED
+            },
             found.slot.number() as u64,
             found.next,
         ),
-        Seen::Acked(receipt) => acked(receipt.number() as u64),
-        Seen::Read(ram) => read(double(ram, BASE), double(ram, LAST)),
-        Seen::Woke(hart, ram) => woke(hart.pc(), double(ram, BASE)),
-        Seen::Denied(refusal) => denied(refusal.code() as u64),
+        Seen::Acked(receipt) => (ACKED, receipt.number() as u64, 0),
+        Seen::Read(ram) => (READ, double(ram, BASE), double(ram, LAST)),
+        Seen::Woke(hart, ram) => (WOKE, hart.pc(), double(ram, BASE)),
+        Seen::Denied(refusal) => (DENIED, refusal.code() as u64, 0),
         Seen::NotOpen => NOT_OPEN,
         Seen::Done => DONE,
     }
@@ -96,175 +102,145 @@ fn site(rt: &impl Abort) -> Resumption {
     }
 }
 
-/// This memory is suspended, to be resumed by hart 1.
-fn suspend(rt: &impl Abort, alloc: Global, first: u64, last: u64) -> Asked {
-    Asked::Suspend(memory(rt, alloc, first, last), site(rt))
+/// What is asked in that row.
+fn asked(rt: &impl Abort, alloc: Global, ask: Ask) -> Asked {
+    match ask {
+        Open => Asked::Open,
+        Slot(number) => Asked::Command(Command::Slot(number)),
+        Ask::Command(command) => Asked::Command(command),
+        Suspend(first, last) => Asked::Suspend(memory(rt, alloc, first, last), site(rt)),
+        Load => Asked::Load,
+        Resume => Asked::Resume,
+        Arm(fault) => Asked::Arm(fault),
+        Cut(fill) => Asked::Cut(fill),
+    }
 }
 
-/// Of what is asked of a new disk, just this is seen.
-fn is_seen<R: Abort + Threads + Sync>(rt: &R, alloc: Global, asked: &[Asked], wanted: &[Told]) {
+/// All that is asked, in order.
+fn list(rt: &impl Abort, alloc: Global, rows: &[Row]) -> Vec<Asked> {
+    let mut list = Vec::with_capacity(alloc, rows.len()).expect(rt, "memory");
+    for &(ask, _told) in rows {
+        list.push_reserved(asked(rt, alloc, ask));
+    }
+    list
+}
+
+/// What is seen of a new disk.
+fn seen<R: Abort + Threads + Sync>(rt: &R, alloc: Global, asked: &[Asked]) -> Vec<Seen> {
     let shape = board(rt);
     let disk = SimDisk::blank(alloc, shape.sectors()).expect(rt, "memory");
     let crew: Sequential<R> = Sequential::new([1, 0, 3, 2]).expect(rt, "an order");
     let (seen, _disk) = story(alloc, disk, &shape, &crew, asked).expect(rt, "a story");
-    assert!(rt; seen.len() == wanted.len());
-    for (answer, told_so) in seen.iter().zip(wanted) {
-        assert!(rt; told(answer) == *told_so);
+    seen
+}
+
+/// Of a new disk just this is seen.
+fn is_seen<R: Abort + Threads + Sync>(rt: &R, alloc: Global, rows: &[Row]) {
+    let seen = seen(rt, alloc, &list(rt, alloc, rows));
+    assert!(rt; seen.len() == rows.len());
+    for (answer, &(_ask, wanted)) in seen.iter().zip(rows) {
+        assert!(rt; told(answer) == wanted);
     }
 }
 
 /// A board is suspended, power fails, and the next life resumes it once, and no later one.
-#[test]
-fn an_image_goes_on_once(rt: HostRuntime) -> Result<(), Fail> {
-    let alloc = rt.alloc();
-    let asked = vec![in alloc;
-        Asked::Open,
-        Asked::Command(Command::Slot(2)),
-        suspend(&rt, alloc, 11, 22),
-        Asked::Command(Command::Slot(1)),
-        Asked::Cut(Fill::Old),
-        Asked::Load,
-        Asked::Open,
-        Asked::Load,
-        Asked::Resume,
-        Asked::Resume,
-        Asked::Command(Command::Slot(1)),
-        Asked::Cut(Fill::Alternating),
-        Asked::Open,
-        Asked::Load,
-        Asked::Resume,
-    ]?;
-    let wanted = [
-        opened(0, 0),
-        acked(1),
-        acked(2),
-        denied(7),
-        DONE,
-        NOT_OPEN,
-        opened_with_image(2, 1),
-        read(11, 22),
-        woke(BASE + 16, 11),
-        denied(8),
-        acked(2),
-        DONE,
-        opened(1, 1),
-        denied(8),
-        denied(8),
-    ];
-    is_seen(&rt, alloc, &asked, &wanted);
-    Ok(())
-}
+static ONCE: [Row; 15] = [
+    (Open, (OPENED, 0, 0)),
+    (Slot(2), (ACKED, 1, 0)),
+    (Suspend(11, 22), (ACKED, 2, 0)),
+    (Slot(1), (DENIED, 7, 0)),
+    (Cut(Fill::Old), DONE),
+    (Load, NOT_OPEN),
+    (Open, (WITH_IMAGE, 2, 1)),
+    (Load, (READ, 11, 22)),
+    (Resume, (WOKE, 0x8000_0010, 11)),
+    (Resume, (DENIED, 8, 0)),
+    (Slot(1), (ACKED, 2, 0)),
+    (Cut(Fill::Alternating), DONE),
+    (Open, (OPENED, 1, 1)),
+    (Load, (DENIED, 8, 0)),
+    (Resume, (DENIED, 8, 0)),
+];
 
-/// Power fails in the write of the gate. The command in doubt is found where the write went through, and then it stays; no
-/// later one went to the disk.
-#[test]
-fn a_command_in_doubt_is_settled_by_the_open(rt: HostRuntime) -> Result<(), Fail> {
-    let alloc = rt.alloc();
-    for (fill, slot) in [
-        (Fill::New, 3),
-        (Fill::Old, 0),
-        (Fill::Byte(1), 3),
-        (Fill::Byte(2), 0),
-    ] {
-        let asked = vec![in alloc;
-            Asked::Open,
-            Asked::Arm(ArmedFault::CutAt(3)),
-            Asked::Command(Command::Slot(3)),
-            Asked::Command(Command::Slot(1)),
-            Asked::Resume,
-            Asked::Open,
-            Asked::Cut(fill),
-            Asked::Open,
-            Asked::Cut(Fill::Old),
-            Asked::Open,
-        ]?;
-        let wanted = [
-            opened(0, 0),
-            DONE,
-            denied(6),
-            denied(6),
-            denied(6),
-            denied(5),
-            DONE,
-            opened(slot, 0),
-            DONE,
-            opened(slot, 0),
-        ];
-        is_seen(&rt, alloc, &asked, &wanted);
-    }
-    Ok(())
-}
+/// Power fails in the write of the gate, which went through. The command in doubt is found, and then it stays; no later one
+/// went to the disk.
+static KEPT: [Row; 10] = [
+    (Open, (OPENED, 0, 0)),
+    (Arm(ArmedFault::CutAt(3)), DONE),
+    (Slot(3), (DENIED, 6, 0)),
+    (Slot(1), (DENIED, 6, 0)),
+    (Resume, (DENIED, 6, 0)),
+    (Open, (DENIED, 5, 0)),
+    (Cut(Fill::New), DONE),
+    (Open, (OPENED, 3, 0)),
+    (Cut(Fill::Old), DONE),
+    (Open, (OPENED, 3, 0)),
+];
+
+/// The same of a write that did not go through.
+static LOST: [Row; 10] = [
+    (Open, (OPENED, 0, 0)),
+    (Arm(ArmedFault::CutAt(3)), DONE),
+    (Slot(3), (DENIED, 6, 0)),
+    (Slot(1), (DENIED, 6, 0)),
+    (Resume, (DENIED, 6, 0)),
+    (Open, (DENIED, 5, 0)),
+    (Cut(Fill::Old), DONE),
+    (Open, (OPENED, 0, 0)),
+    (Cut(Fill::New), DONE),
+    (Open, (OPENED, 0, 0)),
+];
 
 /// A command that is refused is not found, and neither is one that failed before its gate.
-#[test]
-fn a_refused_command_is_not_found(rt: HostRuntime) -> Result<(), Fail> {
-    let alloc = rt.alloc();
-    let asked = vec![in alloc;
-        Asked::Open,
-        Asked::Command(Command::Slot(4)),
-        Asked::Command(Command::Tries(1, 8)),
-        Asked::Command(Command::Good),
-        Asked::Command(Command::Consume),
-        Asked::Arm(ArmedFault::FailAt(2)),
-        Asked::Command(Command::Slot(3)),
-        Asked::Cut(Fill::New),
-        Asked::Open,
-    ]?;
-    let wanted = [
-        opened(0, 0),
-        denied(9),
-        denied(19),
-        denied(20),
-        denied(8),
-        DONE,
-        denied(5),
-        DONE,
-        opened(0, 0),
-    ];
-    is_seen(&rt, alloc, &asked, &wanted);
-    Ok(())
-}
+static REFUSED: [Row; 9] = [
+    (Open, (OPENED, 0, 0)),
+    (Slot(4), (DENIED, 9, 0)),
+    (Ask::Command(Command::Tries(1, 8)), (DENIED, 19, 0)),
+    (Ask::Command(Command::Good), (DENIED, 20, 0)),
+    (Ask::Command(Command::Consume), (DENIED, 8, 0)),
+    (Arm(ArmedFault::FailAt(2)), DONE),
+    (Slot(3), (DENIED, 5, 0)),
+    (Cut(Fill::New), DONE),
+    (Open, (OPENED, 0, 0)),
+];
 
 /// A lane fails in the second suspension, and the power of a lane in the third: the image that stood stays whole.
+static LANES: [Row; 16] = [
+    (Open, (OPENED, 0, 0)),
+    (Suspend(11, 22), (ACKED, 1, 0)),
+    (Open, (WITH_IMAGE, 0, 1)),
+    (Arm(ArmedFault::FailLane(1, 2)), DONE),
+    (Suspend(33, 44), (DENIED, 5, 0)),
+    (Load, (READ, 11, 22)),
+    (Arm(ArmedFault::CutLane(0, 1)), DONE),
+    (Suspend(55, 66), (DENIED, 5, 0)),
+    (Load, (DENIED, 5, 0)),
+    (Cut(Fill::Byte(0xa5)), DONE),
+    (Open, (WITH_IMAGE, 0, 1)),
+    (Load, (READ, 11, 22)),
+    (Suspend(77, 88), (ACKED, 1, 0)),
+    (Cut(Fill::New), DONE),
+    (Open, (WITH_IMAGE, 0, 2)),
+    (Resume, (WOKE, 0x8000_0010, 77)),
+];
+
 #[test]
-fn a_lane_that_fails_leaves_the_image(rt: HostRuntime) -> Result<(), Fail> {
-    let alloc = rt.alloc();
-    let asked = vec![in alloc;
-        Asked::Open,
-        suspend(&rt, alloc, 11, 22),
-        Asked::Open,
-        Asked::Arm(ArmedFault::FailLane(1, 2)),
-        suspend(&rt, alloc, 33, 44),
-        Asked::Load,
-        Asked::Arm(ArmedFault::CutLane(0, 1)),
-        suspend(&rt, alloc, 55, 66),
-        Asked::Load,
-        Asked::Cut(Fill::Byte(0xa5)),
-        Asked::Open,
-        Asked::Load,
-        suspend(&rt, alloc, 77, 88),
-        Asked::Cut(Fill::New),
-        Asked::Open,
-        Asked::Resume,
-    ]?;
-    let wanted = [
-        opened(0, 0),
-        acked(1),
-        opened_with_image(0, 1),
-        DONE,
-        denied(5),
-        read(11, 22),
-        DONE,
-        denied(5),
-        denied(5),
-        DONE,
-        opened_with_image(0, 1),
-        read(11, 22),
-        acked(1),
-        DONE,
-        opened_with_image(0, 2),
-        woke(BASE + 16, 77),
-    ];
-    is_seen(&rt, alloc, &asked, &wanted);
-    Ok(())
+fn an_image_goes_on_once(rt: HostRuntime) {
+    is_seen(&rt, rt.alloc(), &ONCE);
+}
+
+#[test]
+fn a_command_in_doubt_is_settled_by_the_open(rt: HostRuntime) {
+    is_seen(&rt, rt.alloc(), &KEPT);
+    is_seen(&rt, rt.alloc(), &LOST);
+}
+
+#[test]
+fn a_refused_command_is_not_found(rt: HostRuntime) {
+    is_seen(&rt, rt.alloc(), &REFUSED);
+}
+
+#[test]
+fn a_lane_that_fails_leaves_the_image(rt: HostRuntime) {
+    is_seen(&rt, rt.alloc(), &LANES);
 }
