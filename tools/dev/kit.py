@@ -66,7 +66,8 @@ def take_kept():
     if not hasattr(main, "Kept"):
         return
     main.Crate.cuts_libraries, main.Crate.allowed = True, main.handles_of(top)
-    found = [it for it in main.crates_of(top) if not it.is_program]
+    # (a library for C has no such folder, and none stands on it)
+    found = [it for it in main.crates_of(top) if not it.is_program and not it.is_static]
     kept = main.Kept(found)
     for crate in found:
         if not crate.is_built():
