@@ -6,3 +6,5 @@ pub mod Turned
 pub mod Locals
 pub mod Swaps
 pub mod Once
+pub mod Plains
+pub mod Touching

@@ -3,3 +3,5 @@ pub mod Held
 pub mod Events
 pub mod Touches
 pub mod Maps
+pub mod Plain
+pub mod Footprints

@@ -2,6 +2,19 @@
 //! fails. Which of two turns may change places is said by what they touch.
 #![tactic(auto)]
 
+mod board;
+mod footprints;
 mod laws;
+mod plain;
+mod tables;
+mod whole;
 
+pub use board::{Board, Status};
+pub use footprints::{Footprint, footprint_of};
 pub use laws::{one_event, one_hart_moves};
+pub use plain::PlainMachine;
+pub use tables::PlainTables;
+pub use whole::turn;
+
+#[cfg(test)]
+mod tests;
