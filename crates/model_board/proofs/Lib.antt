@@ -7,4 +7,6 @@ pub mod Locals
 pub mod Swaps
 pub mod Once
 pub mod Plains
-pub mod Touching
+pub mod Kept
+pub mod Stopping
+pub mod Begins

@@ -1,21 +1,20 @@
 -- The tables as plain data are those of the model.
-use Rattle.std.proofs.Common.{ℕ, zero, suc, Bool, true, false, IsTrue, List, [], ◌∷◌, map, ◌≡◌, ◌≢◌, ◌⊎◌, ◌+◌, ◌-◌, ◌*◌, ◌/◌, ◌%◌, ◌^◌, ◌<◌, ◌≤◌, length, refl, sym, ap, ◌∙◌, subst, inl, inr, if◌then◌else◌, eqb, eq-eqb, ne_eqb, arith}
+use Rattle.std.proofs.Common.{ℕ, zero, suc, Bool, true, false, IsTrue, List, [], ◌∷◌, map, ◌≡◌, ◌≢◌, ◌+◌, ◌*◌, ◌/◌, ◌%◌, ◌^◌, ◌<◌, ◌≤◌, length, refl, sym, ap, ◌∙◌, subst, inl, inr, if◌then◌else◌, eq-eqb, ne_eqb, arith}
 use Rattle.std.specs.Prelude.{get_or, slice_set, slice_index, replicate, not, ◌==◌}
 use Rattle.std.specs.Int.{bit_at, w8}
 use Rattle.std.proofs.lemmas.Bool.{cases_lt, cases_eq, eqb-false}
-use Rattle.std.proofs.lemmas.List.{get_or-map, map-set, length-map, length-set, get_or-set_same, get_or-set_other, get_or_past, ext_get_or, set-get_or, get_or_read}
+use Rattle.std.proofs.lemmas.List.{get_or-map, map-set, length-map, length-set, get_or-set_same, get_or-set_other, get_or_past, ext_get_or, set-get_or, get_or_read, length-replicate, get_or-replicate}
 use Rattle.std.proofs.lemmas.Nat.Bits.{bit_at-zero, same_from_bits, bit_at_set_same, bit_at_set_other}
 use Rattle.std.proofs.lemmas.Nat.{or_lt, pow_pos, pow_below, div_below}
 use Rattle.tallies.specs.Seats.{numbers_from}
 use Rattle.tallies.proofs.Seatings.{at_all}
-use Rattle.hart.proofs.Decided.{either, same_number}
 use Rattle.hsm.specs.States.{HartState, stopped, start_pending, started, suspended, is_stopped}
-use Rattle.machine.specs.Machine.{only_first}
+use Rattle.machine.specs.Machine.{only_first, none_pending}
 use Rattle.hsm.specs.Copies.{state_told}
 use Rattle.hsm.specs.declared.standings.Standing.{Standing}
 use Rattle.hsm.specs.declared.standings.Standing.TheVariants as told
 use Rattle.hsm.specs.Views.{listed}
-use Rattle.ipi.specs.Views.{row_of, pairs_without}
+use Rattle.ipi.specs.Views.{row_of}
 use Rattle.sbi_calls.specs.Both.{TableState}
 use Rattle.sbi_calls.specs.Answers.{with_state, row_sent, pairs_sent}
 use Rattle.turns.specs.Turns.{has_true, has_pending, after_take}
@@ -282,3 +281,48 @@ told_first n first = map-set state_told (replicate n told.Stopped) first told.St
     stopped_all : (n : ℕ) → map state_told (replicate n told.Stopped) ≡ replicate n stopped
     stopped_all zero = refl
     stopped_all (suc n) = ap (λ (s : List HartState). stopped ∷ s) (stopped_all n)
+
+-- ---- tables that are made, or made again
+none_row : (f : ℕ → Bool) (first n : ℕ) → ((k : ℕ) → f k ≡ false) → map f (numbers_from first n) ≡ replicate n false
+none_row f first zero none = refl
+none_row f first (suc n) none = ap (λ (b : Bool). b ∷ map f (numbers_from (suc first) n)) (none first) ∙ ap (λ (bs : List Bool). false ∷ bs) (none_row f (suc first) n none)
+
+none_rows : (n m : ℕ) → map (row_in m) (replicate n 0) ≡ replicate n (replicate m false)
+none_rows zero m = refl
+none_rows (suc n) m = ap (λ (r : List Bool). r ∷ map (row_in m) (replicate n 0)) (none_row (λ (s : ℕ). bit_at 0 s == 1) 0 m zero_bit) ∙ ap (λ (rs : List (List Bool)). replicate m false ∷ rs) (none_rows n m)
+
+pub none_waits : (states : List Standing) (n : ℕ) → length states ≡ n → map (row_in (length states)) (replicate n 0) ≡ none_pending n
+none_waits states n e = ap (λ (m : ℕ). map (row_in m) (replicate n 0)) e ∙ none_rows n n
+
+pub none_tables : (states : List Standing) (n : ℕ) → length states ≡ n → n ≤ 8 → AreTables states (replicate n 0)
+none_tables states n e few = record {
+  few = omega (arith, e, few);
+  long = length-replicate {A = ℕ} n 0 ∙ sym e;
+  within = λ k. elim (cases_lt k n) [
+    | inl low ↦ subst (λ (v : ℕ). v < 2 ^ length states) (sym (get_or-replicate n k 0 0 low)) (one_some (length states))
+    | inr high ↦ subst (λ (v : ℕ). v < 2 ^ length states) (sym (get_or_past (replicate n 0) k 0 (let f = length-replicate {A = ℕ} n 0 in omega (arith, f, high)))) (one_some (length states))
+  ];
+}
+
+pub first_long : (n first : ℕ) → length (slice_set (replicate n told.Stopped) first told.Started) ≡ n
+first_long n first = length-set (replicate n told.Stopped) first told.Started ∙ length-replicate n told.Stopped
+
+pub made_tables : (now : List Standing) (after : List ℕ) (n i : ℕ) → n ≤ 8 → now ≡ replicate n told.Stopped → after ≡ replicate n 0 → AreTables (slice_set now i told.Started) after
+made_tables now after n i few e f =
+    subst (λ (xs : List Standing). AreTables (slice_set xs i told.Started) after) (sym e)
+    (subst (λ (ps : List ℕ). AreTables (slice_set (replicate n told.Stopped) i told.Started) ps) (sym f)
+    (none_tables (slice_set (replicate n told.Stopped) i told.Started) n (first_long n i) few))
+
+pub made_states : (now : List Standing) (n i first m : ℕ) → now ≡ replicate n told.Stopped → i ≡ first → n ≡ m → map state_told (slice_set now i told.Started) ≡ only_first m first
+made_states now n i first m e at is =
+    ap (λ (xs : List Standing). map state_told (slice_set xs i told.Started)) e
+    ∙ (told_first n i ∙ (ap (λ (k : ℕ). only_first n k) at ∙ ap (λ (k : ℕ). only_first k first) is))
+
+pub made_pairs : (now : List Standing) (after : List ℕ) (n i m : ℕ) → now ≡ replicate n told.Stopped → after ≡ replicate n 0 → n ≡ m → map (row_in (length (slice_set now i told.Started))) after ≡ none_pending m
+made_pairs now after n i m e f is =
+    let long : length (slice_set now i told.Started) ≡ n = ap (λ (xs : List Standing). length (slice_set xs i told.Started)) e ∙ first_long n i in
+    ap (λ (ps : List ℕ). map (row_in (length (slice_set now i told.Started))) ps) f
+    ∙ (none_waits (slice_set now i told.Started) n long ∙ ap none_pending is)
+
+pub states_count : (states : List Standing) (pending : List ℕ) (t : TableState) → table_in states pending ≡ t → length states ≡ length t.states
+states_count states pending t view = sym (length-map states state_told) ∙ ap (λ (x : TableState). length x.states) view

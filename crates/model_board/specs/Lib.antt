@@ -4,4 +4,3 @@ pub mod Events
 pub mod Touches
 pub mod Maps
 pub mod Plain
-pub mod Footprints

@@ -1,207 +1,210 @@
 //! A model board, with what may happen to it.
 
+ghost use Rattle.std.specs.Prelude.{◌≡◌, ◌<◌, ◌≤◌, ℕ, List, Bool, true, false, None, Err, length, IfOk, OnErr};
+ghost use Rattle.board_model.specs.Shapes.{ram_bytes_of};
+ghost use Rattle.board_model.specs.declared.refusal.Refusal.TheVariants.{Memory};
+ghost use Rattle.machine.specs.Machine.{Machine};
+ghost use Rattle.model_board.specs.Boards.{Board as AnyBoard, Life, On, Off, powered_by};
+ghost use Rattle.model_board.specs.Events.{Does, Turn, Refused, Wake, Cut, PowerOn};
+ghost use Rattle.model_board.specs.Held.{with_hart};
+ghost use Rattle.model_board.specs.Plain.{Sized, IsKnown, HasSleeper, board_shown, board_after, life_of, image_at, standing, status_of, changed};
+
+use crate::holds::{Settled, turn_by, turn_refused};
 use crate::plain::PlainMachine;
-use board_model::{HartId, RAM_BASE, Reason, Refusal, Shape};
-use sbi::{ResetType, reset_of};
-use sbi_abi::{Call, SbiError};
-use sbi_calls::Turned;
+use crate::powers::{Power, Status};
+use board_model::{HartId, Reason, Refusal, Shape};
+use hart::Hart;
+use sbi::ResetType;
 use std::alloc::Global;
+use std::marker::Model;
 use store::Resumption;
-use susp::Sleep;
-
-/// Suspend to disk (SBI specification 2.0, `sbi_system_suspend`: a platform-specific type).
-const TO_DISK: u32 = 0x8000_0001;
-
-/// Whether a board is on.
-#[derive(Clone, Copy, PartialEq, Eq, Drop)]
-pub enum Status {
-    /// It is on, dozing or not.
-    On,
-    /// It is off, and goes on with the next power-on.
-    Off,
-    /// It ended by its own shutdown.
-    Ended,
-}
 
 /// A board without the bytes of its disk. While it is off with an image, its memory is that of the image.
 #[derive(Drop)]
 pub struct Board {
     machine: PlainMachine,
-    status: Status,
+    power: Power,
     reason: Reason,
-    image: Option<Resumption>,
     down: bool,
 }
 
+impl Model for Board {
+    ghost use Rattle.model_board.specs.Plain.{Sized, IsKnown, board_shown};
+
+    ghost Value = { Sized };
+
+    ghost view = { λ b. record { size = b.machine.size; board = board_shown b.power b.reason b.down b.machine } };
+
+    ghost invariant = { λ b. IsKnown b.machine.size.harts b.power };
+}
+
+/// What stands after a turn of a board that is on.
+fn settle(power: &mut Power, reason: &mut Reason, settled: Settled)
+    ensures board { (m : Machine) (down : Bool) → board_shown power.new reason.new down m
+        ≡ board_after settled (life_of (standing reason.old None) down m) }
+    ensures known { (harts : ℕ) → HasSleeper harts settled → IsKnown harts power.new }
+{
+    match settled {
+        Settled::GoesOn => *power = Power::On,
+        Settled::Resets(reset, why) => {
+            *reason = why;
+            *power = match reset {
+                ResetType::Shutdown => Power::Ended,
+                ResetType::ColdReboot => Power::Off(None),
+            };
+        }
+        Settled::Sleeps(at) => *power = Power::Off(Some(at)),
+    }
+}
+
+/// The machine of the next life: it resumes the image, or else boots the payload.
+fn begin(machine: &mut PlainMachine, image: Option<Resumption>, payload: &[u8], reason: Reason)
+    requires fits { length payload.now ≤ ram_bytes_of machine.old.size }
+    requires known { IsKnown machine.old.size.harts (Power.Off image) }
+    ensures { machine.new ≡ (powered_by payload.now machine.old.size reason (image_at machine.old.memory image)).machine }
+{
+    match image {
+        Some(at) => machine.begin_again(at.hart, at.address.value(), at.opaque),
+        None => machine.boot(payload, reason),
+    }
+}
+
 impl Board {
-    /// A turn of a hart, whose sleep or reset the store acknowledges where it is up.
-    pub fn turn(&mut self, hart: HartId) {
-        self.turn_by(hart, !self.down);
+    /// A board of that shape that is off, with no image and this reset reason. Refused 11 where there is no room for it.
+    pub fn new(alloc: Global, shape: &Shape, reason: Reason) -> Result<Self, Refusal>
+        ensures off { IfOk result (λ b. (b.size ≡ shape.now) × (b.board ≡ Off (standing reason None))) }
+        ensures refused { OnErr result (result ≡ Err Memory) }
+    {
+        Ok(Board {
+            machine: PlainMachine::new(alloc, shape)?,
+            power: Power::Off(None),
+            reason,
+            down: false,
+        })
     }
 
-    fn turn_by(&mut self, hart: HartId, granted: bool) {
-        if self.status == Status::On {
-            match self.machine.turn(hart) {
-                Turned::Made(_) => {}
-                Turned::Durable => self.hold(hart, granted),
+    /// A turn of a hart, whose sleep or reset the store acknowledges where it is up. A board that is off makes none.
+    pub fn turn(&mut self, hart: HartId)
+        requires { hart < self.old.size.harts }
+        ensures turns { (payload : List ℕ) → Does payload self.old.size (Turn hart) self.old.board self.new.board }
+        ensures size { self.new.size ≡ self.old.size }
+    {
+        match self.power {
+            Power::On => {
+                let settled = turn_by(&mut self.machine, hart, !self.down);
+                settle(&mut self.power, &mut self.reason, settled);
             }
-        }
-    }
-
-    /// The durable call at which a hart stands.
-    fn hold(&mut self, hart: HartId, granted: bool) {
-        match Call::of(self.machine.hart(hart)) {
-            Call::SystemReset { kind, reason } => self.reset(hart, granted, kind, reason),
-            Call::SystemSuspend {
-                kind,
-                address,
-                opaque,
-            } => self.suspend(hart, granted, kind, address, opaque),
-            _ => self.machine.refuse(hart, SbiError::NotSupported),
-        }
-    }
-
-    fn reset(&mut self, hart: HartId, granted: bool, kind: u32, reason: u32) {
-        match reset_of(kind, reason) {
-            Err(error) => self.machine.refuse(hart, error),
-            Ok((reset, reason)) => {
-                if granted {
-                    self.reason = reason;
-                    self.status = match reset {
-                        ResetType::Shutdown => Status::Ended,
-                        ResetType::ColdReboot => Status::Off,
-                    };
-                } else {
-                    self.machine.refuse(hart, SbiError::Failed);
-                }
-            }
-        }
-    }
-
-    fn suspend(&mut self, hart: HartId, granted: bool, kind: u32, address: u64, opaque: u64) {
-        let sleep = match kind {
-            0 => Sleep::ToRam,
-            TO_DISK => Sleep::ToDisk,
-            _ => return self.machine.refuse(hart, SbiError::InvalidParam),
-        };
-        let Some(address) = self.machine.shape().address(address) else {
-            return self.machine.refuse(hart, SbiError::InvalidAddress);
-        };
-        if !self.machine.is_alone(hart) {
-            return self.machine.refuse(hart, SbiError::Denied);
-        }
-        let at = Resumption {
-            hart,
-            address,
-            opaque,
-        };
-        match sleep {
-            Sleep::ToRam => self.machine.fall_into_doze(at),
-            Sleep::ToDisk => {
-                if granted {
-                    self.image = Some(at);
-                    self.status = Status::Off;
-                } else {
-                    self.machine.refuse(hart, SbiError::Failed);
-                }
-            }
-        }
-    }
-
-    /// Whether the turn of a hart comes to a call that asks the store, after which the hart would stand at that call: the
-    /// machine is then as before.
-    fn asks(&self, hart: HartId) -> bool {
-        match Call::of(self.machine.hart(hart)) {
-            Call::SystemReset { kind, reason } => reset_of(kind, reason).is_ok(),
-            Call::SystemSuspend {
-                kind,
-                address,
-                opaque: _,
-            } => {
-                kind == TO_DISK
-                    && self.machine.shape().address(address).is_some()
-                    && self.machine.is_alone(hart)
-            }
-            _ => false,
+            Power::Off(_) => {}
+            Power::Ended => {}
         }
     }
 
     /// A turn of a hart whose sleep or reset the store refuses, and whether it is down from then on. Whether there was such a
     /// turn; where there was none, the turn was made as ever.
-    pub fn refused(&mut self, hart: HartId, down: bool) -> bool {
-        if self.status != Status::On || self.down {
-            return false;
-        }
-        match self.machine.turn(hart) {
-            Turned::Made(_) => false,
-            Turned::Durable => {
-                let asks = self.asks(hart);
-                if asks {
-                    self.down = down;
+    pub fn refused(&mut self, hart: HartId, down: bool) -> bool
+        requires { hart < self.old.size.harts }
+        ensures refused { result ≡ true
+            → (payload : List ℕ) → Does payload self.old.size (Refused hart down) self.old.board self.new.board }
+        ensures never { result ≡ false
+            → (payload : List ℕ) (c : AnyBoard) → Does payload self.old.size (Refused hart down) self.old.board c → ⊥ }
+        ensures turns { result ≡ false
+            → (payload : List ℕ) → Does payload self.old.size (Turn hart) self.old.board self.new.board }
+        ensures size { self.new.size ≡ self.old.size }
+    {
+        match self.power {
+            Power::On => {
+                if self.down {
+                    self.turn(hart);
+                    return false;
                 }
-                self.hold(hart, !asks);
-                asks
+                let (settled, asked, fell) = turn_refused(&mut self.machine, hart, down);
+                self.down = fell;
+                settle(&mut self.power, &mut self.reason, settled);
+                asked
             }
+            Power::Off(_) => false,
+            Power::Ended => false,
         }
     }
 
-    /// The operator's wake. Whether the board dozed, and was not woken.
-    pub fn wake(&mut self) -> bool {
-        self.status == Status::On && self.machine.wake()
+    /// The operator's wake. Whether the board dozed, and was not woken; if not, nothing changes.
+    pub fn wake(&mut self) -> bool
+        ensures wakes { result ≡ true
+            → (payload : List ℕ) → Does payload self.old.size Wake self.old.board self.new.board }
+        ensures never { result ≡ false
+            → (payload : List ℕ) (c : AnyBoard) → Does payload self.old.size Wake self.old.board c → ⊥ }
+        ensures stays { result ≡ false → self.new ≡ self.old }
+        ensures size { self.new.size ≡ self.old.size }
+    {
+        match self.power {
+            Power::On => self.machine.wake(),
+            Power::Off(_) => false,
+            Power::Ended => false,
+        }
     }
 
     /// Power fails.
-    pub fn cut(&mut self) {
-        self.status = Status::Off;
+    pub fn cut(&mut self)
+        ensures cuts { (payload : List ℕ) → Does payload self.old.size Cut self.old.board self.new.board }
+        ensures size { self.new.size ≡ self.old.size }
+    {
+        match self.power {
+            Power::On => self.power = Power::Off(None),
+            Power::Off(_) => {}
+            Power::Ended => self.power = Power::Off(None),
+        }
     }
 
-    /// The next power-on of a board that is off: it resumes its image, or else boots the payload. Whether it was off.
-    pub fn power_on(&mut self, payload: &[u8]) -> bool {
-        if self.status != Status::Off {
-            return false;
-        }
-        match self.image {
-            Some(at) => self
-                .machine
-                .begin_again(at.hart, at.address.value(), at.opaque),
-            None => {
-                self.machine.put_payload(payload);
-                if let Some(first) = self.machine.shape().hart(0) {
-                    self.machine
-                        .begin_again(first, RAM_BASE, u64::from(self.reason.number()));
-                }
+    /// The next power-on of a board that is off: it resumes its image, or else boots the payload. Whether it was off; if not,
+    /// nothing changes.
+    pub fn power_on(&mut self, payload: &[u8]) -> bool
+        requires { length payload.now ≤ ram_bytes_of self.old.size }
+        ensures powers { result ≡ true → Does payload.now self.old.size PowerOn self.old.board self.new.board }
+        ensures never { result ≡ false
+            → (c : AnyBoard) → Does payload.now self.old.size PowerOn self.old.board c → ⊥ }
+        ensures stays { result ≡ false → self.new ≡ self.old }
+        ensures size { self.new.size ≡ self.old.size }
+    {
+        match self.power {
+            Power::Off(image) => {
+                begin(&mut self.machine, image, payload, self.reason);
+                self.power = Power::On;
+                self.down = false;
+                true
             }
+            Power::On => false,
+            Power::Ended => false,
         }
-        self.image = None;
-        self.status = Status::On;
-        self.down = false;
-        true
-    }
-
-    /// A board of that shape that is off, with no image and this reset reason. Refused 11 where there is no room for it.
-    pub fn new(alloc: Global, shape: &Shape, reason: Reason) -> Result<Self, Refusal> {
-        let first = shape.hart(0).unwrap();
-        Ok(Board {
-            machine: PlainMachine::new(alloc, shape, first)?,
-            status: Status::Off,
-            reason,
-            image: None,
-            down: false,
-        })
     }
 
     /// Whether it is on.
-    pub fn status(&self) -> Status {
-        self.status
+    pub fn status(&self) -> Status
+        ensures { result ≡ status_of self.now.board }
+    {
+        match self.power {
+            Power::On => Status::On,
+            Power::Off(_) => Status::Off,
+            Power::Ended => Status::Ended,
+        }
     }
 
-    /// The reset reason that stands.
-    pub fn reason(&self) -> Reason {
-        self.reason
+    /// Its memory, harts and tables, of which a board that is off keeps the memory of its image alone.
+    pub fn machine(&self) -> &PlainMachine
+        ensures size { result.now.size ≡ self.now.size }
+        ensures on { (l : Life) → self.now.board ≡ On l → result.now ≡ l.machine }
+    {
+        &self.machine
     }
 
-    /// The machine of a board that is on.
-    pub fn machine(&mut self) -> &mut PlainMachine {
-        &mut self.machine
+    /// Puts a hart of that number in the place of the board's, where it is on.
+    pub fn set_hart(&mut self, hart: Hart)
+        requires { hart.id < self.old.size.harts }
+        ensures { self.new ≡ record self.old { board = changed (λ m. with_hart hart.id m hart) self.old.board } }
+    {
+        match self.power {
+            Power::On => self.machine.set_hart(hart),
+            Power::Off(_) => {}
+            Power::Ended => {}
+        }
     }
 }

@@ -3,18 +3,16 @@
 #![tactic(auto)]
 
 mod board;
-mod footprints;
+mod holds;
 mod laws;
 mod plain;
+mod powers;
 mod tables;
 mod whole;
 
-pub use board::{Board, Status};
-pub use footprints::{Footprint, footprint_of};
+pub use board::Board;
 pub use laws::{one_event, one_hart_moves};
 pub use plain::PlainMachine;
+pub use powers::Status;
 pub use tables::PlainTables;
 pub use whole::turn;
-
-#[cfg(test)]
-mod tests;

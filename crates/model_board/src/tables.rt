@@ -1,11 +1,11 @@
 //! The tables that harts share, as plain data that one thread sets and takes back.
 
-ghost use Rattle.std.specs.Prelude.{◌≡◌, ◌↔◌, ◌<◌, ◌≤◌, ℕ, IsTrue, IfOk, OnErr, length, Err, if◌then◌else◌};
+ghost use Rattle.std.specs.Prelude.{◌≡◌, ◌≢◌, ◌<◌, ◌≤◌, ℕ, true, false, IfOk, OnErr, length, Err, if◌then◌else◌};
 ghost use Rattle.board_model.specs.declared.refusal.Refusal.TheVariants.{Memory};
 ghost use Rattle.hsm.specs.Copies.{state_told};
 ghost use Rattle.hsm.specs.Calls.{named};
 ghost use Rattle.hsm.specs.Views.{listed};
-ghost use Rattle.hsm.specs.States.{is_stopped, grant};
+ghost use Rattle.hsm.specs.States.{stopped, is_stopped, grant};
 ghost use Rattle.machine.specs.Machine.{only_first, none_pending};
 ghost use Rattle.model_board.specs.Plain.{raised};
 ghost use Rattle.sbi_calls.specs.Answers.{row, with_state, pairs_sent};
@@ -40,16 +40,15 @@ impl Model for PlainTables {
 }
 
 impl PlainTables {
-    /// Only the hart `first` is STARTED, and nothing is pending. Refused 11 where there is no room for it.
-    pub fn new(alloc: Global, shape: &Shape, first: HartId) -> Result<Self, Refusal>
-        requires { first < shape.now.harts }
-        ensures states { IfOk result (λ t. t.states ≡ only_first shape.now.harts first) }
+    /// Only hart 0 is STARTED, and nothing is pending. Refused 11 where there is no room for it.
+    pub fn new(alloc: Global, shape: &Shape) -> Result<Self, Refusal>
+        ensures states { IfOk result (λ t. t.states ≡ only_first shape.now.harts 0) }
         ensures pairs { IfOk result (λ t. t.pairs ≡ none_pending shape.now.harts) }
         ensures refused { OnErr result (result ≡ Err Memory) }
     {
         let harts = shape.harts() as usize;
         let mut states = vec![in alloc; Standing::Stopped; harts]?;
-        states[first.index()] = Standing::Started;
+        states[0] = Standing::Started;
         Ok(PlainTables {
             states,
             pending: vec![in alloc; 0; harts]?,
@@ -59,11 +58,11 @@ impl PlainTables {
     /// Only the hart `first` is STARTED again, and nothing is pending.
     pub fn reset(&mut self, first: HartId)
         requires { first < length self.old.states }
+        ensures states { self.new.states ≡ only_first (length self.old.states) first }
+        ensures pairs { self.new.pairs ≡ none_pending (length self.old.states) }
     {
-        for place in 0..self.states.len() {
-            self.states[place] = Standing::Stopped;
-            self.pending[place] = 0;
-        }
+        self.states.fill(Standing::Stopped);
+        self.pending.fill(0);
         self.states[first.index()] = Standing::Started;
     }
 
@@ -112,13 +111,23 @@ impl PlainTables {
         }
     }
 
+    /// Whether the hart of that place is another one than `by`, and not STOPPED.
+    fn is_beside(&self, place: usize, by: HartId) -> bool
+        requires { place < length self.now.states }
+        ensures beside { result ≡ true → (place ≢ by) × (listed self.now.states place ≢ stopped) }
+        ensures none { result ≡ false → place ≢ by → listed self.now.states place ≡ stopped }
+    {
+        let state = self.states[place];
+        place != by.index() && !is_stopped(state)
+    }
+
     /// Whether every other hart is STOPPED.
     pub fn is_alone(&self, by: HartId) -> bool
-        ensures { IsTrue result ↔ AreStopped (length self.now.states) by (listed self.now.states) }
+        ensures alone { result ≡ true → AreStopped (length self.now.states) by (listed self.now.states) }
+        ensures beside { result ≡ false → AreStopped (length self.now.states) by (listed self.now.states) → ⊥ }
     {
-        for other in 0..self.states.len() {
-            let hart = HartId::new(other as u64).unwrap();
-            if other != by.index() && !is_stopped(self.state(hart)) {
+        for place in 0..self.states.len() {
+            if self.is_beside(place, by) {
                 return false;
             }
         }

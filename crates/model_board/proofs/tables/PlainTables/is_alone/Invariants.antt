@@ -3,5 +3,5 @@ use Rattle.hsm.specs.Views.{listed}
 use Rattle.hsm.specs.States.{stopped}
 use Rattle.model_board.proofs.tables.PlainTables.is_alone.Given as goal
 
-abbrev pub invariant-loop-other : goal.invariant-loop-other
-invariant-loop-other l = (t : ℕ) → t < l.other → t ≢ l.by → listed l.self.states t ≡ stopped
+abbrev pub invariant-loop-place : goal.invariant-loop-place
+invariant-loop-place l = (t : ℕ) → t < l.place → t ≢ l.by → listed l.self.states t ≡ stopped
