@@ -6,3 +6,7 @@ pub mod Turned
 pub mod Locals
 pub mod Swaps
 pub mod Once
+pub mod Plains
+pub mod Kept
+pub mod Stopping
+pub mod Begins

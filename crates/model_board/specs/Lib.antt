@@ -3,3 +3,4 @@ pub mod Held
 pub mod Events
 pub mod Touches
 pub mod Maps
+pub mod Plain

@@ -2,6 +2,17 @@
 //! fails. Which of two turns may change places is said by what they touch.
 #![tactic(auto)]
 
+mod board;
+mod holds;
 mod laws;
+mod plain;
+mod powers;
+mod tables;
+mod whole;
 
+pub use board::Board;
 pub use laws::{one_event, one_hart_moves};
+pub use plain::PlainMachine;
+pub use powers::Status;
+pub use tables::PlainTables;
+pub use whole::turn;

@@ -1,0 +1,256 @@
+//! The machine of a model board: its memory, harts and tables, which can be set and taken back.
+
+ghost use Rattle.std.specs.Prelude.{◌≡◌, ◌<◌, ◌≤◌, ℕ, List, Bool, true, false, None, IfOk, OnErr, length, Err, Some, get_or};
+ghost use Rattle.board_model.specs.Shapes.{ram_bytes_of};
+ghost use Rattle.board_model.specs.declared.refusal.Refusal.TheVariants.{Memory};
+ghost use Rattle.hart.specs.State.{ArchState, never_started, answered, started as fresh};
+ghost use Rattle.machine.specs.Machine.{hart_at, stopped_harts, resting, machine_begun};
+ghost use Rattle.machine.specs.Turns.{MakesTurn, DozeTurn, DoneBy};
+ghost use Rattle.sbi_abi.specs.Answers.{error_of};
+ghost use Rattle.susp.specs.Dozes.{doze_of, dozing, can_wake};
+ghost use Rattle.turns.specs.Turns.{TurnOf, has_pending, after_take};
+ghost use Rattle.model_board.specs.Events.{woken_up};
+ghost use Rattle.model_board.specs.Held.{IsAlone, with_hart};
+ghost use Rattle.model_board.specs.Plain.{begun_again, with_payload};
+
+use crate::tables::PlainTables;
+use crate::whole;
+use board_model::{HartId, RAM_BASE, Reason, Refusal, Shape};
+use hart::Hart;
+use ram::Ram;
+use sbi_abi::{SbiError, put};
+use sbi_calls::{Did, Turned};
+use std::alloc::Global;
+use std::marker::Model;
+use store::Resumption;
+use susp::{Bus, Doze, doze_of};
+
+/// A board's memory, its doze, and its harts with their tables.
+#[derive(Drop)]
+pub struct PlainMachine {
+    shape: Shape,
+    bus: Bus,
+    harts: Vec<Hart>,
+    tables: PlainTables,
+}
+
+impl Model for PlainMachine {
+    ghost use Rattle.machine.specs.Machine.{Machine};
+    ghost use Rattle.model_board.specs.Plain.{IsPlain};
+
+    ghost Value = { Machine };
+
+    ghost view = { λ m. record { size = m.shape; memory = m.bus.ram; doze = m.bus.doze; harts = m.harts.items; table = m.tables } };
+
+    ghost invariant = { λ m. IsPlain m.shape m.bus.ram m.harts.items m.tables };
+}
+
+/// The harts of a board, none of which ever ran.
+fn stopped_harts(alloc: Global, shape: &Shape) -> Result<Vec<Hart>, Refusal>
+    ensures harts { IfOk result (λ harts. harts.items ≡ stopped_harts shape.now.harts) }
+    ensures refused { OnErr result (result ≡ Err Memory) }
+{
+    let mut harts = Vec::new(alloc);
+    for number in 0..u64::from(shape.harts()) {
+        if let Some(id) = shape.hart(number) {
+            harts.push(Hart::stopped(id))?;
+        }
+    }
+    Ok(harts)
+}
+
+/// Makes each of the harts, at most eight, one that never ran.
+fn stop_all(harts: &mut Vec<Hart>)
+    requires { length harts.old.items ≤ 8 }
+    ensures { harts.new.items ≡ stopped_harts (length harts.old.items) }
+{
+    for place in 0..harts.len() {
+        let id = HartId::new(place as u64).unwrap();
+        harts[place] = Hart::stopped(id);
+    }
+}
+
+impl PlainMachine {
+    /// A turn of the hart of a doze.
+    fn doze_turn(&mut self, hart: HartId, doze: Doze) -> Turned
+        requires { hart < self.old.size.harts }
+        ensures turn { DozeTurn doze.woken doze hart self.old self.new result }
+        ensures size { self.new.size ≡ self.old.size }
+    {
+        let address = doze.at.address;
+        let opaque = doze.at.opaque;
+        if !doze.woken {
+            return Turned::Made(Did::Idle);
+        }
+        let place = hart.index();
+        self.harts[place] = Hart::fresh(hart, address.value(), opaque);
+        self.tables.take(hart);
+        self.bus.doze = None;
+        Turned::Made(Did::Resumed)
+    }
+
+    /// A turn of a hart in whose doze the board is not.
+    fn own_turn(&mut self, hart: HartId) -> Turned
+        requires { hart < self.old.size.harts }
+        ensures turn { DoneBy (λ a b. TurnOf self.old.size a b result) hart self.old self.new }
+        ensures size { self.new.size ≡ self.old.size }
+    {
+        hart::one_number();
+        whole::turn(
+            &mut self.harts[hart.index()],
+            &mut self.tables,
+            &mut self.bus.ram,
+            &self.shape,
+        )
+    }
+
+    /// The doze of the board, where it is that hart's.
+    fn dozes(&self, hart: HartId) -> Option<Doze>
+        ensures { result ≡ doze_of hart self.now.doze }
+    {
+        doze_of(&self.bus.doze, hart)
+    }
+
+    /// A turn of a hart. A durable call is left as it is (`Turned::Durable`).
+    pub fn turn(&mut self, hart: HartId) -> Turned
+        requires { hart < self.old.size.harts }
+        ensures turn { MakesTurn hart self.old self.new result }
+        ensures size { self.new.size ≡ self.old.size }
+    {
+        match self.dozes(hart) {
+            Some(doze) => self.doze_turn(hart, doze),
+            None => self.own_turn(hart),
+        }
+    }
+
+    /// A hart, as it stands.
+    pub fn hart(&self, hart: HartId) -> &Hart
+        requires { hart < self.now.size.harts }
+        ensures { result.now ≡ hart_at self.now hart }
+    {
+        &self.harts[hart.index()]
+    }
+
+    /// Puts a hart of that number in the place of the board's.
+    pub fn set_hart(&mut self, hart: Hart)
+        requires { hart.id < self.old.size.harts }
+        ensures { self.new ≡ with_hart hart.id self.old hart }
+    {
+        let place = hart.id().index();
+        self.harts[place] = hart;
+    }
+
+    /// Whether an interrupt is pending for a hart.
+    pub fn is_pending(&self, hart: HartId) -> bool
+        requires { hart < self.now.size.harts }
+        ensures { result ≡ has_pending hart self.now.table.pairs }
+    {
+        self.tables.is_pending(hart)
+    }
+
+    /// A machine of that shape before a boot, whose hart 0 is to begin: RAM is zeros, every other hart is STOPPED, and
+    /// nothing is pending. Refused 11 where there is no room for it.
+    pub fn new(alloc: Global, shape: &Shape) -> Result<Self, Refusal>
+        ensures resting { IfOk result (λ m. m ≡ resting shape.now 0) }
+        ensures refused { OnErr result (result ≡ Err Memory) }
+    {
+        let ram = Ram::new(alloc, *shape)?;
+        let harts = stopped_harts(alloc, shape)?;
+        let tables = PlainTables::new(alloc, shape)?;
+        board_model::shape_in_range(shape);
+        Ok(PlainMachine {
+            shape: *shape,
+            bus: Bus { ram, doze: None },
+            harts,
+            tables,
+        })
+    }
+
+    /// Every hart as one that never ran, of which `first` begins at the address: no interrupt is pending, the board does
+    /// not doze, and the memory stays.
+    pub fn begin_again(&mut self, first: HartId, pc: u64, a1: u64)
+        requires { first < self.old.size.harts }
+        ensures { self.new ≡ begun_again first pc a1 self.old }
+    {
+        stop_all(&mut self.harts);
+        self.harts[first.index()] = Hart::fresh(first, pc, a1);
+        self.tables.reset(first);
+        self.bus.doze = None;
+    }
+
+    /// Boots a payload: RAM holds it and zeros after it, and hart 0 begins.
+    pub fn boot(&mut self, payload: &[u8], reason: Reason)
+        requires { length payload.now ≤ ram_bytes_of self.old.size }
+        ensures { self.new ≡ machine_begun payload.now reason self.old.size }
+    {
+        self.put_payload(payload);
+        let first = HartId::new(0).unwrap();
+        self.begin_again(first, RAM_BASE, u64::from(reason.number()));
+    }
+
+    /// RAM holds the payload, and zeros after it.
+    fn put_payload(&mut self, payload: &[u8])
+        requires { length payload.now ≤ ram_bytes_of self.old.size }
+        ensures payload { self.new ≡ with_payload payload.now self.old }
+        ensures some { 0 < self.old.size.harts }
+    {
+        self.bus.ram.boot(payload);
+    }
+
+    /// The shape of the board.
+    pub fn shape(&self) -> &Shape
+        ensures { result.now ≡ self.now.size }
+    {
+        &self.shape
+    }
+
+    /// The memory.
+    pub fn ram(&self) -> &Ram
+        ensures { result.now ≡ self.now.memory }
+    {
+        &self.bus.ram
+    }
+
+    /// The hart finds an error, and goes on.
+    pub fn refuse(&mut self, hart: HartId, error: SbiError)
+        requires { hart < self.old.size.harts }
+        ensures { self.new ≡ with_hart hart self.old (answered (hart_at self.old hart) (error_of (Err error)) 0) }
+    {
+        put(&mut self.harts[hart.index()], Err(error));
+    }
+
+    /// Whether every other hart is STOPPED.
+    pub fn is_alone(&self, hart: HartId) -> bool
+        ensures alone { result ≡ true → IsAlone hart self.now }
+        ensures beside { result ≡ false → IsAlone hart self.now → ⊥ }
+    {
+        self.tables.is_alone(hart)
+    }
+
+    /// The board sleeps in its RAM, until the wake-up device calls.
+    pub fn fall_into_doze(&mut self, at: Resumption)
+        ensures { self.new ≡ record self.old { doze = Some (dozing at.hart at.address at.opaque) } }
+    {
+        self.bus.doze = Some(Doze { at, woken: false });
+    }
+
+    /// Calls the wake-up device. Whether the board dozed and was not woken before; if not, nothing changes.
+    pub fn wake(&mut self) -> bool
+        ensures wakes { result ≡ true → (can_wake self.old.doze ≡ true) × (self.new ≡ woken_up self.old) }
+        ensures stays { result ≡ false → (can_wake self.old.doze ≡ false) × (self.new ≡ self.old) }
+    {
+        match self.bus.doze {
+            Some(doze) => {
+                if doze.woken {
+                    return false;
+                }
+                self.bus.doze = Some(Doze {
+                    at: doze.at,
+                    woken: true,
+                });
+                true
+            }
+            None => false,
+        }
+    }
+}
