@@ -30,15 +30,6 @@ states_put states pending h x =
     let f : length (slice_set states h x) ≡ length states = length-set states h x in
     ap (λ (n : ℕ). record { states = map state_told (slice_set states h x); pairs = map (row_in n) pending }) f ∙ ap (λ (s : List HartState). record { states = s; pairs = map (row_in (length states)) pending }) e
 
-pub tables_put : (states : List Standing) (pending : List ℕ) (h : ℕ) (x : Standing) → AreTables states pending → AreTables (slice_set states h x) pending
-tables_put states pending h x a =
-    let f : length (slice_set states h x) ≡ length states = length-set states h x in
-    record {
-      few = subst (λ (n : ℕ). n ≤ 8) (sym f) a.few;
-      long = a.long ∙ sym f;
-      within = λ k. subst (λ (n : ℕ). slice_index pending k < 2 ^ n) (sym f) (a.within k);
-    }
-
 -- ---- what is pending
 row_none : (f : ℕ → Bool) (first n : ℕ) → ((k : ℕ) → f k ≡ false) → has_true (map f (numbers_from first n)) ≡ false
 row_none f first zero none = refl
@@ -108,19 +99,6 @@ pending_taken states pending h low =
 
 one_some : (n : ℕ) → 0 < 2 ^ n
 one_some n = pow_pos n
-
-pub tables_taken : (states : List Standing) (pending : List ℕ) (h : ℕ) → AreTables states pending → AreTables states (slice_set pending h 0)
-tables_taken states pending h a = record {
-  few = a.few;
-  long = length-set pending h 0 ∙ a.long;
-  within = λ k. elim (cases_eq k h) [
-    | inl e ↦ elim (cases_lt h (length pending)) [
-      | inl low ↦ subst (λ (i : ℕ). slice_index (slice_set pending h 0) i < 2 ^ length states) (sym e) (subst (λ (v : ℕ). v < 2 ^ length states) (sym (get_or-set_same pending h 0 0 low)) (one_some (length states)))
-      | inr high ↦ subst (λ (v : ℕ). v < 2 ^ length states) (sym (get_or_past (slice_set pending h 0) k 0 (let f = length-set pending h 0 in omega (arith, f, e, high)))) (one_some (length states))
-    ]
-    | inr other ↦ subst (λ (v : ℕ). v < 2 ^ length states) (sym (get_or-set_other pending h k 0 0 other)) (a.within k)
-  ];
-}
 
 -- ---- it is sent
 row_raised : (n by v : ℕ) → by < n → n ≤ 8 → row_in n (raised by v) ≡ slice_set (row_in n v) by true
@@ -225,9 +203,6 @@ pub record Sent (old now : List ℕ) (by targets i : ℕ) : Type 0 where
   pub done : (k : ℕ) → k < i → slice_index now k ≡ sent_to by targets k (slice_index old k)
   pub rest : (k : ℕ) → i ≤ k → slice_index now k ≡ slice_index old k
 
-pub none_sent : (old : List ℕ) (by targets : ℕ) → Sent old old by targets 0
-none_sent old by targets = record { long = refl; done = λ k low. absurd (omega arith); rest = λ k high. refl }
-
 named_is : (b : Bool) (v : ℕ) → (IsTrue b → v ≡ 1) → (v ≡ 1 → IsTrue b) → b ≡ (v == 1)
 named_is true v f g = sym (eq-eqb v 1 (f refl))
 named_is false v f g = sym (ne_eqb v 1 (λ e. let t : false ≡ true = g e in cc))
@@ -264,11 +239,6 @@ stopped_is stopped e = refl
 stopped_is (start_pending a o) e = absurd (cc)
 stopped_is started e = absurd (cc)
 stopped_is suspended e = absurd (cc)
-
-pub not_stopped : (x : HartState) → not (is_stopped x) ≡ true → x ≡ stopped → ⊥
-not_stopped x e is =
-    let f : not (is_stopped stopped) ≡ true = subst (λ (y : HartState). not (is_stopped y) ≡ true) is e in
-    cc
 
 pub not_not : (b : Bool) → not b ≡ false → b ≡ true
 not_not true e = refl
