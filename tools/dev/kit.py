@@ -66,6 +66,7 @@ def take_kept():
     if not hasattr(main, "Kept"):
         return
     main.Crate.cuts_libraries, main.Crate.allowed = True, main.handles_of(top)
+    # (a library for C has no such folder, and none stands on it)
     found = [it for it in main.crates_of(top) if not it.is_program and not it.is_static]
     kept = main.Kept(found)
     for crate in found:

@@ -5,7 +5,7 @@ use Rattle.planned_store.specs.Plans.{asked, Puts, Goes}
 use Rattle.planned_store.specs.declared.plans.Plan.{Plan}
 use Rattle.planned_store.specs.declared.plans.Request.{Request}
 use Rattle.planned_store.specs.declared.plans.Request.TheVariants.{Read, Write, Sync, Done}
-use Rattle.sbistore.specs.Ends.{Ended}
+use Rattle.sbistore.specs.Ends.{Ended, KeepsOn}
 use Rattle.sbistore.specs.Packed.{IsPacked}
 use Rattle.sbistore.specs.declared.state.Sbistore.{Sbistore}
 
@@ -28,4 +28,5 @@ pub record NextOf (plan : Plan) (old : Sbistore) (failed : ℕ) (put : List ℕ)
   pub told : 0 < old.asked → (answer : Answer) × IsAnswer failed answer × Goes plan answer put next
   pub bytes : Puts next got
   pub asks : AsksFor (asked next) next kind new
-  pub ends : asked next ≡ Done → Ended next new
+  pub ends : asked next ≡ Done → Ended next old new
+  pub keeps : (asked next ≡ Done → ⊥) → KeepsOn next old new

@@ -2,13 +2,15 @@
 //! asked for, and tells how each ended. Here is what turns that state into the values of the crate `planned_store`, and back.
 #![tactic(auto)]
 
-ghost use Rattle.std.specs.Prelude.{◌≡◌, ◌<◌};
+ghost use Rattle.std.specs.Prelude.{◌≡◌, ◌<◌, Bool, Some};
 ghost use Rattle.board_model.specs.Shapes.{IsSize, board_size};
+ghost use Rattle.board_model.specs.declared.durable.Command.{Command};
 ghost use Rattle.planned_store.specs.Commits.{Answer};
 ghost use Rattle.planned_store.specs.Opens.{opened_by};
 ghost use Rattle.planned_store.specs.Plans.{asked, Puts, Goes, BeginsOpen, BeginsFormat};
 ghost use Rattle.planned_store.specs.declared.plans.Plan.{Plan};
-ghost use Rattle.sbistore.specs.Ends.{EndsOpen, answer_code, Ended, Begun};
+ghost use Rattle.planned_store.specs.declared.stores.OpenStore.{OpenStore};
+ghost use Rattle.sbistore.specs.Ends.{flag_number, Keeps, EndsOpen, EndsCommand, answer_code, Ended, Begun, KeepsOn, IsCommand, CommandBegun};
 ghost use Rattle.sbistore.specs.Next.{IsAnswer, AsksFor, NextOf};
 ghost use Rattle.sbistore.specs.Packed.{IsPacked, IsSound, packed_by};
 
@@ -24,7 +26,7 @@ use state::{DONE, Durable, NO_COMMAND, NOT_OPEN, READ, SPOILT, SYNC, Sbistore, W
 /// Begins an open of a device of so many sectors. What was open in this state is no more.
 #[unsafe(no_mangle)]
 pub extern "C" fn sbistore_open(store: &mut Sbistore, sectors: usize)
-    ensures { (plan : Plan) × BeginsOpen sectors plan × Begun plan store.new }
+    ensures { (plan : Plan) × BeginsOpen sectors plan × Begun plan store.old store.new }
 {
     store.opened = 0;
     begin(store, &Plan::open(sectors));
@@ -40,7 +42,7 @@ pub extern "C" fn sbistore_format(
     lanes: u64,
 )
     ensures { IsSize (board_size harts pages lanes)
-        → (plan : Plan) × BeginsFormat sectors (board_size harts pages lanes) plan × Begun plan store.new }
+        → (plan : Plan) × BeginsFormat sectors (board_size harts pages lanes) plan × Begun plan store.old store.new }
 {
     store.opened = 0;
     match Shape::new(harts, pages, lanes) {
@@ -51,14 +53,17 @@ pub extern "C" fn sbistore_format(
 
 /// Begins a command: its kind, and what it carries.
 #[unsafe(no_mangle)]
-pub extern "C" fn sbistore_command(store: &mut Sbistore, kind: u32, one: u32, other: u32) {
+pub extern "C" fn sbistore_command(store: &mut Sbistore, kind: u32, one: u32, other: u32)
+    ensures { (life : OpenStore) → (command : Command) → Keeps life store.old → IsCommand kind one other command
+        → CommandBegun life command store.old store.new }
+{
     let Some(command) = command_of(kind, one, other) else {
         return end(store, NO_COMMAND);
     };
     let Some(open) = store_of(store) else {
         return end(store, NOT_OPEN);
     };
-    store.ends = Entry::Command(command).ends_life() as u32;
+    store.ends = flag(Entry::Command(command).ends_life());
     match open.plan(command) {
         Ok(plan) => begin(store, &plan),
         Err(refusal) => end(store, refusal.code()),
@@ -99,7 +104,8 @@ fn gone_on(asked: u32, plan: Plan, failed: u32, sector: &Sector) -> Plan
 fn ask(store: &mut Sbistore, plan: &Plan, sector: &mut Sector) -> u32
     ensures asks { IsSound plan.now → AsksFor (asked plan.now) plan.now result store.new }
     ensures bytes { Puts plan.now sector.new }
-    ensures ends { IsSound plan.now → asked plan.now ≡ Request.Done → Ended plan.now store.new }
+    ensures ends { IsSound plan.now → asked plan.now ≡ Request.Done → Ended plan.now store.old store.new }
+    ensures keeps { (asked plan.now ≡ Request.Done → ⊥) → KeepsOn plan.now store.old store.new }
 {
     match plan.asks(sector) {
         Request::Read(number) => keep_asked(store, plan, READ, number),
@@ -144,7 +150,9 @@ pub extern "C" fn sbistore_look(store: &Sbistore, durable: &mut Durable) -> u32 
 }
 
 /// The command of that kind.
-fn command_of(kind: u32, one: u32, other: u32) -> Option<Command> {
+fn command_of(kind: u32, one: u32, other: u32) -> Option<Command>
+    ensures { (command : Command) → IsCommand kind one other command → result ≡ Some command }
+{
     match kind {
         1 => Some(Command::Slot(one)),
         2 => Some(Command::Reset(if one == 0 {
@@ -169,7 +177,7 @@ fn answer(failed: u32) -> Result<(), Fault>
 
 /// The plan is under way, and its first call is still to be asked for.
 fn begin(store: &mut Sbistore, plan: &Plan)
-    ensures { IsSound plan.now → Begun plan.now store.new }
+    ensures { IsSound plan.now → Begun plan.now store.old store.new }
 {
     let mut scratch = [0; 512];
     if plan.asks(&mut scratch) == Request::Done {
@@ -189,7 +197,7 @@ fn end(store: &mut Sbistore, code: u32)
 
 /// What a plan that has ended makes of the open store, and its code.
 fn finish(store: &mut Sbistore, plan: &Plan)
-    ensures { IsSound plan.now → Ended plan.now store.new }
+    ensures { IsSound plan.now → Ended plan.now store.old store.new }
 {
     match plan {
         Plan::Committing(_) => finish_command(store, plan),
@@ -210,16 +218,31 @@ fn finish_open(store: &mut Sbistore, plan: &Plan)
     }
 }
 
-fn finish_command(store: &mut Sbistore, plan: &Plan) {
+fn finish_command(store: &mut Sbistore, plan: &Plan)
+    ensures { IsSound plan.now → (life : OpenStore) → (over : Bool) → Keeps life store.old → store.old.ends ≡ flag_number over
+        → EndsCommand life over plan.now store.new }
+{
     let Some(mut open) = store_of(store) else {
         return end(store, SPOILT);
     };
-    let receipt = open.ended(store.ends != 0, plan);
+    let receipt = open.ended(is_set(store.ends), plan);
     keep(store, &open);
     match receipt {
         Ok(_) => end(store, 0),
         Err(refusal) => end(store, refusal.code()),
     }
+}
+
+fn flag(set: bool) -> u32
+    ensures { result ≡ flag_number set }
+{
+    set as u32
+}
+
+fn is_set(number: u32) -> bool
+    ensures { (set : Bool) → number ≡ flag_number set → result ≡ set }
+{
+    number != 0
 }
 
 fn code_of(answer: Result<(), Refusal>) -> u32

@@ -9,6 +9,7 @@ ghost use Rattle.planned_store.specs.declared.commits.Selected.{Selected};
 ghost use Rattle.planned_store.specs.declared.formats.Formatting.{Formatting};
 ghost use Rattle.planned_store.specs.declared.formats.FormatStep.{FormatStep};
 ghost use Rattle.planned_store.specs.declared.plans.Plan.{Plan};
+ghost use Rattle.planned_store.specs.declared.stores.OpenStore.{OpenStore};
 ghost use Rattle.sbistore.specs.Ends.{Keeps};
 ghost use Rattle.sbistore.specs.Packed.{IsSelectedSound, step_number, format_number, HasShape, HasSelected, HasCommit, IsPacked, with_shape, with_selected, with_commit, packed_by};
 
@@ -244,7 +245,9 @@ fn shape_of(store: &Sbistore) -> Option<Shape>
 }
 
 /// The open store; none where no open stands.
-pub fn store_of(store: &Sbistore) -> Option<OpenStore> {
+pub fn store_of(store: &Sbistore) -> Option<OpenStore>
+    ensures { (life : OpenStore) → Keeps life store.now → result ≡ Some life }
+{
     if store.opened == 0 {
         return None;
     }

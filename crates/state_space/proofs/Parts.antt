@@ -21,9 +21,6 @@ part_last xs ys a b from to =
 pub row_within : (k count width : ℕ) → k < count → k * width + width ≤ count * width
 row_within k count width lt = omega (arith, mul-le (suc k) width count width (omega arith) (omega arith), suc-mul k width)
 
-pub row_grown : (count width : ℕ) → (count + 1) * width ≡ count * width + width
-row_grown count width = omega arith
-
 -- where a part begins stays where another end is added
 pub begin_stays : (ends more : List ℕ) (k : ℕ) → k ≤ length ends → begin_of (ends ++ more) k ≡ begin_of ends k
 begin_stays ends more zero le = refl

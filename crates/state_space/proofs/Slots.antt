@@ -20,9 +20,6 @@ pub slot_next : (mask hash n : ℕ) → slot_at mask hash (n + 1) ≡ bit_and (s
 unfolding slot_at
 slot_next mask hash n = rw add-one refl
 
-pub slot_inside : (slots : List ℕ) (hash n : ℕ) → 0 < length slots → slot_at (length slots - 1) hash n < length slots
-slot_inside slots hash n some = omega (arith, slot_within (length slots - 1) hash n)
-
 -- one more slot that is taken
 pub taken_more : (slots : List ℕ) (hash n place : ℕ) → place ≡ slot_at (length slots - 1) hash n → (get_or slots place 0 ≡ EMPTY → ⊥) → AreTaken slots hash n → AreTaken slots hash (n + 1)
 taken_more slots hash n place is taken before j lt empty =

@@ -1,20 +1,12 @@
 -- The steps of the tests' toy.
-use Rattle.std.proofs.Common.{◌≡◌, ⊎_elim, ℕ, ◌+◌, ◌<◌, ◌≤◌, List, [], ◌∷◌, refl, sym, ap, ◌∙◌, inl, inr, arith}
+use Rattle.std.proofs.Common.{◌≡◌, ⊎_elim, ℕ, ◌+◌, ◌<◌, List, [], ◌∷◌, refl, sym, ap, ◌∙◌, inl, inr, arith}
 use Rattle.std.proofs.lemmas.Bool.{cases_lt}
 use Rattle.state_space.specs.declared.found.Successors.{Successors}
 use Rattle.state_space.specs.Successors.{found_count, found_event, found_row}
 use Rattle.state_space.specs.Systems.{IsExpanded}
 use Rattle.state_space.specs.Stairs.{climbing}
 
--- at the top there are none
-pub expanded_top : (b count : ℕ) (event : ℕ → ℕ) (row : ℕ → List ℕ) → 5 ≤ b → count ≡ 0 → IsExpanded climbing (λ r c. r ≡ c ∷ []) count event row b
-expanded_top b count event row top none = record {
-  keeps = tt;
-  complete = λ e mid did. absurd (omega (arith, did.0));
-  sound = λ i lt. absurd (omega arith);
-}
-
--- below it two
+-- below the top there are two
 pub expanded_below : (b count : ℕ) (event : ℕ → ℕ) (row : ℕ → List ℕ) → b < 5 → count ≡ 2 → event 0 ≡ 0 → event 1 ≡ 1 → row 0 ≡ (b + 1) ∷ [] → row 1 ≡ 0 ∷ [] → IsExpanded climbing (λ r c. r ≡ c ∷ []) count event row b
 expanded_below b count event row below two up down higher ground = record {
   keeps = tt;

@@ -24,8 +24,6 @@ enum Ask {
     Cut(Fill),
 }
 
-use Ask::{Arm, Cut, Load, Open, Resume, Slot, Suspend};
-
 /// What is asked, and what is seen of it.
 type Row = (Ask, Told);
 
@@ -105,22 +103,22 @@ fn site(rt: &impl Abort) -> Resumption {
 /// What is asked in that row.
 fn asked(rt: &impl Abort, alloc: Global, ask: Ask) -> Asked {
     match ask {
-        Open => Asked::Open,
-        Slot(number) => Asked::Command(Command::Slot(number)),
+        Ask::Open => Asked::Open,
+        Ask::Slot(number) => Asked::Command(Command::Slot(number)),
         Ask::Command(command) => Asked::Command(command),
-        Suspend(first, last) => Asked::Suspend(memory(rt, alloc, first, last), site(rt)),
-        Load => Asked::Load,
-        Resume => Asked::Resume,
-        Arm(fault) => Asked::Arm(fault),
-        Cut(fill) => Asked::Cut(fill),
+        Ask::Suspend(first, last) => Asked::Suspend(memory(rt, alloc, first, last), site(rt)),
+        Ask::Load => Asked::Load,
+        Ask::Resume => Asked::Resume,
+        Ask::Arm(fault) => Asked::Arm(fault),
+        Ask::Cut(fill) => Asked::Cut(fill),
     }
 }
 
 /// All that is asked, in order.
 fn list(rt: &impl Abort, alloc: Global, rows: &[Row]) -> Vec<Asked> {
-    let mut list = Vec::with_capacity(alloc, rows.len()).expect(rt, "memory");
+    let mut list = Vec::new(alloc);
     for &(ask, _told) in rows {
-        list.push_reserved(asked(rt, alloc, ask));
+        list.push(asked(rt, alloc, ask)).expect(rt, "memory");
     }
     list
 }
@@ -145,83 +143,83 @@ fn is_seen<R: Abort + Threads + Sync>(rt: &R, alloc: Global, rows: &[Row]) {
 
 /// A board is suspended, power fails, and the next life resumes it once, and no later one.
 static ONCE: [Row; 15] = [
-    (Open, (OPENED, 0, 0)),
-    (Slot(2), (ACKED, 1, 0)),
-    (Suspend(11, 22), (ACKED, 2, 0)),
-    (Slot(1), (DENIED, 7, 0)),
-    (Cut(Fill::Old), DONE),
-    (Load, NOT_OPEN),
-    (Open, (WITH_IMAGE, 2, 1)),
-    (Load, (READ, 11, 22)),
-    (Resume, (WOKE, 0x8000_0010, 11)),
-    (Resume, (DENIED, 8, 0)),
-    (Slot(1), (ACKED, 2, 0)),
-    (Cut(Fill::Alternating), DONE),
-    (Open, (OPENED, 1, 1)),
-    (Load, (DENIED, 8, 0)),
-    (Resume, (DENIED, 8, 0)),
+    (Ask::Open, (OPENED, 0, 0)),
+    (Ask::Slot(2), (ACKED, 1, 0)),
+    (Ask::Suspend(11, 22), (ACKED, 2, 0)),
+    (Ask::Slot(1), (DENIED, 7, 0)),
+    (Ask::Cut(Fill::Old), DONE),
+    (Ask::Load, NOT_OPEN),
+    (Ask::Open, (WITH_IMAGE, 2, 1)),
+    (Ask::Load, (READ, 11, 22)),
+    (Ask::Resume, (WOKE, 0x8000_0010, 11)),
+    (Ask::Resume, (DENIED, 8, 0)),
+    (Ask::Slot(1), (ACKED, 2, 0)),
+    (Ask::Cut(Fill::Alternating), DONE),
+    (Ask::Open, (OPENED, 1, 1)),
+    (Ask::Load, (DENIED, 8, 0)),
+    (Ask::Resume, (DENIED, 8, 0)),
 ];
 
 /// Power fails in the write of the gate, which went through. The command in doubt is found, and then it stays; no later one
 /// went to the disk.
 static KEPT: [Row; 10] = [
-    (Open, (OPENED, 0, 0)),
-    (Arm(ArmedFault::CutAt(3)), DONE),
-    (Slot(3), (DENIED, 6, 0)),
-    (Slot(1), (DENIED, 6, 0)),
-    (Resume, (DENIED, 6, 0)),
-    (Open, (DENIED, 5, 0)),
-    (Cut(Fill::New), DONE),
-    (Open, (OPENED, 3, 0)),
-    (Cut(Fill::Old), DONE),
-    (Open, (OPENED, 3, 0)),
+    (Ask::Open, (OPENED, 0, 0)),
+    (Ask::Arm(ArmedFault::CutAt(3)), DONE),
+    (Ask::Slot(3), (DENIED, 6, 0)),
+    (Ask::Slot(1), (DENIED, 6, 0)),
+    (Ask::Resume, (DENIED, 6, 0)),
+    (Ask::Open, (DENIED, 5, 0)),
+    (Ask::Cut(Fill::New), DONE),
+    (Ask::Open, (OPENED, 3, 0)),
+    (Ask::Cut(Fill::Old), DONE),
+    (Ask::Open, (OPENED, 3, 0)),
 ];
 
 /// The same of a write that did not go through.
 static LOST: [Row; 10] = [
-    (Open, (OPENED, 0, 0)),
-    (Arm(ArmedFault::CutAt(3)), DONE),
-    (Slot(3), (DENIED, 6, 0)),
-    (Slot(1), (DENIED, 6, 0)),
-    (Resume, (DENIED, 6, 0)),
-    (Open, (DENIED, 5, 0)),
-    (Cut(Fill::Old), DONE),
-    (Open, (OPENED, 0, 0)),
-    (Cut(Fill::New), DONE),
-    (Open, (OPENED, 0, 0)),
+    (Ask::Open, (OPENED, 0, 0)),
+    (Ask::Arm(ArmedFault::CutAt(3)), DONE),
+    (Ask::Slot(3), (DENIED, 6, 0)),
+    (Ask::Slot(1), (DENIED, 6, 0)),
+    (Ask::Resume, (DENIED, 6, 0)),
+    (Ask::Open, (DENIED, 5, 0)),
+    (Ask::Cut(Fill::Old), DONE),
+    (Ask::Open, (OPENED, 0, 0)),
+    (Ask::Cut(Fill::New), DONE),
+    (Ask::Open, (OPENED, 0, 0)),
 ];
 
 /// A command that is refused is not found, and neither is one that failed before its gate.
 static REFUSED: [Row; 9] = [
-    (Open, (OPENED, 0, 0)),
-    (Slot(4), (DENIED, 9, 0)),
+    (Ask::Open, (OPENED, 0, 0)),
+    (Ask::Slot(4), (DENIED, 9, 0)),
     (Ask::Command(Command::Tries(1, 8)), (DENIED, 19, 0)),
     (Ask::Command(Command::Good), (DENIED, 20, 0)),
     (Ask::Command(Command::Consume), (DENIED, 8, 0)),
-    (Arm(ArmedFault::FailAt(2)), DONE),
-    (Slot(3), (DENIED, 5, 0)),
-    (Cut(Fill::New), DONE),
-    (Open, (OPENED, 0, 0)),
+    (Ask::Arm(ArmedFault::FailAt(2)), DONE),
+    (Ask::Slot(3), (DENIED, 5, 0)),
+    (Ask::Cut(Fill::New), DONE),
+    (Ask::Open, (OPENED, 0, 0)),
 ];
 
 /// A lane fails in the second suspension, and the power of a lane in the third: the image that stood stays whole.
 static LANES: [Row; 16] = [
-    (Open, (OPENED, 0, 0)),
-    (Suspend(11, 22), (ACKED, 1, 0)),
-    (Open, (WITH_IMAGE, 0, 1)),
-    (Arm(ArmedFault::FailLane(1, 2)), DONE),
-    (Suspend(33, 44), (DENIED, 5, 0)),
-    (Load, (READ, 11, 22)),
-    (Arm(ArmedFault::CutLane(0, 1)), DONE),
-    (Suspend(55, 66), (DENIED, 5, 0)),
-    (Load, (DENIED, 5, 0)),
-    (Cut(Fill::Byte(0xa5)), DONE),
-    (Open, (WITH_IMAGE, 0, 1)),
-    (Load, (READ, 11, 22)),
-    (Suspend(77, 88), (ACKED, 1, 0)),
-    (Cut(Fill::New), DONE),
-    (Open, (WITH_IMAGE, 0, 2)),
-    (Resume, (WOKE, 0x8000_0010, 77)),
+    (Ask::Open, (OPENED, 0, 0)),
+    (Ask::Suspend(11, 22), (ACKED, 1, 0)),
+    (Ask::Open, (WITH_IMAGE, 0, 1)),
+    (Ask::Arm(ArmedFault::FailLane(1, 2)), DONE),
+    (Ask::Suspend(33, 44), (DENIED, 5, 0)),
+    (Ask::Load, (READ, 11, 22)),
+    (Ask::Arm(ArmedFault::CutLane(0, 1)), DONE),
+    (Ask::Suspend(55, 66), (DENIED, 5, 0)),
+    (Ask::Load, (DENIED, 5, 0)),
+    (Ask::Cut(Fill::Byte(0xa5)), DONE),
+    (Ask::Open, (WITH_IMAGE, 0, 1)),
+    (Ask::Load, (READ, 11, 22)),
+    (Ask::Suspend(77, 88), (ACKED, 1, 0)),
+    (Ask::Cut(Fill::New), DONE),
+    (Ask::Open, (WITH_IMAGE, 0, 2)),
+    (Ask::Resume, (WOKE, 0x8000_0010, 77)),
 ];
 
 #[test]

@@ -21,4 +21,5 @@ returns c plan packed =
       bytes = c.ask.ensures.bytes;
       asks = c.ask.ensures.asks sound;
       ends = c.ask.ensures.ends sound;
+      keeps = c.ask.ensures.keeps;
     }
