@@ -1,5 +1,5 @@
 -- A command that ends leaves the open store that it makes of the one that was kept.
-use Rattle.std.proofs.Common.{◌≡◌, ◌∙◌, ◌-◌, ◌<◌, ℕ, Bool, Result, inl, refl, sym, ap, subst, arith}
+use Rattle.std.proofs.Common.{◌≡◌, ◌∙◌, ℕ, Bool, Result, inl, refl, sym, ap, subst, arith}
 use Rattle.board_model.specs.Durable.{ends_life}
 use Rattle.board_model.specs.Views.{change_of}
 use Rattle.board_model.specs.declared.durable.Command.{Command}
@@ -13,8 +13,8 @@ use Rattle.planned_store.specs.declared.plans.Plan.{Plan}
 use Rattle.planned_store.specs.declared.plans.Plan.TheVariants.{Settling, ReadingSuperblock, ReadingGate, ReadingRecord, Found, Renewing, Committing, Formatting, Refused}
 use Rattle.planned_store.specs.declared.plans.Request.TheVariants.{Done}
 use Rattle.planned_store.specs.declared.stores.OpenStore.{OpenStore}
-use Rattle.sbistore.specs.Ends.{flag_number, receipt_code, Keeps, KeepsOn, Ended, EndsCommand, Begun, CommandBegun}
-use Rattle.sbistore.specs.Packed.{HasSelected, IsPacked, IsSelectedSound, IsSound}
+use Rattle.sbistore.specs.Ends.{flag_number, receipt_code, Keeps, Ended, EndsCommand, Begun, CommandBegun}
+use Rattle.sbistore.specs.Packed.{IsPacked, IsSelectedSound, IsSound}
 use Rattle.sbistore.specs.declared.state.Sbistore.{Sbistore}
 
 pub ended_command : (plan : Plan) (k : Commit) (old new : Sbistore) → plan ≡ Committing k
