@@ -150,6 +150,11 @@ fn is_explained(work: Work, refusal: Refusal) -> bool {
     !(is_bench(work) && refusal == Refusal::NotPlain) || matches!(work, Work::Judge(_))
 }
 
+/// Whether all that is told of the refusal is specified: 17 of a sweep or of failures, which has no cause but on a terminal.
+fn is_specified(work: Work, refusal: Refusal) -> bool {
+    matches!(work, Work::Judge(_)) && refusal == Refusal::NotPlain
+}
+
 /// Tells how a work ended: a refusal, with its cause, and on a terminal what its number means; or that a bench made no run, or that none
 /// of its runs could show a difference. Another fault is told elsewhere.
 pub fn tell_work<F: Write + IsTerminal>(
@@ -164,8 +169,11 @@ pub fn tell_work<F: Write + IsTerminal>(
         Err(BenchFault::Refused(refusal)) => {
             let fault = BenchFault::Refused(*refusal);
             let _told = write!(faults, "{fault}");
-            tell_cause(alloc, work, *refusal, texts, faults);
-            if is_explained(work, *refusal) && faults.is_terminal() {
+            let on_terminal = faults.is_terminal();
+            if on_terminal || !is_specified(work, *refusal) {
+                tell_cause(alloc, work, *refusal, texts, faults);
+            }
+            if is_explained(work, *refusal) && on_terminal {
                 explain_fault(faults, "sbibench", &FileFault::refused(*refusal));
             }
         }
