@@ -86,9 +86,6 @@ module _ (k x : ℕ) where
   sets : (rd v : ℕ) (s t : ArchState) → Sets rd v s t → Sets rd v (W s) (W t) ⊎ Sets rd v (W s) t
   sets rd v s t e = map_sum (λ keeps. set_kept rd v s t keeps e) (λ hides. set_hidden rd v s t hides e) (written rd)
 
-  with_all : (s t : ArchState) (f : ArchState → ArchState) → t ≡ f s → W (f s) ≡ f (W s) → W t ≡ f (W s)
-  with_all s t f e same = ap (λ (u : ArchState). W u) e ∙ same
-
   upper : (op : UpperOp) (rd imm : ℕ) (s t : ArchState) → DoesUpper op rd imm s t → DoesUpper op rd imm (W s) (W t) ⊎ DoesUpper op rd imm (W s) t
   upper Lui rd imm s t e = sets rd _ s t e
   upper Auipc rd imm s t e = sets rd _ s t e
@@ -191,10 +188,7 @@ module _ (k x : ℕ) where
   system Sret s t o y = (ap (λ (u : ArchState). W u) y.0, y.1)
   system Wfi s t o y = (ap (λ (u : ArchState). W u) y.0, y.1)
 
-  -- what a register that is read gives
-  reads_as : (P : ℕ → ArchState → Type 0) (s : ArchState) (r : ℕ) (t u : ArchState) → (k ≡ r → ⊥) → P (reg s r) t ⊎ P (reg s r) u → P (reg (W s) r) t ⊎ P (reg (W s) r) u
-  reads_as P s r t u ne y = subst (λ (v : ℕ). P v t ⊎ P v u) (sym (read_other s r ne)) y
-
+  -- either of the two ends
   abbrev Both : (ArchState → Type 0) → ArchState → Type 0
   Both P t = P (W t) ⊎ P t
 
