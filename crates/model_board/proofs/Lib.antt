@@ -11,3 +11,4 @@ pub mod Kept
 pub mod Stopping
 pub mod Begins
 pub mod Unread
+pub mod UnreadEvents

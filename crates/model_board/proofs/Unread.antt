@@ -42,7 +42,7 @@ use Rattle.turns.specs.declared.readies.Ready.TheVariants as readies
 use Rattle.turns.specs.Turns.{Moment, TurnAs, TurnOf, Finishes, turn_begun}
 use Rattle.model_board.specs.Registers.{with_register, holding, IsRead, IsUnread, IsOfCall}
 
-map_sum : {A B C D : Type 0} → (A → C) → (B → D) → A ⊎ B → C ⊎ D
+pub map_sum : {A B C D : Type 0} → (A → C) → (B → D) → A ⊎ B → C ⊎ D
 map_sum f g (inl a) = inl (f a)
 map_sum f g (inr b) = inr (g b)
 
@@ -314,7 +314,7 @@ asks_by (instr.System Sret) w p s t m n o is y = let e = sym is ∙ y.0.1 in abs
 asks_by (instr.System Wfi) w p s t m n o is y = let e = sym is ∙ y.0.1 in absurd (cc)
 
 -- a step that is answered so leaves the hart as it is
-call_unread : (d : Option Instr) (k : ℕ) (p : Bool) (s t : ArchState) (m n : List ℕ) → Reads d (word_at m s.pc) → IsUnread d k → Steps p s m t n outcomes.Ecall → IsOfCall k → ⊥
+pub call_unread : (d : Option Instr) (k : ℕ) (p : Bool) (s t : ArchState) (m n : List ℕ) → Reads d (word_at m s.pc) → IsUnread d k → Steps p s m t n outcomes.Ecall → IsOfCall k → ⊥
 call_unread d k p s t m n reads ne y of_call =
     either (interrupted p s)
     (λ h. let e = (y.interrupt h).2 in absurd (cc))
@@ -333,7 +333,7 @@ module _ (k x : ℕ) where
   abbrev H : Moment → Moment
   H a = holding k x a
 
-  called : (s : ArchState) → (IsOfCall k → ⊥) → call_of (with_register k x s) ≡ call_of s
+  pub called : (s : ArchState) → (IsOfCall k → ⊥) → call_of (with_register k x s) ≡ call_of s
   called s ne =
       let r : (n : ℕ) → (k ≡ n → ⊥) → reg (with_register k x s) n ≡ reg s n = λ n apart. read_other k x s n apart in
       same_call (reg (with_register k x s) 17) (reg s 17) (reg (with_register k x s) 16) (reg s 16) (reg (with_register k x s) 10) (reg s 10) (reg (with_register k x s) 11) (reg s 11) (reg (with_register k x s) 12) (reg s 12)
@@ -351,7 +351,7 @@ module _ (k x : ℕ) where
       by_zero true = refl
       by_zero false = ap (λ (l : List ℕ). record s { regs = l }) (set_comm s.regs k rd x v ne)
 
-  answers : (s : ArchState) (e v : ℕ) → (IsOfCall k → ⊥) → answered (with_register k x s) e v ≡ with_register k x (answered s e v)
+  pub answers : (s : ArchState) (e v : ℕ) → (IsOfCall k → ⊥) → answered (with_register k x s) e v ≡ with_register k x (answered s e v)
   answers s e v ne =
       ap (λ (u : ArchState). next (put u 11 v)) (puts 10 e s (λ h. ne (inl h)))
       ∙ ap (λ (u : ArchState). next u) (puts 11 v (put s 10 e) (λ h. ne (inr (inl h))))

@@ -1,5 +1,11 @@
 -- Which registers a turn of a hart reads. Source: RISC-V Unprivileged ISA 20191213 (2.2); SBI specification 2.0, chapter 3.
-use Rattle.std.specs.Prelude.{◌≡◌, ◌⊎◌, ℕ, Option, Some, None, slice_set}
+use Rattle.std.specs.Prelude.{◌≡◌, ◌⊎◌, ℕ, Option, Some, None, slice_set, ◌<◌, length}
+use Rattle.hart.specs.Means.{word_at}
+use Rattle.rv_decode.specs.Spells.{Reads}
+use Rattle.machine.specs.Machine.{Machine, hart_at}
+use Rattle.model_board.specs.Boards.{Board, On, Off, Ended}
+use Rattle.model_board.specs.Events.{Event, Turn, Refused, Wake, Cut, PowerOn}
+use Rattle.model_board.specs.Plain.{changed}
 use Rattle.hart.specs.State.{ArchState}
 use Rattle.rv_decode.specs.declared.instr.Instr.{Instr}
 use Rattle.rv_decode.specs.declared.instr.Instr.TheVariants as instr
@@ -39,7 +45,7 @@ IsRead (instr.Csr op rd rs1 csr) k = k ≡ rs1
 IsRead (instr.CsrImm op rd uimm csr) k = ⊥
 IsRead (instr.System op) k = IsReadBy op k
 
--- what the word at the pc reads as does not read it
+-- what a word reads as does not read register k
 abbrev pub IsUnread : Option Instr → ℕ → Type 0
 IsUnread None k = Unit {0}
 IsUnread (Some i) k = IsRead i k → ⊥
@@ -47,3 +53,34 @@ IsUnread (Some i) k = IsRead i k → ⊥
 -- a moment of a hart, where its register k holds x
 abbrev pub holding : ℕ → ℕ → Moment → Moment
 holding k x a = record a { hart = with_register k x a.hart }
+
+-- a machine, and a board that is on, where register k of hart h holds x
+abbrev pub machine_holding : ℕ → ℕ → ℕ → Machine → Machine
+machine_holding h k x m = record m { harts = slice_set m.harts h (with_register k x (hart_at m h)) }
+
+abbrev pub board_holding : ℕ → ℕ → ℕ → Board → Board
+board_holding h k x b = changed (λ m. machine_holding h k x m) b
+
+-- the next turn of hart h does not read register k
+abbrev pub TurnUnread : ℕ → ℕ → Machine → Type 0
+TurnUnread h k m = (d : Option Instr) × Reads d (word_at m.memory (hart_at m h).pc) × IsUnread d k
+
+-- nor does the turn of hart g, where that is hart h
+abbrev pub TurnsUnread : ℕ → ℕ → ℕ → Board → Type 0
+TurnsUnread g h k (On l) = g ≡ h → TurnUnread h k l.machine
+TurnsUnread g h k (Off s) = Unit {0}
+TurnsUnread g h k (Ended s) = Unit {0}
+
+-- nor does the event
+abbrev pub EventUnread : Event → ℕ → ℕ → Board → Type 0
+EventUnread (Turn g) h k b = TurnsUnread g h k b
+EventUnread (Refused g down) h k b = TurnsUnread g h k b
+EventUnread Wake h k b = Unit {0}
+EventUnread Cut h k b = Unit {0}
+EventUnread PowerOn h k b = Unit {0}
+
+-- the board has hart h, where it is on
+abbrev pub KnowsHart : ℕ → Board → Type 0
+KnowsHart h (On l) = h < length l.machine.harts
+KnowsHart h (Off s) = Unit {0}
+KnowsHart h (Ended s) = Unit {0}

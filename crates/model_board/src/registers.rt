@@ -1,20 +1,18 @@
 //! Registers that a turn does not read.
 
-ghost use Rattle.std.specs.Prelude.{◌⊎◌, ℕ, Option};
+ghost use Rattle.std.specs.Prelude.{◌⊎◌, ℕ, List};
 ghost use Rattle.board_model.specs.Shapes.{Size};
-ghost use Rattle.hart.specs.Means.{word_at};
-ghost use Rattle.rv_decode.specs.Spells.{Reads};
-ghost use Rattle.rv_decode.specs.declared.instr.Instr.{Instr};
-ghost use Rattle.sbi_calls.specs.declared.words.Turned.{Turned};
-ghost use Rattle.turns.specs.Turns.{Moment, TurnOf};
-ghost use Rattle.model_board.specs.Registers.{holding, IsUnread};
+ghost use Rattle.model_board.specs.Boards.{Board};
+ghost use Rattle.model_board.specs.Events.{Event, Does};
+ghost use Rattle.model_board.specs.Registers.{KnowsHart, board_holding, EventUnread};
 
-/// A turn does the same whatever is in a register that it does not read, and leaves that as it is or writes it. `d` is what the word at the
-/// hart's pc reads as.
+/// An event that does not read register k of hart h does the same whatever it holds, and leaves it as it is or overwrites it. So boards that
+/// differ in registers which are written before they are read come to the same.
 pub fn unread_register()
-    ensures { (k x : ℕ) (size : Size) (d : Option Instr) (a b : Moment) (word : Turned)
-        → Reads d (word_at a.memory a.hart.pc) → IsUnread d k → TurnOf size a b word
-        → TurnOf size (holding k x a) (holding k x b) word ⊎ TurnOf size (holding k x a) b word }
+    ensures { (h k x : ℕ) (payload : List ℕ) (size : Size) (e : Event) (b c : Board)
+        → KnowsHart h b → EventUnread e h k b → Does payload size e b c
+        → Does payload size e (board_holding h k x b) (board_holding h k x c)
+        ⊎ Does payload size e (board_holding h k x b) c }
 {
     rv_decode::one_reading();
 }
