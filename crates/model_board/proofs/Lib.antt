@@ -12,3 +12,4 @@ pub mod Stopping
 pub mod Begins
 pub mod Unread
 pub mod UnreadEvents
+pub mod UnreadTouches

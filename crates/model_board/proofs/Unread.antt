@@ -55,7 +55,7 @@ module _ (k x : ℕ) where
   abbrev reg_by : Bool → ℕ → ℕ
   reg_by b v = if b then 0 else v
 
-  read_other : (s : ArchState) (r : ℕ) → (k ≡ r → ⊥) → reg (W s) r ≡ reg s r
+  pub read_other : (s : ArchState) (r : ℕ) → (k ≡ r → ⊥) → reg (W s) r ≡ reg s r
   read_other s r ne = ap (λ v. reg_by (nat_eq r 0) v) (get_or-set_other s.regs k r x 0 (λ e. ne (sym e)))
 
   abbrev put_by : Bool → ArchState → ℕ → ℕ → ArchState

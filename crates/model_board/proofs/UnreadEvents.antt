@@ -78,24 +78,24 @@ module _ (h k x : ℕ) where
   abbrev L : Life → Life
   L l = record l { machine = R l.machine }
 
-  own_hart : (m : Machine) → h < length m.harts → hart_at (R m) h ≡ W (hart_at m h)
+  pub own_hart : (m : Machine) → h < length m.harts → hart_at (R m) h ≡ W (hart_at m h)
   own_hart m has = get_or-set_same m.harts h (W (hart_at m h)) (never_started h) has
 
-  other_hart : (m : Machine) (g : ℕ) → (g ≡ h → ⊥) → hart_at (R m) g ≡ hart_at m g
+  pub other_hart : (m : Machine) (g : ℕ) → (g ≡ h → ⊥) → hart_at (R m) g ≡ hart_at m g
   other_hart m g apart = get_or-set_other m.harts h g (W (hart_at m h)) (never_started g) apart
 
   -- hart h then stands so, or another one
-  set_own : (m : Machine) (s : ArchState) → h < length m.harts → slice_set (R m).harts h (W s) ≡ (R (record m { harts = slice_set m.harts h s })).harts
+  pub set_own : (m : Machine) (s : ArchState) → h < length m.harts → slice_set (R m).harts h (W s) ≡ (R (record m { harts = slice_set m.harts h s })).harts
   set_own m s has =
       set-set m.harts h (W (hart_at m h)) (W s)
       ∙ sym
       (ap (λ (u : ArchState). slice_set (slice_set m.harts h s) h (W u)) (get_or-set_same m.harts h s (never_started h) has)
       ∙ set-set m.harts h s (W s))
 
-  set_hidden : (m : Machine) (s : ArchState) → slice_set (R m).harts h s ≡ slice_set m.harts h s
+  pub set_hidden : (m : Machine) (s : ArchState) → slice_set (R m).harts h s ≡ slice_set m.harts h s
   set_hidden m s = set-set m.harts h (W (hart_at m h)) s
 
-  set_other : (m : Machine) (g : ℕ) (s : ArchState) → (g ≡ h → ⊥) → slice_set (R m).harts g s ≡ (R (record m { harts = slice_set m.harts g s })).harts
+  pub set_other : (m : Machine) (g : ℕ) (s : ArchState) → (g ≡ h → ⊥) → slice_set (R m).harts g s ≡ (R (record m { harts = slice_set m.harts g s })).harts
   set_other m g s apart =
       set_comm m.harts h g (W (hart_at m h)) s (λ e. apart (sym e))
       ∙ ap (λ (u : ArchState). slice_set (slice_set m.harts g s) h (W u)) (sym (get_or-set_other m.harts g h s (never_started h) (λ e. apart (sym e))))

@@ -84,3 +84,8 @@ abbrev pub KnowsHart : ℕ → Board → Type 0
 KnowsHart h (On l) = h < length l.machine.harts
 KnowsHart h (Off s) = Unit {0}
 KnowsHart h (Ended s) = Unit {0}
+
+-- the pc of hart g changes from one board to the other, where both are on
+abbrev pub MovesPc : ℕ → Board → Board → Type 0
+MovesPc g (On l) (On n) = (hart_at n.machine g).pc ≡ (hart_at l.machine g).pc → ⊥
+MovesPc g b c = Unit {0}
