@@ -2,16 +2,16 @@
 -- The parts of a talk.
 pub mod Talks
 -- The stop reply.
-pub mod Stops
+pub mod StopReplies
 -- Texts.
 pub mod Texts
 -- What is replied.
-pub mod Replies
+pub mod QueryReplies
 -- Which harts a `vCont` moves.
-pub mod Resumes
+pub mod Vcont
 -- How the lists and the talk change.
 pub mod Kept
 -- How the history changes.
 pub mod Moved
 -- A whole answer.
-pub mod Answers
+pub mod Packets

@@ -2,18 +2,17 @@
 //! "GDB Remote Serial Protocol"). docs/DEBUGGING.md tells what of it there is.
 #![tactic(auto)]
 
-mod acts;
-mod answers;
-mod asked;
-mod looks;
 mod monitor;
-mod replies;
-mod resumes;
-mod stops;
+mod moves;
+mod packets;
+mod queries;
+mod query_replies;
+mod stop_replies;
 mod talk;
 mod texts;
+mod vcont;
 mod wire;
 
-pub use answers::PacketPayloads;
+pub use packets::PacketPayloads;
 pub use talk::Talk;
 pub use wire::{acknowledge, prepare, reply_again, send_answer};

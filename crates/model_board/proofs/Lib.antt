@@ -10,3 +10,6 @@ pub mod Plains
 pub mod Kept
 pub mod Stopping
 pub mod Begins
+pub mod Unread
+pub mod UnreadEvents
+pub mod UnreadTouches

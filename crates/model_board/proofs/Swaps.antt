@@ -20,23 +20,24 @@ use Rattle.sbi_calls.specs.declared.words.Did.TheVariants as dids
 use Rattle.sbi_calls.specs.declared.words.Turned.TheVariants.{Made, Durable}
 use Rattle.sbi.specs.Resets.{reset_of}
 use Rattle.sbi.specs.declared.resets.ResetType.{ResetType}
+use Rattle.sbi.specs.declared.resets.ResetType.TheVariants.{Shutdown, ColdReboot}
 use Rattle.susp.specs.Dozes.{can_wake}
 use Rattle.susp.specs.declared.sleeps.Sleep.{Sleep}
 use Rattle.turns.specs.Turns.{moment, begun_by, TurnAs}
 use Rattle.machine.specs.Machine.{Machine, hart_at}
 use Rattle.machine.specs.Turns.{MakesTurn}
-use Rattle.model_board.specs.Boards.{Life, Board, On, Off, Ended}
-use Rattle.model_board.specs.Held.{refused, reset_by, IsAlone, SleptBy, Sleeps, HeldBy, AsksStore, with_hart}
-use Rattle.model_board.specs.Events.{Event, Turn, Refused, Wake, Cut, PowerOn, ToldBy, TurnsBy, Asks, Does, IsEnd}
+use Rattle.model_board.specs.Boards.{Standing, Life, Board, On, Off, Ended}
+use Rattle.model_board.specs.Held.{refused, after_reset, reset_by, IsAlone, SleptBy, Sleeps, HeldBy, AsksStore, with_hart}
+use Rattle.model_board.specs.Events.{Event, Turn, Refused, Wake, Cut, PowerOn, ToldBy, TurnsBy, Asks, Does, IsEnd, IsOff}
 use Rattle.model_board.specs.Maps.{Map, KeepsMap, Keeps, MovesAlone, IsLocal, Local, moved}
 use Rattle.model_board.proofs.Locals.{beside, keeps_before, keeps_own, turn_awake, swaps, beside_hart, hart_moved}
 
--- the event leads to that board, or it leads to one that a local turn of hart h makes of it
+-- the event leads to that board, which is off, or it leads to one that a local turn of hart h makes of it
 abbrev pub Joins : Map → ℕ → (Board → Type 0) → Board → Type 0
-Joins map h Leads c = Leads c ⊎ ((d : Board) × Leads d × Local map h c d)
+Joins map h Leads c = (Leads c × IsOff c) ⊎ ((d : Board) × Leads d × Local map h c d)
 
 joins_by : (map : Map) (h : ℕ) (F G : Board → Type 0) (c : Board) → ((d : Board) → F d → G d) → Joins map h F c → Joins map h G c
-joins_by map h F G c f (inl x) = inl (f c x)
+joins_by map h F G c f (inl x) = inl (f c x.0, x.1)
 joins_by map h F G c f (inr x) = inr (x.0, f x.0 x.1, x.2)
 
 -- ---- a durable call
@@ -49,9 +50,14 @@ refused_joins map g h e l m t n c ne local is =
     subst (λ (x : Board). Joins map h (λ (d : Board). d ≡ refused e g (record l { machine = moved h t n m })) x) (sym is)
     (inr (d, refl, (t, n, beside_hart map g h m z t n ne local, ap (λ (k : Machine). record l { machine = k }) same)))
 
+off_after : (reset : ResetType) (s : Standing) → IsOff (after_reset reset s)
+off_after Shutdown s = tt
+off_after ColdReboot s = tt
+
 reset_joins : (map : Map) (g h : ℕ) (granted : Bool) (r : Result (ResetType × Reason) SbiError) (l : Life) (m : Machine) (t : ArchState) (n : List ℕ) (c : Board) → g ≢ h → MovesAlone map h m t n → c ≡ reset_by granted g (record l { machine = m }) r → Joins map h (λ (d : Board). d ≡ reset_by granted g (record l { machine = moved h t n m }) r) c
 reset_joins map g h granted (Err e) l m t n c ne local is = refused_joins map g h e l m t n c ne local is
-reset_joins map g h true (Ok r) l m t n c ne local is = inl is
+reset_joins map g h true (Ok r) l m t n c ne local is =
+    inl (is, subst IsOff (sym is) (off_after r.0 (record l.stands { reason = r.1 })))
 reset_joins map g h false (Ok r) l m t n c ne local is = refused_joins map g h Failed l m t n c ne local is
 
 -- a hart that is STARTED beside it lets no board sleep
@@ -210,7 +216,7 @@ event_joins single payload size map h (Turn g) l t n c local ne keeps x =
 event_joins single payload size map h (Refused g down) l t n c local ne keeps x =
     refusal_joins single payload size map g h down l t n c local keeps x
 event_joins single payload size map h Wake l t n c local ne keeps x = absurd (wakes_none l local.awake x.0)
-event_joins single payload size map h Cut l t n c local ne keeps x = inl x
+event_joins single payload size map h Cut l t n c local ne keeps x = inl (x, subst IsOff (sym x) tt)
 event_joins single payload size map h PowerOn l t n c local ne keeps x = absurd x
 
 pub events_swap : IsOneTurn → (payload : List ℕ) (size : Size) (map : Map) (h : ℕ) (e : Event) (b b' c : Board) → Local map h b b' → (e ≡ Turn h → ⊥) → Keeps map e b → Does payload size e b c → Joins map h (Does payload size e b') c

@@ -78,6 +78,12 @@ IsEnd (On l) = (l.machine.doze ≡ None) × ((h : ℕ) (c : Board) → TurnOn h 
 IsEnd (Off s) = ⊥
 IsEnd (Ended s) = Unit {0}
 
+-- it is not on
+abbrev pub IsOff : Board → Type 0
+IsOff (On l) = ⊥
+IsOff (Off s) = Unit {0}
+IsOff (Ended s) = Unit {0}
+
 -- What a board goes on by, where nothing fails. That each board comes to an end is a claim of these: by a cut any board
 -- comes to what its boot comes to.
 abbrev pub GoesOn : Event → Type 0

@@ -4,3 +4,4 @@ pub mod Events
 pub mod Touches
 pub mod Maps
 pub mod Plain
+pub mod Registers

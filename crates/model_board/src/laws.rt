@@ -3,7 +3,7 @@
 ghost use Rattle.std.specs.Prelude.{◌≡◌, ◌⊎◌, ℕ, List};
 ghost use Rattle.board_model.specs.Shapes.{Size};
 ghost use Rattle.model_board.specs.Boards.{Board};
-ghost use Rattle.model_board.specs.Events.{Event, Turn, Does, IsEnd};
+ghost use Rattle.model_board.specs.Events.{Event, Turn, Does, IsEnd, IsOff};
 ghost use Rattle.model_board.specs.Maps.{Map, Keeps, Local};
 
 /// What a local turn of a hart does, it does at any later moment too, as long as each other event keeps the map.
@@ -13,8 +13,8 @@ ghost use Rattle.model_board.specs.Maps.{Map, Keeps, Local};
 /// - `decides`: an event is the turn of the hart or it is not.
 /// - `keeps_back`: what keeps the map after a local turn keeps it before.
 /// - `keeps_own`: so does the local turn itself.
-/// - `swaps`: another event that keeps the map after the local turn leads to the same board without it, since what the turn
-///   did is lost; or the turn is local after the event too, and both orders meet.
+/// - `swaps`: another event that keeps the map after the local turn leads to the same board without it, which is off, since
+///   what the turn did is lost; or the turn is local after the event too, and both orders meet.
 pub fn one_hart_moves()
     ensures turns { (payload : List ℕ) (size : Size) (map : Map) (h : ℕ) (b b' : Board) → Local map h b b'
         → Does payload size (Turn h) b b' }
@@ -27,7 +27,7 @@ pub fn one_hart_moves()
     ensures keeps_own { (map : Map) (h : ℕ) (b b' : Board) → Local map h b b' → Keeps map (Turn h) b }
     ensures swaps { (payload : List ℕ) (size : Size) (map : Map) (h : ℕ) (e : Event) (b b' c : Board) → Local map h b b'
         → (e ≡ Turn h → ⊥) → Keeps map e b' → Does payload size e b c
-        → Does payload size e b' c ⊎ ((c' : Board) × Does payload size e b' c' × Local map h c c') }
+        → (Does payload size e b' c × IsOff c) ⊎ ((c' : Board) × Does payload size e b' c' × Local map h c c') }
 {
     machine::one_turn();
 }

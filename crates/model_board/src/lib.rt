@@ -7,6 +7,7 @@ mod holds;
 mod laws;
 mod plain;
 mod powers;
+mod registers;
 mod tables;
 mod whole;
 
@@ -14,5 +15,6 @@ pub use board::Board;
 pub use laws::{one_event, one_hart_moves};
 pub use plain::PlainMachine;
 pub use powers::Status;
+pub use registers::unread_register;
 pub use tables::PlainTables;
 pub use whole::turn;

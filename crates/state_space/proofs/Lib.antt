@@ -9,3 +9,4 @@ pub mod Growth
 pub mod Dead
 pub mod Walked
 pub mod Stairs
+pub mod Bounded
