@@ -10,3 +10,4 @@ pub mod Plains
 pub mod Kept
 pub mod Stopping
 pub mod Begins
+pub mod Touching

@@ -4,3 +4,5 @@ pub mod Events
 pub mod Touches
 pub mod Maps
 pub mod Plain
+pub mod Footprints
+pub mod Masks

@@ -2,12 +2,15 @@
 //! fails. Which of two turns may change places is said by what they touch.
 #![tactic(auto)]
 
+mod alone;
 mod board;
+mod footprints;
 mod holds;
 mod laws;
 mod plain;
 mod powers;
 mod tables;
+mod touches;
 mod whole;
 
 pub use board::Board;
@@ -15,4 +18,8 @@ pub use laws::{one_event, one_hart_moves};
 pub use plain::PlainMachine;
 pub use powers::Status;
 pub use tables::PlainTables;
+pub use touches::{Break, TouchMap};
 pub use whole::turn;
+
+#[cfg(test)]
+mod tests;
