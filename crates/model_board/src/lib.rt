@@ -23,3 +23,5 @@ pub use whole::turn;
 
 #[cfg(test)]
 mod tests;
+#[cfg(test)]
+mod touch_tests;
