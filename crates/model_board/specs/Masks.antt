@@ -1,7 +1,12 @@
--- A map whose harts are the bits of numbers: of one for each word, and of one for each hart that is sent to.
-use Rattle.std.specs.Prelude.{ℕ, ◌==◌, List, slice_index}
+-- A map whose harts are the bits of numbers: of one for each word, and of one for each hart that is sent to. What a footprint
+-- and a request have by a map.
+use Rattle.std.specs.Prelude.{◌≡◌, ◌⊎◌, ℕ, ◌<◌, ◌==◌, List, slice_index, true, false, IsTrue, Some, Ok, Err}
 use Rattle.std.specs.Int.{bit_at}
-use Rattle.model_board.specs.Maps.{Map}
+use Rattle.board_model.specs.HartSets.{Has}
+use Rattle.sbi_calls.specs.Requests.{Checked}
+use Rattle.sbi_calls.specs.declared.requests.Request.TheVariants.{Send}
+use Rattle.model_board.specs.Maps.{Map, WritesAlone, ReadsAlone, HearsNone}
+use Rattle.model_board.specs.declared.footprints.Footprint.{Footprint}
 
 abbrev pub map_of : List ℕ → List ℕ → List ℕ → Map
 map_of readers writers senders =
@@ -10,3 +15,14 @@ map_of readers writers senders =
       writes = λ h k. bit_at (slice_index writers k) h == 1;
       sends = λ h t. bit_at (slice_index senders t) h == 1;
     }
+
+-- hart h may send to each hart that the request names
+abbrev pub MaySend : Map → ℕ → Checked → Type 0
+MaySend map h asked = (targets t : ℕ) → asked ≡ Ok (Send targets) → t < 8 → Has t targets → IsTrue (map.sends h t)
+
+-- what a footprint of hart h has, no other hart can change, or make a use of
+pub record IsAloneBy (map : Map) (h : ℕ) (f : Footprint) : Type 0 where
+  pub fetches : (k : ℕ) → f.fetched ≡ Some k → IsTrue (map.reads h k) × WritesAlone map h k
+  pub loads : (k : ℕ) → f.loaded ≡ Some k → IsTrue (map.reads h k) × WritesAlone map h k
+  pub stores : (k : ℕ) → f.stored ≡ Some k → IsTrue (map.writes h k) × ReadsAlone map h k × WritesAlone map h k
+  pub sure : (f.interrupts ≡ true) ⊎ ((f.pending ≡ false) ⊎ HearsNone map h)

@@ -1,8 +1,12 @@
 //! Whether the next step of a hart keeps a map, and steps that are local by it.
 
-ghost use Rattle.std.specs.Prelude.{◌≡◌, ◌≢◌, true, false, IsOk};
-ghost use Rattle.model_board.specs.Footprints.{Covers};
-ghost use Rattle.model_board.specs.Maps.{StepKeeps, StepsAlone};
+ghost use Rattle.std.specs.Prelude.{◌≡◌, ◌≢◌, ◌⊎◌, ℕ, ◌<◌, true, false, IsTrue, IsOk, Some, Ok};
+ghost use Rattle.board_model.specs.HartSets.{Has};
+ghost use Rattle.hart.specs.Means.{Steps};
+ghost use Rattle.sbi_abi.specs.Calls.{call_of};
+ghost use Rattle.sbi_calls.specs.Requests.{request_of};
+ghost use Rattle.model_board.specs.Maps.{WritesAlone, ReadsAlone, HearsNone, StepKeeps, StepsAlone};
+ghost use Rattle.model_board.specs.Masks.{MaySend, IsAloneBy};
 
 use crate::footprints::{Footprint, footprint_of};
 use crate::touches::{Break, TouchMap};
@@ -13,7 +17,9 @@ use sbi_abi::Call;
 use sbi_calls::{Request, request_of};
 
 /// A word that is read, where there is one, may be.
-fn check_read(map: &TouchMap, hart: HartId, word: Option<u64>) -> Result<(), Break> {
+fn check_read(map: &TouchMap, hart: HartId, word: Option<u64>) -> Result<(), Break>
+    ensures { IsOk result → (k : ℕ) → word ≡ Some k → IsTrue (map.now.reads hart k) }
+{
     match word {
         Some(word) => {
             if map.may_read(hart, word) {
@@ -27,7 +33,9 @@ fn check_read(map: &TouchMap, hart: HartId, word: Option<u64>) -> Result<(), Bre
 }
 
 /// A word that is written, where there is one, may be.
-fn check_write(map: &TouchMap, hart: HartId, word: Option<u64>) -> Result<(), Break> {
+fn check_write(map: &TouchMap, hart: HartId, word: Option<u64>) -> Result<(), Break>
+    ensures { IsOk result → (k : ℕ) → word ≡ Some k → IsTrue (map.now.writes hart k) }
+{
     match word {
         Some(word) => {
             if map.may_write(hart, word) {
@@ -41,7 +49,9 @@ fn check_write(map: &TouchMap, hart: HartId, word: Option<u64>) -> Result<(), Br
 }
 
 /// The hart may send to each of those.
-fn check_targets(map: &TouchMap, hart: HartId, targets: HartSet) -> Result<(), Break> {
+fn check_targets(map: &TouchMap, hart: HartId, targets: HartSet) -> Result<(), Break>
+    ensures { IsOk result → (t : ℕ) → t < 8 → Has t targets → IsTrue (map.now.sends hart t) }
+{
     for number in 0..MAX_HARTS {
         let target = HartId::new(number).unwrap();
         if targets.contains(target) && !map.may_send(hart, target) {
@@ -51,11 +61,29 @@ fn check_targets(map: &TouchMap, hart: HartId, targets: HartSet) -> Result<(), B
     Ok(())
 }
 
+/// What a request sends, it may.
+fn check_request(map: &TouchMap, hart: HartId, request: Request) -> Result<(), Break>
+    ensures { IsOk result → MaySend map.now hart (Ok request) }
+{
+    match request {
+        Request::Send(targets) => check_targets(map, hart, targets),
+        Request::Value(_) => Ok(()),
+        Request::Start(_, _, _) => Ok(()),
+        Request::Stop => Ok(()),
+        Request::Status(_) => Ok(()),
+        Request::Suspend => Ok(()),
+        Request::SuspendAfresh(_, _) => Ok(()),
+        Request::Command => Ok(()),
+    }
+}
+
 /// What the call at which a hart stands sends, it may.
-fn check_call(hart: &Hart, shape: &Shape, map: &TouchMap) -> Result<(), Break> {
+fn check_call(hart: &Hart, shape: &Shape, map: &TouchMap) -> Result<(), Break>
+    ensures { IsOk result → MaySend map.now hart.now.id (request_of shape.now (call_of hart.now)) }
+{
     match request_of(Call::of(hart), shape) {
-        Ok(Request::Send(targets)) => check_targets(map, hart.id(), targets),
-        _ => Ok(()),
+        Ok(request) => check_request(map, hart.id(), request),
+        Err(_) => Ok(()),
     }
 }
 
@@ -81,7 +109,9 @@ pub fn step_keeps(
 }
 
 /// Whether a word that is read, where there is one, no other hart may write.
-fn is_read_alone(map: &TouchMap, hart: HartId, word: Option<u64>) -> bool {
+fn is_read_alone(map: &TouchMap, hart: HartId, word: Option<u64>) -> bool
+    ensures { result ≡ true → (k : ℕ) → word ≡ Some k → IsTrue (map.now.reads hart k) × WritesAlone map.now hart k }
+{
     match word {
         Some(word) => map.may_read(hart, word) && map.writes_alone(hart, word),
         None => true,
@@ -89,7 +119,10 @@ fn is_read_alone(map: &TouchMap, hart: HartId, word: Option<u64>) -> bool {
 }
 
 /// Whether a word that is written, where there is one, no other hart may touch.
-fn is_written_alone(map: &TouchMap, hart: HartId, word: Option<u64>) -> bool {
+fn is_written_alone(map: &TouchMap, hart: HartId, word: Option<u64>) -> bool
+    ensures { result ≡ true → (k : ℕ) → word ≡ Some k
+        → IsTrue (map.now.writes hart k) × ReadsAlone map.now hart k × WritesAlone map.now hart k }
+{
     match word {
         Some(word) => {
             map.may_write(hart, word) && map.reads_alone(hart, word) && map.writes_alone(hart, word)
@@ -99,32 +132,40 @@ fn is_written_alone(map: &TouchMap, hart: HartId, word: Option<u64>) -> bool {
 }
 
 /// Whether no other hart changes what a step finds pending: it is taken as an interrupt, or not asked for, or none may send.
-fn is_sure(footprint: &Footprint, map: &TouchMap, hart: HartId) -> bool {
+fn is_sure(footprint: &Footprint, map: &TouchMap, hart: HartId) -> bool
+    ensures { result ≡ true → (footprint.now.interrupts ≡ true)
+        ⊎ ((footprint.now.pending ≡ false) ⊎ HearsNone map.now hart) }
+{
     footprint.interrupts || !footprint.pending || map.hears_none(hart)
 }
 
 /// Whether a step that touches this asks nothing of the firmware, and no other hart can change what it does.
-fn is_local(footprint: &Footprint, map: &TouchMap, hart: HartId) -> bool {
-    !footprint.calls
-        && !footprint.sip
-        && is_read_alone(map, hart, footprint.fetched)
+fn is_local(footprint: &Footprint, map: &TouchMap, hart: HartId) -> bool
+    ensures { result ≡ true → IsAloneBy map.now hart footprint.now }
+{
+    is_read_alone(map, hart, footprint.fetched)
         && is_read_alone(map, hart, footprint.loaded)
         && is_written_alone(map, hart, footprint.stored)
         && is_sure(footprint, map, hart)
 }
 
-/// Makes a step, and takes it back where the hart stands at the same instruction after it: such a step changed no memory.
-fn step_on(hart: &mut Hart, ram: &mut Ram, pending: bool) -> bool {
+/// Makes a step that asks nothing of the firmware and after which the hart stands at another instruction. Whether it did; if
+/// not, the hart is put back, and the memory is as it was.
+fn step_on(hart: &mut Hart, ram: &mut Ram, pending: bool) -> bool
+    ensures steps { result ≡ true → Steps pending hart.old ram.old hart.new ram.new Outcome.Next }
+    ensures moves { result ≡ true → hart.new ≢ hart.old }
+    ensures stays { result ≡ false → (hart.new ≡ hart.old) × (ram.new ≡ ram.old) }
+{
     let before = hart.copy();
-    match hart.step(ram, pending) {
-        Outcome::Next => {}
-        _ => {}
+    let moved = match hart.step(ram, pending) {
+        Outcome::Next => hart.pc() != before.pc(),
+        Outcome::Ecall => false,
+        Outcome::TakePending => false,
+    };
+    if !moved {
+        *hart = before;
     }
-    if hart.pc() != before.pc() {
-        return true;
-    }
-    *hart = before;
-    false
+    moved
 }
 
 /// Makes the next step of a hart where it is local by the map and changes something. Whether it did; if not, nothing changes.

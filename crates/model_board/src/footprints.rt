@@ -1,10 +1,12 @@
 //! What the next step of a hart touches.
 
-ghost use Rattle.std.specs.Prelude.{◌≡◌, ◌≤◌, ◌<◌, ◌↔◌, IsTrue};
+ghost use Rattle.std.specs.Prelude.{◌≡◌, ◌≤◌, ◌<◌, ◌/◌, ◌%◌, ◌==◌, true, false};
 ghost use Rattle.hart.specs.State.{reg};
+ghost use Rattle.hart.specs.Csrs.{csr_number, csr_read};
+ghost use Rattle.hart.specs.declared.csr.Csr.{Csr};
 ghost use Rattle.hart.specs.Means.{sum};
 ghost use Rattle.rv_decode.specs.Flat.{reading};
-ghost use Rattle.model_board.specs.Footprints.{accessed, touch_read, Covers};
+ghost use Rattle.model_board.specs.Footprints.{accessed, touch_read, footprint_at, quiet, IsSized, Covers};
 ghost use Rattle.model_board.specs.Touches.{IsOpen};
 
 use board_model::RAM_BASE;
@@ -26,8 +28,6 @@ pub struct Footprint {
     pub stored: Option<u64>,
     /// Whether it is asked what is pending for the hart: interrupts are open, or sip is accessed.
     pub pending: bool,
-    /// Whether sip is accessed, by which what is pending may be taken.
-    pub sip: bool,
     /// Whether it is an ECALL.
     pub calls: bool,
 }
@@ -76,7 +76,8 @@ macro_rules! touches {
 /// What an instruction of a hart touches.
 #[inline(always)]
 fn touched(hart: &Hart, flat: FlatInstr) -> Touch
-    ensures { result ≡ touch_read (reading flat) hart.now }
+    ensures touch { result ≡ touch_read (reading flat) hart.now }
+    ensures sized { IsSized result }
 {
     touches!(flat, address(hart, flat), flat.imm.cast_unsigned() == SIP;
         loads { Lb 1, Lh 2, Lw 4, Ld 8, Lbu 1, Lhu 2, Lwu 4 }
@@ -103,6 +104,7 @@ fn accessed(ram: &Ram, address: u64, count: u64) -> Option<u64>
 /// Whether bit 1 of a control and status register is set.
 fn has_bit(hart: &Hart, number: u16) -> bool
     requires { number < 4096 }
+    ensures { (c : Csr) → csr_number c ≡ number → result ≡ (csr_read c hart.now false / 2 % 2 == 1) }
 {
     match hart.csr(CsrNumber::new(number), false) {
         Some(value) => value / 2 % 2 == 1,
@@ -112,31 +114,36 @@ fn has_bit(hart: &Hart, number: u16) -> bool
 
 /// Whether interrupts are open: sstatus.SIE and sie.SSIE (RISC-V Privileged ISA 20190608, 4.1.1 and 4.1.4).
 fn is_open(hart: &Hart) -> bool
-    ensures { IsTrue result ↔ IsOpen hart.now }
+    ensures opened { result ≡ true → IsOpen hart.now }
+    ensures closed { result ≡ false → IsOpen hart.now → ⊥ }
 {
     has_bit(hart, 0x100) && has_bit(hart, 0x104)
 }
 
 /// A step that touches nothing but what is pending, where interrupts are open, and by which one is taken or not.
 #[inline(always)]
-fn quiet(open: bool, interrupts: bool) -> Footprint {
+fn quiet(opened: bool, interrupts: bool) -> Footprint
+    ensures { result ≡ quiet opened interrupts }
+{
     Footprint {
         interrupts,
         fetched: None,
         loaded: None,
         stored: None,
-        pending: open,
-        sip: false,
+        pending: opened,
         calls: false,
     }
 }
 
 /// What an instruction touches that is fetched from a word.
 #[inline(always)]
-fn with_word(touch: Touch, ram: &Ram, word: u64, open: bool) -> Footprint {
+fn with_word(touch: Touch, ram: &Ram, word: u64, opened: bool) -> Footprint
+    requires { IsSized touch }
+    ensures { result ≡ footprint_at touch ram.now word opened }
+{
     let fetched = Footprint {
         fetched: Some(word),
-        ..quiet(open, false)
+        ..quiet(opened, false)
     };
     match touch {
         Touch::Nothing => fetched,
@@ -149,8 +156,7 @@ fn with_word(touch: Touch, ram: &Ram, word: u64, open: bool) -> Footprint {
             ..fetched
         },
         Touch::Exchanges(sip) => Footprint {
-            pending: open || sip,
-            sip,
+            pending: sip || opened,
             ..fetched
         },
         Touch::Calls => Footprint {
@@ -165,13 +171,13 @@ pub fn footprint_of(hart: &Hart, ram: &mut Ram, pending: bool) -> Footprint
     ensures same { ram.new ≡ ram.old }
     ensures covers { Covers pending hart.now ram.old result }
 {
-    let open = is_open(hart);
-    if pending && open {
+    let opened = is_open(hart);
+    if pending && opened {
         return quiet(true, true);
     }
     let pc = hart.pc();
     match ram.flat_instr(pc) {
-        Ok(flat) => with_word(touched(hart, flat), ram, (pc - RAM_BASE) / 8, open),
-        Err(_) => quiet(open, false),
+        Ok(flat) => with_word(touched(hart, flat), ram, (pc - RAM_BASE) / 8, opened),
+        Err(_) => quiet(opened, false),
     }
 }

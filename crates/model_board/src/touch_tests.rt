@@ -20,6 +20,8 @@ const ECALL: u32 = 0x0000_0073;
 
 const CSRR_X5_SIP: u32 = 0x1440_22f3;
 
+const CSRCI_SIP_2: u32 = 0x1441_7073;
+
 const CSRSI_SSTATUS_2: u32 = 0x1001_6073;
 
 const CSRSI_SIE_2: u32 = 0x1041_6073;
@@ -181,6 +183,20 @@ fn what_is_pending_is_asked_where_interrupts_are_open(rt: HostRuntime) {
     let mut closed = mapped(&rt, rt.alloc());
     closed.let_send(zero, zero);
     moves_to(&rt, &mut board, &closed, 0x8000_000c);
+    stays(&rt, &mut board, &map);
+    moves_to(&rt, &mut board, &closed, 0x8000_0010);
+}
+
+#[test]
+fn what_is_pending_is_asked_by_sip(rt: HostRuntime) {
+    let zero = number(&rt, 0);
+    let mut board = running(&rt, rt.alloc(), [CSRR_X5_SIP, CSRCI_SIP_2, 0, 0]);
+    let closed = mapped(&rt, rt.alloc());
+    let mut map = mapped(&rt, rt.alloc());
+    map.let_send(number(&rt, 1), zero);
+    same(&rt, board.keeps(zero, &map), Ok(()));
+    stays(&rt, &mut board, &map);
+    moves_to(&rt, &mut board, &closed, 0x8000_0004);
     stays(&rt, &mut board, &closed);
 }
 

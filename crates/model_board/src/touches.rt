@@ -1,6 +1,6 @@
 //! A fixed map of which hart may read and write which word of RAM, and send an interrupt to which.
 
-ghost use Rattle.std.specs.Prelude.{◌≡◌, ℕ, true, false, ◌↔◌, IsTrue, OnErr, Err};
+ghost use Rattle.std.specs.Prelude.{◌≡◌, ◌≢◌, ℕ, true, ◌↔◌, IsTrue, OnErr, Err, slice_index};
 ghost use Rattle.board_model.specs.HartSets.{Has};
 ghost use Rattle.board_model.specs.declared.refusal.Refusal.TheVariants.{Memory};
 ghost use Rattle.model_board.specs.Maps.{WritesAlone, ReadsAlone, HearsNone};
@@ -40,39 +40,38 @@ pub enum Break {
     Sends(HartId),
 }
 
-/// The number of the word, as a place in a list of words, where the list has it.
-fn place(words: &[u8], word: u64) -> Option<usize> {
-    if word < words.len() as u64 {
-        Some(word as usize)
-    } else {
-        None
-    }
-}
-
 /// The harts of a word, none where the list lacks it.
-fn mask(words: &[u8], word: u64) -> u8 {
-    match place(words, word) {
-        Some(place) => words[place],
-        None => 0,
+#[inline(always)]
+fn mask(words: &[u8], word: u64) -> u8
+    ensures { result ≡ slice_index words.now word }
+{
+    if word < words.len() as u64 {
+        words[word as usize]
+    } else {
+        0
     }
 }
 
 /// Adds a hart to those of a word, where the list has it.
 fn let_one(words: &mut [u8], hart: HartId, word: u64) {
-    if let Some(place) = place(words, word) {
-        words[place] |= 1 << hart.number();
+    if word < words.len() as u64 {
+        words[word as usize] |= 1 << hart.number();
     }
 }
 
 /// Whether that hart is among those of a mask.
+#[inline(always)]
 fn has(mask: u8, hart: HartId) -> bool
-    ensures { IsTrue result ↔ Has hart mask }
+    ensures { result ≡ true → Has hart mask }
 {
     mask >> hart.number() & 1 == 1
 }
 
 /// Whether no other hart is among those of a mask.
-fn is_alone(mask: u8, hart: HartId) -> bool {
+#[inline(always)]
+fn is_alone(mask: u8, hart: HartId) -> bool
+    ensures { result ≡ true → (g : ℕ) → g ≢ hart → Has g mask → ⊥ }
+{
     mask == 0 || mask == 1 << hart.number()
 }
 
