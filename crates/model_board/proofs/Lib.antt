@@ -11,3 +11,5 @@ pub mod Kept
 pub mod Stopping
 pub mod Begins
 pub mod Touching
+pub mod Alone
+pub mod Outside

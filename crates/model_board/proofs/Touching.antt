@@ -1,45 +1,121 @@
--- A footprint names just the words that a step touches.
-use Rattle.std.proofs.Common.{ℕ, ℤ, Bool, true, false, List, ◌≡◌, ◌≢◌, ◌⊎◌, ◌+◌, ◌%◌, ◌<◌, ◌≤◌, length, refl, sym, ap, ◌∙◌, subst, inl, inr, if◌then◌else◌, eq-eqb, Option, Some, None}
+-- A footprint has all that a step touches.
+use Rattle.std.proofs.Common.{ℕ, ℤ, Bool, true, false, IsTrue, List, ◌≡◌, ◌≢◌, ◌⊎◌, ◌+◌, ◌%◌, ◌<◌, ◌≤◌, length, refl, sym, ap, ◌∙◌, subst, inl, inr, if◌then◌else◌, eq-eqb, Option, Some, None, true≢false}
 use Rattle.std.specs.Prelude.{◌==◌, ◌&&◌, nat_le}
-use Rattle.std.proofs.lemmas.Bool.{eqb-true, leb-true, le-leb}
+use Rattle.std.proofs.lemmas.Bool.{le-leb}
 use Rattle.hart.specs.State.{ArchState, reg}
-use Rattle.hart.specs.Means.{sum, load_bytes, store_bytes}
+use Rattle.hart.specs.Csrs.{csr_number}
+use Rattle.hart.specs.Means.{sum, load_bytes, store_bytes, word_at, Interrupts}
+use Rattle.hart.specs.declared.csr.Csr.TheVariants.{Sip}
 use Rattle.hart.proofs.Obeyed.{HasOne}
-use Rattle.ram.specs.Memory.{IsInside}
+use Rattle.ram.specs.Memory.{RefusesAccess}
+use Rattle.ram.specs.declared.Access.{Access}
+use Rattle.ram.specs.declared.Access.TheVariants.{Misaligned, Outside}
+use Rattle.rv_decode.specs.Spells.{spells, Reads}
 use Rattle.rv_decode.specs.declared.instr.Instr.{Instr}
 use Rattle.rv_decode.specs.declared.instr.Instr.TheVariants as instr
-use Rattle.model_board.specs.Touches.{word_of, ComesTo, Accesses, LoadsWord, WritesWord}
-use Rattle.model_board.specs.Footprints.{accessed, loaded_by, stored_by}
+use Rattle.rv_decode.specs.declared.ops.SystemOp.TheVariants as system
+use Rattle.model_board.specs.Touches.{word_of, Fetches, ComesTo, Accesses, LoadsWord, ReadsWord, WritesWord, AccessesSip, IsOpen, ReadsPending}
+use Rattle.model_board.specs.Footprints.{accessed, touch_read, quiet, footprint_at, Covers}
+use Rattle.model_board.specs.declared.footprints.Touch.{Touch}
+use Rattle.model_board.specs.declared.footprints.Touch.TheVariants as touch
 
+-- ---- the word of an access
 if_all : (a b c : Bool) (x : ℕ) → a ≡ true → b ≡ true → c ≡ true → (if a && (b && c) then Some x else None) ≡ Some x
 if_all true true true x p q r = refl
-if_all true true false x p q r = absurd (let e : false ≡ true = r in cc)
-if_all true false c x p q r = absurd (let e : false ≡ true = q in cc)
-if_all false b c x p q r = absurd (let e : false ≡ true = p in cc)
+if_all true true false x p q r = absurd (true≢false (sym r))
+if_all true false c x p q r = absurd (true≢false (sym q))
+if_all false b c x p q r = absurd (true≢false (sym p))
 
-all_if : (a b c : Bool) (x k : ℕ) → (if a && (b && c) then Some x else None) ≡ Some k → (a ≡ true) × (b ≡ true) × (c ≡ true) × (x ≡ k)
-all_if true true true x k e = (refl, refl, refl, cc)
-all_if true true false x k e = absurd (cc)
-all_if true false c x k e = absurd (cc)
-all_if false b c x k e = absurd (cc)
-
-le_true : (m n : ℕ) → m ≤ n → nat_le m n ≡ true
-le_true m n le = le-leb m n le
-
-pub accesses_told : (m : List ℕ) (a n k : ℕ) → Accesses m a n k → accessed m a n ≡ Some k
+accesses_told : (m : List ℕ) (a n k : ℕ) → Accesses m a n k → accessed m a n ≡ Some k
 accesses_told m a n k x =
-    if_all (a % n == 0) (nat_le 0x80000000 a) (nat_le (a + n) (0x80000000 + length m)) (word_of a) (eq-eqb (a % n) 0 x.aligned) (le_true 0x80000000 a x.inside.0) (le_true (a + n) (0x80000000 + length m) x.inside.1)
+    if_all (a % n == 0) (nat_le 0x80000000 a) (nat_le (a + n) (0x80000000 + length m)) (word_of a) (eq-eqb (a % n) 0 x.aligned) (le-leb 0x80000000 a x.inside.0) (le-leb (a + n) (0x80000000 + length m) x.inside.1)
     ∙ ap (λ (w : ℕ). Some w) (sym x.word)
 
-pub told_accesses : (m : List ℕ) (a n k : ℕ) → accessed m a n ≡ Some k → Accesses m a n k
-told_accesses m a n k e =
-    let all = all_if (a % n == 0) (nat_le 0x80000000 a) (nat_le (a + n) (0x80000000 + length m)) (word_of a) k e in
-    record { aligned = eqb-true (a % n) 0 all.0; inside = (leb-true 0x80000000 a all.1, leb-true (a + n) (0x80000000 + length m) all.2); word = sym all.3 }
+-- ---- an instruction
+-- the word is that of the instruction
+comes_read : HasOne → (d : Option Instr) (i : Instr) (w : ℕ) → Reads d w → spells i w → d ≡ Some i
+comes_read one None i w reads x = absurd (reads i x)
+comes_read one (Some j) i w reads x = ap (λ (k : Instr). Some k) (one j i w reads x)
 
-pub loads_told : HasOne → (p : Bool) (s : ArchState) (m : List ℕ) (i : Instr) (k : ℕ) → ComesTo p s m i → LoadsWord p s m k → loaded_by i s m ≡ Some k
-loads_told one p s m i k c x =
-    subst (λ (j : Instr). loaded_by j s m ≡ Some k) (one (instr.Load x.op x.rd x.rs1 x.imm) i _ x.comes.spelled c.spelled) (accesses_told m (sum (reg s x.rs1) x.imm) (load_bytes x.op) k x.accesses)
+fetched_at : (t : Touch) (m : List ℕ) (k : ℕ) (opened : Bool) → (footprint_at t m k opened).fetched ≡ Some k
+fetched_at touch.Nothing m k opened = refl
+fetched_at (touch.Loads n a) m k opened = refl
+fetched_at (touch.Stores n a) m k opened = refl
+fetched_at (touch.Exchanges sip) m k opened = refl
+fetched_at touch.Calls m k opened = refl
 
-pub stores_told : HasOne → (p : Bool) (s : ArchState) (m : List ℕ) (i : Instr) (k : ℕ) → ComesTo p s m i → WritesWord p s m k → stored_by i s m ≡ Some k
-stores_told one p s m i k c x =
-    subst (λ (j : Instr). stored_by j s m ≡ Some k) (one (instr.Store x.op x.rs1 x.rs2 x.imm) i _ x.comes.spelled c.spelled) (accesses_told m (sum (reg s x.rs1) x.imm) (store_bytes x.op) k x.accesses)
+calm_at : (t : Touch) (m : List ℕ) (k : ℕ) (opened : Bool) → (footprint_at t m k opened).interrupts ≡ false
+calm_at touch.Nothing m k opened = refl
+calm_at (touch.Loads n a) m k opened = refl
+calm_at (touch.Stores n a) m k opened = refl
+calm_at (touch.Exchanges sip) m k opened = refl
+calm_at touch.Calls m k opened = refl
+
+opened_at : (t : Touch) (m : List ℕ) (k : ℕ) → (footprint_at t m k true).pending ≡ true
+opened_at touch.Nothing m k = refl
+opened_at (touch.Loads n a) m k = refl
+opened_at (touch.Stores n a) m k = refl
+opened_at (touch.Exchanges true) m k = refl
+opened_at (touch.Exchanges false) m k = refl
+opened_at touch.Calls m k = refl
+
+both : (b : Bool) → b ≡ true → b ≡ false → ⊥
+both b yes no = true≢false (sym yes ∙ no)
+
+-- what is pending is asked where interrupts are open
+asked_at : (t : Touch) (m : List ℕ) (k : ℕ) (opened : Bool) (s : ArchState) → (opened ≡ false → IsOpen s → ⊥) → (footprint_at t m k opened).pending ≡ false → IsOpen s → ⊥
+asked_at t m k true s no e o = both (footprint_at t m k true).pending (opened_at t m k) e
+asked_at t m k false s no e o = no refl o
+
+module _ (one : HasOne) (p : Bool) (s : ArchState) (m : List ℕ) (d : Option Instr) (reads : Reads d (word_at m s.pc)) where
+  load_at : (opened : Bool) (k : ℕ) → LoadsWord p s m k → (footprint_at (touch_read d s) m (word_of s.pc) opened).loaded ≡ Some k
+  load_at opened k x =
+      let e : d ≡ Some (instr.Load x.op x.rd x.rs1 x.imm) = comes_read one d _ (word_at m s.pc) reads x.comes.spelled in
+      subst (λ (i : Option Instr). (footprint_at (touch_read i s) m (word_of s.pc) opened).loaded ≡ Some k) (sym e) (accesses_told m (sum (reg s x.rs1) x.imm) (load_bytes x.op) k x.accesses)
+
+  store_at : (opened : Bool) (k : ℕ) → WritesWord p s m k → (footprint_at (touch_read d s) m (word_of s.pc) opened).stored ≡ Some k
+  store_at opened k x =
+      let e : d ≡ Some (instr.Store x.op x.rs1 x.rs2 x.imm) = comes_read one d _ (word_at m s.pc) reads x.comes.spelled in
+      subst (λ (i : Option Instr). (footprint_at (touch_read i s) m (word_of s.pc) opened).stored ≡ Some k) (sym e) (accesses_told m (sum (reg s x.rs1) x.imm) (store_bytes x.op) k x.accesses)
+
+  sip_at : (opened : Bool) → AccessesSip p s m → (footprint_at (touch_read d s) m (word_of s.pc) opened).pending ≡ true
+  sip_at opened x =
+      elim x.comes [
+        | inl c ↦ (
+            let e : d ≡ Some (instr.Csr x.op x.rd x.source (csr_number Sip)) = comes_read one d _ (word_at m s.pc) reads c.spelled in
+            subst (λ (i : Option Instr). (footprint_at (touch_read i s) m (word_of s.pc) opened).pending ≡ true) (sym e) refl)
+        | inr c ↦ (
+            let e : d ≡ Some (instr.CsrImm x.op x.rd x.source (csr_number Sip)) = comes_read one d _ (word_at m s.pc) reads c.spelled in
+            subst (λ (i : Option Instr). (footprint_at (touch_read i s) m (word_of s.pc) opened).pending ≡ true) (sym e) refl)
+      ]
+
+  call_at : (opened : Bool) → ComesTo p s m (instr.System system.Ecall) → (footprint_at (touch_read d s) m (word_of s.pc) opened).calls ≡ true
+  call_at opened c =
+      let e : d ≡ Some (instr.System system.Ecall) = comes_read one d _ (word_at m s.pc) reads c.spelled in
+      subst (λ (i : Option Instr). (footprint_at (touch_read i s) m (word_of s.pc) opened).calls ≡ true) (sym e) refl
+
+  pub covers_at : (opened : Bool) → (opened ≡ false → IsOpen s → ⊥) → Covers p s m (footprint_at (touch_read d s) m (word_of s.pc) opened)
+  covers_at opened no = record {
+    reads = λ k r. elim r [ inl f ↦ inl (fetched_at (touch_read d s) m (word_of s.pc) opened ∙ ap (λ (w : ℕ). Some w) (sym f.1)) | inr x ↦ inr (load_at opened k x) ];
+    writes = λ k w. store_at opened k w;
+    interrupts = λ e. absurd (both _ e (calm_at (touch_read d s) m (word_of s.pc) opened));
+    pending = λ e r. elim r [ inl o ↦ asked_at (touch_read d s) m (word_of s.pc) opened s no e o | inr x ↦ both _ (sip_at opened x) e ];
+    calls = λ e c. both _ (call_at opened c) e;
+  }
+
+-- ---- a step that comes to no instruction
+pub refused_fetch : (p : Bool) (s : ArchState) (m : List ℕ) (e : Access) → RefusesAccess m s.pc 4 e → Fetches p s m → ⊥
+refused_fetch p s m Misaligned x f = x f.aligned
+refused_fetch p s m Outside x f = x.1 f.inside
+
+pub taken_fetch : (p : Bool) (s : ArchState) (m : List ℕ) → IsTrue p → IsOpen s → Fetches p s m → ⊥
+taken_fetch p s m yes o f = f.calm (yes, o.0, o.1)
+
+pub covers_quiet : (p : Bool) (s : ArchState) (m : List ℕ) (opened interrupts : Bool) → (Fetches p s m → ⊥) → (interrupts ≡ true → IsTrue p × IsOpen s) → (opened ≡ false → IsOpen s → ⊥) → Covers p s m (quiet opened interrupts)
+covers_quiet p s m opened interrupts none taken no = record {
+  reads = λ k r. elim r [ inl f ↦ absurd (none f.0) | inr x ↦ absurd (none x.comes.fetches) ];
+  writes = λ k w. absurd (none w.comes.fetches);
+  interrupts = taken;
+  pending = λ e r. elim r [ inl o ↦ no e o | inr x ↦ elim x.comes [ inl c ↦ none c.fetches | inr c ↦ none c.fetches ] ];
+  calls = λ e c. none c.fetches;
+}

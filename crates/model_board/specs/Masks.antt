@@ -1,6 +1,6 @@
 -- A map whose harts are the bits of numbers: of one for each word, and of one for each hart that is sent to. What a footprint
 -- and a request have by a map.
-use Rattle.std.specs.Prelude.{◌≡◌, ◌⊎◌, ℕ, ◌<◌, ◌==◌, List, slice_index, true, false, IsTrue, Some, Ok, Err}
+use Rattle.std.specs.Prelude.{◌≡◌, ◌⊎◌, ℕ, ◌==◌, List, slice_index, true, false, IsTrue, Some, Ok, Err}
 use Rattle.std.specs.Int.{bit_at}
 use Rattle.board_model.specs.HartSets.{Has}
 use Rattle.sbi_calls.specs.Requests.{Checked}
@@ -18,7 +18,7 @@ map_of readers writers senders =
 
 -- hart h may send to each hart that the request names
 abbrev pub MaySend : Map → ℕ → Checked → Type 0
-MaySend map h asked = (targets t : ℕ) → asked ≡ Ok (Send targets) → t < 8 → Has t targets → IsTrue (map.sends h t)
+MaySend map h asked = (targets t : ℕ) → asked ≡ Ok (Send targets) → Has t targets → IsTrue (map.sends h t)
 
 -- what a footprint of hart h has, no other hart can change, or make a use of
 pub record IsAloneBy (map : Map) (h : ℕ) (f : Footprint) : Type 0 where

@@ -1,6 +1,6 @@
 //! Whether the next step of a hart keeps a map, and steps that are local by it.
 
-ghost use Rattle.std.specs.Prelude.{◌≡◌, ◌≢◌, ◌⊎◌, ℕ, ◌<◌, true, false, IsTrue, IsOk, Some, Ok};
+ghost use Rattle.std.specs.Prelude.{◌≡◌, ◌≢◌, ◌⊎◌, ℕ, true, false, IsTrue, IsOk, Some, Ok};
 ghost use Rattle.board_model.specs.HartSets.{Has};
 ghost use Rattle.hart.specs.Means.{Steps};
 ghost use Rattle.sbi_abi.specs.Calls.{call_of};
@@ -50,7 +50,7 @@ fn check_write(map: &TouchMap, hart: HartId, word: Option<u64>) -> Result<(), Br
 
 /// The hart may send to each of those.
 fn check_targets(map: &TouchMap, hart: HartId, targets: HartSet) -> Result<(), Break>
-    ensures { IsOk result → (t : ℕ) → t < 8 → Has t targets → IsTrue (map.now.sends hart t) }
+    ensures { IsOk result → (t : ℕ) → Has t targets → IsTrue (map.now.sends hart t) }
 {
     for number in 0..MAX_HARTS {
         let target = HartId::new(number).unwrap();

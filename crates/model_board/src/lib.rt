@@ -14,7 +14,7 @@ mod touches;
 mod whole;
 
 pub use board::Board;
-pub use laws::{one_event, one_hart_moves};
+pub use laws::{one_event, one_hart_moves, turn_outside};
 pub use plain::PlainMachine;
 pub use powers::Status;
 pub use tables::PlainTables;
