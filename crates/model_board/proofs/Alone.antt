@@ -70,13 +70,6 @@ module _ (map : Map) (size : Size) (memory : List ℕ) (doze : Option Doze) (har
   inside : h < length harts
   inside = subst (λ (k : ℕ). h < k) (sym p.long) (subst (λ (m : Machine). h < m.size.harts) (sym view) below)
 
-  own : ArchState
-  own = get_or harts h (never_started h)
-
-  number : own.id ≡ h
-  unfolding own
-  number = p.numbered h inside
-
   keeps_shown : (listed table.states h ≡ started → StepKeeps map h size (has_pending h table.pairs) (get_or harts h (never_started h)) memory) → KeepsMap map h (shown size memory doze harts table)
   keeps_shown step = record {
     numbered = p.numbered h inside;

@@ -12,7 +12,7 @@ use Rattle.susp.specs.Dozes.{doze_of}
 use Rattle.susp.specs.declared.buses.Doze.{Doze}
 use Rattle.turns.specs.Turns.{Moment, woken_turn, begun_by, has_pending, TurnAs}
 use Rattle.machine.specs.Machine.{Machine, hart_at}
-use Rattle.machine.specs.Turns.{TurnBy, DozeTurn, MakesTurn}
+use Rattle.machine.specs.Turns.{moment_of, TurnBy, DozeTurn, MakesTurn}
 use Rattle.model_board.specs.Maps.{Map, StepKeeps, KeepsMap, SameOutside}
 use Rattle.model_board.proofs.Frames.{step_long, step_changes}
 use Rattle.model_board.proofs.Turned.{pending_in}
@@ -45,7 +45,7 @@ doze_outside map false d h m n word x = same_memory map m.memory n.memory (ap (�
 by_doze : (map : Map) (d : Option Doze) (h : ℕ) (m n : Machine) (word : Turned) → KeepsMap map h m → TurnBy d h m n word → SameOutside map m.memory n.memory
 by_doze map None h m n word keeps x =
     subst (λ (b : List ℕ). SameOutside map m.memory b) (sym (ap (λ (k : Machine). k.memory) x.2))
-    (as_outside map h m.size (listed m.table.states (hart_at m h).id) _ x.0 word keeps.step x.1)
+    (as_outside map h m.size (listed m.table.states (hart_at m h).id) (moment_of h m) x.0 word keeps.step x.1)
 by_doze map (Some d) h m n word keeps x = doze_outside map d.woken d h m n word x
 
 pub turn_outside : (map : Map) (h : ℕ) (m n : Machine) (word : Turned) → KeepsMap map h m → MakesTurn h m n word → SameOutside map m.memory n.memory
