@@ -13,3 +13,4 @@ pub mod Begins
 pub mod Touching
 pub mod Alone
 pub mod Outside
+pub mod Masked
