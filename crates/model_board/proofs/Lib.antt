@@ -11,6 +11,6 @@ pub mod Kept
 pub mod Stopping
 pub mod Begins
 pub mod Touching
-pub mod Alone
+pub mod ByMap
 pub mod Outside
 pub mod Masked

@@ -8,12 +8,18 @@ use Rattle.sbi_calls.specs.declared.requests.Request.TheVariants.{Send}
 use Rattle.model_board.specs.Maps.{Map, WritesAlone, ReadsAlone, HearsNone}
 use Rattle.model_board.specs.declared.footprints.Footprint.{Footprint}
 
-abbrev pub map_of : List ℕ → List ℕ → List ℕ → Map
-map_of readers writers senders =
+-- for each word the harts that may read it and those that may write it, and for each hart those that may send to it
+pub record Masks : Type 0 where
+  pub readers : List ℕ
+  pub writers : List ℕ
+  pub senders : List ℕ
+
+abbrev pub map_of : Masks → Map
+map_of m =
     record {
-      reads = λ h k. bit_at (slice_index readers k) h == 1;
-      writes = λ h k. bit_at (slice_index writers k) h == 1;
-      sends = λ h t. bit_at (slice_index senders t) h == 1;
+      reads = λ h k. bit_at (slice_index m.readers k) h == 1;
+      writes = λ h k. bit_at (slice_index m.writers k) h == 1;
+      sends = λ h t. bit_at (slice_index m.senders t) h == 1;
     }
 
 -- hart h may send to each hart that the request names

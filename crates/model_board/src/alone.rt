@@ -6,7 +6,7 @@ ghost use Rattle.hart.specs.Means.{Steps};
 ghost use Rattle.sbi_abi.specs.Calls.{call_of};
 ghost use Rattle.sbi_calls.specs.Requests.{request_of};
 ghost use Rattle.model_board.specs.Maps.{WritesAlone, ReadsAlone, HearsNone, StepKeeps, StepsAlone};
-ghost use Rattle.model_board.specs.Masks.{MaySend, IsAloneBy};
+ghost use Rattle.model_board.specs.Masks.{map_of, MaySend, IsAloneBy};
 
 use crate::footprints::{Footprint, footprint_of};
 use crate::touches::{Break, TouchMap};
@@ -18,7 +18,7 @@ use sbi_calls::{Request, request_of};
 
 /// A word that is read, where there is one, may be.
 fn check_read(map: &TouchMap, hart: HartId, word: Option<u64>) -> Result<(), Break>
-    ensures { IsOk result → (k : ℕ) → word ≡ Some k → IsTrue (map.now.reads hart k) }
+    ensures { IsOk result → (k : ℕ) → word ≡ Some k → IsTrue ((map_of map.now).reads hart k) }
 {
     match word {
         Some(word) => {
@@ -34,7 +34,7 @@ fn check_read(map: &TouchMap, hart: HartId, word: Option<u64>) -> Result<(), Bre
 
 /// A word that is written, where there is one, may be.
 fn check_write(map: &TouchMap, hart: HartId, word: Option<u64>) -> Result<(), Break>
-    ensures { IsOk result → (k : ℕ) → word ≡ Some k → IsTrue (map.now.writes hart k) }
+    ensures { IsOk result → (k : ℕ) → word ≡ Some k → IsTrue ((map_of map.now).writes hart k) }
 {
     match word {
         Some(word) => {
@@ -50,7 +50,7 @@ fn check_write(map: &TouchMap, hart: HartId, word: Option<u64>) -> Result<(), Br
 
 /// The hart may send to each of those.
 fn check_targets(map: &TouchMap, hart: HartId, targets: HartSet) -> Result<(), Break>
-    ensures { IsOk result → (t : ℕ) → Has t targets → IsTrue (map.now.sends hart t) }
+    ensures { IsOk result → (t : ℕ) → Has t targets → IsTrue ((map_of map.now).sends hart t) }
 {
     for number in 0..MAX_HARTS {
         let target = HartId::new(number).unwrap();
@@ -63,7 +63,7 @@ fn check_targets(map: &TouchMap, hart: HartId, targets: HartSet) -> Result<(), B
 
 /// What a request sends, it may.
 fn check_request(map: &TouchMap, hart: HartId, request: Request) -> Result<(), Break>
-    ensures { IsOk result → MaySend map.now hart (Ok request) }
+    ensures { IsOk result → MaySend (map_of map.now) hart (Ok request) }
 {
     match request {
         Request::Send(targets) => check_targets(map, hart, targets),
@@ -79,7 +79,7 @@ fn check_request(map: &TouchMap, hart: HartId, request: Request) -> Result<(), B
 
 /// What the call at which a hart stands sends, it may.
 fn check_call(hart: &Hart, shape: &Shape, map: &TouchMap) -> Result<(), Break>
-    ensures { IsOk result → MaySend map.now hart.now.id (request_of shape.now (call_of hart.now)) }
+    ensures { IsOk result → MaySend (map_of map.now) hart.now.id (request_of shape.now (call_of hart.now)) }
 {
     match request_of(Call::of(hart), shape) {
         Ok(request) => check_request(map, hart.id(), request),
@@ -96,7 +96,7 @@ pub fn step_keeps(
     map: &TouchMap,
 ) -> Result<(), Break>
     ensures same { ram.new ≡ ram.old }
-    ensures keeps { IsOk result → StepKeeps map.now hart.now.id shape.now pending hart.now ram.old }
+    ensures keeps { IsOk result → StepKeeps (map_of map.now) hart.now.id shape.now pending hart.now ram.old }
 {
     let footprint = footprint_of(hart, ram, pending);
     check_read(map, hart.id(), footprint.fetched)?;
@@ -110,7 +110,7 @@ pub fn step_keeps(
 
 /// Whether a word that is read, where there is one, no other hart may write.
 fn is_read_alone(map: &TouchMap, hart: HartId, word: Option<u64>) -> bool
-    ensures { result ≡ true → (k : ℕ) → word ≡ Some k → IsTrue (map.now.reads hart k) × WritesAlone map.now hart k }
+    ensures { result ≡ true → (k : ℕ) → word ≡ Some k → IsTrue ((map_of map.now).reads hart k) × WritesAlone (map_of map.now) hart k }
 {
     match word {
         Some(word) => map.may_read(hart, word) && map.writes_alone(hart, word),
@@ -121,7 +121,7 @@ fn is_read_alone(map: &TouchMap, hart: HartId, word: Option<u64>) -> bool
 /// Whether a word that is written, where there is one, no other hart may touch.
 fn is_written_alone(map: &TouchMap, hart: HartId, word: Option<u64>) -> bool
     ensures { result ≡ true → (k : ℕ) → word ≡ Some k
-        → IsTrue (map.now.writes hart k) × ReadsAlone map.now hart k × WritesAlone map.now hart k }
+        → IsTrue ((map_of map.now).writes hart k) × ReadsAlone (map_of map.now) hart k × WritesAlone (map_of map.now) hart k }
 {
     match word {
         Some(word) => {
@@ -134,14 +134,14 @@ fn is_written_alone(map: &TouchMap, hart: HartId, word: Option<u64>) -> bool
 /// Whether no other hart changes what a step finds pending: it is taken as an interrupt, or not asked for, or none may send.
 fn is_sure(footprint: &Footprint, map: &TouchMap, hart: HartId) -> bool
     ensures { result ≡ true → (footprint.now.interrupts ≡ true)
-        ⊎ ((footprint.now.pending ≡ false) ⊎ HearsNone map.now hart) }
+        ⊎ ((footprint.now.pending ≡ false) ⊎ HearsNone (map_of map.now) hart) }
 {
     footprint.interrupts || !footprint.pending || map.hears_none(hart)
 }
 
 /// Whether a step that touches this asks nothing of the firmware, and no other hart can change what it does.
 fn is_local(footprint: &Footprint, map: &TouchMap, hart: HartId) -> bool
-    ensures { result ≡ true → IsAloneBy map.now hart footprint.now }
+    ensures { result ≡ true → IsAloneBy (map_of map.now) hart footprint.now }
 {
     is_read_alone(map, hart, footprint.fetched)
         && is_read_alone(map, hart, footprint.loaded)
@@ -170,7 +170,7 @@ fn step_on(hart: &mut Hart, ram: &mut Ram, pending: bool) -> bool
 
 /// Makes the next step of a hart where it is local by the map and changes something. Whether it did; if not, nothing changes.
 pub fn step_alone(hart: &mut Hart, ram: &mut Ram, pending: bool, map: &TouchMap) -> bool
-    ensures alone { result ≡ true → StepsAlone map.now hart.old.id pending hart.old ram.old hart.new ram.new }
+    ensures alone { result ≡ true → StepsAlone (map_of map.now) hart.old.id pending hart.old ram.old hart.new ram.new }
     ensures moves { result ≡ true → hart.new ≢ hart.old }
     ensures stays { result ≡ false → (hart.new ≡ hart.old) × (ram.new ≡ ram.old) }
 {

@@ -8,6 +8,7 @@ ghost use Rattle.model_board.specs.Boards.{Board as AnyBoard, Life, On, Off, pow
 ghost use Rattle.model_board.specs.Events.{Does, Turn, Refused, Wake, Cut, PowerOn};
 ghost use Rattle.model_board.specs.Held.{with_hart};
 ghost use Rattle.model_board.specs.Maps.{TurnKeeps, Local};
+ghost use Rattle.model_board.specs.Masks.{map_of};
 ghost use Rattle.model_board.specs.Plain.{Sized, IsKnown, HasSleeper, board_shown, board_after, life_of, image_at, standing, status_of, changed};
 
 use crate::holds::{Settled, turn_by, turn_refused};
@@ -214,7 +215,7 @@ impl Board {
     pub fn keeps(&mut self, hart: HartId, map: &TouchMap) -> Result<(), Break>
         requires { hart < self.old.size.harts }
         ensures same { self.new ≡ self.old }
-        ensures keeps { IsOk result → TurnKeeps map.now hart self.old.board }
+        ensures keeps { IsOk result → TurnKeeps (map_of map.now) hart self.old.board }
     {
         match self.power {
             Power::On => self.machine.keeps(hart, map),
@@ -226,7 +227,7 @@ impl Board {
     /// Makes the next turn of a hart where it is local by the map. Whether it did; if not, nothing changes.
     pub fn move_alone(&mut self, hart: HartId, map: &TouchMap) -> bool
         requires { hart < self.old.size.harts }
-        ensures local { result ≡ true → Local map.now hart self.old.board self.new.board }
+        ensures local { result ≡ true → Local (map_of map.now) hart self.old.board self.new.board }
         ensures stays { result ≡ false → self.new ≡ self.old }
         ensures size { self.new.size ≡ self.old.size }
     {

@@ -12,6 +12,7 @@ ghost use Rattle.turns.specs.Turns.{TurnOf, has_pending, after_take};
 ghost use Rattle.model_board.specs.Events.{woken_up};
 ghost use Rattle.model_board.specs.Held.{IsAlone, with_hart};
 ghost use Rattle.model_board.specs.Maps.{KeepsMap, MovesTo};
+ghost use Rattle.model_board.specs.Masks.{map_of};
 ghost use Rattle.model_board.specs.Plain.{begun_again, with_payload};
 
 use crate::alone::{step_alone, step_keeps};
@@ -261,7 +262,7 @@ impl PlainMachine {
     pub fn keeps(&mut self, hart: HartId, map: &TouchMap) -> Result<(), Break>
         requires { hart < self.old.size.harts }
         ensures same { self.new ≡ self.old }
-        ensures keeps { IsOk result → KeepsMap map.now hart self.old }
+        ensures keeps { IsOk result → KeepsMap (map_of map.now) hart self.old }
     {
         if !self.tables.is_started(hart) {
             return Ok(());
@@ -274,7 +275,7 @@ impl PlainMachine {
     /// Makes the next turn of a hart where it is local by the map. Whether it did; if not, nothing changes.
     pub fn move_alone(&mut self, hart: HartId, map: &TouchMap) -> bool
         requires { hart < self.old.size.harts }
-        ensures local { result ≡ true → MovesTo map.now hart self.old self.new }
+        ensures local { result ≡ true → MovesTo (map_of map.now) hart self.old self.new }
         ensures stays { result ≡ false → self.new ≡ self.old }
     {
         if self.bus.doze.is_some() || !self.tables.is_started(hart) {

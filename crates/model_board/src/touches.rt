@@ -4,6 +4,7 @@ ghost use Rattle.std.specs.Prelude.{◌≡◌, ◌≢◌, ℕ, true, ◌↔◌, 
 ghost use Rattle.board_model.specs.HartSets.{Has};
 ghost use Rattle.board_model.specs.declared.refusal.Refusal.TheVariants.{Memory};
 ghost use Rattle.model_board.specs.Maps.{WritesAlone, ReadsAlone, HearsNone};
+ghost use Rattle.model_board.specs.Masks.{map_of};
 
 use board_model::{HartId, Refusal, Shape};
 use std::alloc::Global;
@@ -21,12 +22,11 @@ pub struct TouchMap {
 }
 
 impl Model for TouchMap {
-    ghost use Rattle.model_board.specs.Maps.{Map};
-    ghost use Rattle.model_board.specs.Masks.{map_of};
+    ghost use Rattle.model_board.specs.Masks.{Masks};
 
-    ghost Value = { Map };
+    ghost Value = { Masks };
 
-    ghost view = { λ m. map_of m.readers.items m.writers.items m.senders };
+    ghost view = { λ m. record { readers = m.readers.items; writers = m.writers.items; senders = m.senders } };
 }
 
 /// What a turn touches that the map does not let it.
@@ -110,63 +110,63 @@ impl TouchMap {
 
     /// The harts that may read a word, as the bits of a number.
     pub fn readers(&self, word: u64) -> u8
-        ensures { (h : ℕ) → IsTrue (self.now.reads h word) ↔ Has h result }
+        ensures { (h : ℕ) → IsTrue ((map_of self.now).reads h word) ↔ Has h result }
     {
         mask(self.readers.as_slice(), word)
     }
 
     /// The harts that may write a word, as the bits of a number.
     pub fn writers(&self, word: u64) -> u8
-        ensures { (h : ℕ) → IsTrue (self.now.writes h word) ↔ Has h result }
+        ensures { (h : ℕ) → IsTrue ((map_of self.now).writes h word) ↔ Has h result }
     {
         mask(self.writers.as_slice(), word)
     }
 
     /// The harts that may send to a hart, as the bits of a number.
     pub fn senders(&self, target: HartId) -> u8
-        ensures { (h : ℕ) → IsTrue (self.now.sends h target) ↔ Has h result }
+        ensures { (h : ℕ) → IsTrue ((map_of self.now).sends h target) ↔ Has h result }
     {
         self.senders[target.index()]
     }
 
     /// Whether a hart may read a word.
     pub fn may_read(&self, hart: HartId, word: u64) -> bool
-        ensures { result ≡ true → IsTrue (self.now.reads hart word) }
+        ensures { result ≡ true → IsTrue ((map_of self.now).reads hart word) }
     {
         has(self.readers(word), hart)
     }
 
     /// Whether a hart may write a word.
     pub fn may_write(&self, hart: HartId, word: u64) -> bool
-        ensures { result ≡ true → IsTrue (self.now.writes hart word) }
+        ensures { result ≡ true → IsTrue ((map_of self.now).writes hart word) }
     {
         has(self.writers(word), hart)
     }
 
     /// Whether a hart may send an interrupt to another.
     pub fn may_send(&self, by: HartId, target: HartId) -> bool
-        ensures { result ≡ true → IsTrue (self.now.sends by target) }
+        ensures { result ≡ true → IsTrue ((map_of self.now).sends by target) }
     {
         has(self.senders(target), by)
     }
 
     /// Whether no other hart may read a word.
     pub fn reads_alone(&self, hart: HartId, word: u64) -> bool
-        ensures { result ≡ true → ReadsAlone self.now hart word }
+        ensures { result ≡ true → ReadsAlone (map_of self.now) hart word }
     {
         is_alone(self.readers(word), hart)
     }
 
     /// Whether no other hart may write a word.
     pub fn writes_alone(&self, hart: HartId, word: u64) -> bool
-        ensures { result ≡ true → WritesAlone self.now hart word }
+        ensures { result ≡ true → WritesAlone (map_of self.now) hart word }
     {
         is_alone(self.writers(word), hart)
     }
 
     /// Whether no other hart may send to a hart.
     pub fn hears_none(&self, hart: HartId) -> bool
-        ensures { result ≡ true → HearsNone self.now hart }
+        ensures { result ≡ true → HearsNone (map_of self.now) hart }
     {
         is_alone(self.senders(hart), hart)
     }
