@@ -3,12 +3,12 @@ use Rattle.std.proofs.Common.{ℕ, Bool, true, false, IsTrue, List, ◌≡◌, �
 use Rattle.std.specs.Prelude.{get_or, slice_set, Ok}
 use Rattle.std.proofs.lemmas.List.{ext_get_or}
 use Rattle.board_model.specs.Shapes.{Size}
-use Rattle.board_model.specs.declared.durable.Reason.{Reason}
 use Rattle.hart.specs.State.{ArchState, never_started}
 use Rattle.hart.specs.Means.{Steps}
 use Rattle.hart.specs.declared.Outcome.{Outcome}
 use Rattle.hart.specs.declared.Outcome.TheVariants.{Next}
 use Rattle.hart.proofs.Decided.{unless, same_number}
+use Rattle.hart.proofs.Numbered.{step_keeps as number_kept}
 use Rattle.hsm.specs.States.{started}
 use Rattle.hsm.specs.Views.{listed}
 use Rattle.rv_decode.specs.declared.instr.Instr.TheVariants as instr
@@ -17,18 +17,15 @@ use Rattle.sbi_calls.specs.Requests.{request_of}
 use Rattle.sbi_calls.specs.Both.{TableState}
 use Rattle.susp.specs.declared.buses.Doze.{Doze}
 use Rattle.turns.specs.Turns.{has_pending}
-use Rattle.machine.specs.Machine.{Machine, hart_at}
-use Rattle.model_board.specs.Boards.{Board, On}
+use Rattle.machine.specs.Machine.{Machine}
 use Rattle.model_board.specs.Touches.{WritesWord}
 use Rattle.model_board.specs.Footprints.{Covers}
 use Rattle.model_board.specs.Masks.{MaySend, IsAloneBy}
-use Rattle.model_board.specs.Maps.{Map, StepKeeps, KeepsMap, TurnKeeps, StepsAlone, MovesAlone, MovesTo, Local, moved}
-use Rattle.model_board.specs.Plain.{IsPlain, board_shown}
+use Rattle.model_board.specs.Maps.{Map, StepKeeps, StepsAlone, MovesTo}
+use Rattle.model_board.specs.Plain.{IsPlain}
 use Rattle.model_board.specs.declared.footprints.Footprint.{Footprint}
-use Rattle.model_board.specs.declared.powers.Power.{Power}
-use Rattle.model_board.specs.declared.powers.Power.TheVariants as powers
 use Rattle.model_board.proofs.Frames.{step_long, step_changes}
-use Rattle.model_board.proofs.Kept.{shown}
+use Rattle.model_board.proofs.Kept.{shown, hart_is, number_is}
 
 -- ---- by its footprint
 pub keeps_by : (map : Map) (h : ℕ) (size : Size) (p : Bool) (s : ArchState) (m : List ℕ) (f : Footprint) → Covers p s m f → ((k : ℕ) → f.fetched ≡ Some k → IsTrue (map.reads h k)) → ((k : ℕ) → f.loaded ≡ Some k → IsTrue (map.reads h k)) → ((k : ℕ) → f.stored ≡ Some k → IsTrue (map.writes h k))
@@ -70,18 +67,14 @@ module _ (map : Map) (size : Size) (memory : List ℕ) (doze : Option Doze) (har
   inside : h < length harts
   inside = subst (λ (k : ℕ). h < k) (sym p.long) (subst (λ (m : Machine). h < m.size.harts) (sym view) below)
 
-  keeps_shown : (listed table.states h ≡ started → StepKeeps map h size (has_pending h table.pairs) (get_or harts h (never_started h)) memory) → KeepsMap map h (shown size memory doze harts table)
-  keeps_shown step = record {
-    numbered = p.numbered h inside;
-    step = subst (λ (i : ℕ). listed table.states i ≡ started → StepKeeps map h size (has_pending i table.pairs) (get_or harts h (never_started h)) memory) (sym (p.numbered h inside)) step;
-  }
-
-  pub machine_keeps : (listed table.states h ≡ started → StepKeeps map h size (has_pending h table.pairs) (get_or harts h (never_started h)) memory) → KeepsMap map h old
-  machine_keeps step = subst (λ (m : Machine). KeepsMap map h m) view (keeps_shown step)
-
-  pub machine_moves : (i : ℕ) (y : ArchState) (n : List ℕ) → i ≡ h → doze ≡ None → listed table.states h ≡ started → StepsAlone map h (has_pending h table.pairs) (get_or harts h (never_started h)) memory y n → y ≢ get_or harts h (never_started h)
+  pub machine_moves : (i : ℕ) (x y : ArchState) (n : List ℕ) (pending : Bool) → i ≡ h → x ≡ get_or harts i x → old.doze ≡ None → listed table.states h ≡ started → pending ≡ has_pending h table.pairs → StepsAlone map x.id pending x memory y n → y ≢ x
       → MovesTo map h old (shown size n doze (slice_set harts i y) table)
-  machine_moves i y n at awake runs alone moves =
+  machine_moves i x y n pending at found awake runs asked alone moves =
+      let e : x ≡ get_or harts h (never_started h) = hart_is harts i h x at inside found in
+      let numbered : x.id ≡ h = number_is harts i h x p.numbered at inside found in
+      let here : StepsAlone map h (has_pending h table.pairs) (get_or harts h (never_started h)) memory y n =
+      subst (λ (s : ArchState). StepsAlone map h (has_pending h table.pairs) s memory y n) e
+      (subst (λ (q : Bool). StepsAlone map h q x memory y n) asked (subst (λ (k : ℕ). StepsAlone map k pending x memory y n) numbered alone)) in
       subst (λ (m : Machine). MovesTo map h m (shown size n doze (slice_set harts i y) table)) view (
         y,
         n,
@@ -89,19 +82,23 @@ module _ (map : Map) (size : Size) (memory : List ℕ) (doze : Option Doze) (har
           numbered = p.numbered h inside;
           known = inside;
           counted = subst (λ (m : Machine). h < m.size.harts) (sym view) below;
-          awake = awake;
+          awake = subst (λ (m : Machine). m.doze ≡ None) (sym view) awake;
           runs = subst (λ (k : ℕ). listed table.states k ≡ started) (sym (p.numbered h inside)) runs;
-          alone = subst (λ (k : ℕ). StepsAlone map h (has_pending k table.pairs) (get_or harts h (never_started h)) memory y n) (sym (p.numbered h inside)) alone;
-          changes = λ same _. moves same;
+          alone = subst (λ (k : ℕ). StepsAlone map h (has_pending k table.pairs) (get_or harts h (never_started h)) memory y n) (sym (p.numbered h inside)) here;
+          changes = λ same _. moves (same ∙ sym e);
         },
         ap (λ (k : ℕ). shown size n doze (slice_set harts k y) table) at,
       )
 
--- ---- of a board
-pub board_keeps : (map : Map) (h : ℕ) (power : Power) (reason : Reason) (down : Bool) (m : Machine) (b : Board) → board_shown power reason down m ≡ b → power ≡ powers.On → KeepsMap map h m → TurnKeeps map h b
-board_keeps map h power reason down m b view on keeps =
-    subst (λ (c : Board). TurnKeeps map h c) view (subst (λ (x : Power). TurnKeeps map h (board_shown x reason down m)) (sym on) keeps)
+-- whether such a step was made or nothing changed, the hart has its number and the memory its size
+pub record Stays (x y : ArchState) (m n : List ℕ) : Type 0 where
+  pub number : y.id ≡ x.id
+  pub memory : length n ≡ length m
 
-pub board_moves : (map : Map) (h : ℕ) (power : Power) (reason : Reason) (down : Bool) (m m' : Machine) (b : Board) → board_shown power reason down m ≡ b → power ≡ powers.On → MovesTo map h m m' → Local map h b (board_shown power reason down m')
-board_moves map h power reason down m m' b view on x =
-    subst (λ (c : Board). Local map h c (board_shown power reason down m')) view (subst (λ (q : Power). Local map h (board_shown q reason down m) (board_shown q reason down m')) (sym on) (x.0, x.1, x.2, ap (λ (n : Machine). record { machine = n; stands = record { reason = reason; image = None }; down = down }) x.3))
+pub alone_stays : (map : Map) (h : ℕ) (p : Bool) (x y : ArchState) (m n : List ℕ) (made : Bool) → (made ≡ true → StepsAlone map h p x m y n) → (made ≡ false → (y ≡ x) × (n ≡ m)) → Stays x y m n
+alone_stays map h p x y m n true alone stays =
+    let step = (alone refl).step in
+    record { number = number_kept p x y m n Next step; memory = step_long p x y m n Next step }
+alone_stays map h p x y m n false alone stays =
+    let same = stays refl in
+    record { number = ap (λ (s : ArchState). s.id) same.0; memory = ap (λ (b : List ℕ). length b) same.1 }

@@ -1,5 +1,7 @@
 -- The harts of a mask.
-use Rattle.std.proofs.Common.{ℕ, ◌≡◌, ◌≢◌, ◌*◌, ◌%◌, ◌^◌, ◌<◌, ◌≤◌, ap, ◌∙◌, arith}
+use Rattle.std.proofs.Common.{ℕ, ◌≡◌, ◌≢◌, ◌*◌, ◌%◌, ◌^◌, ◌<◌, ◌≤◌, ap, ◌∙◌, arith, refl, inl, inr, Bool, true, false, true≢false}
+use Rattle.std.specs.Prelude.{not}
+use Rattle.std.proofs.lemmas.Bool.{cases_lt}
 use Rattle.std.specs.Int.{bit_at}
 use Rattle.std.proofs.lemmas.Nat.{pow_below}
 use Rattle.std.proofs.lemmas.Nat.Bits.{bit_at-zero, bit_at-pow_other, bit_at_above}
@@ -16,8 +18,16 @@ one_alone mask h g low e ne has =
     let none : bit_at mask g ≡ 0 = ap (λ (n : ℕ). bit_at n g) is ∙ bit_at-pow_other h g ne in
     omega (arith, has, none)
 
--- a set of harts has none from 8 on
-pub none_above : (targets t : ℕ) → targets < 256 → 8 ≤ t → bit_at targets t ≡ 1 → ⊥
-none_above targets t few high has =
-    let none : bit_at targets t ≡ 0 = bit_at_above targets 8 t few high in
-    omega (arith, has, none)
+-- a set of harts that fits 8 bits has none from 8 on
+pub of_eight : (targets t : ℕ) → targets % 2 ^ 8 ≡ targets → bit_at targets t ≡ 1 → t < 8
+of_eight targets t few has =
+    elim (cases_lt t 8) [
+      | inl low ↦ low
+      | inr high ↦ (
+          let none : bit_at targets t ≡ 0 = bit_at_above targets 8 t (omega (arith, few)) high in
+          omega (arith, has, none))
+    ]
+
+pub on : (b : Bool) → not b ≡ false → b ≡ true
+on true e = refl
+on false e = absurd (true≢false e)

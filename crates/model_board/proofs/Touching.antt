@@ -1,11 +1,11 @@
 -- A footprint has all that a step touches.
-use Rattle.std.proofs.Common.{ℕ, ℤ, Bool, true, false, IsTrue, List, ◌≡◌, ◌≢◌, ◌⊎◌, ◌+◌, ◌%◌, ◌<◌, ◌≤◌, length, refl, sym, ap, ◌∙◌, subst, inl, inr, if◌then◌else◌, eq-eqb, Option, Some, None, true≢false}
+use Rattle.std.proofs.Common.{ℕ, ℤ, Bool, true, false, IsTrue, List, ◌≡◌, ◌≢◌, ◌⊎◌, ◌+◌, ◌*◌, ◌/◌, ◌%◌, ◌<◌, ◌≤◌, length, refl, sym, ap, ◌∙◌, subst, inl, inr, if◌then◌else◌, eq-eqb, Option, Some, None, true≢false}
 use Rattle.std.specs.Prelude.{◌==◌, ◌&&◌, nat_le}
 use Rattle.std.proofs.lemmas.Bool.{le-leb}
 use Rattle.hart.specs.State.{ArchState, reg}
-use Rattle.hart.specs.Csrs.{csr_number}
+use Rattle.hart.specs.Csrs.{csr_number, csr_read, flag}
 use Rattle.hart.specs.Means.{sum, load_bytes, store_bytes, word_at, Interrupts}
-use Rattle.hart.specs.declared.csr.Csr.TheVariants.{Sip}
+use Rattle.hart.specs.declared.csr.Csr.TheVariants.{Sip, Sstatus, Sie}
 use Rattle.hart.proofs.Obeyed.{HasOne}
 use Rattle.ram.specs.Memory.{RefusesAccess}
 use Rattle.ram.specs.declared.Access.{Access}
@@ -16,6 +16,7 @@ use Rattle.rv_decode.specs.declared.instr.Instr.TheVariants as instr
 use Rattle.rv_decode.specs.declared.ops.SystemOp.TheVariants as system
 use Rattle.model_board.specs.Touches.{word_of, Fetches, ComesTo, Accesses, LoadsWord, ReadsWord, WritesWord, AccessesSip, IsOpen, ReadsPending}
 use Rattle.model_board.specs.Footprints.{accessed, touch_read, quiet, footprint_at, Covers}
+use Rattle.model_board.specs.declared.footprints.Footprint.{Footprint}
 use Rattle.model_board.specs.declared.footprints.Touch.{Touch}
 use Rattle.model_board.specs.declared.footprints.Touch.TheVariants as touch
 
@@ -60,12 +61,12 @@ opened_at (touch.Exchanges false) m k = refl
 opened_at touch.Calls m k = refl
 
 both : (b : Bool) → b ≡ true → b ≡ false → ⊥
-both b yes no = true≢false (sym yes ∙ no)
+both b p q = true≢false (sym p ∙ q)
 
 -- what is pending is asked where interrupts are open
 asked_at : (t : Touch) (m : List ℕ) (k : ℕ) (opened : Bool) (s : ArchState) → (opened ≡ false → IsOpen s → ⊥) → (footprint_at t m k opened).pending ≡ false → IsOpen s → ⊥
-asked_at t m k true s no e o = both (footprint_at t m k true).pending (opened_at t m k) e
-asked_at t m k false s no e o = no refl o
+asked_at t m k true s never e o = both (footprint_at t m k true).pending (opened_at t m k) e
+asked_at t m k false s never e o = never refl o
 
 module _ (one : HasOne) (p : Bool) (s : ArchState) (m : List ℕ) (d : Option Instr) (reads : Reads d (word_at m s.pc)) where
   load_at : (opened : Bool) (k : ℕ) → LoadsWord p s m k → (footprint_at (touch_read d s) m (word_of s.pc) opened).loaded ≡ Some k
@@ -95,11 +96,11 @@ module _ (one : HasOne) (p : Bool) (s : ArchState) (m : List ℕ) (d : Option In
       subst (λ (i : Option Instr). (footprint_at (touch_read i s) m (word_of s.pc) opened).calls ≡ true) (sym e) refl
 
   pub covers_at : (opened : Bool) → (opened ≡ false → IsOpen s → ⊥) → Covers p s m (footprint_at (touch_read d s) m (word_of s.pc) opened)
-  covers_at opened no = record {
+  covers_at opened never = record {
     reads = λ k r. elim r [ inl f ↦ inl (fetched_at (touch_read d s) m (word_of s.pc) opened ∙ ap (λ (w : ℕ). Some w) (sym f.1)) | inr x ↦ inr (load_at opened k x) ];
     writes = λ k w. store_at opened k w;
     interrupts = λ e. absurd (both _ e (calm_at (touch_read d s) m (word_of s.pc) opened));
-    pending = λ e r. elim r [ inl o ↦ asked_at (touch_read d s) m (word_of s.pc) opened s no e o | inr x ↦ both _ (sip_at opened x) e ];
+    pending = λ e r. elim r [ inl o ↦ asked_at (touch_read d s) m (word_of s.pc) opened s never e o | inr x ↦ both _ (sip_at opened x) e ];
     calls = λ e c. both _ (call_at opened c) e;
   }
 
@@ -109,13 +110,37 @@ refused_fetch p s m Misaligned x f = x f.aligned
 refused_fetch p s m Outside x f = x.1 f.inside
 
 pub taken_fetch : (p : Bool) (s : ArchState) (m : List ℕ) → IsTrue p → IsOpen s → Fetches p s m → ⊥
-taken_fetch p s m yes o f = f.calm (yes, o.0, o.1)
+taken_fetch p s m is o f = f.calm (is, o.0, o.1)
 
 pub covers_quiet : (p : Bool) (s : ArchState) (m : List ℕ) (opened interrupts : Bool) → (Fetches p s m → ⊥) → (interrupts ≡ true → IsTrue p × IsOpen s) → (opened ≡ false → IsOpen s → ⊥) → Covers p s m (quiet opened interrupts)
-covers_quiet p s m opened interrupts none taken no = record {
+covers_quiet p s m opened interrupts none taken never = record {
   reads = λ k r. elim r [ inl f ↦ absurd (none f.0) | inr x ↦ absurd (none x.comes.fetches) ];
   writes = λ k w. absurd (none w.comes.fetches);
   interrupts = taken;
-  pending = λ e r. elim r [ inl o ↦ no e o | inr x ↦ elim x.comes [ inl c ↦ none c.fetches | inr c ↦ none c.fetches ] ];
+  pending = λ e r. elim r [ inl o ↦ never e o | inr x ↦ elim x.comes [ inl c ↦ none c.fetches | inr c ↦ none c.fetches ] ];
   calls = λ e c. none c.fetches;
 }
+
+-- an instruction that was fetched
+pub covers_found : HasOne → (p : Bool) (s : ArchState) (m n : List ℕ) (d : Option Instr) (pc : ℕ) (t : Touch) (f : Footprint) (opened : Bool) → n ≡ m → pc ≡ s.pc → Reads d (word_at m pc) → t ≡ touch_read d s → f ≡ footprint_at t n (word_of pc) opened → (opened ≡ false → IsOpen s → ⊥) → Covers p s m f
+covers_found one p s m n d pc t f opened same at reads touches is never =
+    let found : Reads d (word_at m s.pc) = subst (λ (a : ℕ). Reads d (word_at m a)) at reads in
+    let here : f ≡ footprint_at (touch_read d s) m (word_of s.pc) opened = is ∙ (ap (λ (x : Touch). footprint_at x n (word_of pc) opened) touches ∙ (ap (λ (b : List ℕ). footprint_at (touch_read d s) b (word_of pc) opened) same ∙ ap (λ (a : ℕ). footprint_at (touch_read d s) m (word_of a) opened) at)) in
+    subst (λ (g : Footprint). Covers p s m g) (sym here) (covers_at one p s m d found opened never)
+
+-- ---- whether interrupts are open
+status_bit : (a b : Bool) → ((256 + 2 * flag a + 32 * flag b) / 2 % 2 == 1) ≡ a
+status_bit true true = refl
+status_bit true false = refl
+status_bit false true = refl
+status_bit false false = refl
+
+sie_bit : (a : Bool) → (2 * flag a / 2 % 2 == 1) ≡ a
+sie_bit true = refl
+sie_bit false = refl
+
+pub status_open : (s : ArchState) (r : Bool) → r ≡ (csr_read Sstatus s false / 2 % 2 == 1) → r ≡ s.interrupts
+status_open s r e = e ∙ status_bit s.interrupts s.spie
+
+pub sie_open : (s : ArchState) (r : Bool) → r ≡ (csr_read Sie s false / 2 % 2 == 1) → r ≡ s.ssie
+sie_open s r e = e ∙ sie_bit s.ssie

@@ -1,6 +1,6 @@
 //! Whether the next step of a hart keeps a map, and steps that are local by it.
 
-ghost use Rattle.std.specs.Prelude.{◌≡◌, ◌≢◌, ◌⊎◌, ℕ, true, false, IsTrue, IsOk, Some, Ok};
+ghost use Rattle.std.specs.Prelude.{◌≡◌, ◌≢◌, ◌⊎◌, ℕ, ◌<◌, true, false, IsTrue, IsOk, Some, Ok};
 ghost use Rattle.board_model.specs.HartSets.{Has};
 ghost use Rattle.hart.specs.Means.{Steps};
 ghost use Rattle.sbi_abi.specs.Calls.{call_of};
@@ -48,6 +48,14 @@ fn check_write(map: &TouchMap, hart: HartId, word: Option<u64>) -> Result<(), Br
     }
 }
 
+/// Whether the harts of a set are of the eight that there may be. They always are, which no contract of the set says.
+#[tactic(auto, using(crate::proofs::Masked::of_eight))]
+fn is_of_eight(targets: HartSet) -> bool
+    ensures { result ≡ true → (t : ℕ) → Has t targets → t < 8 }
+{
+    targets.below(8) == targets
+}
+
 /// The hart may send to each of those.
 fn check_targets(map: &TouchMap, hart: HartId, targets: HartSet) -> Result<(), Break>
     ensures { IsOk result → (t : ℕ) → Has t targets → IsTrue ((map_of map.now).sends hart t) }
@@ -58,7 +66,11 @@ fn check_targets(map: &TouchMap, hart: HartId, targets: HartSet) -> Result<(), B
             return Err(Break::Sends(target));
         }
     }
-    Ok(())
+    if is_of_eight(targets) {
+        Ok(())
+    } else {
+        Err(Break::Sends(hart))
+    }
 }
 
 /// What a request sends, it may.
@@ -143,10 +155,28 @@ fn is_sure(footprint: &Footprint, map: &TouchMap, hart: HartId) -> bool
 fn is_local(footprint: &Footprint, map: &TouchMap, hart: HartId) -> bool
     ensures { result ≡ true → IsAloneBy (map_of map.now) hart footprint.now }
 {
-    is_read_alone(map, hart, footprint.fetched)
-        && is_read_alone(map, hart, footprint.loaded)
-        && is_written_alone(map, hart, footprint.stored)
-        && is_sure(footprint, map, hart)
+    if !is_read_alone(map, hart, footprint.fetched) {
+        return false;
+    }
+    if !is_read_alone(map, hart, footprint.loaded) {
+        return false;
+    }
+    if !is_written_alone(map, hart, footprint.stored) {
+        return false;
+    }
+    is_sure(footprint, map, hart)
+}
+
+/// Whether a step that was made from one pc to another asks nothing, and the hart stands at another instruction after it.
+fn goes_on(outcome: Outcome, from: u64, to: u64) -> bool
+    ensures goes { result ≡ true → (outcome ≡ Outcome.Next) × (to ≢ from) }
+    ensures stays { result ≡ false → outcome ≡ Outcome.Next → to ≡ from }
+{
+    match outcome {
+        Outcome::Next => to != from,
+        Outcome::Ecall => false,
+        Outcome::TakePending => false,
+    }
 }
 
 /// Makes a step that asks nothing of the firmware and after which the hart stands at another instruction. Whether it did; if
@@ -157,11 +187,8 @@ fn step_on(hart: &mut Hart, ram: &mut Ram, pending: bool) -> bool
     ensures stays { result ≡ false → (hart.new ≡ hart.old) × (ram.new ≡ ram.old) }
 {
     let before = hart.copy();
-    let moved = match hart.step(ram, pending) {
-        Outcome::Next => hart.pc() != before.pc(),
-        Outcome::Ecall => false,
-        Outcome::TakePending => false,
-    };
+    let outcome = hart.step(ram, pending);
+    let moved = goes_on(outcome, before.pc(), hart.pc());
     if !moved {
         *hart = before;
     }

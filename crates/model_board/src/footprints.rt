@@ -12,7 +12,7 @@ ghost use Rattle.model_board.specs.Touches.{IsOpen};
 use board_model::RAM_BASE;
 use hart::Hart;
 use ram::Ram;
-use rv_decode::{CsrNumber, FlatInstr, FlatOp};
+use rv_decode::{CsrNumber, FlatInstr, FlatOp, one_reading};
 
 /// What the next step of a hart touches, by the hart and the memory before it. Words are numbered from the start of RAM, 8
 /// bytes each.
@@ -177,7 +177,10 @@ pub fn footprint_of(hart: &Hart, ram: &mut Ram, pending: bool) -> Footprint
     }
     let pc = hart.pc();
     match ram.flat_instr(pc) {
-        Ok(flat) => with_word(touched(hart, flat), ram, (pc - RAM_BASE) / 8, opened),
+        Ok(flat) => {
+            one_reading();
+            with_word(touched(hart, flat), ram, (pc - RAM_BASE) / 8, opened)
+        }
         Err(_) => quiet(opened, false),
     }
 }

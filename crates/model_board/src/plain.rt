@@ -272,17 +272,31 @@ impl PlainMachine {
         step_keeps(own, &mut self.bus.ram, &self.shape, pending, map)
     }
 
+    /// Makes the next turn of a hart of a board that does not doze where it is local by the map. Whether it did; if not, nothing
+    /// changes.
+    fn own_alone(&mut self, hart: HartId, map: &TouchMap) -> bool
+        requires known { hart < self.old.size.harts }
+        requires awake { self.old.doze ≡ None }
+        ensures local { result ≡ true → MovesTo (map_of map.now) hart self.old self.new }
+        ensures stays { result ≡ false → self.new ≡ self.old }
+    {
+        if !self.tables.is_started(hart) {
+            return false;
+        }
+        let pending = self.tables.is_pending(hart);
+        let own = &mut self.harts[hart.index()];
+        step_alone(own, &mut self.bus.ram, pending, map)
+    }
+
     /// Makes the next turn of a hart where it is local by the map. Whether it did; if not, nothing changes.
     pub fn move_alone(&mut self, hart: HartId, map: &TouchMap) -> bool
         requires { hart < self.old.size.harts }
         ensures local { result ≡ true → MovesTo (map_of map.now) hart self.old self.new }
         ensures stays { result ≡ false → self.new ≡ self.old }
     {
-        if self.bus.doze.is_some() || !self.tables.is_started(hart) {
-            return false;
+        match self.bus.doze {
+            Some(_) => false,
+            None => self.own_alone(hart, map),
         }
-        let pending = self.tables.is_pending(hart);
-        let own = &mut self.harts[hart.index()];
-        step_alone(own, &mut self.bus.ram, pending, map)
     }
 }
