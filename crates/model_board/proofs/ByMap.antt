@@ -1,6 +1,6 @@
 -- A step that keeps a map, and one that is local by it, by its footprint; and what such a step makes of a machine and a board.
-use Rattle.std.proofs.Common.{ℕ, Bool, true, false, IsTrue, List, ◌≡◌, ◌≢◌, ◌⊎◌, ◌+◌, ◌%◌, ◌^◌, ◌<◌, ◌≤◌, length, slice_index, refl, sym, ap, ◌∙◌, subst, inl, inr, Option, Some, None, arith}
-use Rattle.std.specs.Prelude.{get_or, slice_set, Ok}
+use Rattle.std.proofs.Common.{ℕ, Bool, true, false, IsTrue, List, ◌≡◌, ◌≢◌, ◌⊎◌, ◌+◌, ◌%◌, ◌^◌, ◌<◌, length, slice_index, refl, sym, ap, ◌∙◌, subst, inl, inr, Option, Some, None, arith}
+use Rattle.std.specs.Prelude.{get_or, slice_set}
 use Rattle.std.proofs.lemmas.List.{ext_get_or}
 use Rattle.board_model.specs.Shapes.{Size}
 use Rattle.hart.specs.State.{ArchState, never_started}

@@ -1,5 +1,5 @@
 -- What a turn that keeps a map leaves of the memory.
-use Rattle.std.proofs.Common.{ℕ, Bool, true, false, List, ◌≡◌, ◌/◌, length, slice_index, refl, sym, ap, ◌∙◌, subst, Option, Some, None}
+use Rattle.std.proofs.Common.{ℕ, Bool, true, false, List, ◌≡◌, ◌/◌, length, slice_index, refl, sym, ap, subst, Option, Some, None}
 use Rattle.board_model.specs.Shapes.{Size}
 use Rattle.hart.specs.State.{ArchState}
 use Rattle.hart.specs.Means.{Steps}

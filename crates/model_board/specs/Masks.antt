@@ -1,6 +1,6 @@
 -- A map whose harts are the bits of numbers: of one for each word, and of one for each hart that is sent to. What a footprint
 -- and a request have by a map.
-use Rattle.std.specs.Prelude.{◌≡◌, ◌⊎◌, ℕ, ◌==◌, List, slice_index, true, false, IsTrue, Some, Ok, Err}
+use Rattle.std.specs.Prelude.{◌≡◌, ◌⊎◌, ℕ, ◌==◌, List, slice_index, true, false, IsTrue, Some, Ok}
 use Rattle.std.specs.Int.{bit_at}
 use Rattle.board_model.specs.HartSets.{Has}
 use Rattle.sbi_calls.specs.Requests.{Checked}
