@@ -13,3 +13,7 @@ pub mod Begins
 pub mod Unread
 pub mod UnreadEvents
 pub mod UnreadTouches
+pub mod Touching
+pub mod ByMap
+pub mod Outside
+pub mod Masked

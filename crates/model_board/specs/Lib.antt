@@ -5,3 +5,5 @@ pub mod Touches
 pub mod Maps
 pub mod Plain
 pub mod Registers
+pub mod Footprints
+pub mod Masks

@@ -1,6 +1,6 @@
 -- A fixed map of which hart may read and write which word, and send an interrupt to which; turns that keep it, and turns
 -- that are local by it.
-use Rattle.std.specs.Prelude.{◌≡◌, ◌≢◌, ◌⊎◌, ℕ, ◌<◌, Bool, IsTrue, List, None, length, slice_set}
+use Rattle.std.specs.Prelude.{◌≡◌, ◌≢◌, ◌⊎◌, ℕ, ◌/◌, ◌<◌, Bool, IsTrue, List, None, length, slice_index, slice_set}
 use Rattle.board_model.specs.Shapes.{Size}
 use Rattle.hart.specs.State.{ArchState}
 use Rattle.hart.specs.Means.{Steps}
@@ -89,6 +89,10 @@ pub record MovesAlone (map : Map) (h : ℕ) (m : Machine) (t : ArchState) (n : L
   pub alone : StepsAlone map h (pending_at h m) (hart_at m h) m.memory t n
   pub changes : t ≡ hart_at m h → n ≡ m.memory → ⊥
 
+-- the machine is another after such a turn
+abbrev pub MovesTo : Map → ℕ → Machine → Machine → Type 0
+MovesTo map h m m' = (t : ArchState) × (n : List ℕ) × MovesAlone map h m t n × (m' ≡ moved h t n m)
+
 abbrev pub IsLocal : Map → ℕ → Life → Life → Type 0
 IsLocal map h l l' =
     (t : ArchState) × (n : List ℕ) × MovesAlone map h l.machine t n
@@ -100,3 +104,9 @@ Local map h (On l) (Off s) = ⊥
 Local map h (On l) (Ended s) = ⊥
 Local map h (Off s) b = ⊥
 Local map h (Ended s) b = ⊥
+
+-- ---- memory
+-- the memory n is m but for words that some hart may write by the map
+pub record SameOutside (map : Map) (m n : List ℕ) : Type 0 where
+  pub long : length n ≡ length m
+  pub same : (j : ℕ) → ((g : ℕ) → IsTrue (map.writes g (j / 8)) → ⊥) → slice_index n j ≡ slice_index m j

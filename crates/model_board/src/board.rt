@@ -1,17 +1,20 @@
 //! A model board, with what may happen to it.
 
-ghost use Rattle.std.specs.Prelude.{◌≡◌, ◌<◌, ◌≤◌, ℕ, List, Bool, true, false, None, Err, length, IfOk, OnErr};
+ghost use Rattle.std.specs.Prelude.{◌≡◌, ◌<◌, ◌≤◌, ℕ, List, Bool, true, false, None, Err, length, IsOk, IfOk, OnErr};
 ghost use Rattle.board_model.specs.Shapes.{ram_bytes_of};
 ghost use Rattle.board_model.specs.declared.refusal.Refusal.TheVariants.{Memory};
 ghost use Rattle.machine.specs.Machine.{Machine};
 ghost use Rattle.model_board.specs.Boards.{Board as AnyBoard, Life, On, Off, powered_by};
 ghost use Rattle.model_board.specs.Events.{Does, Turn, Refused, Wake, Cut, PowerOn};
 ghost use Rattle.model_board.specs.Held.{with_hart};
+ghost use Rattle.model_board.specs.Maps.{TurnKeeps, Local};
+ghost use Rattle.model_board.specs.Masks.{map_of};
 ghost use Rattle.model_board.specs.Plain.{Sized, IsKnown, HasSleeper, board_shown, board_after, life_of, image_at, standing, status_of, changed};
 
 use crate::holds::{Settled, turn_by, turn_refused};
 use crate::plain::PlainMachine;
 use crate::powers::{Power, Status};
+use crate::touches::{Break, TouchMap};
 use board_model::{HartId, Reason, Refusal, Shape};
 use hart::Hart;
 use sbi::ResetType;
@@ -205,6 +208,33 @@ impl Board {
             Power::On => self.machine.set_hart(hart),
             Power::Off(_) => {}
             Power::Ended => {}
+        }
+    }
+
+    /// Whether what the next turn of a hart touches, it may by the map.
+    pub fn keeps(&mut self, hart: HartId, map: &TouchMap) -> Result<(), Break>
+        requires { hart < self.old.size.harts }
+        ensures same { self.new ≡ self.old }
+        ensures keeps { IsOk result → TurnKeeps (map_of map.now) hart self.old.board }
+    {
+        match self.power {
+            Power::On => self.machine.keeps(hart, map),
+            Power::Off(_) => Ok(()),
+            Power::Ended => Ok(()),
+        }
+    }
+
+    /// Makes the next turn of a hart where it is local by the map. Whether it did; if not, nothing changes.
+    pub fn move_alone(&mut self, hart: HartId, map: &TouchMap) -> bool
+        requires { hart < self.old.size.harts }
+        ensures local { result ≡ true → Local (map_of map.now) hart self.old.board self.new.board }
+        ensures stays { result ≡ false → self.new ≡ self.old }
+        ensures size { self.new.size ≡ self.old.size }
+    {
+        match self.power {
+            Power::On => self.machine.move_alone(hart, map),
+            Power::Off(_) => false,
+            Power::Ended => false,
         }
     }
 }

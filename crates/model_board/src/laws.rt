@@ -2,9 +2,12 @@
 
 ghost use Rattle.std.specs.Prelude.{◌≡◌, ◌⊎◌, ℕ, List};
 ghost use Rattle.board_model.specs.Shapes.{Size};
+ghost use Rattle.machine.specs.Machine.{Machine};
+ghost use Rattle.machine.specs.Turns.{MakesTurn};
+ghost use Rattle.sbi_calls.specs.declared.words.Turned.{Turned};
 ghost use Rattle.model_board.specs.Boards.{Board};
 ghost use Rattle.model_board.specs.Events.{Event, Turn, Does, IsEnd, IsOff};
-ghost use Rattle.model_board.specs.Maps.{Map, Keeps, Local};
+ghost use Rattle.model_board.specs.Maps.{Map, Keeps, KeepsMap, Local, SameOutside};
 
 /// What a local turn of a hart does, it does at any later moment too, as long as each other event keeps the map.
 ///
@@ -39,3 +42,9 @@ pub fn one_event()
 {
     machine::one_turn();
 }
+
+/// What a turn that keeps a map leaves of the memory: each byte of a word that no hart may write by the map.
+pub fn turn_outside()
+    ensures { (map : Map) (h : ℕ) (m n : Machine) (word : Turned) → KeepsMap map h m → MakesTurn h m n word
+        → SameOutside map m.memory n.memory }
+{}

@@ -2,19 +2,28 @@
 //! fails. Which of two turns may change places is said by what they touch.
 #![tactic(auto)]
 
+mod alone;
 mod board;
+mod footprints;
 mod holds;
 mod laws;
 mod plain;
 mod powers;
 mod registers;
 mod tables;
+mod touches;
 mod whole;
 
 pub use board::Board;
-pub use laws::{one_event, one_hart_moves};
+pub use laws::{one_event, one_hart_moves, turn_outside};
 pub use plain::PlainMachine;
 pub use powers::Status;
 pub use registers::unread_register;
 pub use tables::PlainTables;
+pub use touches::{Break, TouchMap};
 pub use whole::turn;
+
+#[cfg(test)]
+mod tests;
+#[cfg(test)]
+mod touch_tests;

@@ -1,6 +1,6 @@
 //! The machine of a model board: its memory, harts and tables, which can be set and taken back.
 
-ghost use Rattle.std.specs.Prelude.{◌≡◌, ◌<◌, ◌≤◌, ℕ, List, Bool, true, false, None, IfOk, OnErr, length, Err, Some, get_or};
+ghost use Rattle.std.specs.Prelude.{◌≡◌, ◌<◌, ◌≤◌, ℕ, List, Bool, true, false, None, IfOk, OnErr, length, Err, Some, get_or, IsOk};
 ghost use Rattle.board_model.specs.Shapes.{ram_bytes_of};
 ghost use Rattle.board_model.specs.declared.refusal.Refusal.TheVariants.{Memory};
 ghost use Rattle.hart.specs.State.{ArchState, never_started, answered, started as fresh};
@@ -11,9 +11,13 @@ ghost use Rattle.susp.specs.Dozes.{doze_of, dozing, can_wake};
 ghost use Rattle.turns.specs.Turns.{TurnOf, has_pending, after_take};
 ghost use Rattle.model_board.specs.Events.{woken_up};
 ghost use Rattle.model_board.specs.Held.{IsAlone, with_hart};
+ghost use Rattle.model_board.specs.Maps.{KeepsMap, MovesTo};
+ghost use Rattle.model_board.specs.Masks.{map_of};
 ghost use Rattle.model_board.specs.Plain.{begun_again, with_payload};
 
+use crate::alone::{step_alone, step_keeps};
 use crate::tables::PlainTables;
+use crate::touches::{Break, TouchMap};
 use crate::whole;
 use board_model::{HartId, RAM_BASE, Reason, Refusal, Shape};
 use hart::Hart;
@@ -251,6 +255,48 @@ impl PlainMachine {
                 true
             }
             None => false,
+        }
+    }
+
+    /// Whether what the next turn of a hart touches, it may by the map.
+    pub fn keeps(&mut self, hart: HartId, map: &TouchMap) -> Result<(), Break>
+        requires { hart < self.old.size.harts }
+        ensures same { self.new ≡ self.old }
+        ensures keeps { IsOk result → KeepsMap (map_of map.now) hart self.old }
+    {
+        if !self.tables.is_started(hart) {
+            return Ok(());
+        }
+        let pending = self.tables.is_pending(hart);
+        let own = &self.harts[hart.index()];
+        step_keeps(own, &mut self.bus.ram, &self.shape, pending, map)
+    }
+
+    /// Makes the next turn of a hart of a board that does not doze where it is local by the map. Whether it did; if not, nothing
+    /// changes.
+    fn own_alone(&mut self, hart: HartId, map: &TouchMap) -> bool
+        requires known { hart < self.old.size.harts }
+        requires awake { self.old.doze ≡ None }
+        ensures local { result ≡ true → MovesTo (map_of map.now) hart self.old self.new }
+        ensures stays { result ≡ false → self.new ≡ self.old }
+    {
+        if !self.tables.is_started(hart) {
+            return false;
+        }
+        let pending = self.tables.is_pending(hart);
+        let own = &mut self.harts[hart.index()];
+        step_alone(own, &mut self.bus.ram, pending, map)
+    }
+
+    /// Makes the next turn of a hart where it is local by the map. Whether it did; if not, nothing changes.
+    pub fn move_alone(&mut self, hart: HartId, map: &TouchMap) -> bool
+        requires { hart < self.old.size.harts }
+        ensures local { result ≡ true → MovesTo (map_of map.now) hart self.old self.new }
+        ensures stays { result ≡ false → self.new ≡ self.old }
+    {
+        match self.bus.doze {
+            Some(_) => false,
+            None => self.own_alone(hart, map),
         }
     }
 }

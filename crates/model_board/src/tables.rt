@@ -1,11 +1,11 @@
 //! The tables that harts share, as plain data that one thread sets and takes back.
 
-ghost use Rattle.std.specs.Prelude.{◌≡◌, ◌≢◌, ◌<◌, ◌≤◌, ℕ, true, false, IfOk, OnErr, length, Err, if◌then◌else◌};
+ghost use Rattle.std.specs.Prelude.{◌≡◌, ◌≢◌, ◌<◌, ◌≤◌, ℕ, true, false, IfOk, OnErr, length, Err, if◌then◌else◌, ◌↔◌, IsTrue};
 ghost use Rattle.board_model.specs.declared.refusal.Refusal.TheVariants.{Memory};
 ghost use Rattle.hsm.specs.Copies.{state_told};
 ghost use Rattle.hsm.specs.Calls.{named};
 ghost use Rattle.hsm.specs.Views.{listed};
-ghost use Rattle.hsm.specs.States.{stopped, is_stopped, grant};
+ghost use Rattle.hsm.specs.States.{stopped, started, is_stopped, grant};
 ghost use Rattle.machine.specs.Machine.{only_first, none_pending};
 ghost use Rattle.model_board.specs.Plain.{raised};
 ghost use Rattle.sbi_calls.specs.Answers.{row, with_state, pairs_sent};
@@ -80,6 +80,19 @@ impl PlainTables {
         ensures { self.new ≡ with_state self.old hart (state_told state) }
     {
         self.states[hart.index()] = state;
+    }
+
+    /// Whether a hart is STARTED.
+    pub fn is_started(&self, hart: HartId) -> bool
+        requires { hart < length self.now.states }
+        ensures { IsTrue result ↔ (listed self.now.states hart ≡ started) }
+    {
+        match self.state(hart) {
+            Standing::Started => true,
+            Standing::Stopped => false,
+            Standing::StartPending(_, _) => false,
+            Standing::Suspended => false,
+        }
     }
 
     /// Whether an interrupt is pending for a hart.

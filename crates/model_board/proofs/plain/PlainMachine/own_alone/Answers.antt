@@ -1,0 +1,13 @@
+use Rattle.std.proofs.Common.{refl}
+use Rattle.model_board.specs.Masks.{map_of}
+use Rattle.model_board.proofs.ByMap.{machine_moves, alone_stays}
+use Rattle.model_board.proofs.Kept.{plain_with}
+use Rattle.model_board.proofs.plain.PlainMachine.own_alone.Goals as goal
+
+pub invariant_of-self : goal.invariant_of-self
+invariant_of-self c =
+    let k = alone_stays (map_of c.args.map.now) _ _ _ _ _ _ _ c.step_alone.ensures.alone c.step_alone.ensures.stays in
+    plain_with _ _ _ _ _ _ _ _ _ _ _ _ c.self.view_is c.self.invariant c.index.ensures.value c.requires.known c.index_mut-own.ensures.value k.number refl k.memory
+
+pub returns-clause-local : goal.returns-clause-local
+returns-clause-local c = λ e. machine_moves (map_of c.args.map.now) _ _ _ _ _ _ _ c.self.view_is c.self.invariant c.requires.known _ _ _ _ _ c.index.ensures.value c.index_mut-own.ensures.value c.requires.awake (c.is_started.ensures.0 c.if-not-is_started.false) c.is_pending-pending.ensures (c.step_alone.ensures.alone e) (c.step_alone.ensures.moves e)
