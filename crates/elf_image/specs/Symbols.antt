@@ -3,6 +3,8 @@
 use Rattle.std.specs.Prelude.{◌≡◌, ◌≢◌, ℕ, ◌*◌, ◌/◌, ◌%◌, ◌<◌, ◌≤◌, ◌⊎◌, List, length, drop, slice_index, slice_get, Some, IsTrue, nat_eq, take_while, not, ◌==◌}
 use Rattle.std.specs.List.{starts_with}
 use Rattle.elf_image.specs.Fields.{number_at}
+use Rattle.elf_image.specs.declared.labels.Named.{Named}
+use Rattle.elf_image.specs.declared.labels.Named.TheVariants.{Code, Data}
 use Rattle.elf_image.specs.declared.symbols.Symbol.{Symbol}
 
 -- how many symbols a table has
@@ -40,22 +42,28 @@ pub record IsFirstNamed (table names name : List ℕ) (k : ℕ) : Type 0 where
   pub named : HasName names name (entry_at table k)
   pub first : (j : ℕ) → j < k → HasName names name (entry_at table j) → ⊥
 
--- The symbol names code: a function (STT_FUNC, 2), or one without a type (STT_NOTYPE, 0), as assembly's labels are, in a section
--- (st_shndx is neither SHN_UNDEF nor reserved), and neither without a name nor a mapping symbol.
-abbrev pub IsLabel : List ℕ → List ℕ → Type 0
-IsLabel names entry =
-    (0 < number_at 2 6 entry) × (number_at 2 6 entry < 65280)
-    × ((slice_index entry 4 % 16 ≡ 2) ⊎ (slice_index entry 4 % 16 ≡ 0))
-    × (slice_index (names_from names entry) 0 ≢ 0) × (slice_index (names_from names entry) 0 ≢ 36)
+-- the type of the symbols that name such things: STT_FUNC (2) and STT_OBJECT (1)
+abbrev pub type_of : Named → ℕ
+type_of Code = 2
+type_of Data = 1
 
--- symbol k names code, at or below the address
-pub record IsAtOrBelow (table names : List ℕ) (address k : ℕ) : Type 0 where
-  pub label : IsLabel names (entry_at table k)
+-- The symbol names such a thing: it has that type, or none (STT_NOTYPE, 0), as assembly's labels have none, and it is in a section
+-- (st_shndx is neither SHN_UNDEF nor reserved), and neither without a name, nor a mapping symbol, nor an assembler's own label, as .L1.
+abbrev pub IsLabel : Named → List ℕ → List ℕ → Type 0
+IsLabel named names entry =
+    (0 < number_at 2 6 entry) × (number_at 2 6 entry < 65280)
+    × ((slice_index entry 4 % 16 ≡ type_of named) ⊎ (slice_index entry 4 % 16 ≡ 0))
+    × (slice_index (names_from names entry) 0 ≢ 0) × (slice_index (names_from names entry) 0 ≢ 36)
+    × (slice_index (names_from names entry) 0 ≢ 46)
+
+-- symbol k names such a thing, at or below the address
+pub record IsAtOrBelow (named : Named) (table names : List ℕ) (address k : ℕ) : Type 0 where
+  pub label : IsLabel named names (entry_at table k)
   pub below : address_of (entry_at table k) ≤ address
 
--- no symbol of the first n that names code is nearer below the address than symbol k, and none before it is as near
-pub record IsNearest (table names : List ℕ) (address n k : ℕ) : Type 0 where
+-- no symbol of the first n that names such a thing is nearer below the address than symbol k, and none before it is as near
+pub record IsNearest (named : Named) (table names : List ℕ) (address n k : ℕ) : Type 0 where
   pub there : k < n
-  pub candidate : IsAtOrBelow table names address k
-  pub nearest : (j : ℕ) → j < n → IsAtOrBelow table names address j → address_of (entry_at table j) ≤ address_of (entry_at table k)
-  pub first : (j : ℕ) → j < k → IsAtOrBelow table names address j → address_of (entry_at table j) < address_of (entry_at table k)
+  pub candidate : IsAtOrBelow named table names address k
+  pub nearest : (j : ℕ) → j < n → IsAtOrBelow named table names address j → address_of (entry_at table j) ≤ address_of (entry_at table k)
+  pub first : (j : ℕ) → j < k → IsAtOrBelow named table names address j → address_of (entry_at table j) < address_of (entry_at table k)

@@ -2,6 +2,7 @@
 
 ghost use Rattle.std.specs.Prelude.{◌≡◌, ℕ, ◌-◌, ◌<◌, ◌≤◌, vec_len, IfOk, IfErr, OnOk, IsOk, MatchOption, MatchResult};
 ghost use Rattle.elf_image.specs.Header.{entry_of};
+ghost use Rattle.elf_image.specs.declared.labels.Named.TheVariants.{Code, Data};
 ghost use Rattle.elf_image.specs.Kernel.{IsFaulty, IsKernel, IsMisplaced};
 ghost use Rattle.elf_image.specs.Loading.{IsLoaded};
 ghost use Rattle.elf_image.specs.Program.{AreLaidOut};
@@ -11,7 +12,7 @@ ghost use Rattle.elf_image.specs.Symbols.{HasName, IsAtOrBelow, IsFirstNamed, Is
 use crate::fault::ElfFault;
 use crate::fields::u64_at;
 use crate::header::check_header;
-use crate::labels::label_at;
+use crate::labels::{Named, label_at};
 use crate::laid::laid;
 use crate::program::{check_bytes, check_program};
 use crate::reach::check_layout;
@@ -81,15 +82,30 @@ impl<'a> Elf<'a> {
     }
 
     /// The name of the nearest symbol at or below the address that names code, and how many bytes below the address it is; of several
-    /// at one address the first. Code is named by functions, and by the untyped labels of a section, but not by mapping symbols as `$x`.
+    /// at one address the first. Code is named by functions, and by the untyped labels of a section, but not by mapping symbols
+    /// as `$x`, nor by an assembler's own labels as `.L1`.
     pub fn symbol_at(&self, address: u64) -> Option<(&'a [u8], u64)>
         ensures { MatchOption result
             ((k : ℕ) → k < symbols_of self.now.tables.symbols.now
-            → IsAtOrBelow self.now.tables.symbols.now self.now.tables.names.now address k → ⊥)
-            (λ r. (k : ℕ) × IsNearest self.now.tables.symbols.now self.now.tables.names.now address (symbols_of self.now.tables.symbols.now) k
+            → IsAtOrBelow Code self.now.tables.symbols.now self.now.tables.names.now address k → ⊥)
+            (λ r. (k : ℕ) × IsNearest Code self.now.tables.symbols.now self.now.tables.names.now address (symbols_of self.now.tables.symbols.now) k
             × (r.0.now ≡ name_of self.now.tables.names.now (entry_at self.now.tables.symbols.now k))
             × (r.1 ≡ address - address_of (entry_at self.now.tables.symbols.now k))) }
     {
-        label_at(&self.tables, address)
+        label_at(Named::Code, &self.tables, address)
+    }
+
+    /// The name of the nearest symbol at or below the address that names data, and how many bytes below the address it is; of several
+    /// at one address the first. Data is named by objects, and by the untyped labels of a section, but not by mapping symbols
+    /// as `$d`, nor by an assembler's own labels as `.L1`.
+    pub fn data_at(&self, address: u64) -> Option<(&'a [u8], u64)>
+        ensures { MatchOption result
+            ((k : ℕ) → k < symbols_of self.now.tables.symbols.now
+            → IsAtOrBelow Data self.now.tables.symbols.now self.now.tables.names.now address k → ⊥)
+            (λ r. (k : ℕ) × IsNearest Data self.now.tables.symbols.now self.now.tables.names.now address (symbols_of self.now.tables.symbols.now) k
+            × (r.0.now ≡ name_of self.now.tables.names.now (entry_at self.now.tables.symbols.now k))
+            × (r.1 ≡ address - address_of (entry_at self.now.tables.symbols.now k))) }
+    {
+        label_at(Named::Data, &self.tables, address)
     }
 }

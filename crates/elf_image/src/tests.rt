@@ -85,6 +85,10 @@ fn symbols_are_those_of_nm(rt: HostRuntime) {
         }
     }
     assert!(rt; elf.symbol_at(0x7fff_ffff).is_none());
+    match elf.data_at(0x8000_0188) {
+        Some((found, far)) => assert!(rt; found == b"first_traps".as_slice() && far == 8),
+        None => rt.panic("data is not found"),
+    }
 }
 
 fn fault_of(alloc: Global, place: usize, byte: u8) -> Option<ElfFault> {
