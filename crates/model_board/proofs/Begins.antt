@@ -14,7 +14,7 @@ use Rattle.store.specs.declared.saving.Resumption.{Resumption}
 use Rattle.susp.specs.declared.buses.Doze.{Doze}
 use Rattle.model_board.specs.Boards.{Board, On, powered_by}
 use Rattle.model_board.specs.Events.{PowersOn, TurnsBy, TurnOn, RefusedOn, Asks}
-use Rattle.model_board.specs.Plain.{IsPlain, Sized, Settles, HasSleeper, IsKnown, board_shown, board_after, life_of, standing, image_at}
+use Rattle.model_board.specs.Plain.{IsPlain, Sized, Settles, HasSleeper, IsKnown, sized, board_shown, board_after, life_of, standing, image_at}
 use Rattle.model_board.specs.declared.holds.Settled.{Settled}
 use Rattle.model_board.specs.declared.powers.Power.{Power}
 use Rattle.model_board.specs.declared.powers.Power.TheVariants as powers
@@ -66,7 +66,7 @@ powers_by : (image : Option Resumption) (reason : Reason) (m m' : Machine) (payl
 powers_by None reason m m' payload e = ap (λ (n : Machine). On (record { machine = n; stands = standing reason None; down = false })) e
 powers_by (Some at) reason m m' payload e = ap (λ (n : Machine). On (record { machine = n; stands = standing reason None; down = false })) e
 
-pub powers_on : (power : Power) (image : Option Resumption) (reason : Reason) (down : Bool) (m m' : Machine) (old : Sized) (payload : List ℕ) → ◌≡◌ {A = Sized} (record { size = m.size; board = board_shown power reason down m }) old → power ≡ powers.Off image → m' ≡ (powered_by payload m.size reason (image_at m.memory image)).machine
+pub powers_on : (power : Power) (image : Option Resumption) (reason : Reason) (down : Bool) (m m' : Machine) (old : Sized) (payload : List ℕ) → sized power reason down m ≡ old → power ≡ powers.Off image → m' ≡ (powered_by payload m.size reason (image_at m.memory image)).machine
     → PowersOn payload old.size old.board (On (record { machine = m'; stands = standing reason None; down = false }))
 powers_on power image reason down m m' old payload view off e =
     let new : Board = On (record { machine = m'; stands = standing reason None; down = false }) in
@@ -78,7 +78,7 @@ pub known_then : (m m' : Machine) (s : Settled) (power : Power) → m'.size ≡ 
 known_then m m' s power e sleeper known = known m'.size.harts (subst (λ (z : Size). HasSleeper z.harts s) (sym e) sleeper)
 
 module _ (h : ℕ) (power : Power) (reason : Reason) (down : Bool) (m m' : Machine) (old : Sized) (s : Settled) (power' : Power) (reason' : Reason)
-    (view : ◌≡◌ {A = Sized} (record { size = m.size; board = board_shown power reason down m }) old) (on : power ≡ powers.On)
+    (view : sized power reason down m ≡ old) (on : power ≡ powers.On)
     (settled : (n : Machine) (d : Bool) → board_shown power' reason' d n ≡ board_after s (life_of (standing reason None) d n)) where
   stood : (P : Board → Type 0) → P (On (life_of (standing reason None) down m)) → P old.board
   stood P x = subst (λ (b : Sized). P b.board) view (subst (λ (p : Power). P (board_shown p reason down m)) (sym on) x)

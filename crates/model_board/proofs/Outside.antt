@@ -42,7 +42,7 @@ doze_outside : (map : Map) (woken : Bool) (d : Doze) (h : ℕ) (m n : Machine) (
 doze_outside map true d h m n word x = same_memory map m.memory n.memory (ap (λ (k : Machine). k.memory) x.0)
 doze_outside map false d h m n word x = same_memory map m.memory n.memory (ap (λ (k : Machine). k.memory) x.0)
 
-by_doze : (map : Map) (d : Option Doze) (h : ℕ) (m n : Machine) (word : Turned) → KeepsMap map h m → TurnBy d h m n word → SameOutside map m.memory n.memory
+pub by_doze : (map : Map) (d : Option Doze) (h : ℕ) (m n : Machine) (word : Turned) → KeepsMap map h m → TurnBy d h m n word → SameOutside map m.memory n.memory
 by_doze map None h m n word keeps x =
     subst (λ (b : List ℕ). SameOutside map m.memory b) (sym (ap (λ (k : Machine). k.memory) x.2))
     (as_outside map h m.size (listed m.table.states (hart_at m h).id) (moment_of h m) x.0 word keeps.step x.1)

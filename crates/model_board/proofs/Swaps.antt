@@ -132,7 +132,7 @@ one single payload size map h (Ended s) c d x y = absurd x
 
 pub moves : (map : Map) (h : ℕ) (b c : Board) → Local map h b c → IsEnd b → ⊥
 moves map h (On l) (On k) x ends =
-    let e : On k ≡ On l = ends.1 h (On k) (turns [] l.machine.size map h (On l) (On k) x) in
+    let e : On k ≡ On l = ends.1 h (On k) x.2.counted (turns [] l.machine.size map h (On l) (On k) x) in
     let same : k ≡ l = cc in
     let stays : moved h x.0 x.1 l.machine ≡ l.machine = ap (λ (a : Life). a.machine) (sym x.3 ∙ same) in
     let here : x.0 ≡ hart_at l.machine h = sym (get_or-set_same l.machine.harts h x.0 (never_started h) x.2.known) ∙ ap (λ (m : Machine). hart_at m h) stays in

@@ -1,5 +1,5 @@
 -- What may happen to the model board, in any order and as often as it may. Source: docs/BOARD.md; docs/STORE.md, "A commit".
-use Rattle.std.specs.Prelude.{◌≡◌, ℕ, Bool, true, false, not, List, None}
+use Rattle.std.specs.Prelude.{◌≡◌, ◌<◌, ℕ, Bool, true, false, not, List, None}
 use Rattle.board_model.specs.Shapes.{Size}
 use Rattle.sbi_abi.specs.Calls.{call_of}
 use Rattle.sbi_calls.specs.declared.words.Turned.{Turned}
@@ -71,10 +71,11 @@ Does payload size Cut b c = c ≡ Off (standing_of b)
 Does payload size PowerOn b c = PowersOn payload size b c
 
 -- ---- ends
--- A board is at an end where it is on, does not doze, and no hart's turn changes it, or where it ended by its own
--- shutdown. One that is off by a cut, a reboot or a sleep goes on with a power-on, and one that dozes with a wake.
+-- A board is at an end where it is on, does not doze, and the turn of no hart that it has changes it, or where it ended by
+-- its own shutdown. One that is off by a cut, a reboot or a sleep goes on with a power-on, and one that dozes with a wake.
 abbrev pub IsEnd : Board → Type 0
-IsEnd (On l) = (l.machine.doze ≡ None) × ((h : ℕ) (c : Board) → TurnOn h (On l) c → c ≡ On l)
+IsEnd (On l) =
+    (l.machine.doze ≡ None) × ((h : ℕ) (c : Board) → h < l.machine.size.harts → TurnOn h (On l) c → c ≡ On l)
 IsEnd (Off s) = ⊥
 IsEnd (Ended s) = Unit {0}
 

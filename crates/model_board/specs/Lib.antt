@@ -7,3 +7,4 @@ pub mod Plain
 pub mod Registers
 pub mod Footprints
 pub mod Masks
+pub mod Rests

@@ -110,13 +110,19 @@ status_of (On l) = statuses.On
 status_of (Off s) = statuses.Off
 status_of (Ended s) = statuses.Ended
 
--- with another machine, where it is on
-abbrev pub changed : (Machine → Machine) → Board → Board
-changed f (On l) = On (record l { machine = f l.machine })
-changed f (Off s) = Off s
-changed f (Ended s) = Ended s
-
--- a board of that size
+-- A board of that size, and the parts of which it is shown: what they hold beside is not seen while it is off.
 pub record Sized : Type 0 where
   pub size : Size
   pub board : Board
+  pub machine : Machine
+  pub power : Power
+  pub reason : Reason
+  pub down : Bool
+
+abbrev pub sized : Power → Reason → Bool → Machine → Sized
+sized power reason down m =
+    record { size = m.size; board = board_shown power reason down m; machine = m; power = power; reason = reason; down = down }
+
+-- the same board, but for its machine
+abbrev pub with_machine : Machine → Sized → Sized
+with_machine m b = sized b.power b.reason b.down m

@@ -5,7 +5,6 @@ use Rattle.rv_decode.specs.Spells.{Reads}
 use Rattle.machine.specs.Machine.{Machine, hart_at}
 use Rattle.model_board.specs.Boards.{Board, On, Off, Ended}
 use Rattle.model_board.specs.Events.{Event, Turn, Refused, Wake, Cut, PowerOn}
-use Rattle.model_board.specs.Plain.{changed}
 use Rattle.hart.specs.State.{ArchState}
 use Rattle.rv_decode.specs.declared.instr.Instr.{Instr}
 use Rattle.rv_decode.specs.declared.instr.Instr.TheVariants as instr
@@ -59,7 +58,9 @@ abbrev pub machine_holding : ℕ → ℕ → ℕ → Machine → Machine
 machine_holding h k x m = record m { harts = slice_set m.harts h (with_register k x (hart_at m h)) }
 
 abbrev pub board_holding : ℕ → ℕ → ℕ → Board → Board
-board_holding h k x b = changed (λ m. machine_holding h k x m) b
+board_holding h k x (On l) = On (record l { machine = machine_holding h k x l.machine })
+board_holding h k x (Off s) = Off s
+board_holding h k x (Ended s) = Ended s
 
 -- the next turn of hart h does not read register k
 abbrev pub TurnUnread : ℕ → ℕ → Machine → Type 0

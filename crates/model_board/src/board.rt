@@ -1,20 +1,24 @@
 //! A model board, with what may happen to it.
 
-ghost use Rattle.std.specs.Prelude.{◌≡◌, ◌<◌, ◌≤◌, ℕ, List, Bool, true, false, None, Err, length, IsOk, IfOk, OnErr};
+ghost use Rattle.std.specs.Prelude.{◌≡◌, ◌⊎◌, ◌<◌, ◌≤◌, ℕ, List, Bool, true, false, None, Err, length, IsOk, IfOk, OnErr, ◌+◌, ◌*◌, Some};
 ghost use Rattle.board_model.specs.Shapes.{ram_bytes_of};
 ghost use Rattle.board_model.specs.declared.refusal.Refusal.TheVariants.{Memory};
 ghost use Rattle.machine.specs.Machine.{Machine};
 ghost use Rattle.model_board.specs.Boards.{Board as AnyBoard, Life, On, Off, powered_by};
 ghost use Rattle.model_board.specs.Events.{Does, Turn, Refused, Wake, Cut, PowerOn};
 ghost use Rattle.model_board.specs.Held.{with_hart};
-ghost use Rattle.model_board.specs.Maps.{TurnKeeps, Local};
+ghost use Rattle.model_board.specs.Maps.{TurnKeeps, Local, Map, SameOutside};
+ghost use Rattle.model_board.specs.Plain.{Sized, IsKnown, HasSleeper, board_shown, board_after, life_of, image_at, standing, status_of, sized, with_machine, with_payload, IsPlain};
+ghost use Rattle.model_board.specs.Rests.{IsRest, Fits, with_rest};
+ghost use Rattle.store.specs.declared.saving.Resumption.{Resumption};
+ghost use Rattle.ram.specs.Memory.{value, Stored};
 ghost use Rattle.model_board.specs.Masks.{map_of};
-ghost use Rattle.model_board.specs.Plain.{Sized, IsKnown, HasSleeper, board_shown, board_after, life_of, image_at, standing, status_of, changed};
 
 use crate::holds::{Settled, turn_by, turn_refused};
 use crate::plain::PlainMachine;
 use crate::powers::{Power, Status};
 use crate::touches::{Break, TouchMap};
+use crate::rests::Rest;
 use board_model::{HartId, Reason, Refusal, Shape};
 use hart::Hart;
 use sbi::ResetType;
@@ -32,11 +36,11 @@ pub struct Board {
 }
 
 impl Model for Board {
-    ghost use Rattle.model_board.specs.Plain.{Sized, IsKnown, board_shown};
+    ghost use Rattle.model_board.specs.Plain.{Sized, IsKnown, sized};
 
     ghost Value = { Sized };
 
-    ghost view = { λ b. record { size = b.machine.size; board = board_shown b.power b.reason b.down b.machine } };
+    ghost view = { λ b. sized b.power b.reason b.down b.machine };
 
     ghost invariant = { λ b. IsKnown b.machine.size.harts b.power };
 }
@@ -64,7 +68,9 @@ fn settle(power: &mut Power, reason: &mut Reason, settled: Settled)
 fn begin(machine: &mut PlainMachine, image: Option<Resumption>, payload: &[u8], reason: Reason)
     requires fits { length payload.now ≤ ram_bytes_of machine.old.size }
     requires known { IsKnown machine.old.size.harts (Power.Off image) }
-    ensures { machine.new ≡ (powered_by payload.now machine.old.size reason (image_at machine.old.memory image)).machine }
+    ensures begun { machine.new ≡ (powered_by payload.now machine.old.size reason (image_at machine.old.memory image)).machine }
+    ensures image { (at : Resumption) → image ≡ Some at → machine.new.memory ≡ machine.old.memory }
+    ensures boots { image ≡ None → machine.new.memory ≡ (with_payload payload.now machine.old).memory }
 {
     match image {
         Some(at) => machine.begin_again(at.hart, at.address.value(), at.opaque),
@@ -90,7 +96,10 @@ impl Board {
     pub fn turn(&mut self, hart: HartId)
         requires { hart < self.old.size.harts }
         ensures turns { (payload : List ℕ) → Does payload self.old.size (Turn hart) self.old.board self.new.board }
+        ensures outside { (map : Map) → TurnKeeps map hart self.old.board
+            → SameOutside map self.old.machine.memory self.new.machine.memory }
         ensures size { self.new.size ≡ self.old.size }
+        ensures raw { self.new.machine.size ≡ self.old.machine.size }
     {
         match self.power {
             Power::On => {
@@ -112,7 +121,10 @@ impl Board {
             → (payload : List ℕ) (c : AnyBoard) → Does payload self.old.size (Refused hart down) self.old.board c → ⊥ }
         ensures turns { result ≡ false
             → (payload : List ℕ) → Does payload self.old.size (Turn hart) self.old.board self.new.board }
+        ensures outside { (map : Map) → TurnKeeps map hart self.old.board
+            → SameOutside map self.old.machine.memory self.new.machine.memory }
         ensures size { self.new.size ≡ self.old.size }
+        ensures raw { self.new.machine.size ≡ self.old.machine.size }
     {
         match self.power {
             Power::On => {
@@ -138,6 +150,8 @@ impl Board {
             → (payload : List ℕ) (c : AnyBoard) → Does payload self.old.size Wake self.old.board c → ⊥ }
         ensures stays { result ≡ false → self.new ≡ self.old }
         ensures size { self.new.size ≡ self.old.size }
+        ensures raw { self.new.machine.size ≡ self.old.machine.size }
+        ensures memory { self.new.machine.memory ≡ self.old.machine.memory }
     {
         match self.power {
             Power::On => self.machine.wake(),
@@ -149,6 +163,7 @@ impl Board {
     /// Power fails.
     pub fn cut(&mut self)
         ensures cuts { (payload : List ℕ) → Does payload self.old.size Cut self.old.board self.new.board }
+        ensures machine { self.new.machine ≡ self.old.machine }
         ensures size { self.new.size ≡ self.old.size }
     {
         match self.power {
@@ -166,7 +181,14 @@ impl Board {
         ensures never { result ≡ false
             → (c : AnyBoard) → Does payload.now self.old.size PowerOn self.old.board c → ⊥ }
         ensures stays { result ≡ false → self.new ≡ self.old }
+        ensures image { (at : Resumption) → self.old.power ≡ Power.Off (Some at)
+            → self.new.machine.memory ≡ self.old.machine.memory }
+        ensures boots { self.old.power ≡ Power.Off None
+            → self.new.machine.memory ≡ (with_payload payload.now self.old.machine).memory }
         ensures size { self.new.size ≡ self.old.size }
+        ensures raw { self.new.machine.size ≡ self.old.machine.size }
+        ensures memory { (self.new.machine.memory ≡ self.old.machine.memory)
+            ⊎ (self.new.machine.memory ≡ (with_payload payload.now self.old.machine).memory) }
     {
         match self.power {
             Power::Off(image) => {
@@ -193,21 +215,26 @@ impl Board {
 
     /// Its memory, harts and tables, of which a board that is off keeps the memory of its image alone.
     pub fn machine(&self) -> &PlainMachine
+        ensures machine { result.now ≡ self.now.machine }
         ensures size { result.now.size ≡ self.now.size }
         ensures on { (l : Life) → self.now.board ≡ On l → result.now ≡ l.machine }
     {
         &self.machine
     }
 
-    /// Puts a hart of that number in the place of the board's, where it is on.
-    pub fn set_hart(&mut self, hart: Hart)
-        requires { hart.id < self.old.size.harts }
-        ensures { self.new ≡ record self.old { board = changed (λ m. with_hart hart.id m hart) self.old.board } }
+    /// All of it but its harts and its memory.
+    pub fn rest(&self) -> Rest
+        ensures rest { IsRest result self.now }
+        ensures fits { Fits self.now.machine.size.harts result }
+        ensures plain { IsPlain self.now.machine.size self.now.machine.memory self.now.machine.harts self.now.machine.table }
     {
-        match self.power {
-            Power::On => self.machine.set_hart(hart),
-            Power::Off(_) => {}
-            Power::Ended => {}
+        let (doze, tables) = self.machine.rest();
+        Rest {
+            power: self.power,
+            reason: self.reason,
+            down: self.down,
+            doze,
+            tables,
         }
     }
 
@@ -230,11 +257,58 @@ impl Board {
         ensures local { result ≡ true → Local (map_of map.now) hart self.old.board self.new.board }
         ensures stays { result ≡ false → self.new ≡ self.old }
         ensures size { self.new.size ≡ self.old.size }
+        ensures raw { self.new.machine.size ≡ self.old.machine.size }
+        ensures outside { SameOutside (map_of map.now) self.old.machine.memory self.new.machine.memory }
     {
         match self.power {
             Power::On => self.machine.move_alone(hart, map),
             Power::Off(_) => false,
             Power::Ended => false,
         }
+    }
+
+    /// Puts back all of a board but its harts and its memory.
+    pub fn put_rest(&mut self, rest: &Rest)
+        requires { Fits self.old.machine.size.harts rest.now }
+        ensures { self.new ≡ sized rest.now.power rest.now.reason rest.now.down (with_rest rest.now self.old.machine) }
+    {
+        self.power = rest.power;
+        self.reason = rest.reason;
+        self.down = rest.down;
+        self.machine.put_rest(rest.doze, &rest.tables);
+    }
+
+    /// Puts a hart of that number in the place of the board's, whether or not it is on.
+    pub fn put_hart(&mut self, hart: Hart)
+        requires { hart.id < self.old.machine.size.harts }
+        ensures { self.new ≡ with_machine (with_hart hart.id self.old.machine hart) self.old }
+    {
+        self.machine.set_hart(hart);
+    }
+
+    /// The number in a word of 8 bytes of its memory, by its number from the start of RAM.
+    pub fn word(&self, word: usize) -> u64
+        requires { 8 * word + 8 ≤ length self.now.machine.memory }
+        ensures { result ≡ value self.now.machine.memory (8 * word) 8 }
+    {
+        self.machine.word(word)
+    }
+
+    /// Puts a number into a word of 8 bytes of its memory.
+    pub fn put_word(&mut self, word: usize, value: u64)
+        requires { 8 * word + 8 ≤ length self.old.machine.memory }
+        ensures word { Stored self.old.machine.memory self.new.machine.memory (8 * word) 8 value }
+        ensures others { self.new
+            ≡ with_machine (record self.old.machine { memory = self.new.machine.memory }) self.old }
+    {
+        self.machine.put_word(word, value);
+    }
+
+    /// RAM holds the payload, and zeros after it.
+    pub fn load(&mut self, payload: &[u8])
+        requires { length payload.now ≤ ram_bytes_of self.old.machine.size }
+        ensures { self.new ≡ with_machine (with_payload payload.now self.old.machine) self.old }
+    {
+        self.machine.put_payload(payload);
     }
 }

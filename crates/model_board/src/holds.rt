@@ -7,6 +7,7 @@ ghost use Rattle.susp.specs.Checks.{IsChecked};
 ghost use Rattle.machine.specs.Machine.{hart_at};
 ghost use Rattle.model_board.specs.Events.{Asks, TurnsBy};
 ghost use Rattle.model_board.specs.Held.{HeldBy, AsksStore, Sleeps, SleptBy, reset_by, slept_by, refused};
+ghost use Rattle.model_board.specs.Maps.{Map, KeepsMap, SameOutside};
 ghost use Rattle.model_board.specs.Plain.{Settles, HasSleeper};
 
 use crate::plain::PlainMachine;
@@ -36,6 +37,7 @@ fn refuse(machine: &mut PlainMachine, hart: HartId, error: SbiError) -> Settled
     requires { hart < machine.old.size.harts }
     ensures settles { Settles (λ l c. c ≡ refused error hart l) machine.old result machine.new }
     ensures size { machine.new.size ≡ machine.old.size }
+    ensures memory { machine.new.memory ≡ machine.old.memory }
     ensures sleeper { HasSleeper machine.old.size.harts result }
 {
     machine.refuse(hart, error);
@@ -46,6 +48,7 @@ fn reset(machine: &mut PlainMachine, hart: HartId, granted: bool, kind: u32, rea
     requires { hart < machine.old.size.harts }
     ensures settles { Settles (λ l c. c ≡ reset_by granted hart l (reset_of kind reason)) machine.old result machine.new }
     ensures size { machine.new.size ≡ machine.old.size }
+    ensures memory { machine.new.memory ≡ machine.old.memory }
     ensures sleeper { HasSleeper machine.old.size.harts result }
 {
     match reset_of(kind, reason) {
@@ -82,6 +85,7 @@ fn fall_asleep(machine: &mut PlainMachine, granted: bool, sleep: Sleep, at: Resu
     ensures settles { Settles (λ l c. c ≡ slept_by granted sleep at.address at.opaque at.hart l)
         machine.old result machine.new }
     ensures size { machine.new.size ≡ machine.old.size }
+    ensures memory { machine.new.memory ≡ machine.old.memory }
     ensures sleeper { HasSleeper machine.old.size.harts result }
 {
     match sleep {
@@ -110,6 +114,7 @@ fn sleep(
     requires { hart < machine.old.size.harts }
     ensures settles { Settles (λ l c. SleptBy granted hart l asked opaque c) machine.old result machine.new }
     ensures size { machine.new.size ≡ machine.old.size }
+    ensures memory { machine.new.memory ≡ machine.old.memory }
     ensures sleeper { HasSleeper machine.old.size.harts result }
 {
     match asked {
@@ -135,6 +140,7 @@ fn hold(machine: &mut PlainMachine, hart: HartId, granted: bool) -> Settled
     ensures settles { Settles (λ l c. HeldBy granted hart l (call_of (hart_at machine.old hart)) c)
         machine.old result machine.new }
     ensures size { machine.new.size ≡ machine.old.size }
+    ensures memory { machine.new.memory ≡ machine.old.memory }
     ensures sleeper { HasSleeper machine.old.size.harts result }
 {
     match Call::of(machine.hart(hart)) {
@@ -156,6 +162,8 @@ pub fn turn_by(machine: &mut PlainMachine, hart: HartId, granted: bool) -> Settl
     requires { hart < machine.old.size.harts }
     ensures settles { Settles (λ l c. TurnsBy granted hart l c) machine.old result machine.new }
     ensures size { machine.new.size ≡ machine.old.size }
+    ensures outside { (map : Map) → KeepsMap map hart machine.old
+        → SameOutside map machine.old.memory machine.new.memory }
     ensures sleeper { HasSleeper machine.old.size.harts result }
 {
     match machine.turn(hart) {
@@ -192,6 +200,8 @@ pub fn turn_refused(machine: &mut PlainMachine, hart: HartId, down: bool) -> (Se
     ensures none { result.1 ≡ false → (Asks hart machine.old → ⊥)
         × Settles (λ l c. TurnsBy true hart l c) machine.old result.0 machine.new }
     ensures size { machine.new.size ≡ machine.old.size }
+    ensures outside { (map : Map) → KeepsMap map hart machine.old
+        → SameOutside map machine.old.memory machine.new.memory }
     ensures sleeper { HasSleeper machine.old.size.harts result.0 }
     ensures fell { result.1 ≡ true → result.2 ≡ down }
     ensures up { result.1 ≡ false → result.2 ≡ false }

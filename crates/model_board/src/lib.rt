@@ -10,6 +10,7 @@ mod laws;
 mod plain;
 mod powers;
 mod registers;
+mod rests;
 mod tables;
 mod touches;
 mod whole;
@@ -17,10 +18,11 @@ mod whole;
 pub use board::Board;
 pub use laws::{one_event, one_hart_moves, turn_outside};
 pub use plain::PlainMachine;
-pub use powers::Status;
 pub use registers::unread_register;
-pub use tables::PlainTables;
+pub use powers::{Power, Status};
+pub use tables::{PlainTables, TableCopy};
 pub use touches::{Break, TouchMap};
+pub use rests::Rest;
 pub use whole::turn;
 
 #[cfg(test)]

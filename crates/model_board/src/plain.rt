@@ -1,6 +1,6 @@
 //! The machine of a model board: its memory, harts and tables, which can be set and taken back.
 
-ghost use Rattle.std.specs.Prelude.{◌≡◌, ◌<◌, ◌≤◌, ℕ, List, Bool, true, false, None, IfOk, OnErr, length, Err, Some, get_or, IsOk};
+ghost use Rattle.std.specs.Prelude.{◌≡◌, ◌<◌, ◌≤◌, ℕ, List, Bool, true, false, None, IfOk, OnErr, length, Err, Some, get_or, IsOk, ◌+◌, ◌*◌};
 ghost use Rattle.board_model.specs.Shapes.{ram_bytes_of};
 ghost use Rattle.board_model.specs.declared.refusal.Refusal.TheVariants.{Memory};
 ghost use Rattle.hart.specs.State.{ArchState, never_started, answered, started as fresh};
@@ -11,17 +11,19 @@ ghost use Rattle.susp.specs.Dozes.{doze_of, dozing, can_wake};
 ghost use Rattle.turns.specs.Turns.{TurnOf, has_pending, after_take};
 ghost use Rattle.model_board.specs.Events.{woken_up};
 ghost use Rattle.model_board.specs.Held.{IsAlone, with_hart};
-ghost use Rattle.model_board.specs.Maps.{KeepsMap, MovesTo};
+ghost use Rattle.model_board.specs.Maps.{KeepsMap, MovesTo, Map, SameOutside};
 ghost use Rattle.model_board.specs.Masks.{map_of};
-ghost use Rattle.model_board.specs.Plain.{begun_again, with_payload};
+ghost use Rattle.model_board.specs.Plain.{begun_again, with_payload, IsPlain};
+ghost use Rattle.model_board.specs.Rests.{table_copied, IsCopy};
+ghost use Rattle.ram.specs.Memory.{value, Stored};
 
 use crate::alone::{step_alone, step_keeps};
-use crate::tables::PlainTables;
+use crate::tables::{PlainTables, TableCopy};
 use crate::touches::{Break, TouchMap};
 use crate::whole;
 use board_model::{HartId, RAM_BASE, Reason, Refusal, Shape};
 use hart::Hart;
-use ram::Ram;
+use ram::{Ram, Width};
 use sbi_abi::{SbiError, put};
 use sbi_calls::{Did, Turned};
 use std::alloc::Global;
@@ -74,6 +76,15 @@ fn stop_all(harts: &mut Vec<Hart>)
     }
 }
 
+/// The address of a word of 8 bytes, by its number from the start of RAM.
+fn address_of(ram: &Ram, word: usize) -> u64
+    requires { 8 * word + 8 ≤ length ram.now }
+    ensures { result ≡ 0x80000000 + 8 * word }
+{
+    let _ = ram.bytes();
+    RAM_BASE + 8 * word as u64
+}
+
 impl PlainMachine {
     /// A turn of the hart of a doze.
     fn doze_turn(&mut self, hart: HartId, doze: Doze) -> Turned
@@ -120,6 +131,7 @@ impl PlainMachine {
         requires { hart < self.old.size.harts }
         ensures turn { MakesTurn hart self.old self.new result }
         ensures size { self.new.size ≡ self.old.size }
+        ensures outside { (map : Map) → KeepsMap map hart self.old → SameOutside map self.old.memory self.new.memory }
     {
         match self.dozes(hart) {
             Some(doze) => self.doze_turn(hart, doze),
@@ -130,7 +142,8 @@ impl PlainMachine {
     /// A hart, as it stands.
     pub fn hart(&self, hart: HartId) -> &Hart
         requires { hart < self.now.size.harts }
-        ensures { result.now ≡ hart_at self.now hart }
+        ensures stands { result.now ≡ hart_at self.now hart }
+        ensures numbered { result.now.id ≡ hart }
     {
         &self.harts[hart.index()]
     }
@@ -142,6 +155,50 @@ impl PlainMachine {
     {
         let place = hart.id().index();
         self.harts[place] = hart;
+    }
+
+    /// Its doze and its tables.
+    pub(crate) fn rest(&self) -> (Option<Doze>, TableCopy)
+        ensures doze { result.0 ≡ self.now.doze }
+        ensures table { self.now.table ≡ table_copied self.now.size.harts result.1 }
+        ensures fits { IsCopy self.now.size.harts result.1 }
+        ensures plain { IsPlain self.now.size self.now.memory self.now.harts self.now.table }
+    {
+        (self.bus.doze, self.tables.copy())
+    }
+
+    /// Puts back its doze and its tables.
+    pub(crate) fn put_rest(&mut self, doze: Option<Doze>, tables: &TableCopy)
+        requires { IsCopy self.old.size.harts tables.now }
+        ensures { self.new ≡ record self.old { doze = doze; table = table_copied self.old.size.harts tables.now } }
+    {
+        self.bus.doze = doze;
+        self.tables.set(tables);
+    }
+
+    /// The number in a word of 8 bytes, by its number from the start of RAM.
+    pub fn word(&self, word: usize) -> u64
+        requires { 8 * word + 8 ≤ length self.now.memory }
+        ensures { result ≡ value self.now.memory (8 * word) 8 }
+    {
+        match self
+            .bus
+            .ram
+            .load(address_of(&self.bus.ram, word), Width::Double)
+        {
+            Ok(value) => value,
+            Err(_) => 0,
+        }
+    }
+
+    /// Puts a number into a word of 8 bytes.
+    pub fn put_word(&mut self, word: usize, value: u64)
+        requires { 8 * word + 8 ≤ length self.old.memory }
+        ensures word { Stored self.old.memory self.new.memory (8 * word) 8 value }
+        ensures others { self.new ≡ record self.old { memory = self.new.memory } }
+    {
+        let at = address_of(&self.bus.ram, word);
+        let _ = self.bus.ram.store(at, Width::Double, value);
     }
 
     /// Whether an interrupt is pending for a hart.
@@ -193,7 +250,7 @@ impl PlainMachine {
     }
 
     /// RAM holds the payload, and zeros after it.
-    fn put_payload(&mut self, payload: &[u8])
+    pub(crate) fn put_payload(&mut self, payload: &[u8])
         requires { length payload.now ≤ ram_bytes_of self.old.size }
         ensures payload { self.new ≡ with_payload payload.now self.old }
         ensures some { 0 < self.old.size.harts }
@@ -242,6 +299,7 @@ impl PlainMachine {
     pub fn wake(&mut self) -> bool
         ensures wakes { result ≡ true → (can_wake self.old.doze ≡ true) × (self.new ≡ woken_up self.old) }
         ensures stays { result ≡ false → (can_wake self.old.doze ≡ false) × (self.new ≡ self.old) }
+        ensures memory { self.new.memory ≡ self.old.memory }
     {
         match self.bus.doze {
             Some(doze) => {

@@ -8,6 +8,7 @@ ghost use Rattle.hsm.specs.Views.{listed};
 ghost use Rattle.hsm.specs.States.{stopped, started, is_stopped, grant};
 ghost use Rattle.machine.specs.Machine.{only_first, none_pending};
 ghost use Rattle.model_board.specs.Plain.{raised};
+ghost use Rattle.model_board.specs.Rests.{table_copied, IsCopy};
 ghost use Rattle.sbi_calls.specs.Answers.{row, with_state, pairs_sent};
 ghost use Rattle.sbi_calls.specs.Requests.{IsWithin};
 ghost use Rattle.susp.specs.Sleeps.{AreStopped};
@@ -26,6 +27,16 @@ use turns::Ready;
 pub struct PlainTables {
     states: Vec<Standing>,
     pending: Vec<u8>,
+}
+
+/// The tables as plain data of one size, by the numbers of the harts: a hart that the board lacks is STOPPED, and nothing is
+/// pending for it.
+#[derive(Clone, Copy, PartialEq, Eq, Drop)]
+pub struct TableCopy {
+    /// The state of each hart.
+    pub states: [Standing; 8],
+    /// The senders of each hart whose interrupts are pending for it, one a bit.
+    pub pending: [u8; 8],
 }
 
 impl Model for PlainTables {
@@ -53,6 +64,28 @@ impl PlainTables {
             states,
             pending: vec![in alloc; 0; harts]?,
         })
+    }
+
+    /// The tables, as they stand.
+    pub fn copy(&self) -> TableCopy
+        ensures copied { self.now ≡ table_copied (length self.now.states) result }
+        ensures fits { IsCopy (length self.now.states) result }
+    {
+        let mut states = [Standing::Stopped; 8];
+        let mut pending = [0; 8];
+        states[..self.states.len()].copy_from_slice(&self.states);
+        pending[..self.pending.len()].copy_from_slice(&self.pending);
+        TableCopy { states, pending }
+    }
+
+    /// Puts back tables of so many harts.
+    pub fn set(&mut self, copy: &TableCopy)
+        requires { IsCopy (length self.old.states) copy.now }
+        ensures { self.new ≡ table_copied (length self.old.states) copy.now }
+    {
+        let harts = self.states.len();
+        self.states.copy_from_slice(&copy.states[..harts]);
+        self.pending.copy_from_slice(&copy.pending[..harts]);
     }
 
     /// Only the hart `first` is STARTED again, and nothing is pending.
