@@ -18,11 +18,11 @@ mod whole;
 pub use board::Board;
 pub use laws::{one_event, one_hart_moves, turn_outside};
 pub use plain::PlainMachine;
-pub use registers::unread_register;
 pub use powers::{Power, Status};
+pub use registers::unread_register;
+pub use rests::Rest;
 pub use tables::{PlainTables, TableCopy};
 pub use touches::{Break, TouchMap};
-pub use rests::Rest;
 pub use whole::turn;
 
 #[cfg(test)]

@@ -139,7 +139,7 @@ fn asked(board: &mut Board, hart: HartId, numbers: [u64; 5]) {
     own.put(Reg::new(10), numbers[2]);
     own.put(Reg::new(11), numbers[3]);
     own.put(Reg::new(12), numbers[4]);
-    board.set_hart(own);
+    board.put_hart(own);
 }
 
 fn called_on(board: &mut Board, hart: HartId, numbers: [u64; 5]) {

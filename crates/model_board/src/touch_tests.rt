@@ -69,7 +69,7 @@ fn mapped(rt: &impl Abort, alloc: Global) -> TouchMap {
 fn put(board: &mut Board, hart: HartId, register: u8, value: u64) {
     let mut own: Hart = board.machine().hart(hart).copy();
     own.put(Reg::new(register), value);
-    board.set_hart(own);
+    board.put_hart(own);
 }
 
 fn standing(board: &Board, hart: HartId) -> Hart {
@@ -234,7 +234,7 @@ fn a_turn_that_stays_at_its_instruction_is_not_local(rt: HostRuntime) {
     stays(&rt, &mut board, &map);
     same(&rt, board.keeps(one, &map), Ok(()));
     same(&rt, board.move_alone(one, &map), false);
-    board.set_hart(Hart::fresh(zero, 0, 0));
+    board.put_hart(Hart::fresh(zero, 0, 0));
     same(&rt, board.keeps(zero, &map), Ok(()));
     stays(&rt, &mut board, &map);
     board.cut();
