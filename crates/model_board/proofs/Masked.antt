@@ -3,12 +3,7 @@ use Rattle.std.proofs.Common.{ℕ, ◌≡◌, ◌≢◌, ◌*◌, ◌%◌, ◌^�
 use Rattle.std.proofs.lemmas.Bool.{cases_lt}
 use Rattle.std.specs.Int.{bit_at}
 use Rattle.std.proofs.lemmas.Nat.{pow_below}
-use Rattle.std.proofs.lemmas.Nat.Bits.{bit_at-zero, bit_at-pow_other, bit_at_above}
-
-pub none_alone : (mask h g : ℕ) → mask ≡ 0 → g ≢ h → bit_at mask g ≡ 1 → ⊥
-none_alone mask h g e ne has =
-    let none : bit_at mask g ≡ 0 = ap (λ (n : ℕ). bit_at n g) e ∙ bit_at-zero g in
-    omega (arith, has, none)
+use Rattle.std.proofs.lemmas.Nat.Bits.{bit_at-pow_other, bit_at_above}
 
 pub one_alone : (mask h g : ℕ) → h < 8 → mask ≡ 1 * 2 ^ h % 2 ^ 8 → g ≢ h → bit_at mask g ≡ 1 → ⊥
 one_alone mask h g low e ne has =

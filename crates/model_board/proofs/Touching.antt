@@ -1,5 +1,5 @@
 -- A footprint has all that a step touches.
-use Rattle.std.proofs.Common.{ℕ, Bool, true, false, IsTrue, List, ◌≡◌, ◌+◌, ◌*◌, ◌/◌, ◌%◌, length, refl, sym, ap, ◌∙◌, subst, inl, inr, if◌then◌else◌, eq-eqb, Option, Some, None, true≢false}
+use Rattle.std.proofs.Common.{ℕ, Bool, true, false, List, ◌≡◌, ◌+◌, ◌*◌, ◌/◌, ◌%◌, length, refl, sym, ap, ◌∙◌, subst, inl, inr, if◌then◌else◌, eq-eqb, Option, Some, None, true≢false}
 use Rattle.std.specs.Prelude.{◌==◌, ◌&&◌, nat_le}
 use Rattle.std.proofs.lemmas.Bool.{le-leb}
 use Rattle.hart.specs.State.{ArchState, reg}
@@ -7,15 +7,12 @@ use Rattle.hart.specs.Csrs.{csr_number, csr_read, flag}
 use Rattle.hart.specs.Means.{sum, load_bytes, store_bytes, word_at}
 use Rattle.hart.specs.declared.csr.Csr.TheVariants.{Sip, Sstatus, Sie}
 use Rattle.hart.proofs.Obeyed.{HasOne}
-use Rattle.ram.specs.Memory.{RefusesAccess}
-use Rattle.ram.specs.declared.Access.{Access}
-use Rattle.ram.specs.declared.Access.TheVariants.{Misaligned, Outside}
 use Rattle.rv_decode.specs.Spells.{spells, Reads}
 use Rattle.rv_decode.specs.declared.instr.Instr.{Instr}
 use Rattle.rv_decode.specs.declared.instr.Instr.TheVariants as instr
 use Rattle.rv_decode.specs.declared.ops.SystemOp.TheVariants as system
-use Rattle.model_board.specs.Touches.{word_of, Fetches, ComesTo, Accesses, LoadsWord, WritesWord, AccessesSip, IsOpen}
-use Rattle.model_board.specs.Footprints.{accessed, touch_read, quiet, footprint_at, Covers}
+use Rattle.model_board.specs.Touches.{word_of, ComesTo, Accesses, LoadsWord, WritesWord, AccessesSip, IsOpen}
+use Rattle.model_board.specs.Footprints.{accessed, touch_read, footprint_at, Covers}
 use Rattle.model_board.specs.declared.footprints.Footprint.{Footprint}
 use Rattle.model_board.specs.declared.footprints.Touch.{Touch}
 use Rattle.model_board.specs.declared.footprints.Touch.TheVariants as touch
@@ -104,24 +101,7 @@ module _ (one : HasOne) (p : Bool) (s : ArchState) (m : List ℕ) (d : Option In
     calls = λ e c. both _ (call_at opened c) e;
   }
 
--- ---- a step that comes to no instruction
-pub refused_fetch : (p : Bool) (s : ArchState) (m : List ℕ) (e : Access) → RefusesAccess m s.pc 4 e → Fetches p s m → ⊥
-refused_fetch p s m Misaligned x f = x f.aligned
-refused_fetch p s m Outside x f = x.1 f.inside
-
-pub taken_fetch : (p : Bool) (s : ArchState) (m : List ℕ) → IsTrue p → IsOpen s → Fetches p s m → ⊥
-taken_fetch p s m is o f = f.calm (is, o.0, o.1)
-
-pub covers_quiet : (p : Bool) (s : ArchState) (m : List ℕ) (opened interrupts : Bool) → (Fetches p s m → ⊥) → (interrupts ≡ true → IsTrue p × IsOpen s) → (opened ≡ false → IsOpen s → ⊥) → Covers p s m (quiet opened interrupts)
-covers_quiet p s m opened interrupts none taken never = record {
-  reads = λ k r. elim r [ inl f ↦ absurd (none f.0) | inr x ↦ absurd (none x.comes.fetches) ];
-  writes = λ k w. absurd (none w.comes.fetches);
-  interrupts = taken;
-  pending = λ e r. elim r [ inl o ↦ never e o | inr x ↦ elim x.comes [ inl c ↦ none c.fetches | inr c ↦ none c.fetches ] ];
-  calls = λ e c. none c.fetches;
-}
-
--- an instruction that was fetched
+-- ---- an instruction that was fetched
 pub covers_found : HasOne → (p : Bool) (s : ArchState) (m n : List ℕ) (d : Option Instr) (pc : ℕ) (t : Touch) (f : Footprint) (opened : Bool) → n ≡ m → pc ≡ s.pc → Reads d (word_at m pc) → t ≡ touch_read d s → f ≡ footprint_at t n (word_of pc) opened → (opened ≡ false → IsOpen s → ⊥) → Covers p s m f
 covers_found one p s m n d pc t f opened same at reads touches is never =
     let found : Reads d (word_at m s.pc) = subst (λ (a : ℕ). Reads d (word_at m a)) at reads in

@@ -328,6 +328,10 @@ call_unread d k p s t m n reads ne y of_call =
     by_reading None reads ne y = let e = y.2 in absurd (cc)
     by_reading (Some i) reads ne y = subst (λ (j : Instr). IsRead j k → ⊥) (asks_by i (word_at m s.pc) p s t m n outcomes.Ecall refl y) ne of_call
 
+same_call : (a b c d e f g h i j : ℕ) → a ≡ b → c ≡ d → e ≡ f → g ≡ h → i ≡ j → call_at a c e g i ≡ call_at b d f h j
+same_call a b c d e f g h i j p q r s t =
+    ap (λ (u : ℕ). call_at u c e g i) p ∙ ap (λ (u : ℕ). call_at b u e g i) q ∙ ap (λ (u : ℕ). call_at b d u g i) r ∙ ap (λ (u : ℕ). call_at b d f u i) s ∙ ap (λ (u : ℕ). call_at b d f h u) t
+
 -- ---- a whole turn
 module _ (k x : ℕ) where
   abbrev H : Moment → Moment
@@ -338,10 +342,6 @@ module _ (k x : ℕ) where
       let r : (n : ℕ) → (k ≡ n → ⊥) → reg (with_register k x s) n ≡ reg s n = λ n apart. read_other k x s n apart in
       same_call (reg (with_register k x s) 17) (reg s 17) (reg (with_register k x s) 16) (reg s 16) (reg (with_register k x s) 10) (reg s 10) (reg (with_register k x s) 11) (reg s 11) (reg (with_register k x s) 12) (reg s 12)
       (r 17 (λ e. ne (inr (inr (inr (inr e)))))) (r 16 (λ e. ne (inr (inr (inr (inl e)))))) (r 10 (λ e. ne (inl e))) (r 11 (λ e. ne (inr (inl e)))) (r 12 (λ e. ne (inr (inr (inl e)))))
-    where
-      same_call : (a b c d e f g h i j : ℕ) → a ≡ b → c ≡ d → e ≡ f → g ≡ h → i ≡ j → call_at a c e g i ≡ call_at b d f h j
-      same_call a b c d e f g h i j p q r s t =
-          ap (λ (u : ℕ). call_at u c e g i) p ∙ ap (λ (u : ℕ). call_at b u e g i) q ∙ ap (λ (u : ℕ). call_at b d u g i) r ∙ ap (λ (u : ℕ). call_at b d f u i) s ∙ ap (λ (u : ℕ). call_at b d f h u) t
 
   -- a write of another register
   puts : (rd v : ℕ) (s : ArchState) → (k ≡ rd → ⊥) → put (with_register k x s) rd v ≡ with_register k x (put s rd v)

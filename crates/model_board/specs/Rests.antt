@@ -1,5 +1,5 @@
 -- All of a board but its harts and its memory, as plain data.
-use Rattle.std.specs.Prelude.{◌≡◌, ℕ, List, length, take}
+use Rattle.std.specs.Prelude.{◌≡◌, ℕ, length, take}
 use Rattle.machine.specs.Machine.{Machine}
 use Rattle.sbi_calls.specs.Both.{TableState}
 use Rattle.model_board.specs.Plain.{Sized, AreTables, IsKnown, table_in, sized}

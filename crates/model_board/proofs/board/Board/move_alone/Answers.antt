@@ -1,4 +1,4 @@
-use Rattle.std.proofs.Common.{ℕ, List, Bool, true, false, ◌≡◌, refl, sym, ap, subst}
+use Rattle.std.proofs.Common.{ℕ, Bool, true, false, ◌≡◌, refl, sym, ap, subst}
 use Rattle.sbi_calls.specs.declared.words.Turned.TheVariants.{Made}
 use Rattle.sbi_calls.specs.declared.words.Did.TheVariants as dids
 use Rattle.machine.specs.Machine.{Machine}
