@@ -15,7 +15,7 @@ use Rattle.gdb_protocol.specs.declared.requests.Watching.TheVariants as watching
 use Rattle.gdb_protocol.specs.declared.requests.GdbRequest.{GdbRequest}
 use Rattle.gdb_protocol.specs.declared.requests.GdbRequest.TheVariants as asks
 use Rattle.debug_talk.specs.declared.talk.Talk.{Talk}
-use Rattle.debug_talk.specs.QueryReplies.{hart_named}
+use Rattle.debug_talk.specs.Replies.{hart_named}
 use Rattle.debug_talk.specs.Talks.{acknowledges_in, hart_or, is_over_in, last_in, runner_in, selected_in, session_in, takes_in}
 
 -- the breakpoints behind it

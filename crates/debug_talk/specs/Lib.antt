@@ -2,16 +2,16 @@
 -- The parts of a talk.
 pub mod Talks
 -- The stop reply.
-pub mod StopReplies
+pub mod Stops
 -- Texts.
 pub mod Texts
 -- What is replied.
-pub mod QueryReplies
+pub mod Replies
 -- Which harts a `vCont` moves.
-pub mod Vcont
+pub mod Resumes
 -- How the lists and the talk change.
 pub mod Kept
 -- How the history changes.
 pub mod Moved
 -- A whole answer.
-pub mod Packets
+pub mod Answers

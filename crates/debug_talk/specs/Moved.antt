@@ -7,9 +7,9 @@ use Rattle.report_lines.specs.declared.printed.Answer.{Answer}
 use Rattle.report_lines.specs.Texts.{answer_text, report_text}
 use Rattle.board_model.specs.Shapes.{Size}
 use Rattle.board_model.specs.declared.refusal.Refusal.{Refusal}
-use Rattle.debug_talk.specs.Vcont.{IsAskedBy}
+use Rattle.debug_talk.specs.Resumes.{IsAskedBy}
 use Rattle.debug_talk.specs.Texts.{HandOver, board_line, hart_lines, when_text}
-use Rattle.debug_talk.specs.StopReplies.{stop_text}
+use Rattle.debug_talk.specs.Stops.{stop_text}
 use Rattle.debug_talk.specs.Talks.{hart_in, last_in, runs_in, selected_in, session_in, takes_in}
 use Rattle.debug_talk.specs.declared.talk.Talk.{Talk}
 use Rattle.debug_session.specs.Backs.{BackTo, StaysBack}
@@ -26,8 +26,8 @@ use Rattle.debug_session.specs.declared.stops.Stops.{Stops}
 use Rattle.debug_session.specs.Ats.{Ran}
 use Rattle.debug_session.specs.declared.timeline.Timeline.{Timeline}
 use Rattle.gdb_protocol.specs.Fields.{behind_prefix}
-use Rattle.debug_talk.specs.declared.vcont.VCont.{VCont}
-use Rattle.debug_talk.specs.declared.vcont.VCont.TheVariants as asked
+use Rattle.debug_talk.specs.declared.asked.VCont.{VCont}
+use Rattle.debug_talk.specs.declared.asked.VCont.TheVariants as asked
 use Rattle.gdb_protocol.specs.declared.requests.Move.{Move}
 use Rattle.gdb_protocol.specs.declared.requests.Move.TheVariants as moves
 use Rattle.gdb_protocol.specs.declared.requests.GdbRequest.{GdbRequest}

@@ -2,17 +2,18 @@
 //! "GDB Remote Serial Protocol"). docs/DEBUGGING.md tells what of it there is.
 #![tactic(auto)]
 
+mod acts;
+mod answers;
+mod asked;
+mod looks;
 mod monitor;
-mod moves;
-mod packets;
-mod queries;
-mod query_replies;
-mod stop_replies;
+mod replies;
+mod resumes;
+mod stops;
 mod talk;
 mod texts;
-mod vcont;
 mod wire;
 
-pub use packets::PacketPayloads;
+pub use answers::PacketPayloads;
 pub use talk::Talk;
 pub use wire::{acknowledge, prepare, reply_again, send_answer};

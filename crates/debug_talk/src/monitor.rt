@@ -12,7 +12,7 @@ ghost use Rattle.debug_session.specs.Turns.{turns_made};
 ghost use Rattle.gdb_protocol.specs.Fields.{behind_prefix};
 ghost use Rattle.script_lang.specs.Lines.{IsLineInRange};
 
-use crate::packets::PacketPayloads;
+use crate::answers::PacketPayloads;
 use crate::talk::Talk;
 use crate::texts::{answer_text, board_text, harts_text, report_text, tell, when_text};
 use bench_report::Answer;

@@ -5,7 +5,7 @@ ghost use Rattle.debug_session.specs.Sessions.{bench_of, history_of, size_of};
 ghost use Rattle.report_lines.specs.Texts.{found_line, answer_text, report_text};
 ghost use Rattle.debug_talk.specs.Texts.{HandOver, board_line, console_packet, hart_line, hart_lines, thread_line, thread_lines, threads_object, when_text};
 
-use crate::packets::PacketPayloads;
+use crate::answers::PacketPayloads;
 use bench_report::Answer;
 use board_model::{Durable, HartId, Refusal, Shape, StateText};
 use crew::Crew;

@@ -4,7 +4,7 @@ ghost use Rattle.std.specs.Prelude.{ℕ, List, OnOk};
 ghost use Rattle.std.specs.Io.KnownBytes.{Appends};
 ghost use Rattle.debug_session.specs.Ats.{IsAt};
 ghost use Rattle.debug_session.specs.Sessions.{size_of, timeline_of};
-ghost use Rattle.debug_talk.specs.Packets.{IsReplied, again_text, front_text};
+ghost use Rattle.debug_talk.specs.Answers.{IsReplied, again_text, front_text};
 ghost use Rattle.debug_talk.specs.Talks.{sent_in, session_in};
 
 use crate::talk::Talk;

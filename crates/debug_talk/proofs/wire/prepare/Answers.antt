@@ -1,5 +1,5 @@
 use Rattle.std.proofs.Common.{rules, ℕ, List, map, refl}
-use Rattle.debug_talk.specs.Packets.{IsAnswer}
+use Rattle.debug_talk.specs.Answers.{IsAnswer}
 use Rattle.debug_talk.proofs.wire.prepare.Goals as goal
 
 pub returns-clause-prepared : goal.returns-clause-prepared

@@ -2,7 +2,7 @@ use Rattle.std.proofs.Common.{◌≡◌}
 use Rattle.debug_session.specs.Lives.{register_in}
 use Rattle.debug_session.specs.Sessions.{machine_of_session}
 use Rattle.gdb_protocol.specs.Replies.{registers_text}
-use Rattle.debug_talk.proofs.query_replies.registers.Given as goal
+use Rattle.debug_talk.proofs.replies.registers.Given as goal
 
 abbrev pub invariant-loop-number : goal.invariant-loop-number
 invariant-loop-number g l = record {

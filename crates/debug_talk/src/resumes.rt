@@ -1,26 +1,14 @@
 //! What a `vCont` asks of the harts of a board.
 
 ghost use Rattle.std.specs.Prelude.{◌≡◌, ◌<◌, ◌+◌, false, map, codes, IfOk, IfNone, IfSome};
-ghost use Rattle.debug_talk.specs.Vcont.{goers_by, is_going, steps, IsAskedBy, IsAskedIn, NoneSteps};
+ghost use Rattle.debug_talk.specs.Resumes.{goers_by, is_going, steps, IsAskedBy, IsAskedIn, NoneSteps};
 ghost use Rattle.gdb_protocol.specs.Actions.{first_asked};
 ghost use Rattle.gdb_protocol.specs.Fields.{behind_prefix};
 
-use board_model::{HartId, Refusal, Shape};
+use crate::asked::VCont;
+use board_model::{Refusal, Shape};
 use gdb_protocol::{ResumeAction, action_for, are_known, behind, parts};
 use std::alloc::Global;
-
-/// What a `vCont` asks.
-#[derive(Clone, Copy, Drop)]
-pub enum VCont {
-    /// Nothing, since an action is not known, or a thread is none.
-    Nothing,
-    /// That hart makes one turn.
-    Step(HartId),
-    /// It makes turns while its pc lies from the first address on and before the second.
-    StepWithin(HartId, u64, u64),
-    /// Those harts go on.
-    Go([bool; 8]),
-}
 
 /// The step that a hart is to make, if it is to make one.
 fn step_of(shape: &Shape, words: &[&[u8]], number: u64) -> Option<VCont>

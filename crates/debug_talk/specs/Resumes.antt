@@ -2,8 +2,8 @@
 use Rattle.std.specs.Prelude.{◌≡◌, ℕ, ◌+◌, ◌<◌, Bool, true, false, List, [], ◌∷◌, Option, Some, None, ◌==◌}
 use Rattle.std.specs.List.{slice_split}
 use Rattle.board_model.specs.Shapes.{Size}
-use Rattle.debug_talk.specs.declared.vcont.VCont.{VCont}
-use Rattle.debug_talk.specs.declared.vcont.VCont.TheVariants as asked
+use Rattle.debug_talk.specs.declared.asked.VCont.{VCont}
+use Rattle.debug_talk.specs.declared.asked.VCont.TheVariants as asked
 use Rattle.gdb_protocol.specs.Actions.{are_known, first_asked}
 use Rattle.gdb_protocol.specs.declared.actions.ResumeAction.{ResumeAction}
 use Rattle.gdb_protocol.specs.declared.actions.ResumeAction.TheVariants.{Step, StepWithin, Go}

@@ -8,11 +8,12 @@ ghost use Rattle.debug_talk.specs.Moved.{IsTold, MovedBy, ResumedBy, SteppedOnce
 ghost use Rattle.debug_talk.specs.Talks.{runs_in};
 ghost use Rattle.gdb_protocol.specs.Fields.{behind_prefix};
 
-use crate::packets::PacketPayloads;
-use crate::stop_replies::{idle_text, stop_text, told_of};
+use crate::answers::PacketPayloads;
+use crate::asked::VCont;
+use crate::resumes::asked_by;
+use crate::stops::{idle_text, stop_text, told_of};
 use crate::talk::Talk;
 use crate::texts::{answer_text, tell};
-use crate::vcont::{VCont, asked_by};
 use bench_report::Answer;
 use board_model::{HartId, Refusal};
 use crew::Crew;

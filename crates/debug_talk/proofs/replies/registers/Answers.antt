@@ -3,7 +3,7 @@ use Rattle.debug_session.specs.Lives.{register_in}
 use Rattle.debug_session.specs.Sessions.{machine_of_session}
 use Rattle.gdb_protocol.proofs.Counted.{counted_more}
 use Rattle.gdb_protocol.specs.Replies.{register_text}
-use Rattle.debug_talk.proofs.query_replies.registers.Goals as goal
+use Rattle.debug_talk.proofs.replies.registers.Goals as goal
 
 pub loop-number-preserved : goal.loop-number-preserved
 loop-number-preserved g c =

@@ -4,11 +4,11 @@ ghost use Rattle.std.specs.Prelude.{◌≡◌, IfOk, OnOk};
 ghost use Rattle.std.specs.Option.{option_map};
 ghost use Rattle.debug_session.specs.Sessions.{bench_of, plan_of, points_of, size_of, timeline_of, watches_of};
 ghost use Rattle.debug_talk.specs.Kept.{IsKept, IsTalk, StaysOpen, named_or, points_after, watch_of, watches_after};
-ghost use Rattle.debug_talk.specs.StopReplies.{stop_text};
-ghost use Rattle.debug_talk.specs.QueryReplies.{hart_named, hart_shown, IsLookReply};
+ghost use Rattle.debug_talk.specs.Stops.{stop_text};
+ghost use Rattle.debug_talk.specs.Replies.{hart_named, hart_shown, IsLookReply};
 ghost use Rattle.debug_talk.specs.Talks.{hart_or};
 
-use crate::query_replies::{hart_of, reply_of};
+use crate::replies::{hart_of, reply_of};
 use crate::talk::Talk;
 use board_model::Refusal;
 use crew::Crew;

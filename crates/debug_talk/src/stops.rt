@@ -1,7 +1,7 @@
 //! Why nothing runs, as a packet.
 
 ghost use Rattle.std.specs.Prelude.{◌≡◌, ◌++◌, IfOk, OnOk};
-ghost use Rattle.debug_talk.specs.StopReplies.{reason_text, signal_text, stop_text, watch_text, watch_word};
+ghost use Rattle.debug_talk.specs.Stops.{reason_text, signal_text, stop_text, watch_text, watch_word};
 
 use board_model::{HartId, Refusal};
 use debug_session::{HaltReason, Stop, WatchKind, Watchpoint};

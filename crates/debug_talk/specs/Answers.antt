@@ -6,8 +6,8 @@ use Rattle.gdb_protocol.specs.Asked.{request_of}
 use Rattle.debug_talk.specs.declared.talk.Talk.{Talk}
 use Rattle.debug_talk.specs.Kept.{Keeps, Listed, StaysOpen}
 use Rattle.debug_talk.specs.Moved.{Moved}
-use Rattle.debug_talk.specs.QueryReplies.{Replied, Shown}
-use Rattle.debug_talk.specs.StopReplies.{stop_text}
+use Rattle.debug_talk.specs.Replies.{Replied, Shown}
+use Rattle.debug_talk.specs.Stops.{stop_text}
 use Rattle.debug_talk.specs.Talks.{acknowledges_in, hart_in, last_in, selected_in, sent_in, session_in, takes_in}
 use lib.Chars.{codes}
 

@@ -7,10 +7,10 @@ ghost use Rattle.gdb_protocol.specs.Replies.{memory_map_text, part_text, registe
 ghost use Rattle.debug_talk.specs.Texts.{threads_object};
 ghost use Rattle.debug_session.specs.Lives.{memory_in, register_in};
 ghost use Rattle.debug_session.specs.Sessions.{bench_of, machine_of_session, size_of};
-ghost use Rattle.debug_talk.specs.QueryReplies.{features_text, hart_named, memory_reply, register_reply, thread_reply, IsLookReply, IsPart};
-ghost use Rattle.debug_talk.specs.StopReplies.{stop_text};
+ghost use Rattle.debug_talk.specs.Replies.{features_text, hart_named, memory_reply, register_reply, thread_reply, IsLookReply, IsPart};
+ghost use Rattle.debug_talk.specs.Stops.{stop_text};
 
-use crate::stop_replies::stop_text;
+use crate::stops::stop_text;
 use crate::texts::threads_object;
 use board_model::{HartId, Refusal, Shape};
 use crew::Crew;

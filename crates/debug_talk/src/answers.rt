@@ -3,16 +3,16 @@
 ghost use Rattle.std.specs.Prelude.{◌≡◌, ◌<◌, true, false, [], None, map, IfOk, OnOk};
 ghost use Rattle.debug_session.specs.Ats.{IsAt};
 ghost use Rattle.debug_session.specs.Sessions.{bench_of, plan_of, points_of, size_of, stops_of, timeline_of, watches_of};
-ghost use Rattle.debug_talk.specs.QueryReplies.{IsReply, Replied, Shown, hart_shown};
+ghost use Rattle.debug_talk.specs.Replies.{IsReply, Replied, Shown, hart_shown};
 ghost use Rattle.debug_talk.specs.Kept.{IsKept, IsTalk, Keeps, Listed, points_after, watches_after};
 ghost use Rattle.debug_talk.specs.Moved.{Moved};
-ghost use Rattle.debug_talk.specs.StopReplies.{stop_text};
+ghost use Rattle.debug_talk.specs.Stops.{stop_text};
 ghost use Rattle.debug_talk.specs.Talks.{acknowledges_in, hart_in, is_over_in, last_in, runner_in, selected_in, sent_in, session_in, takes_in};
 ghost use Rattle.gdb_protocol.specs.Asked.{request_of};
 ghost use Rattle.gdb_protocol.specs.declared.requests.GdbLook.{GdbLook};
 ghost use Rattle.gdb_protocol.specs.declared.requests.GdbRequest.TheVariants as asks;
 
-use crate::query_replies::payload;
+use crate::replies::payload;
 use crate::talk::Talk;
 use board_model::{HartId, Refusal, Shape};
 use crew::Crew;
