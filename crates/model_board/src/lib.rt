@@ -24,8 +24,3 @@ pub use rests::Rest;
 pub use tables::{PlainTables, TableCopy};
 pub use touches::{Break, TouchMap};
 pub use whole::turn;
-
-#[cfg(test)]
-mod tests;
-#[cfg(test)]
-mod touch_tests;
