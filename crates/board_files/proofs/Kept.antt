@@ -1,12 +1,12 @@
 -- The marks, the file and the disk in memory stay as one another, over each call of the disk.
-use Rattle.std.proofs.Common.{suc, ◌≡◌, ◌∙◌, ℕ, ◌<◌, ◌≤◌, ◌+◌, ◌*◌, Bool, false, List, [], ◌∷◌, ◌++◌, length, get_or, replicate, Result, Ok, Err, ◌⊎◌, ap, arith, inl, inr, refl, sym, subst, ⊎_elim, zero}
-use Rattle.std.proofs.lemmas.List.{map-append, length-replicate}
-use Rattle.std.proofs.lemmas.Bool.{false≢true, false_from_ne_true}
+use Rattle.std.proofs.Common.{suc, ◌≡◌, ◌∙◌, ℕ, ◌<◌, ◌≤◌, ◌+◌, ◌-◌, ◌*◌, Bool, false, List, [], ◌∷◌, ◌++◌, length, get_or, replicate, Result, Ok, Err, ◌⊎◌, ap, arith, inl, inr, refl, sym, subst, ⊎_elim, zero}
+use Rattle.std.proofs.lemmas.List.{map-append, length-append, length-replicate}
+use Rattle.std.proofs.lemmas.Bool.{cases_lt, false≢true, false_from_ne_true}
 use Rattle.std.proofs.Math.Logic.{∥∥₁_map}
-use Rattle.std.specs.Prelude.{OnOk}
+use Rattle.std.specs.Prelude.{OnErr, OnOk, map}
 use Rattle.disk.specs.Facts.{Content, Facts, Only, Torn, Passes, Lent, lent_sectors, nothing, sector}
-use Rattle.disk.specs.WriteLog.{WriteLog, Piece, Untouched, AgreesOutside, NotedOrRefused, more_written, ranges, range}
-use Rattle.board_files.specs.Files.{FileFacts, FileKnown, Unknown, Known, IfKnown, Goes, IsDurable, IsMarked, AgreesOff, LeavesNoMore, EverAllowed, IsKeptIn, AreMarks, Marks, Pushes, PushesSome}
+use Rattle.disk.specs.WriteLog.{WriteLog, Piece, Untouched, AgreesOutside, NotedOrRefused, more_synced, more_written, piece_in, ranges, range}
+use Rattle.board_files.specs.Files.{FileFacts, FileKnown, Unknown, Known, IfKnown, Goes, IsDurable, IsMarked, AgreesOff, LeavesNoMore, AllowedSince, EverAllowed, IsKeptIn, AreMarks, Marks, Pushes, PushesSome}
 
 -- ---- the ranges
 untouched_before : (rs more : List (ℕ × ℕ)) (k : ℕ) → Untouched (rs ++ more) k → Untouched rs k
@@ -131,16 +131,18 @@ marks_joined marks marks' from n old new r s are marked long back same noted = r
 -- ---- the file
 -- the file stays as it was, the disk went on, and what is not marked stays in memory
 pub kept_on : (file : FileKnown) (marks marks' : List Bool) (old new : Facts) (step : Content → Content → Type 0)
-    → IfKnown file (IsKeptIn marks old) → Passes old new step → length new.content ≡ length old.content
+    → IfKnown file (IsKeptIn marks old) → Passes old new step → new.moment ≡ old.moment → length new.content ≡ length old.content
     → ((k : ℕ) → get_or marks' k false ≡ false → (get_or marks k false ≡ false) × (sector new.content k ≡ sector old.content k))
     → IfKnown file (IsKeptIn marks' new)
-kept_on Unknown marks marks' old new step kept passes long spared = tt
-kept_on (Known f) marks marks' old new step kept passes long spared = record {
+kept_on Unknown marks marks' old new step kept passes moment long spared = tt
+kept_on (Known f) marks marks' old new step kept passes moment long spared = record {
   now = λ c left. record {
     as_long = (kept.now c left).as_long ∙ sym long;
     same = λ k free. (kept.now c left).same k (spared k free).0 ∙ sym (spared k free).1;
   };
   ever = λ c left. ever_on c (kept.ever c left);
+  since = λ t c le left. ∥∥₁_map (kept.since t c (rw (← moment) le) (subst (λ (m : ℕ). f.since (f.syncs - (m - t)) c) moment left))
+      (λ past. passes.keeps t c (rw (← moment) le) past);
 }
   where
     ever_on : (c : Content) → ∥ old.since 0 c ∥₁ → ∥ new.since 0 c ∥₁
@@ -201,47 +203,100 @@ pub leaves_no_more : (file : FileKnown) (marks : List Bool) (disk facts : Facts)
 leaves_no_more Unknown marks disk facts kept left = tt
 leaves_no_more (Known f) marks disk facts kept left = λ c may. left c (kept.now c may)
 
+pub since_allowed : (file : FileKnown) (marks : List Bool) (disk : Facts) → IfKnown file (IsKeptIn marks disk) → IfKnown file (AllowedSince disk)
+since_allowed Unknown marks disk kept = tt
+since_allowed (Known f) marks disk kept = kept.since
+
 pub kept_begun : (file : FileKnown) (marks : List Bool) (disk : Facts) → IfKnown file (IsDurable disk.content)
-    → ∥ disk.since 0 disk.content ∥₁ → IfKnown file (IsKeptIn marks disk)
+    → ((t : ℕ) → t ≤ disk.moment → disk.since t disk.content) → IfKnown file (IsKeptIn marks disk)
 kept_begun Unknown marks disk durable was = tt
 kept_begun (Known f) marks disk durable was = record {
   now = λ c left. record {
     as_long = ap length (durable.now c left);
     same = λ k free. ap (λ (x : Content). sector x k) (durable.now c left);
   };
-  ever = λ c left. subst (λ (x : Content). ∥ disk.since 0 x ∥₁) (sym (durable.ever c left)) was;
+  ever = λ c left. ∣ subst (λ (x : Content). disk.since 0 x) (sym (durable.ever 0 c left)) (was 0 (omega arith)) ∣₁;
+  since = λ t c le left. ∣ subst (λ (x : Content). disk.since t x) (sym (durable.ever (f.syncs - (disk.moment - t)) c left)) (was t le) ∣₁;
 }
+
+-- ---- moments, which are a disk's syncs
+pub noted_moment : (piece : Piece) (old new : WriteLog) (own own' : ℕ) → NotedOrRefused piece old new own own' → length new.past ≡ length old.past
+noted_moment piece old new own own' (inl is) = ap (λ (r : WriteLog). length r.past) is
+noted_moment piece old new own own' (inr stays) = ap (λ (r : WriteLog). length r.past) stays.0
+
+pub one_moment : {T E : Type 0} (result : Result T E) (content : Content) (pieces : List Piece) (old new : WriteLog) → OnOk result (new ≡ more_synced content pieces old) → OnErr result (new ≡ old)
+    → length new.past ≤ length old.past + 1
+one_moment (Ok v) content pieces old new is failed =
+    let e = ap (λ (r : WriteLog). length r.past) is in
+    let long = length-append old.past (map (piece_in content) old.written ∷ []) in omega (arith, e, long)
+one_moment (Err x) content pieces old new is failed = let e = ap (λ (r : WriteLog). length r.past) failed in omega (arith, e)
 
 -- ---- a sync
 off_then : (marks : List Bool) (disk new : Facts) (o n : FileFacts) → IsKeptIn marks disk o → PushesSome marks disk.content o n
     → ((c : Content) → AgreesOff marks disk.content c → disk.since 0 c)
     → ((c : Content) → disk.since 0 c → new.since 0 c) → EverAllowed new n
 off_then marks disk new o n kept some left goes c was =
-    ⊎_elim (λ before. ∥∥₁_map (kept.ever c before) (goes c)) (λ off. ∣ goes c (left c off) ∣₁) (some.ever c was)
+    ⊎_elim (λ before. ∥∥₁_map (kept.ever c before) (goes c)) (λ off. ∣ goes c (left c off) ∣₁) (some.since 0 c (omega arith) was)
+
+-- what a crash has left in the file since some sync of it, which was not the last, the disk might have left
+off_since : (marks : List Bool) (disk : Facts) (o n : FileFacts) → IsKeptIn marks disk o → PushesSome marks disk.content o n
+    → ((t : ℕ) (c : Content) → t ≤ disk.moment → AgreesOff marks disk.content c → disk.since t c)
+    → ((t u : ℕ) (c : Content) → t ≤ u → o.since u c → o.since t c)
+    → (t u : ℕ) (c : Content) → t ≤ disk.moment → u ≤ o.syncs → o.syncs - (disk.moment - t) ≤ u → n.since u c → ∥ disk.since t c ∥₁
+off_since marks disk o n kept some left earlier t u c le old first was =
+    ⊎_elim (λ before. kept.since t c le (earlier (o.syncs - (disk.moment - t)) u c first before)) (λ off. ∣ left t c le off ∣₁) (some.since u c old was)
 
 pub kept_pushed : (T E : Type 0) (marks : List Bool) (disk : Facts) (e : E) (o n : FileKnown) → IfKnown o (IsKeptIn marks disk)
-    → Goes o n (Pushes {T = T} marks disk.content (Err e)) → ((c : Content) → AgreesOff marks disk.content c → disk.since 0 c)
+    → Goes o n (Pushes {T = T} marks disk.content (Err e)) → ((t : ℕ) (c : Content) → t ≤ disk.moment → AgreesOff marks disk.content c → disk.since t c)
+    → IfKnown o (λ f. (t u : ℕ) (c : Content) → t ≤ u → f.since u c → f.since t c)
     → IfKnown n (IsKeptIn marks disk)
-kept_pushed T E marks disk e Unknown Unknown kept pushed left = tt
-kept_pushed T E marks disk e Unknown (Known n) kept pushed left = absurd pushed
-kept_pushed T E marks disk e (Known o) Unknown kept pushed left = absurd pushed
-kept_pushed T E marks disk e (Known o) (Known n) kept pushed left =
-    record { now = pushed.some.leaves; ever = off_then marks disk disk o n kept pushed.some left (λ c was. was) }
+kept_pushed T E marks disk e Unknown Unknown kept pushed left earlier = tt
+kept_pushed T E marks disk e Unknown (Known n) kept pushed left earlier = absurd pushed
+kept_pushed T E marks disk e (Known o) Unknown kept pushed left earlier = absurd pushed
+kept_pushed T E marks disk e (Known o) (Known n) kept pushed left earlier = record {
+  now = pushed.some.leaves;
+  ever = off_then marks disk disk o n kept pushed.some (λ c off. left 0 c (omega arith) off) (λ c was. was);
+  since = λ t c le was. let syncs : n.syncs ≡ o.syncs = pushed.syncs in off_since marks disk o n kept pushed.some left earlier t (n.syncs - (disk.moment - t)) c le (omega (arith, syncs)) (omega (arith, syncs)) was;
+}
 
 pub kept_synced : (T E : Type 0) (marks marks' : List Bool) (disk new : Facts) (step : Content → Content → Type 0) (v : T) (o n : FileKnown)
     → IfKnown o (IsKeptIn marks disk)
-    → Goes o n (Pushes {E = E} marks disk.content (Ok v)) → ((c : Content) → AgreesOff marks disk.content c → disk.since 0 c)
+    → Goes o n (Pushes {E = E} marks disk.content (Ok v)) → ((t : ℕ) (c : Content) → t ≤ disk.moment → AgreesOff marks disk.content c → disk.since t c)
+    → IfKnown o (λ f. (t u : ℕ) (c : Content) → t ≤ u → f.since u c → f.since t c) → new.since new.moment new.content → new.moment ≤ disk.moment + 1
     → Passes disk new step → new.content ≡ disk.content → IfKnown n (IsKeptIn marks' new)
-kept_synced T E marks marks' disk new step v Unknown Unknown kept pushed left passes same = tt
-kept_synced T E marks marks' disk new step v Unknown (Known n) kept pushed left passes same = absurd pushed
-kept_synced T E marks marks' disk new step v (Known o) Unknown kept pushed left passes same = absurd pushed
-kept_synced T E marks marks' disk new step v (Known o) (Known n) kept pushed left passes same = record {
+kept_synced T E marks marks' disk new step v Unknown Unknown kept pushed left earlier here one passes same = tt
+kept_synced T E marks marks' disk new step v Unknown (Known n) kept pushed left earlier here one passes same = absurd pushed
+kept_synced T E marks marks' disk new step v (Known o) Unknown kept pushed left earlier here one passes same = absurd pushed
+kept_synced T E marks marks' disk new step v (Known o) (Known n) kept pushed left earlier here one passes same = record {
   now = λ c may. record {
     as_long = ap length (pushed.durable c may ∙ sym same);
     same = λ k free. ap (λ (x : Content). sector x k) (pushed.durable c may ∙ sym same);
   };
-  ever = off_then marks disk new o n kept pushed.some left (λ c was. passes.keeps 0 c (omega arith) was);
+  ever = off_then marks disk new o n kept pushed.some (λ c off. left 0 c (omega arith) off) (λ c was. passes.keeps 0 c (omega arith) was);
+  since = λ t c le was. since t c le was (cases_lt t new.moment);
 }
+  where
+    syncs : n.syncs ≡ o.syncs + 1
+    syncs = pushed.syncs
+
+    later : disk.moment ≤ new.moment
+    later = passes.later
+
+    before : (t : ℕ) (c : Content) → t ≤ new.moment → n.since (n.syncs - (new.moment - t)) c → t < new.moment → ∥ new.since t c ∥₁
+    before t c le was less =
+        let old : t ≤ disk.moment = omega (arith, less, one) in
+        ∥∥₁_map (off_since marks disk o n kept pushed.some left earlier t (n.syncs - (new.moment - t)) c old (omega (arith, syncs, less)) (omega (arith, syncs, less, one, later)) was)
+        (λ past. passes.keeps t c old past)
+
+    at : (t : ℕ) (c : Content) → t ≡ new.moment → n.since (n.syncs - (new.moment - t)) c → ∥ new.since t c ∥₁
+    at t c is was =
+        let none : n.syncs - (new.moment - t) ≡ n.syncs = omega (arith, is) in
+        let reads : c ≡ new.content = pushed.fresh c (subst (λ (u : ℕ). n.since u c) none was) ∙ sym same in
+        ∣ subst (λ (x : Content). new.since t x) (sym reads) (subst (λ (u : ℕ). new.since u new.content) (sym is) here) ∣₁
+
+    since : (t : ℕ) (c : Content) → t ≤ new.moment → n.since (n.syncs - (new.moment - t)) c → (t < new.moment) ⊎ (new.moment ≤ t) → ∥ new.since t c ∥₁
+    since t c le was (inl less) = before t c le was less
+    since t c le was (inr more) = at t c (omega (arith, le, more)) was
 
 pub only_left : (T E : Type 0) (marks : List Bool) (content now : Content) (v : T) (o n : FileKnown)
     → Goes o n (Pushes {E = E} marks content (Ok v)) → now ≡ content → IfKnown n (λ f. Only now f.may_leave)

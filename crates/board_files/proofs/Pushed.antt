@@ -19,12 +19,12 @@ but_agrees marks content c number old marked leaves but =
 
 -- a sector more was written, which was marked
 pub some_more : {T E : Type 0} (marks : List Bool) (content : Content) (number : ℕ) (bytes : List ℕ) (result : Result T E) (o m n : FileFacts)
-    → get_or marks number false ≡ true → PushesSome marks content o m → WritesSector number bytes result m n
+    → get_or marks number false ≡ true → m.syncs ≡ o.syncs → PushesSome marks content o m → WritesSector number bytes result m n
     → PushesSome marks content o n
-some_more marks content number bytes result o m n marked so_far wrote = record {
+some_more marks content number bytes result o m n marked syncs so_far wrote = record {
   leaves = λ c left. but_agrees marks content c number m marked so_far.leaves (wrote.leaves c left);
-  ever = λ c left. ⊎_elim (so_far.ever c)
-      (λ but. inr (but_agrees marks content c number m marked so_far.leaves but)) (wrote.ever c left);
+  since = λ t c le left. ⊎_elim (so_far.since t c le)
+      (λ but. inr (but_agrees marks content c number m marked so_far.leaves but)) (wrote.since t c (rw syncs le) left);
 }
 
 -- of a sector that is not marked a read gives what stands in memory
@@ -34,7 +34,7 @@ pub writes_skip : (marks : List Bool) (content : Content) (number : ℕ) (o n : 
 writes_skip marks content number Unknown Unknown keep free so_far = tt
 writes_skip marks content number Unknown (Known n) keep free so_far = so_far
 writes_skip marks content number (Known o) Unknown keep free so_far = so_far
-writes_skip marks content number (Known o) (Known n) keep free so_far = record { holds = holds; some = so_far.some }
+writes_skip marks content number (Known o) (Known n) keep free so_far = record { holds = holds; syncs = so_far.syncs; some = so_far.some }
   where
     holds : (k : ℕ) → k < number + 1 → sector n.holds k ≡ sector content k
     holds k less = grind (arith, less, so_far.holds k, (so_far.some.leaves n.holds keep).same k, free)
@@ -49,7 +49,8 @@ writes_more T E marks content number v (Known o) Unknown n marked so_far wrote =
 writes_more T E marks content number v (Known o) (Known m) Unknown marked so_far wrote = wrote
 writes_more T E marks content number v (Known o) (Known m) (Known n) marked so_far wrote = record {
   holds = holds;
-  some = (let r : Result T E = Ok v in some_more marks content number (sector content number) r o m n marked so_far.some wrote);
+  syncs = wrote.syncs ∙ so_far.syncs;
+  some = (let r : Result T E = Ok v in some_more marks content number (sector content number) r o m n marked so_far.syncs so_far.some wrote);
 }
   where
     holds : (k : ℕ) → k < number + 1 → sector n.holds k ≡ sector content k
@@ -72,5 +73,6 @@ writes_all T E marks content v Unknown (Known n) keep so_far = so_far
 writes_all T E marks content v (Known o) Unknown keep so_far = so_far
 writes_all T E marks content v (Known o) (Known n) keep so_far = record {
   whole = all_same n.holds content (so_far.some.leaves n.holds keep).as_long so_far.holds;
+  syncs = so_far.syncs;
   some = so_far.some;
 }

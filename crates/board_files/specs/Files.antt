@@ -1,6 +1,6 @@
 -- A file of sectors, to a contract: what a read of it gives, and what a crash leaves in it. A process that is killed leaves what a read
 -- gives; a host that crashes may leave less. Source: docs/CONSOLE.md, "`--sync`".
-use Rattle.std.specs.Prelude.{◌≡◌, ◌⊎◌, ℕ, ◌<◌, ◌≤◌, ◌+◌, Bool, true, false, List, [], ◌∷◌, length, get_or, Result, OnOk, ⊤}
+use Rattle.std.specs.Prelude.{◌≡◌, ◌⊎◌, ℕ, ◌<◌, ◌≤◌, ◌+◌, ◌-◌, Bool, true, false, List, [], ◌∷◌, length, get_or, Result, MatchResult, OnOk, ⊤}
 use Rattle.std.specs.Coded.{Unit-prop}
 use Rattle.disk.specs.Facts.{Content, Facts, Only, Torn, Written, lent_sectors, sector}
 use Rattle.disk.specs.WriteLog.{Untouched}
@@ -11,8 +11,10 @@ pub record FileFacts : Type 1 where
   pub holds : Content
   -- what a crash now may leave
   pub may_leave : Content → Type 0
-  -- what a crash might have left, now or at an earlier moment
-  pub ever : Content → Type 0
+  -- how many syncs of it have answered Ok
+  pub syncs : ℕ
+  -- what a crash might have left since so many of them had, now or at an earlier moment
+  pub since : ℕ → Content → Type 0
 
 -- what is known of a file: its facts, or nothing
 pub data FileKnown : Type 1 where
@@ -44,21 +46,24 @@ LeavesBut number before c = (d : Content) × before d × Torn number 1 d c
 pub record WritesSector {T E : Type 0} (number : ℕ) (bytes : List ℕ) (result : Result T E) (old new : FileFacts) : Type 0 where
   pub written : OnOk result (Written number (bytes ∷ []) old.holds new.holds)
   pub leaves : (c : Content) → new.may_leave c → LeavesBut number old.may_leave c
-  pub ever : (c : Content) → new.ever c → old.ever c ⊎ LeavesBut number old.may_leave c
-  pub keeps : (c : Content) → old.ever c → new.ever c
+  pub syncs : new.syncs ≡ old.syncs
+  pub since : (t : ℕ) (c : Content) → t ≤ old.syncs → new.since t c → old.since t c ⊎ LeavesBut number old.may_leave c
+  pub keeps : (t : ℕ) (c : Content) → t ≤ old.syncs → old.since t c → new.since t c
 
--- A sync. With Ok a crash leaves what a read gave, and nothing else. With an error it leaves what it might have left before: so what a
--- read gives stays only in the sectors that were durable, and the others may be lost.
+-- A sync. With Ok a crash leaves what a read gave, and nothing else, and has left nothing else since. With an error it leaves what it
+-- might have left before: so what a read gives stays only in the sectors that were durable, and the others may be lost.
 pub record SyncsFile {T E : Type 0} (result : Result T E) (old new : FileFacts) : Type 0 where
   pub durable : OnOk result (Only old.holds new.may_leave)
   pub leaves : (c : Content) → new.may_leave c → old.may_leave c
-  pub ever : (c : Content) → new.ever c → old.ever c
-  pub keeps : (c : Content) → old.ever c → new.ever c
+  pub syncs : MatchResult result (λ _. new.syncs ≡ old.syncs + 1) (λ _. new.syncs ≡ old.syncs)
+  pub since : (t : ℕ) (c : Content) → t ≤ old.syncs → new.since t c → old.since t c
+  pub fresh : OnOk result (Only old.holds (new.since new.syncs))
+  pub keeps : (t : ℕ) (c : Content) → t ≤ old.syncs → old.since t c → new.since t c
 
 -- a file that was just made, or made durable: a crash leaves that content, and has left no other
 pub record IsDurable (content : Content) (f : FileFacts) : Type 0 where
   pub now : Only content f.may_leave
-  pub ever : Only content f.ever
+  pub ever : (t : ℕ) → Only content (f.since t)
 
 -- ---- the disk in memory beside the file
 -- the sector was written in memory, and perhaps not in the file
@@ -80,12 +85,22 @@ LeavesNoMore disk f = (c : Content) → f.may_leave c → disk.may_leave c
 
 -- what a crash might have left in the file from the first moment on, one of the disk might have left
 abbrev pub EverAllowed : Facts → FileFacts → Type 0
-EverAllowed disk f = (c : Content) → f.ever c → ∥ disk.since 0 c ∥₁
+EverAllowed disk f = (c : Content) → f.since 0 c → ∥ disk.since 0 c ∥₁
+
+-- The moment of a disk is that of its last sync. The file was made durable then: so many of its syncs ago as the disk has come on by
+-- moments. Where one that the disk then did not take counts too, it is said of a later moment of the file.
+abbrev pub sync_of : Facts → FileFacts → ℕ → ℕ
+sync_of disk f moment = f.syncs - (disk.moment - moment)
+
+-- and so it is from each moment of the disk on
+abbrev pub AllowedSince : Facts → FileFacts → Type 0
+AllowedSince disk f = (t : ℕ) (c : Content) → t ≤ disk.moment → f.since (sync_of disk f t) c → ∥ disk.since t c ∥₁
 
 -- what the disk keeps of its file
 pub record IsKeptIn (marks : List Bool) (disk : Facts) (f : FileFacts) : Type 0 where
   pub now : LeavesOff marks disk.content f
   pub ever : EverAllowed disk f
+  pub since : AllowedSince disk f
 
 -- each sector that is marked is one of those ranges
 abbrev pub AreWritten : List Bool → List (ℕ × ℕ) → Type 0
@@ -110,19 +125,23 @@ pub record Marks (first count : ℕ) (old new : List Bool) : Type 0 where
 -- what the file has become, while what is marked was written into it: a crash leaves what stands in memory, but for the marks
 pub record PushesSome (marks : List Bool) (content : Content) (old new : FileFacts) : Type 0 where
   pub leaves : LeavesOff marks content new
-  pub ever : (c : Content) → new.ever c → old.ever c ⊎ AgreesOff marks content c
+  pub since : (t : ℕ) (c : Content) → t ≤ old.syncs → new.since t c → old.since t c ⊎ AgreesOff marks content c
 
 -- so many sectors from the first on read as in memory
 pub record WritesUpTo (n : ℕ) (marks : List Bool) (content : Content) (old new : FileFacts) : Type 0 where
   pub holds : (k : ℕ) → k < n → sector new.holds k ≡ sector content k
+  pub syncs : new.syncs ≡ old.syncs
   pub some : PushesSome marks content old new
 
 -- with Ok a read gives what stands in memory
 pub record WritesMarked {T E : Type 0} (marks : List Bool) (content : Content) (result : Result T E) (old new : FileFacts) : Type 0 where
   pub whole : OnOk result (new.holds ≡ content)
+  pub syncs : new.syncs ≡ old.syncs
   pub some : PushesSome marks content old new
 
--- with Ok a crash leaves what stands in memory, and nothing else
+-- with Ok a crash leaves what stands in memory, and nothing else, and has left nothing else since
 pub record Pushes {T E : Type 0} (marks : List Bool) (content : Content) (result : Result T E) (old new : FileFacts) : Type 0 where
   pub durable : OnOk result (Only content new.may_leave)
+  pub syncs : MatchResult result (λ _. new.syncs ≡ old.syncs + 1) (λ _. new.syncs ≡ old.syncs)
+  pub fresh : OnOk result (Only content (new.since new.syncs))
   pub some : PushesSome marks content old new

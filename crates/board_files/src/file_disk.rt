@@ -5,7 +5,7 @@ ghost use Rattle.disk.specs.Calls.{MakesCalls};
 ghost use Rattle.disk.specs.FaultState.{CausedInLanes};
 ghost use Rattle.disk.specs.WriteLog.{ranges};
 ghost use Rattle.board_files.specs.Beside.{faults_beside};
-ghost use Rattle.board_files.specs.Files.{AreMarks, EverAllowed, IfKnown, IfKnown-prop, IsDurable, IsKeptIn, LeavesNoMore};
+ghost use Rattle.board_files.specs.Files.{AllowedSince, AreMarks, EverAllowed, IfKnown, IfKnown-prop, IsDurable, IsKeptIn, LeavesNoMore};
 ghost use Rattle.std.proofs.Props.{props};
 
 use crate::pushing::{SectorRange, mark, push};
@@ -56,11 +56,23 @@ impl<F: SectorFile + Drop> FileDisk<F> {
         })
     }
 
+    /// What is known of its file while it goes on: each content that a crash may leave in it now, or might have left at any moment
+    /// since the disk was made, is one that the disk may leave, or might have left; and so it is from each later moment of the disk
+    /// on.
+    pub fn stands(&self)
+        ensures now { IfKnown (⟦<FileDisk<F> as Filed>⟧.file self.now) (LeavesNoMore (⟦<FileDisk<F> as Disk>⟧.facts self.now)) }
+        ensures since { IfKnown (⟦<FileDisk<F> as Filed>⟧.file self.now) (AllowedSince (⟦<FileDisk<F> as Disk>⟧.facts self.now)) }
+    {
+        exactly_the_model(&self.memory);
+    }
+
     /// The file, as the disk leaves it: each content that a crash may leave in it now, or might have left at any
-    /// moment since the disk was made, is one that the disk may leave, or might have left.
+    /// moment since the disk was made, is one that the disk may leave, or might have left; and so it is from each later moment
+    /// of the disk on.
     pub fn into_file(self) -> F
         ensures now { IfKnown (F.file_facts result) (LeavesNoMore (⟦<FileDisk<F> as Disk>⟧.facts self)) }
         ensures ever { IfKnown (F.file_facts result) (EverAllowed (⟦<FileDisk<F> as Disk>⟧.facts self)) }
+        ensures since { IfKnown (F.file_facts result) (AllowedSince (⟦<FileDisk<F> as Disk>⟧.facts self)) }
     {
         exactly_the_model(&self.memory);
         self.file

@@ -81,10 +81,10 @@ impl MemoryFile {
 
 impl SectorFile for MemoryFile {
     ghost use Rattle.board_files.specs.Files.{Known};
-    ghost use Rattle.board_files.specs.Kept.{kept_facts};
+    ghost use Rattle.board_files.specs.Kept.{earlier, kept_facts};
     ghost use Rattle.std.proofs.Common.{inl, refl};
 
-    ghost file_facts = { λ k. Known (kept_facts k.sectors.items k.stood.items k.past.kept.contents) };
+    ghost file_facts = { λ k. Known (kept_facts k.sectors.items k.stood.items k.past.kept.log) };
 
     fn write_sector(&mut self, number: usize, sector: &Sector) -> io::Result<()> {
         self.called()?;
@@ -99,6 +99,7 @@ impl SectorFile for MemoryFile {
     fn sync(&mut self) -> io::Result<()> {
         let Err(e) = self.called() else {
             self.past.note(&self.stood);
+            self.past.sync();
             self.stood.copy_from_slice(&self.sectors);
             return Ok(());
         };
@@ -111,5 +112,7 @@ impl SectorFile for MemoryFile {
 
     ghost may_keep = { λ k. inl refl };
 
-    ghost counts_now = { λ k c left. inl left };
+    ghost counts_now = { λ k t c le left. inl left };
+
+    ghost earlier = { λ k. earlier k.sectors.items k.stood.items k.past.kept.log };
 }

@@ -11,6 +11,8 @@ use std::os::unix::fs::FileExt;
 /// nothing is known; whoever knows more of his own says so here, and then what a [`FileDisk`](crate::FileDisk)
 /// promises of its file is proved of that one.
 pub trait SectorFile {
+    ghost use Rattle.std.specs.Prelude.{ℕ, ◌≤◌};
+    ghost use Rattle.disk.specs.Facts.{Content};
     ghost use Rattle.board_files.specs.Files.{FileKnown, IfKnown, Goes, WritesSector, SyncsFile};
 
     /// What a read gives and what a crash leaves, where that is known.
@@ -28,8 +30,13 @@ pub trait SectorFile {
     /// A process that is killed leaves what a read gives.
     ghost may_keep: { (file : Self) → IfKnown (file_facts file) (λ f. f.may_leave f.holds) };
 
-    /// This moment is one of all those.
-    ghost counts_now: { (file : Self) → IfKnown (file_facts file) (λ f. (c : _) → f.may_leave c → f.ever c) };
+    /// This moment is one of those since each earlier one.
+    ghost counts_now: { (file : Self) → IfKnown (file_facts file) (λ f. (t : ℕ) (c : Content) → t ≤ f.syncs → f.may_leave c
+        → f.since t c) };
+
+    /// What a crash might have left since a moment, it might have left since an earlier one.
+    ghost earlier: { (file : Self) → IfKnown (file_facts file) (λ f. (t u : ℕ) (c : Content) → t ≤ u → f.since u c
+        → f.since t c) };
 }
 
 impl SectorFile for File {
@@ -48,4 +55,6 @@ impl SectorFile for File {
     ghost may_keep = { λ _. tt };
 
     ghost counts_now = { λ _. tt };
+
+    ghost earlier = { λ _. tt };
 }

@@ -34,21 +34,21 @@ use Rattle.simdisk.specs.declared.sim.SimDisk.{SimDisk}
 
 -- ---- a session
 -- what a session gives back of a disk, an input and an output, by why its console left
-abbrev pub HasEnded : Options → List (List ℕ) → Facts → Facts → Option (List ℕ) → Option (List ℕ) → Option (List ℕ) → Option (List ℕ) → Option Left → Hearing → List Ending
+abbrev pub HasEnded : Options → List (List ℕ) → Facts → Facts → List ℕ → Option (List ℕ) → Option (List ℕ) → Option (List ℕ) → Option (List ℕ) → Option Left → Hearing → List Ending
     → Result (Unit {0}) Refusal → Type 0
-HasEnded o payloads old now input begun rest written left heard ends ran =
+HasEnded o payloads old now moments input begun rest written left heard ends ran =
     (RefusesSession o.new o.shape o.mode payloads old ran now × (left ≡ None))
-    ⊎ (RanOver o.new o.shape o.mode payloads o.turns old now left (dialogue_ends input begun (party [] heard_nothing)) rest written heard ends
+    ⊎ (RanOver o.new o.shape o.mode payloads o.turns old now moments left (dialogue_ends input begun (party [] heard_nothing)) rest written heard ends
     × (ran ≡ outcome_of left))
 
 -- the output is told that the console begins, which changes nothing that is known of it
-pub has_run : (o : Options) (payloads : List (List ℕ)) (old now : Facts) (input out begun rest written : Option (List ℕ))
+pub has_run : (o : Options) (payloads : List (List ℕ)) (old now : Facts) (moments : List ℕ) (input out begun rest written : Option (List ℕ))
     (left : Option Left) (heard : Hearing) (ends : List Ending) (ran : Result (Unit {0}) Refusal)
-    → HasEnded o payloads old now input begun rest written left heard ends ran
-    → (left ≡ None → written ≡ begun) → begun ≡ out → HasRun o payloads old now input out written ran
-has_run o payloads old now input out begun rest written left heard ends ran (inl refused) same u =
+    → HasEnded o payloads old now moments input begun rest written left heard ends ran
+    → (left ≡ None → written ≡ begun) → begun ≡ out → HasRun o payloads old now moments input out written ran
+has_run o payloads old now moments input out begun rest written left heard ends ran (inl refused) same u =
     inl (refused.0, same refused.1 ∙ u)
-has_run o payloads old now input out begun rest written left heard ends ran (inr over) same u =
+has_run o payloads old now moments input out begun rest written left heard ends ran (inr over) same u =
     inr (left, (rest, heard, ends, rw (← u) over.0), over.1)
 
 through : (bytes : Option (List ℕ)) (held : List ℕ) (size : ℕ) → held ≡ [] → size ≡ 8192

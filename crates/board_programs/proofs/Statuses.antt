@@ -45,14 +45,14 @@ module _ {H D K : Type 0} (bytes : H → Option (List ℕ)) (facts : SimDisk →
   ended : (payloads : List (List ℕ)) (begun : Facts) (left : FileLeft H K) (done : Result (Unit {0}) ProgramFault)
       → EndsInFile bytes facts o payloads begun s left done → status_after done ≤ 1
   ended payloads begun lefts.None done is = absurd is
-  ended payloads begun (lefts.AtEnd held now) done (ran, run, written) = rw written.told (first ran written.written written.failed)
-  ended payloads begun (lefts.AllAlong kept) done is = absurd is
+  ended payloads begun (lefts.AtEnd held now) done (ran, moments, run, written) = rw written.told (first ran written.written written.failed)
+  ended payloads begun (lefts.AllAlong kept moments) done is = absurd is
 
   stayed : (payloads : List (List ℕ)) (begun : Facts) (left : FileLeft H K) (done : Result (Unit {0}) ProgramFault)
       → StaysInFile file_facts in_file o payloads begun s left done → status_after done ≤ 1
   stayed payloads begun lefts.None done is = absurd is
   stayed payloads begun (lefts.AtEnd held now) done is = absurd is
-  stayed payloads begun (lefts.AllAlong kept) done (now, ran, run, leaves, is) = rw is (told ran)
+  stayed payloads begun (lefts.AllAlong kept moments) done (now, ran, run, leaves, ever, since, is) = rw is (told ran)
 
   pub session_status : (bytes_at : List ℕ → Option (List ℕ)) (left : FileLeft H K) (done : Result (Unit {0}) ProgramFault)
       → HasLeft bytes facts file_facts in_file o bytes_at s left done → status_after done ≤ 1

@@ -20,7 +20,7 @@ use Rattle.command_line.specs.declared.NoWork.{NoWork}
 use Rattle.command_line.specs.declared.NoWork.TheVariants.{Memory, Usage}
 use Rattle.command_line.specs.declared.fault.ProgramFault.{ProgramFault}
 use Rattle.disk.specs.Facts.{Facts, IsFresh}
-use Rattle.board_files.specs.Files.{FileKnown, IfKnown, LeavesNoMore}
+use Rattle.board_files.specs.Files.{AllowedSince, EverAllowed, FileKnown, IfKnown, LeavesNoMore}
 use Rattle.board_files.specs.Named.{AreFilesOf}
 use Rattle.simdisk.specs.declared.sim.SimDisk.{SimDisk}
 
@@ -64,18 +64,20 @@ known disk input out written = record { disk = disk; input = input; out = out; w
 abbrev pub EndsInFile : {H K : Type 0} → (H → Option (List ℕ)) → (SimDisk → Facts) → Options → List (List ℕ) → Facts → Known
     → FileLeft H K → Result (Unit {0}) ProgramFault → Type 0
 EndsInFile bytes facts o payloads begun s None done = ⊥
-EndsInFile bytes facts o payloads begun s (AtEnd held now) done = (ran : Result (Unit {0}) Refusal)
-    × HasRun o payloads begun (facts now) s.input s.out s.written ran × IsWritten o.new (facts now) ran s.disk (bytes held) done
-EndsInFile bytes facts o payloads begun s (AllAlong now) done = ⊥
+EndsInFile bytes facts o payloads begun s (AtEnd held now) done = (ran : Result (Unit {0}) Refusal) × (moments : List ℕ)
+    × HasRun o payloads begun (facts now) moments s.input s.out s.written ran × IsWritten o.new (facts now) ran s.disk (bytes held) done
+EndsInFile bytes facts o payloads begun s (AllAlong now moments) done = ⊥
 
--- It is kept in its file all along. Each content that a crash may then leave in the file is one that the disk may leave.
+-- It is kept in its file all along. Each content that a crash may then leave in the file is one that the disk may leave; and each that a
+-- crash has left there, at any moment and within a call of the file too, is one that the disk might have left, and so it is from each
+-- moment of the disk on. With the file stand the moments at which the receipts of the session were made.
 abbrev pub StaysInFile : {H D K : Type 0} → (D → Facts) → (K → FileKnown) → Options → List (List ℕ) → Facts → Known
     → FileLeft H K → Result (Unit {0}) ProgramFault → Type 0
 StaysInFile {D = D} facts in_file o payloads begun s None done = ⊥
 StaysInFile {D = D} facts in_file o payloads begun s (AtEnd held now) done = ⊥
-StaysInFile {D = D} facts in_file o payloads begun s (AllAlong kept) done = (now : D) × (ran : Result (Unit {0}) Refusal)
-    × HasRun o payloads begun (facts now) s.input s.out s.written ran × IfKnown (in_file kept) (LeavesNoMore (facts now))
-    × (done ≡ told_of ran)
+StaysInFile {D = D} facts in_file o payloads begun s (AllAlong kept moments) done = (now : D) × (ran : Result (Unit {0}) Refusal)
+    × HasRun o payloads begun (facts now) moments.at s.input s.out s.written ran × IfKnown (in_file kept) (LeavesNoMore (facts now))
+    × IfKnown (in_file kept) (EverAllowed (facts now)) × IfKnown (in_file kept) (AllowedSince (facts now)) × (done ≡ told_of ran)
 
 -- ---- from the files to the file
 -- Each slot boots what stands in the file that is named for it. A session began with the disk of the file or a blank one,

@@ -14,17 +14,18 @@ use Rattle.hart_threads.specs.Ends.{Ending}
 use Rattle.hart_threads.specs.Heard.{Hearing, heard_nothing}
 
 -- it ran over the disk that was given, until its console left so
-abbrev pub RanUntil : Options → List (List ℕ) → Facts → Facts → Option (List ℕ) → Option (List ℕ) → Option (List ℕ) → Option Left → Type 0
-RanUntil o payloads old now input out written left =
+abbrev pub RanUntil : Options → List (List ℕ) → Facts → Facts → List ℕ → Option (List ℕ) → Option (List ℕ) → Option (List ℕ) → Option Left → Type 0
+RanUntil o payloads old now moments input out written left =
     (rest : Option (List ℕ)) × (heard : Hearing) × (ends : List Ending)
-    × RanOver o.new o.shape o.mode payloads o.turns old now left (dialogue_ends input out (party [] heard_nothing)) rest written heard ends
+    × RanOver o.new o.shape o.mode payloads o.turns old now moments left (dialogue_ends input out (party [] heard_nothing)) rest written heard ends
 
 -- It was refused by its disk, before any line was answered; or it ran. From one disk to the other, with an input and an output
--- of which these bytes are known.
-abbrev pub HasRun : Options → List (List ℕ) → Facts → Facts → Option (List ℕ) → Option (List ℕ) → Option (List ℕ) → Result (Unit {0}) Refusal → Type 0
-HasRun o payloads old now input out written ran =
+-- of which these bytes are known; and these are the moments at which its boot was over and its receipts were made.
+abbrev pub HasRun : Options → List (List ℕ) → Facts → Facts → List ℕ → Option (List ℕ) → Option (List ℕ) → Option (List ℕ) → Result (Unit {0}) Refusal
+    → Type 0
+HasRun o payloads old now moments input out written ran =
     (RefusesSession o.new o.shape o.mode payloads old ran now × (written ≡ out))
-    ⊎ ((left : Option Left) × RanUntil o payloads old now input out written left × (ran ≡ outcome_of left))
+    ⊎ ((left : Option Left) × RanUntil o payloads old now moments input out written left × (ran ≡ outcome_of left))
 
 -- the fault of a program for it
 abbrev pub told_of : Result (Unit {0}) Refusal → Result (Unit {0}) ProgramFault

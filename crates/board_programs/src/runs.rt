@@ -21,6 +21,7 @@ use board_model::Refusal;
 use board_session::{Options, SessionEnd, Streams, session};
 use command_line::{FileFault, first_of};
 use disk::Disk;
+use hart_threads::Moments;
 use simdisk::SimDisk;
 use std::alloc::Global;
 use std::io::{BufReader, IsTerminal, Read, Write};
@@ -42,8 +43,8 @@ pub enum FileLeft<H: Drop, K: Drop> {
     None,
     /// The file, and the disk that was to be written into it at the end.
     AtEnd(H, SimDisk),
-    /// The file in which the disk was kept all along.
-    AllAlong(K),
+    /// The file in which the disk was kept all along, and the moments of the disk at which receipts were made.
+    AllAlong(K, Moments),
 }
 
 /// What a run gives back: what stands of the file, what the answers were written to, and the fault, where there is one.
@@ -173,7 +174,7 @@ fn run_session<
 ) -> SessionEnd<D, I, O>
     requires { IsIdle (D.facts disk) }
     ensures { HasRun setup.now.options.now setup.now.payloads.now (D.facts disk) (D.facts result.disk)
-        (I.remaining streams.input) (O.contents streams.out) (O.contents result.streams.out) result.ran }
+        result.moments.at (I.remaining streams.input) (O.contents streams.out) (O.contents result.streams.out) result.ran }
 {
     let BoardSetup { options, payloads } = *setup;
     let Streams { input, mut out } = streams;
@@ -246,10 +247,11 @@ fn run_in_file<
         console_left: _,
         heard: _,
         harts: _,
+        moments,
     } = run_session(alloc, threads, setup, disk, streams, faults);
     let Streams { input: _, out } = streams;
     RunEnd {
-        file_left: FileLeft::AllAlong(disk.into_file()),
+        file_left: FileLeft::AllAlong(disk.into_file(), moments),
         out,
         ended: as_file_fault(ran),
     }

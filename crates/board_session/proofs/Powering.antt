@@ -14,7 +14,7 @@ use Rattle.board_model.specs.declared.durable.Entry.{Entry}
 use Rattle.board_model.specs.declared.refusal.Refusal.{Refusal}
 use Rattle.board_model.specs.Views.{number_of_refusal}
 use Rattle.board_model.specs.declared.refusal.Refusal.TheVariants.{Device, Down, Memory}
-use Rattle.disk.specs.Facts.{Content, Facts, Failed, Passes, Stays}
+use Rattle.disk.specs.Facts.{Content, Facts, Failed, LeavesSince, Passes, Stays}
 use Rattle.store.specs.Leaves.{IsBlank, IsKept, IsMarked, LeavesEither, LeavesOnly, LeftAsBefore, NoMore}
 use Rattle.store.specs.Answers.{StoreView}
 use Rattle.store.specs.Opens.{OpenRefused, FormatRefused}
@@ -31,9 +31,9 @@ use Rattle.hart_threads.specs.Legal.{BeginsWith}
 use Rattle.hart_threads.specs.Runs.{AllCarrySteps, IsCarried}
 use Rattle.hart_threads.proofs.Carrying.{none_carry, more_carry, change_carries}
 use Rattle.board.specs.Boots.{boot_refusal, life_after}
-use Rattle.board.specs.Moments.{attempts_of, commands_by}
+use Rattle.board.specs.Moments.{MayLeave, attempts_of, commands_by}
 use Rattle.board.proofs.Few.{few_commands, left_at}
-use Rattle.board_session.specs.Sessions.{Begins, Allows, TakesFormat, RunsOver, RefusesNew, RefusesDisk, IsOfLife}
+use Rattle.board_session.specs.Sessions.{Begins, Allows, TakesFormat, RunsOver, RefusesNew, RefusesDisk, IsOfLife, IsBooted}
 
 -- ---- of a format
 -- what the law of kept disks says where a crash leaves no more than before, or its state in a record of version 2
@@ -62,8 +62,13 @@ pub kept_reads : (disk : Facts) (size : Size) → IsKept disk size → disk.may_
 unfolding IsKept
 kept_reads disk size kept may_keep = kept disk.content may_keep
 
-pub of_life_kept : (size : Size) (found : DurableState) (issued : List Change) (begins : List ℕ) (failures : ℕ) (told : List (ℕ × Entry)) (doubtful : Option Command) (disk : Facts) → IsOfLife size found issued begins failures told doubtful disk → (z : Size) × IsKept disk z
-of_life_kept size found issued begins failures told doubtful disk is = (size, life_kept is.doubt disk size (fold found is.journal) is.leaves)
+pub of_life_kept : (size : Size) (found : DurableState) (issued : List Change) (begins : List ℕ) (failures : ℕ) (earlier : ℕ → Content → Type 0) (moment : ℕ) (moments : List ℕ) (told : List (ℕ × Entry)) (doubtful : Option Command) (disk : Facts) → IsOfLife size found issued begins failures earlier moment moments told doubtful disk → (z : Size) × IsKept disk z
+of_life_kept size found issued begins failures earlier moment moments told doubtful disk is = (size, life_kept is.doubt disk size (fold found is.journal) is.leaves)
+
+-- the boot of an old disk is over
+pub booted : (new : Bool) (old disk : Facts) (size : Size) (found : DurableState) (issued : List Change) → (new ≡ false → LeavesSince old disk (MayLeave old size found issued)) → IsBooted new old size found issued disk
+booted true old disk size found issued goes = (omega arith, λ t c le is. tt)
+booted false old disk size found issued goes = let any = goes refl in (any.later, λ t c le is. any.before t c le is)
 
 -- ---- of a board that is not on
 -- The formatted state has no image: a mode that issues a command is refused 8 there, and nothing is in doubt.

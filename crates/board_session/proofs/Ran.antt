@@ -1,11 +1,12 @@
 -- A session of a board that was on.
-use Rattle.std.proofs.Common.{◌≡◌, ℕ, Bool, List, Option, Some, subst, sym}
+use Rattle.std.proofs.Common.{◌≡◌, ◌⊎◌, ◌≤◌, ℕ, Bool, List, Option, Some, inl, inr, arith, subst, sym}
+use Rattle.std.proofs.Math.Logic.{∥∥₁_map}
 use Rattle.board_model.specs.Durable.{DurableState, Change}
 use Rattle.board_model.specs.Shapes.{Size}
 use Rattle.board_model.specs.declared.boot_mode.BootMode.{BootMode}
 use Rattle.board_model.specs.declared.durable.Command.{Command}
 use Rattle.board_model.specs.declared.durable.Entry.{Entry}
-use Rattle.disk.specs.Facts.{Facts}
+use Rattle.disk.specs.Facts.{Content, Facts}
 use Rattle.board.specs.Begins.{IsBegun}
 use Rattle.board.specs.Moments.{commands_by}
 use Rattle.machine.specs.Machine.{Machine}
@@ -14,27 +15,63 @@ use Rattle.board_session.specs.Commands.{party}
 use Rattle.board_session.specs.Dialogues.{DialogueEnds, Talks, dialogue_ends}
 use Rattle.board_session.specs.declared.talks.Left.{Left}
 use Rattle.hart_threads.specs.Ends.{Ending}
-use Rattle.board_session.specs.Sessions.{RunsOver, Begins, IsOfLife, TalksIf, AreByLast, AreDriven, RanOver}
+use Rattle.board_session.specs.Sessions.{RunsOver, Begins, IsOfLife, TalksIf, AreByLast, AreDriven, RanOver, LeftBefore, said_since}
+
+-- what is said of the time before the boot says less
+or_else : (A B P : Type 0) → (A → B) → A ⊎ P → B ⊎ P
+or_else A B P f (inl a) = inl (f a)
+or_else A B P f (inr p) = inr p
+
+weaker : (size : Size) (found : DurableState) (issued : List Change) (memory : List ℕ) (failures : ℕ) (earlier said : ℕ → Content → Type 0) (moment from : ℕ) (moments : List ℕ) (console : List (ℕ × Entry)) (doubt : Option Command) (disk : Facts)
+    → from ≤ moment → ((t : ℕ) (c : Content) → t ≤ from → earlier t c → said t c) → (ends : List Ending)
+    → (life : IsOfLife size found issued memory failures earlier moment moments console doubt disk) → AreByLast life.journal ends
+    → (is : IsOfLife size found issued memory failures said from moments console doubt disk) × AreByLast is.journal ends
+weaker size found issued memory failures earlier said moment from moments console doubt disk le says ends life ended = (
+  record {
+    journal = life.journal;
+    acknowledged = life.acknowledged;
+    begun = life.begun;
+    taken = life.taken;
+    doubt = life.doubt;
+    leaves = life.leaves;
+    allowed = life.allowed;
+    reads = life.reads;
+    carried = life.carried;
+    doubted = life.doubted;
+    failed = life.failed;
+    asked = life.asked;
+    kept = record {
+      first = (life.kept.first.0, (let first = life.kept.first.1 in omega (arith, le, first)));
+      many = life.kept.many;
+      passed = life.kept.passed;
+      ever = λ t c before is. ∥∥₁_map (life.kept.ever t c (omega (arith, before, le)) is) (or_else (earlier t c) (said t c) _ (says t c before));
+      kept = life.kept.kept;
+    };
+  },
+  ended,
+)
 
 -- a life under its other names, and what ended its harts
-named : (z size : Size) (s found : DurableState) (issued commands : List Change) (memory begins : List ℕ) (failures before : ℕ) (console : List (ℕ × Entry)) (doubt : Option Command) (disk : Facts) (ends : List Ending)
+named : (z size : Size) (s found : DurableState) (issued commands : List Change) (memory begins : List ℕ) (failures before : ℕ) (said : ℕ → Content → Type 0) (from : ℕ) (moments : List ℕ) (console : List (ℕ × Entry)) (doubt : Option Command) (disk : Facts) (ends : List Ending)
     → z ≡ size → s ≡ found → issued ≡ commands → memory ≡ begins → failures ≡ before
-    → (life : IsOfLife z s issued memory failures console doubt disk) → AreByLast life.journal ends → (life : IsOfLife size found commands begins before console doubt disk) × AreByLast life.journal ends
-named z size s found issued commands memory begins failures before console doubt disk ends sized was made left_by opened life ended =
-    let Named : Size → DurableState → List Change → List ℕ → ℕ → Type 0 = λ y t cs m n. (is : IsOfLife y t cs m n console doubt disk) × AreByLast is.journal ends in
+    → (life : IsOfLife z s issued memory failures said from moments console doubt disk) × AreByLast life.journal ends → (life : IsOfLife size found commands begins before said from moments console doubt disk) × AreByLast life.journal ends
+named z size s found issued commands memory begins failures before said from moments console doubt disk ends sized was made left_by opened both =
+    let Named : Size → DurableState → List Change → List ℕ → ℕ → Type 0 = λ y t cs m n. (is : IsOfLife y t cs m n said from moments console doubt disk) × AreByLast is.journal ends in
     subst (λ (x : Size). Named x found commands begins before) sized
     (subst (λ (x : DurableState). Named z x commands begins before) was
     (subst (λ (x : List Change). Named z s x begins before) made
     (subst (λ (x : List ℕ). Named z s issued x before) left_by
-    (subst (λ (x : ℕ). Named z s issued memory x) opened (life, ended)))))
+    (subst (λ (x : ℕ). Named z s issued memory x) opened both))))
 
 -- what is of the life of the store that the board gave up is of the one that it had
-pub ran_over : (new : Bool) (shape : Size) (mode : BootMode) (payloads : List (List ℕ)) (turns : ℕ) (old disk : Facts) (left : Option Left) (a : DialogueEnds) (input output : Option (List ℕ)) (heard : Hearing) (ends : List Ending) (size z : Size) (found s : DurableState) (issued : List Change) (machine board : Machine) (memory : List ℕ) (failures : ℕ)
+pub ran_over : (new : Bool) (shape : Size) (mode : BootMode) (payloads : List (List ℕ)) (turns : ℕ) (old disk : Facts) (moments : List ℕ) (left : Option Left) (a : DialogueEnds) (input output : Option (List ℕ)) (heard : Hearing) (ends : List Ending) (size z : Size) (found s : DurableState) (issued : List Change) (machine board : Machine) (memory : List ℕ) (failures : ℕ) (earlier : ℕ → Content → Type 0) (moment : ℕ)
+    → said_since new old ≤ moment → ((t : ℕ) (c : Content) → t ≤ said_since new old → earlier t c → LeftBefore new old size found (commands_by mode found) t c)
     → z ≡ size → s ≡ found → issued ≡ commands_by mode found → memory ≡ machine.memory → board ≡ machine → failures ≡ old.failures → RunsOver new shape mode payloads old.content → Begins new shape old.content size found → IsBegun mode size payloads found machine
-    → (console : List (ℕ × Entry)) → (life : IsOfLife z s issued memory failures console heard.doubt disk)
-    → TalksIf s issued left a (dialogue_ends input output (party console heard)) → AreByLast life.journal ends → AreDriven z.harts board turns s left ends → RanOver new shape mode payloads turns old disk left a input output heard ends
-ran_over new shape mode payloads turns old disk left a input output heard ends size z found s issued machine board memory failures sized was made left_by same opened allowed begins powered console life talks ended driven =
-    let kept = named z size s found issued (commands_by mode found) memory machine.memory failures old.failures console heard.doubt disk ends sized was made left_by opened life ended in
+    → (console : List (ℕ × Entry)) → (life : IsOfLife z s issued memory failures earlier moment moments console heard.doubt disk)
+    → TalksIf s issued left a (dialogue_ends input output (party console heard)) → AreByLast life.journal ends → AreDriven z.harts board turns s left ends → RanOver new shape mode payloads turns old disk moments left a input output heard ends
+ran_over new shape mode payloads turns old disk moments left a input output heard ends size z found s issued machine board memory failures earlier moment le says sized was made left_by same opened allowed begins powered console life talks ended driven =
+    let kept = named z size s found issued (commands_by mode found) memory machine.memory failures old.failures (LeftBefore new old size found (commands_by mode found)) (said_since new old) moments console heard.doubt disk ends sized was made left_by opened
+    (weaker z s issued memory failures earlier (LeftBefore new old size found (commands_by mode found)) moment (said_since new old) moments console heard.doubt disk le says ends life ended) in
     record {
       allowed = allowed;
       size = size;

@@ -1,5 +1,5 @@
 -- Lines and answers, one after another.
-use Rattle.std.proofs.Common.{◌≡◌, ◌∙◌, ℕ, zero, suc, Bool, true, false, List, [], ◌∷◌, length, not, ◌==◌, Option, Some, None, arith, refl, sym, ap, subst, inl, inr}
+use Rattle.std.proofs.Common.{◌≡◌, ◌∙◌, ℕ, zero, suc, Bool, true, false, List, [], ◌∷◌, length, not, ◌==◌, Option, Some, None, Result, Ok, Err, arith, refl, sym, ap, subst, inl, inr}
 use Rattle.std.proofs.lemmas.Bool.Decides.{nat_tests}
 use Rattle.board_model.specs.Durable.{Change, DurableState}
 use Rattle.board_session.specs.declared.lines.LineEnd.{LineEnd}
@@ -9,7 +9,10 @@ use Rattle.board_session.specs.declared.words.Said.TheVariants as saids
 use Rattle.board_session.specs.declared.reply.Reply.{Reply}
 use Rattle.board_session.specs.declared.talks.Left.{Left}
 use Rattle.board_session.specs.declared.talks.Left.TheVariants as lefts
-use Rattle.board_session.specs.Commands.{IsAnswerTo}
+use Rattle.board_model.specs.ConsoleCommands.{command_of}
+use Rattle.board_model.specs.declared.console_command.ConsoleCommand.{ConsoleCommand}
+use Rattle.board_model.specs.declared.refusal.Refusal.{Refusal}
+use Rattle.board_session.specs.Commands.{HoldsReceipt, IsAnswerTo, Party, command_answer, party_after}
 use Rattle.board_session.specs.Dialogues.{DialogueEnds, Obeyed, Exchanged, HasNone, Leaves, TalksOn, Talks, left_after, left_before, left_before_if, left_behind}
 use Rattle.board_session.specs.Lines.{TakesLine, is_line, line_meaning}
 
@@ -34,6 +37,18 @@ module _ (found : DurableState) (issued : List Change) where
       → IsAnswerTo found issued said answer a.party b.party → Obeyed found issued ended said answer a b
   obeyed a b kept slice ended said answer takes came same says fits =
       (kept, takes, is_one (is_line ended kept) ended kept refl came, says ∙ ap line_meaning same, fits)
+
+  command_held : (command : ConsoleCommand) (r : Result ℕ Refusal) (newly : Bool) (answer : Reply) (old new : Party) → answer ≡ command_answer command r → new ≡ party_after newly (command_of command) r old → HoldsReceipt answer new.told
+  command_held command (Ok n) newly answer old new is after = rw (is, after) (old.told, refl)
+  command_held command (Err e) newly answer old new is after = rw is tt
+
+  -- an `ok N` is answered with its receipt in the hand
+  pub held : (said : Said) (answer : Reply) (old new : Party) → IsAnswerTo found issued said answer old new → HoldsReceipt answer new.told
+  held (saids.Command command) answer old new (r, may, is, newly, after) = command_held command r newly answer old new is after
+  held saids.State answer old new (d, may, is, after) = rw is tt
+  held saids.Wake answer old new (heard, (r, may, is, on), after) = rw is tt
+  held saids.Quit answer old new (is, same) = rw is tt
+  held saids.Other answer old new (is, same) = rw is tt
 
   pub goes_on : (a mid b : DialogueEnds) (ended : LineEnd) (said : Said) → Talking a mid → Exchanged found issued ended said mid b → left_after ended said ≡ None → Talking a b
   goes_on a mid b ended said t e on = record { lines = suc t.lines; talks = (mid, ended, said, t.talks, e, on) }

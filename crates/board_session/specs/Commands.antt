@@ -69,6 +69,11 @@ IsAnswerTo found issued saids.Wake answer old new =
 IsAnswerTo found issued saids.Quit answer old new = (answer ≡ answers.Quit) × (new ≡ old)
 IsAnswerTo found issued saids.Other answer old new = (answer ≡ answers.Unknown) × (new ≡ old)
 
+-- Where an answer acknowledges a command, the newest receipt that the console was told is that of this command, with this number.
+abbrev pub HoldsReceipt : Reply → List (ℕ × Entry) → Type 0
+HoldsReceipt (answers.Acknowledged command n) told = (older : List (ℕ × Entry)) × (told ≡ (n, entries.Command (command_of command)) ∷ older)
+HoldsReceipt answer told = Unit {0}
+
 -- the line `wake` calls the wake-up device once
 abbrev pub AnswersWake : Bus → Bus → Reply → Type 0
 AnswersWake old new answer = (r : Result (Unit {0}) Refusal) × Wakes old new r × (answer ≡ answers.Wake r)

@@ -18,7 +18,7 @@ use Rattle.store.specs.Standing.{StandsFor}
 use Rattle.store.specs.Taken.{are_taken}
 use Rattle.board.specs.Begins.{IsBegun, RefusesBoot}
 use Rattle.board.specs.Boots.{boot_refusal, PayloadsFit}
-use Rattle.board.specs.Moments.{commands_by}
+use Rattle.board.specs.Moments.{MayLeave, commands_by}
 use Rattle.board.specs.PowersOn.{IsUnpowered}
 use Rattle.board.specs.Unbooted.{LeavesLife}
 use Rattle.machine.specs.Machine.{Machine}
@@ -34,6 +34,7 @@ use Rattle.hart_threads.specs.Called.{IsLastOf}
 use Rattle.hart_threads.specs.Doubts.{IsDoubtOf}
 use Rattle.hart_threads.specs.Heard.{Hearing}
 use Rattle.hart_threads.specs.Runs.{CarriesSteps, AllCarrySteps}
+use Rattle.hart_threads.specs.Since.{AreKept}
 use Rattle.board_session.specs.Commands.{party}
 use Rattle.board_session.specs.Dialogues.{DialogueEnds, Talks, dialogue_ends}
 use Rattle.board_session.specs.declared.talks.Left.{Left}
@@ -97,15 +98,37 @@ pub record IsAcknowledged (size : Size) (issued journal : List Change) (console 
   pub each : All (λ told. ends_life told ≡ true) harts
   pub receipts : AreReceiptsOf (entries_in journal) (boot_told issued ++ (console ++ hart_receipts harts))
 
+-- What a crash at that moment or later might have left before the boot of a session was over. Of an old disk: what one might have left
+-- before the session, or what some first of the commands that the boot issued make of the state found; of a disk that is
+-- formatted for the session nothing is said.
+abbrev pub LeftBefore : Bool → Facts → Size → DurableState → List Change → ℕ → Content → Type 0
+LeftBefore true old size found issued t c = Unit {0}
+LeftBefore false old size found issued t c = old.since t c ⊎ MayLeave old size found issued c
+
+-- the moment from which on it is said
+abbrev pub said_since : Bool → Facts → ℕ
+said_since true old = 0
+said_since false old = old.moment
+
+-- so it was of a disk once the boot was over
+abbrev pub IsBooted : Bool → Facts → Size → DurableState → List Change → Facts → Type 0
+IsBooted new old size found issued disk =
+    (said_since new old ≤ disk.moment)
+    × ((t : ℕ) (c : Content) → t ≤ said_since new old → disk.since t c → LeftBefore new old size found issued t c)
+
 -- The disk of a life that began in that state and has ended, of which the console was told those receipts, and that so
 -- many failures had before the session. Its journal begins with what the boot issued, and is of commands that the table
 -- takes, one after another from there: just those that were acknowledged, in the order of their receipts. A crash leaves the
 -- state that they make of it, or with a command in doubt, which the table does not refuse, that state or the one after it;
 -- and a read gives one of them. A command is in doubt only where the disk failed in the session. It is the one that the
 -- console has in doubt, which was answered 6; or where the console has none, one that a durable call of a hart asks for.
+-- These are the moments at which its boot was over and its receipts were made. At each moment of it, within a command too, a crash has left
+-- what some first commands of the journal make, with each that had been acknowledged by then, or these and the one in doubt; or what is
+-- said of the time before its boot was over.
 -- Each suspension of the life, also one in doubt, carries a memory that steps of harts made of the one that the boot left.
 pub record IsOfLife (size : Size) (found : DurableState) (issued : List Change) (begins : List ℕ) (failures : ℕ)
-    (console : List (ℕ × Entry)) (doubtful : Option Command) (disk : Facts) : Type 0 where
+    (earlier : ℕ → Content → Type 0) (moment : ℕ) (moments : List ℕ) (console : List (ℕ × Entry)) (doubtful : Option Command)
+    (disk : Facts) : Type 0 where
   pub journal : List Change
   pub acknowledged : IsAcknowledged size issued journal console
   pub begun : (later : List Change) × (journal ≡ issued ++ later)
@@ -118,6 +141,7 @@ pub record IsOfLife (size : Size) (found : DurableState) (issued : List Change) 
   pub doubted : (c : Change) → doubt ≡ Some c → CarriesSteps begins c
   pub failed : (c : Change) → doubt ≡ Some c → Failed failures disk.failures
   pub asked : IsDoubtOf size doubt doubtful
+  pub kept : AreKept size found earlier moment (length issued) journal doubt disk moments
 
 -- what was read and answered in a life that began in that state, by why the console left: nothing where it was not
 -- begun
@@ -170,8 +194,8 @@ AreByLast journal ends = All (λ e. IsByLast journal e.by) ends
 -- those of the board that was on, were driven, and ended so; where another hart ended the life, by the last command of its
 -- journal.
 pub record RanOver (new : Bool) (shape : Size) (mode : BootMode) (payloads : List (List ℕ)) (turns : ℕ)
-    (old disk : Facts) (left : Option Left) (a : DialogueEnds) (input output : Option (List ℕ)) (heard : Hearing)
-    (ends : List Ending) : Type 0 where
+    (old disk : Facts) (moments : List ℕ) (left : Option Left) (a : DialogueEnds) (input output : Option (List ℕ))
+    (heard : Hearing) (ends : List Ending) : Type 0 where
   pub allowed : RunsOver new shape mode payloads old.content
   pub size : Size
   pub found : DurableState
@@ -179,7 +203,8 @@ pub record RanOver (new : Bool) (shape : Size) (mode : BootMode) (payloads : Lis
   pub machine : Machine
   pub powered : IsBegun mode size payloads found machine
   pub console : List (ℕ × Entry)
-  pub life : IsOfLife size found (commands_by mode found) machine.memory old.failures console heard.doubt disk
+  pub life : IsOfLife size found (commands_by mode found) machine.memory old.failures
+      (LeftBefore new old size found (commands_by mode found)) (said_since new old) moments console heard.doubt disk
   pub talks : TalksIf found (commands_by mode found) left a (dialogue_ends input output (party console heard))
   pub driven : AreDriven size.harts machine turns found left ends
   pub ended : AreByLast life.journal ends

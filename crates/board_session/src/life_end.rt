@@ -3,10 +3,10 @@
 ghost use Rattle.std.specs.Prelude.{◌≡◌, ◌≤◌, ◌+◌, ℕ, List, [], ◌∷◌, true, None, Some, All, length, vec_len, vec_capacity};
 ghost use Rattle.store.specs.Leaves.{IsIdle};
 ghost use Rattle.store.specs.Taken.{are_taken};
-ghost use Rattle.store.specs.Views.{size_of_store, found_state, journal_of, life_of, doubt_of, failures_at_open};
+ghost use Rattle.store.specs.Views.{size_of_store, found_state, journal_of, life_of, doubt_of, failures_at_open, disk_of};
 ghost use Rattle.hart_threads.specs.Noted.{boot_told};
 ghost use Rattle.hart_threads.specs.Runs.{IsCarried};
-ghost use Rattle.hart_threads.specs.Views.{inside, parts_with};
+ghost use Rattle.hart_threads.specs.Views.{inside, moments_with, parts_with};
 ghost use Rattle.hart_threads.specs.Ends.{AreNumberedFrom, IsEnding};
 ghost use Rattle.board_session.specs.Backs.{AreBack};
 ghost use Rattle.board_session.specs.Sessions.{IsBy, IsOfLife};
@@ -14,7 +14,7 @@ ghost use Rattle.board_session.specs.Sessions.{IsBy, IsOfLife};
 use board_model::Entry;
 use disk::Disk;
 use hart_threads::{
-    BookPart, HartEnd, HartLocal, Heard, Parted, Rested, ShutBy, Threaded, Unshared,
+    BookPart, HartEnd, HartLocal, Heard, Moments, Parted, Rested, ShutBy, Threaded, Unshared,
 };
 use std::sync::Wait;
 use store::Store;
@@ -78,6 +78,7 @@ pub(crate) fn ends_of<'c, R: Wait, J: Threaded>(
 fn gather_loops<D: Disk + Drop, J: Threaded>(whole: &mut Unshared<D, J>, loops: Vec<Rested<'_, J>>)
     requires back { AreBack (parts_with whole.old) }
     ensures store { inside whole.new ≡ inside whole.old }
+    ensures moments { moments_with whole.new ≡ moments_with whole.old }
     ensures back { AreBack (parts_with whole.new) }
     ensures many { length (parts_with whole.new) ≡ length (parts_with whole.old) + vec_len loops.entry }
 {
@@ -98,6 +99,7 @@ fn gather_parts<D: Disk + Drop, J: Threaded>(whole: &mut Unshared<D, J>, parts: 
     requires back { AreBack (parts_with whole.old) }
     requires fresh { All (λ p. p.told ≡ []) parts.items }
     ensures store { inside whole.new ≡ inside whole.old }
+    ensures moments { moments_with whole.new ≡ moments_with whole.old }
     ensures back { AreBack (parts_with whole.new) }
     ensures many { length (parts_with whole.new) ≡ length (parts_with whole.old) + vec_len parts }
 {
@@ -114,6 +116,7 @@ fn gather_last<D: Disk + Drop, J: Threaded>(
     boot: BookPart<J>,
 )
     ensures store { inside whole.new ≡ inside whole.old }
+    ensures moments { moments_with whole.new ≡ moments_with whole.old }
     ensures parts { parts_with whole.new ≡ boot ∷ console ∷ parts_with whole.old }
 {
     whole.gather(console);
@@ -121,7 +124,7 @@ fn gather_last<D: Disk + Drop, J: Threaded>(
 }
 
 /// The disk of a store whose life ends here, once the harts' parts, the console's and the boot's are back, and what the
-/// console heard.
+/// console heard; and the moments of its receipts.
 pub(crate) fn disk_of<D: Disk + Drop, J: Threaded>(
     whole: Unshared<D, J>,
     loops: Vec<Rested<'_, J>>,
@@ -129,33 +132,36 @@ pub(crate) fn disk_of<D: Disk + Drop, J: Threaded>(
     console: BookPart<J>,
     heard: Heard<J>,
     boot: BookPart<J>,
-) -> D
+) -> (D, Moments)
     requires back { AreBack (parts_with whole) }
     requires fresh { All (λ p. p.told ≡ []) parts.items }
     requires harts { length (parts_with whole) + vec_len loops + vec_len parts ≡ J.size.harts }
     requires boot { boot.told ≡ boot_told J.issued }
     requires all { J.parts ≡ J.size.harts + 2 }
-    ensures none_out { IsIdle (D.facts result) }
-    ensures life { (life : IsOfLife J.size J.found J.issued J.memory J.failures console.told heard.doubt (D.facts result))
-        × (life.journal ≡ journal_of (inside whole)) }
+    ensures none_out { IsIdle (D.facts result.0) }
+    ensures moments { result.1.at ≡ moments_with whole }
+    ensures life { (life : IsOfLife J.size J.found J.issued J.memory J.failures J.earlier J.moment result.1.at console.told
+        heard.doubt (D.facts result.0)) × (life.journal ≡ journal_of (inside whole)) }
 {
     let mut whole = whole;
     gather_loops(&mut whole, loops);
     gather_parts(&mut whole, parts);
     gather_last(&mut whole, console, boot);
-    whole.close(heard).into_disk()
+    let (store, moments) = whole.close(heard);
+    (store.into_disk(), moments)
 }
 
 /// The disk of a store whose life ends as the boot left it, before any part of the receipts was handed out.
-pub(crate) fn disk_at_once<D: Disk + Drop>(store: Store<D>) -> D
+pub(crate) fn disk_at_once<D: Disk + Drop>(store: Store<D>) -> (D, Moments)
     requires taken { are_taken (found_state store) (journal_of store) ≡ true }
     requires few { length (journal_of store) ≤ 2 }
     requires carried { (begins : List ℕ) → IsCarried begins (life_of store) }
     requires up { doubt_of store ≡ None }
-    ensures none_out { IsIdle (D.facts result) }
+    ensures none_out { IsIdle (D.facts result.0) }
     ensures life { (begins : List ℕ)
-        → IsOfLife (size_of_store store) (found_state store) (journal_of store) begins (failures_at_open store) [] None
-        (D.facts result) }
+        → IsOfLife (size_of_store store) (found_state store) (journal_of store) begins (failures_at_open store)
+        (disk_of store).since (disk_of store).moment result.1.at [] None (D.facts result.0) }
 {
-    store.into_disk()
+    let moments = Moments::first(&store);
+    (store.into_disk(), moments)
 }

@@ -4,6 +4,7 @@ ghost use Rattle.std.specs.Prelude.{◌≡◌, ◌⊎◌, ◌≤◌, ◌+◌, �
 ghost use Rattle.std.specs.Option.{option_to_list};
 ghost use Rattle.board_model.specs.Durable.{formatted};
 ghost use Rattle.board_model.specs.Shapes.{Size};
+ghost use Rattle.disk.specs.Facts.{Content};
 ghost use Rattle.board_model.specs.declared.durable.Entry.{Entry};
 ghost use Rattle.board_model.specs.declared.refusal.Refusal.TheVariants.{Memory};
 ghost use Rattle.tallies.specs.BookViews.{id_of, parts_of};
@@ -14,7 +15,7 @@ ghost use Rattle.hart_threads.specs.Views.{parts_with};
 ghost use Rattle.store.specs.Formats.{WritesHead};
 ghost use Rattle.store.specs.Leaves.{IsIdle, IsKept, LeavesOnly};
 ghost use Rattle.store.specs.Opens.{FormatRefused};
-ghost use Rattle.store.specs.Views.{size_of_store, found_state, journal_of, life_of, doubt_of, failures_at_open};
+ghost use Rattle.store.specs.Views.{size_of_store, found_state, journal_of, life_of, doubt_of, failures_at_open, disk_of};
 ghost use Rattle.hart_threads.specs.Begun.{board_of};
 ghost use Rattle.machine.specs.Held.{IsHeld};
 ghost use Rattle.board.specs.Begins.{IsBegun};
@@ -24,7 +25,7 @@ ghost use Rattle.store.specs.Taken.{are_taken};
 ghost use Rattle.board_session.specs.Commands.{party};
 ghost use Rattle.board_session.specs.Dialogues.{Talks, dialogue_ends};
 ghost use Rattle.board_session.specs.Backs.{AreBack};
-ghost use Rattle.board_session.specs.Sessions.{TakesFormat, RunsOver, RefusesDisk, RefusesSession, Begins, IsOfLife, RanOver, TalksIf, outcome_of, harts_after, AreByLast, AreDriven};
+ghost use Rattle.board_session.specs.Sessions.{TakesFormat, RunsOver, RefusesDisk, RefusesSession, Begins, IsOfLife, RanOver, TalksIf, outcome_of, harts_after, AreByLast, AreDriven, IsBooted};
 
 use crate::gate::{Open, harts_after};
 use crate::given::Options;
@@ -36,8 +37,8 @@ use board_model::{Refusal, Shape};
 use disk::Disk;
 use hart::Hart;
 use hart_threads::{
-    AfterConsole, BookPart, BootedHarts, Closing, HartEnd, Heard, Journal, Locks, NewBook, Parted,
-    Rested, SharedBoard, SharedBus, SharedStore, Threaded, Undriven, Unshared, drive,
+    AfterConsole, BookPart, BootedHarts, Closing, HartEnd, Heard, Journal, Locks, Moments, NewBook,
+    Parted, Rested, SharedBoard, SharedBus, SharedStore, Threaded, Undriven, Unshared, drive,
 };
 use sbi_calls::{Seats, Tables};
 use std::alloc::{AllocError, Global};
@@ -71,6 +72,9 @@ pub struct SessionEnd<D: Disk + Drop, I: Read + Drop, W: Write + Drop> {
     pub heard: ConsoleHeard,
     /// The harts as their loops ended, in the order of their numbers; none where the console was not begun.
     pub harts: Vec<HartEnd>,
+    /// The moments of the disk at which the boot was over and each receipt was made; none where no board was on. They are there for
+    /// contracts alone.
+    pub moments: Moments,
 }
 
 /// The harts of a board that is on, the one seat of them all, the doze of their bus, and how many turns each makes at most.
@@ -199,9 +203,12 @@ fn run_board<
     requires room { (vec_len provisions.room ≡ 0) × (J.size.harts ≤ vec_capacity provisions.room) }
     requires up { doubt_of store ≡ None }
     requires opened { failures_at_open store ≡ J.failures }
+    requires moment { (disk_of store).moment ≡ J.moment }
+    requires earlier { (t : ℕ) (c : Content) → (disk_of store).since t c → J.earlier t c }
     ensures none_out { IsIdle (D.facts result.disk) }
     ensures life { (console : List (ℕ × Entry))
-        × (life : IsOfLife J.size J.found J.issued J.memory J.failures console result.heard.doubt (D.facts result.disk))
+        × (life : IsOfLife J.size J.found J.issued J.memory J.failures J.earlier J.moment result.moments.at console
+        result.heard.doubt (D.facts result.disk))
         × TalksIf J.found J.issued result.console_left
         (dialogue_ends (I.remaining streams.input) (W.contents streams.out) (party [] heard_nothing))
         (dialogue_ends (I.remaining result.streams.input) (W.contents result.streams.out) (party console result.heard))
@@ -333,8 +340,9 @@ fn after_console<'c, R: Wait, D: Disk + Drop, J: Threaded, I: Read + Drop, W: Wr
     requires empty { vec_len room ≡ 0 }
     requires room { vec_len loops ≤ vec_capacity room }
     ensures none_out { IsIdle (D.facts result.disk) }
-    ensures life { (life : IsOfLife J.size J.found J.issued J.memory J.failures talked.entry.side.part.told
-        talked.entry.side.heard.doubt (D.facts result.disk)) × AreByLast life.journal result.harts.items }
+    ensures life { (life : IsOfLife J.size J.found J.issued J.memory J.failures J.earlier J.moment result.moments.at
+        talked.entry.side.part.told talked.entry.side.heard.doubt (D.facts result.disk))
+        × AreByLast life.journal result.harts.items }
     ensures streams { result.streams ≡ talked.entry.side.streams }
     ensures heard { result.heard ≡ talked.entry.side.heard }
     ensures console_left { result.console_left ≡ Some talked.entry.left }
@@ -350,7 +358,7 @@ fn after_console<'c, R: Wait, D: Disk + Drop, J: Threaded, I: Read + Drop, W: Wr
         heard,
     } = side;
     let told = ConsoleHeard::of(&heard);
-    let disk = disk_of(whole, loops, Vec::new(alloc), part, heard, boot);
+    let (disk, moments) = disk_of(whole, loops, Vec::new(alloc), part, heard, boot);
     SessionEnd {
         disk,
         ran: outcome(left),
@@ -358,6 +366,7 @@ fn after_console<'c, R: Wait, D: Disk + Drop, J: Threaded, I: Read + Drop, W: Wr
         console_left: Some(left),
         heard: told,
         harts,
+        moments,
     }
 }
 
@@ -377,7 +386,8 @@ fn without_console<D: Disk + Drop, J: Threaded, I: Read + Drop, W: Write + Drop>
     requires all { J.parts ≡ J.size.harts + 2 }
     requires unheard { side.heard ≡ heard_nothing }
     ensures none_out { IsIdle (D.facts result.disk) }
-    ensures life { IsOfLife J.size J.found J.issued J.memory J.failures side.part.told None (D.facts result.disk) }
+    ensures life { IsOfLife J.size J.found J.issued J.memory J.failures J.earlier J.moment result.moments.at side.part.told None
+        (D.facts result.disk) }
     ensures streams { result.streams ≡ side.streams }
     ensures heard { result.heard ≡ heard_nothing }
     ensures console_left { result.console_left ≡ None }
@@ -389,18 +399,20 @@ fn without_console<D: Disk + Drop, J: Threaded, I: Read + Drop, W: Write + Drop>
         part,
         heard,
     } = side;
-    let disk = disk_of(whole, loops, parts, part, heard, boot);
-    unbegun(alloc, disk, Refusal::Memory, streams)
+    let (disk, moments) = disk_of(whole, loops, parts, part, heard, boot);
+    unbegun(alloc, disk, moments, Refusal::Memory, streams)
 }
 
 /// What a session gives back whose console was not begun.
 fn unbegun<D: Disk + Drop, I: Read + Drop, W: Write + Drop>(
     alloc: Global,
     disk: D,
+    moments: Moments,
     refusal: Refusal,
     streams: Streams<I, W>,
 ) -> SessionEnd<D, I, W>
     ensures disk { result.disk ≡ disk }
+    ensures moments { result.moments ≡ moments }
     ensures ran { result.ran ≡ Err refusal }
     ensures streams { result.streams ≡ streams }
     ensures console_left { result.console_left ≡ None }
@@ -414,6 +426,7 @@ fn unbegun<D: Disk + Drop, I: Read + Drop, W: Write + Drop>(
         console_left: None,
         heard: ConsoleHeard::nothing(),
         harts: Vec::new(alloc),
+        moments,
     }
 }
 
@@ -463,6 +476,8 @@ fn powered<D: Disk + Drop>(
     ensures carried { IfOk result (λ b. (begins : List ℕ) → IsCarried begins (life_of (store_of b))) }
     ensures up { IfOk result (λ b. doubt_of (store_of b) ≡ None) }
     ensures opened { IfOk result (λ b. failures_at_open (store_of b) ≡ (D.facts disk).failures) }
+    ensures moments { IfOk result (λ b. IsBooted options.now.new (D.facts disk) (size_of_store (store_of b))
+        (found_state (store_of b)) (commands_by options.now.mode (found_state (store_of b))) (disk_of (store_of b))) }
     ensures refused { IfErr result (λ e. RefusesDisk options.now.new options.now.shape options.now.mode payloads.now
         (D.facts disk) e.1 (D.facts e.0)) }
     ensures kept { IfErr result (λ e. (size : Size) → IsKept (D.facts disk) size → (z : Size) × IsKept (D.facts e.0) z) }
@@ -523,11 +538,12 @@ pub fn session<R: Threads + Wait + Sync, D: Disk + Drop + Send, I: Read + Drop, 
     // command is in doubt only where the disk failed, and it was asked for by the console, which was answered 6, or by a hart.
     // Each hart went from where the power-on left it by its own turns: it made all of them, or one of them ended the life
     // by the last command of its journal, or the console left so that they were halted. It is then refused by why the console
-    // left alone.
+    // left alone. The moments given back are those at which its boot was over and its receipts were made: from each on a crash has
+    // left a state that all commands have made which had been acknowledged by then.
     ensures ended { (RefusesSession options.now.new options.now.shape options.now.mode payloads.now (D.facts disk)
         result.ran (D.facts result.disk) × (result.console_left ≡ None))
         ⊎ (RanOver options.now.new options.now.shape options.now.mode payloads.now options.now.turns (D.facts disk)
-        (D.facts result.disk) result.console_left
+        (D.facts result.disk) result.moments.at result.console_left
         (dialogue_ends (I.remaining streams.input) (W.contents streams.out) (party [] heard_nothing))
         (I.remaining result.streams.input) (W.contents result.streams.out) result.heard result.harts.items
         × (result.ran ≡ outcome_of result.console_left)) }
@@ -537,7 +553,7 @@ pub fn session<R: Threads + Wait + Sync, D: Disk + Drop + Send, I: Read + Drop, 
 {
     let board = match powered(alloc, options, disk, payloads) {
         Ok(board) => board,
-        Err((disk, refusal)) => return unbegun(alloc, disk, refusal, streams),
+        Err((disk, refusal)) => return unbegun(alloc, disk, Moments::none(), refusal, streams),
     };
     let shape = board.shape();
     let parts = board.into_parts();
@@ -557,7 +573,8 @@ pub fn session<R: Threads + Wait + Sync, D: Disk + Drop + Send, I: Read + Drop, 
     let hardware = Hardware { shape, tables, bus };
     let Ok(provisions) = provide(alloc, &hardware.shape) else {
         drop((hardware, on));
-        return unbegun(alloc, disk_at_once(store), Refusal::Memory, streams);
+        let (disk, moments) = disk_at_once(store);
+        return unbegun(alloc, disk, moments, Refusal::Memory, streams);
     };
     run_board::<D, Brand, R, I, W>(rt, alloc, store, hardware, on, provisions, streams)
 }

@@ -4,7 +4,7 @@ ghost use Rattle.std.specs.Prelude.{◌≡◌, ◌++◌, ◌∷◌, [], OnOk, If
 ghost use Rattle.std.specs.Io.KnownBytes.{Appends};
 ghost use Rattle.board_model.specs.declared.refusal.Refusal.TheVariants.{Output};
 ghost use Rattle.hart_threads.specs.Locks.{no_locks};
-ghost use Rattle.board_session.specs.Commands.{IsAnswerTo, party};
+ghost use Rattle.board_session.specs.Commands.{HoldsReceipt, IsAnswerTo, party};
 ghost use Rattle.board_session.specs.Dialogues.{Talks, dialogue_ends, left_after, left_before, left_behind, left_without};
 ghost use Rattle.board_session.specs.Lines.{TakesLine, is_line};
 ghost use Rattle.board_session.specs.Texts.{reply_text};
@@ -98,17 +98,20 @@ fn take_line<I: Read, D: Disk + Drop, J: Journal>(
     next_line(input, line)
 }
 
-/// Writes an answer as a line, so that it is seen at once, with no lock held.
+/// Writes an answer as a line, so that it is seen at once, with no lock held. An `ok N` is written only where the console has the
+/// receipt of that command in its hand, which a shared store makes once the command is durable.
 fn write_answer<W: Write, D: Disk + Drop, J: Journal>(
     locks: &Locks<'_, D, J>,
+    part: &BookPart<J>,
     out: &mut W,
     answer: Reply,
 ) -> Result<(), Refusal>
     requires free { locks.now ≡ no_locks }
+    requires told { HoldsReceipt answer part.now.told }
     ensures written { OnOk result (Appends (W.contents out.old) (W.contents out.new) (reply_text answer ++ 10 ∷ [])) }
     ensures refused { IfErr result (λ e. e ≡ Output) }
 {
-    let _ = locks;
+    let _ = (locks, part);
     writeln!(out, "{answer}").map_err(|_| Refusal::Output)?;
     out.flush().map_err(|_| Refusal::Output)
 }
@@ -173,7 +176,7 @@ pub fn console<R: Wait, D: Disk + Drop, J: Journal, I: Read, W: Write>(
         let said = line_said(kept);
         let (told, answer) = answer_to(rt, locks, part, heard, said);
         part = told;
-        let Ok(()) = write_answer(locks, out, answer) else {
+        let Ok(()) = write_answer(locks, &part, out, answer) else {
             return (part, Left::Unwritten);
         };
         if let Some(left) = left_after(ended, said) {

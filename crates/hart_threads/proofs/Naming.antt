@@ -16,7 +16,7 @@ use Rattle.store.specs.Taken.{are_taken}
 use Rattle.hart_threads.specs.Legal.{BeginsWith, IsLifeOf, IsNamed, MayAnswer}
 
 -- ---- one command more
-fold_more : (s : DurableState) (cs : List Change) (c : Change) → fold s (cs ++ c ∷ []) ≡ after (fold s cs) c
+pub fold_more : (s : DurableState) (cs : List Change) (c : Change) → fold s (cs ++ c ∷ []) ≡ after (fold s cs) c
 fold_more s [] c = refl
 fold_more s (d ∷ cs) c = fold_more (after s d) cs c
 

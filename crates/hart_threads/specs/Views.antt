@@ -3,7 +3,7 @@ use Rattle.disk.specs.declared.device.Disk.{Ghosts}
 use Rattle.disk.specs.declared.device.Lane.{Ghosts as Lanes}
 use Rattle.store.specs.declared.stores.Store.{Store}
 use Rattle.tallies.specs.declared.journal.Journal.{Ghosts as Named}
-use Rattle.std.specs.Prelude.{List}
+use Rattle.std.specs.Prelude.{ℕ, List}
 use Rattle.tallies.specs.declared.book_views.PartView.{PartView}
 use Rattle.susp.specs.declared.buses.Bus.{Bus}
 use Rattle.hart_threads.specs.declared.buses.SharedBus.{SharedBus}
@@ -20,6 +20,13 @@ module _ {D J L : Type 0} {g : Ghosts D L} {j : Named J} {l : Lanes L} where
   -- the parts that were not handed out, or are back
   abbrev pub parts_with : Unshared D J L g l j → List PartView
   parts_with whole = whole.keeper.parts
+
+  -- when its receipts were made
+  abbrev pub moments_in : SharedStore D J L g l j → List ℕ
+  moments_in kept = kept.moments.at
+
+  abbrev pub moments_with : Unshared D J L g l j → List ℕ
+  moments_with whole = whole.moments.at
 
 module _ {J : Type 0} {j : Named J} where
   abbrev pub bus_in : SharedBus J j → Bus

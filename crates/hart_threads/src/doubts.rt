@@ -41,6 +41,10 @@ impl<J: Journal> Journal for OfDoubts<J> {
     ghost failures = { 0 };
 
     ghost doubts = { no_book };
+
+    ghost moment = { 0 };
+
+    ghost earlier = { J.earlier };
 }
 
 /// The commands in doubt of the life J, under the lock of its store. The part of its console goes with what the console

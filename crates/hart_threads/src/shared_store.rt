@@ -6,7 +6,7 @@ ghost use Rattle.board_model.specs.Shapes.{Size};
 ghost use Rattle.board_model.specs.Views.{change_of, durable_of};
 ghost use Rattle.store.specs.Lives.{Applied};
 ghost use Rattle.std.specs.Option.{option_to_list};
-ghost use Rattle.store.specs.Views.{size_of_store, found_state, journal_of, life_of, now_state, receipts, doubt_of, failures_at_open};
+ghost use Rattle.store.specs.Views.{size_of_store, found_state, journal_of, life_of, now_state, receipts, doubt_of, failures_at_open, disk_of};
 ghost use Rattle.store.specs.Asked.{Asked};
 ghost use Rattle.hsm.specs.declared.view.Stage.TheVariants.{Running};
 ghost use Rattle.sbi_abi.specs.Calls.{call_of};
@@ -20,10 +20,12 @@ ghost use Rattle.hart_threads.specs.Heard.{after_look, heard_by};
 ghost use Rattle.hart_threads.specs.Called.{IsToldBy, IsLastOf};
 ghost use Rattle.hart_threads.specs.Legal.{BeginsWith, IsNamed, MayAnswer, MayShow, number_told};
 ghost use Rattle.hart_threads.specs.Runs.{IsCarried};
+ghost use Rattle.hart_threads.specs.Since.{AreKept, moments_after, moments_told};
 
 use crate::buses::SharedBus;
 use crate::doubts::{Doubts, is_up, newly_down};
 use crate::heard::Heard;
+use crate::moments::Moments;
 use crate::receipts::CommandReceipt;
 use crate::unshared::Unshared;
 use board_model::{Command, Durable, Entry, Refusal, Shape};
@@ -38,7 +40,9 @@ use tallies::{Book, BookPart, Journal, Keeper};
 /// A store whose journal is J's: its open found what J says, its board has that size, its journal begins with
 /// what the boot issued, and its state now is what the journal makes of what was found. The table of commands
 /// (docs/DURABLE.md) refuses none of them, one after another. Each suspension of it carries a memory that steps of harts made
-/// of the one that the boot left.
+/// of the one that the boot left. At each moment since its boot was over, within a command and within a call of its disk too, a
+/// crash has left what some first commands of the journal make, all of those among them of which a receipt had been made by
+/// then, or these and the one in doubt.
 ///
 /// A type keeps that, and a lock keeps its value's type: so it holds of every store that a lock of this type
 /// gives, whatever other threads did.
@@ -49,6 +53,7 @@ pub struct SharedStore<D: Disk + Drop, J: Journal> {
     pub(crate) book: Book<J>,
     pub(crate) keeper: Keeper<J>,
     pub(crate) doubts: Doubts<J>,
+    pub(crate) moments: Moments,
     ghost named: { IsNamed J.found J.size store },
     ghost issued: { BeginsWith J.issued (journal_of store) },
     ghost carried: { IsCarried J.memory (life_of store) },
@@ -58,16 +63,21 @@ pub struct SharedStore<D: Disk + Drop, J: Journal> {
     ghost none: { length keeper.parts ≡ 0 },
     ghost opened: { failures_at_open store ≡ J.failures },
     ghost doubted: { doubts ≡ entries_in (option_to_list (doubt_of store)) },
+    ghost kept: { AreKept J.size J.found J.earlier J.moment (length J.issued) (journal_of store) (doubt_of store)
+        (disk_of store) moments.at },
 }
 
 impl<D: Disk + Drop, J: Journal> SharedStore<D, J> {
-    ghost use Rattle.hart_threads.specs.Views.{bus_in, store_in, inside, parts_with};
+    ghost use Rattle.hart_threads.specs.Views.{bus_in, store_in, inside, moments_in, moments_with, parts_with};
 
     /// What is kept from one holder of the lock to the next.
     pub fn stands(&self)
         ensures named { IsNamed J.found J.size (store_in self.now) }
         ensures issued { BeginsWith J.issued (journal_of (store_in self.now)) }
         ensures carried { IsCarried J.memory (life_of (store_in self.now)) }
+        ensures kept { AreKept J.size J.found J.earlier J.moment (length J.issued) (journal_of (store_in self.now)) (doubt_of (store_in self.now))
+            (disk_of (store_in self.now))
+            (moments_in self.now) }
     {}
 
     /// The board's shape.
@@ -82,6 +92,7 @@ impl<D: Disk + Drop, J: Journal> SharedStore<D, J> {
     pub fn now(&mut self, part: BookPart<J>, heard: &mut Heard<J>) -> (BookPart<J>, Durable)
         ensures now { result.1 ≡ durable_of (now_state (store_in self.old)) }
         ensures same { store_in self.new ≡ store_in self.old }
+        ensures moments { moments_in self.new ≡ moments_in self.old }
         ensures part { result.0 ≡ part }
         ensures may { MayShow J.found J.issued part.told result.1 }
         ensures heard { heard.new ≡ after_look result.1 heard.old }
@@ -104,6 +115,8 @@ impl<D: Disk + Drop, J: Journal> SharedStore<D, J> {
         ensures may { MayAnswer J.found (change_of command) (number_told result.1) }
         ensures told { IfOk result.1 (λ t. t.1 ≡ Entry.Command command) }
         ensures noted { result.0 ≡ part_by result.1 part }
+        ensures moments { moments_in self.new
+            ≡ moments_after (number_told result.1) (disk_of (store_in self.new)).moment (moments_in self.old) }
         ensures heard { heard.new ≡ heard_by (newly_down (doubt_of (store_in self.old)) (doubt_of (store_in self.new)))
             command result.1 heard.old }
         ensures down { newly_down (doubt_of (store_in self.old)) (doubt_of (store_in self.new)) ≡ true
@@ -113,6 +126,7 @@ impl<D: Disk + Drop, J: Journal> SharedStore<D, J> {
         match self.store.apply(command) {
             Ok(receipt) => {
                 self.count = receipt.number();
+                self.moments.add(&self.store);
                 let entry = Entry::Command(command);
                 let part = self.book.note(&mut self.keeper, part, entry);
                 (
@@ -153,6 +167,8 @@ impl<D: Disk + Drop, J: Journal> SharedStore<D, J> {
         ensures board { size_of_store (store_in self.old) ≡ J.size }
         ensures told { IsToldBy J.size (call_of hart.old) hart.old.id result.1 result.2 }
         ensures noted { result.3 ≡ part_after result.2 part }
+        ensures moments { moments_in self.new
+            ≡ moments_told result.2 (disk_of (store_in self.new)).moment (moments_in self.old) }
     {
         let was_up = is_up(&self.store);
         let (seats, word) = bus.call(saving, hart, seats, tables, &mut self.store);
@@ -161,6 +177,7 @@ impl<D: Disk + Drop, J: Journal> SharedStore<D, J> {
             Word::Goes(_) => (seats, word, None, part),
             Word::Over(_) => {
                 self.count += 1;
+                self.moments.add(&self.store);
                 let Some(entry) = last_entry(&self.store, self.count) else {
                     unreachable!()
                 };
@@ -176,6 +193,7 @@ impl<D: Disk + Drop, J: Journal> SharedStore<D, J> {
     pub fn unshare(self) -> Unshared<D, J>
         ensures store { inside result ≡ store_in self }
         ensures none { length (parts_with result) ≡ 0 }
+        ensures moments { moments_with result ≡ moments_in self }
     {
         let SharedStore {
             store,
@@ -183,6 +201,7 @@ impl<D: Disk + Drop, J: Journal> SharedStore<D, J> {
             book,
             keeper,
             doubts,
+            moments,
         } = self;
         Unshared {
             store,
@@ -190,6 +209,7 @@ impl<D: Disk + Drop, J: Journal> SharedStore<D, J> {
             book,
             keeper,
             doubts,
+            moments,
         }
     }
 }

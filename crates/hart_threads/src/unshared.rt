@@ -1,8 +1,9 @@
 //! A store with its book, before it is shared and after.
 
-ghost use Rattle.std.specs.Prelude.{◌≡◌, ◌≤◌, ◌<◌, ◌+◌, [], ◌∷◌, true, None, length, All, IfOk, IfErr, IfSome, vec_len};
+ghost use Rattle.disk.specs.Facts.{Content};
+ghost use Rattle.std.specs.Prelude.{◌≡◌, ◌≤◌, ◌<◌, ◌+◌, ℕ, [], ◌∷◌, true, None, length, All, IfOk, IfErr, IfSome, vec_len};
 ghost use Rattle.std.specs.Option.{option_to_list};
-ghost use Rattle.store.specs.Views.{size_of_store, found_state, journal_of, life_of, receipts, doubt_of, failures_at_open};
+ghost use Rattle.store.specs.Views.{size_of_store, found_state, journal_of, life_of, receipts, doubt_of, failures_at_open, disk_of};
 ghost use Rattle.tallies.specs.Books.{entries_of};
 ghost use Rattle.tallies.specs.Closed.{AreStanding, AreReceiptsOf, told_in};
 ghost use Rattle.tallies.specs.BookViews.{id_of, parts_of};
@@ -13,9 +14,11 @@ ghost use Rattle.hart_threads.specs.Heard.{heard_nothing};
 ghost use Rattle.hart_threads.specs.Legal.{BeginsWith, IsNamed};
 ghost use Rattle.hart_threads.specs.Noted.{boot_told, entries_in};
 ghost use Rattle.hart_threads.specs.Runs.{IsCarried};
+ghost use Rattle.hart_threads.specs.Since.{AreKept};
 
 use crate::doubts::Doubts;
 use crate::heard::Heard;
+use crate::moments::Moments;
 use crate::shared_store::{SharedStore, last_entry};
 use board_model::Entry;
 use disk::Disk;
@@ -32,6 +35,7 @@ pub struct Unshared<D: Disk + Drop, J: Journal> {
     pub(crate) book: Book<J>,
     pub(crate) keeper: Keeper<J>,
     pub(crate) doubts: Doubts<J>,
+    pub(crate) moments: Moments,
     pub ghost named: { IsNamed J.found J.size store },
     pub ghost issued: { BeginsWith J.issued (journal_of store) },
     pub ghost carried: { IsCarried J.memory (life_of store) },
@@ -40,10 +44,12 @@ pub struct Unshared<D: Disk + Drop, J: Journal> {
     pub ghost tied: { entries_in (journal_of store) ≡ entries_of keeper.log },
     pub ghost opened: { failures_at_open store ≡ J.failures },
     pub ghost doubted: { doubts ≡ entries_in (option_to_list (doubt_of store)) },
+    pub ghost kept: { AreKept J.size J.found J.earlier J.moment (length J.issued) (journal_of store) (doubt_of store)
+        (disk_of store) moments.at },
 }
 
 impl<D: Disk + Drop, J: Journal> Unshared<D, J> {
-    ghost use Rattle.hart_threads.specs.Views.{store_in, inside, parts_with};
+    ghost use Rattle.hart_threads.specs.Views.{store_in, inside, moments_in, moments_with, parts_with};
 
     /// The store of a life that has just begun, with two new books: its journal has what the boot issued, and the
     /// boot's part, which goes off first, is told the receipt of each. The second book is for what is in doubt: nothing is
@@ -66,12 +72,17 @@ impl<D: Disk + Drop, J: Journal> Unshared<D, J> {
         requires opened { failures_at_open store ≡ J.failures }
         requires doubts { id_of doubts ≡ J.doubts }
         requires two { parts_of doubts ≡ 2 }
+        requires moment { (disk_of store).moment ≡ J.moment }
+        requires earlier { (t : ℕ) (c : Content) → (disk_of store).since t c → J.earlier t c }
         ensures store { inside result.0 ≡ store }
         ensures rest { length (parts_with result.0) + 1 ≡ J.parts }
         ensures fresh { All (λ d. d.told ≡ []) (parts_with result.0) }
         ensures boot { result.1.told ≡ boot_told J.issued }
         ensures heard { result.2 ≡ heard_nothing }
+        ensures moments { moments_with result.0 ≡ (disk_of store).moment ∷ [] }
     {
+        store.stands();
+        let moments = Moments::first(&store);
         let (book, mut keeper) = book.named::<J>();
         let part = book.hand_out(&mut keeper);
         let (part, count) = note_journal(&store, &book, &mut keeper, part);
@@ -82,6 +93,7 @@ impl<D: Disk + Drop, J: Journal> Unshared<D, J> {
             book,
             keeper,
             doubts,
+            moments,
         };
         (whole, part, heard)
     }
@@ -91,6 +103,7 @@ impl<D: Disk + Drop, J: Journal> Unshared<D, J> {
         requires some { 0 < length (parts_with self.old) }
         requires fresh { All (λ d. d.told ≡ []) (parts_with self.old) }
         ensures store { inside self.new ≡ inside self.old }
+        ensures moments { moments_with self.new ≡ moments_with self.old }
         ensures rest { length (parts_with self.new) + 1 ≡ length (parts_with self.old) }
         ensures fresh { All (λ d. d.told ≡ []) (parts_with self.new) }
         ensures told { result.told ≡ [] }
@@ -107,6 +120,7 @@ impl<D: Disk + Drop, J: Journal> Unshared<D, J> {
         requires some { count ≤ length (parts_with self.old) }
         requires fresh { All (λ d. d.told ≡ []) (parts_with self.old) }
         ensures store { inside self.new ≡ inside self.old }
+        ensures moments { moments_with self.new ≡ moments_with self.old }
         ensures fresh { All (λ d. d.told ≡ []) (parts_with self.new) }
         ensures count { IfOk result (λ ps. vec_len ps ≡ count) }
         ensures told { IfOk result (λ ps. All (λ d. d.told ≡ []) ps.items) }
@@ -124,7 +138,8 @@ impl<D: Disk + Drop, J: Journal> Unshared<D, J> {
     /// The store, to be shared: all parts are handed out.
     pub fn share(self) -> SharedStore<D, J>
         requires none { length (parts_with self) ≡ 0 }
-        ensures { store_in result ≡ inside self }
+        ensures store { store_in result ≡ inside self }
+        ensures moments { moments_in result ≡ moments_with self }
     {
         let Unshared {
             store,
@@ -132,6 +147,7 @@ impl<D: Disk + Drop, J: Journal> Unshared<D, J> {
             book,
             keeper,
             doubts,
+            moments,
         } = self;
         SharedStore {
             store,
@@ -139,12 +155,14 @@ impl<D: Disk + Drop, J: Journal> Unshared<D, J> {
             book,
             keeper,
             doubts,
+            moments,
         }
     }
 
     /// A part comes back.
     pub fn gather(&mut self, part: BookPart<J>)
         ensures store { inside self.new ≡ inside self.old }
+        ensures moments { moments_with self.new ≡ moments_with self.old }
         ensures parts { parts_with self.new ≡ part ∷ parts_with self.old }
     {
         self.book.gather(&mut self.keeper, part);
@@ -161,17 +179,20 @@ impl<D: Disk + Drop, J: Journal> Unshared<D, J> {
     /// The store, whose life ends here. What the parts that are back were told stands in its journal, each
     /// command at the place of its receipt; and where all parts are back, their receipts are those of the journal's
     /// commands, one for each. What its console heard is back too: where a command is in doubt, it was the console's, which
-    /// was told 6 for it, or a durable call of a hart asks for it.
-    pub fn close(self, heard: Heard<J>) -> Store<D>
-        ensures named { IsNamed J.found J.size result }
-        ensures issued { BeginsWith J.issued (journal_of result) }
-        ensures carried { IsCarried J.memory (life_of result) }
-        ensures same { result ≡ inside self }
-        ensures told { AreStanding (entries_in (journal_of result)) (told_in (parts_with self)) }
+    /// was told 6 for it, or a durable call of a hart asks for it. The moments at which its receipts were made come with it.
+    pub fn close(self, heard: Heard<J>) -> (Store<D>, Moments)
+        ensures named { IsNamed J.found J.size result.0 }
+        ensures issued { BeginsWith J.issued (journal_of result.0) }
+        ensures carried { IsCarried J.memory (life_of result.0) }
+        ensures same { result.0 ≡ inside self }
+        ensures told { AreStanding (entries_in (journal_of result.0)) (told_in (parts_with self)) }
         ensures all { length (parts_with self) ≡ J.parts
-            → AreReceiptsOf (entries_in (journal_of result)) (told_in (parts_with self)) }
-        ensures opened { failures_at_open result ≡ J.failures }
-        ensures doubt { IsDoubtOf J.size (doubt_of result) heard.doubt }
+            → AreReceiptsOf (entries_in (journal_of result.0)) (told_in (parts_with self)) }
+        ensures opened { failures_at_open result.0 ≡ J.failures }
+        ensures doubt { IsDoubtOf J.size (doubt_of result.0) heard.doubt }
+        ensures moments { result.1.at ≡ moments_with self }
+        ensures kept { AreKept J.size J.found J.earlier J.moment (length J.issued) (journal_of result.0)
+            (doubt_of result.0) (disk_of result.0) result.1.at }
     {
         let Unshared {
             store,
@@ -179,10 +200,11 @@ impl<D: Disk + Drop, J: Journal> Unshared<D, J> {
             book,
             keeper,
             doubts,
+            moments,
         } = self;
         book.close(keeper);
         doubts.close(heard);
-        store
+        (store, moments)
     }
 }
 

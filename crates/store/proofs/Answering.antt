@@ -1,6 +1,7 @@
 -- What a command does, put together from its steps.
 use Rattle.std.proofs.Common.{◌≡◌, ◌∙◌, inl, inr, ⊎_elim, Option, Some, option_map, ℕ, ◌+◌, ◌-◌, ◌<◌, arith, length, Result, Ok, Err, None, OnOk, IfErr, IsErrOf, ◌⊎◌, refl, sym, ap, subst, false}
 use Rattle.std.specs.Result.{MatchResult}
+use Rattle.std.proofs.lemmas.Result.{IfErr-weaker}
 use Rattle.board_model.specs.Durable.{DurableState, Change, after, refusal_of}
 use Rattle.board_model.specs.Shapes.{Size}
 use Rattle.board_model.specs.declared.refusal.Refusal.{Refusal}
@@ -46,19 +47,19 @@ nothing_failed m n Down not_device not_down = absurd (not_down refl)
 nothing_failed m n e not_device not_down = (refl, refl)
 
 -- what a crash leaves by the answer to a command that goes to the disk and makes t of s
-abbrev pub Settles : Facts → Size → DurableState → DurableState → Result ℕ Refusal → Type 0
-Settles new size s t (Ok n) = LeavesOnly new size t
-Settles new size s t (Err Down) = LeavesEither new size s t
-Settles new size s t (Err e) = LeavesOnly new size s
+abbrev pub Settles : Facts → Facts → Size → DurableState → DurableState → Result ℕ Refusal → Type 0
+Settles old new size s t (Ok n) = LeavesOnly new size t
+Settles old new size s t (Err Down) = LeavesEither new size s t
+Settles old new size s t (Err e) = LeavesOnly new size s × LeavesSince old new (λ c. StandsFor c size s)
 
-pub goes_to : (old new : Facts) (size : Size) (s t : DurableState) (result : Result ℕ Refusal) → LeavesSince old new (StandsForEither size s t) → Settles new size s t result → GoesTo old new size s t result
-goes_to old new size s t (Ok n) moment settled = record { any_moment = moment; acknowledged = settled; unchanged = tt; in_doubt = λ is. cc }
-goes_to old new size s t (Err Down) moment settled = record { any_moment = moment; acknowledged = tt; unchanged = λ not_down. absurd (not_down refl); in_doubt = λ _. settled }
-goes_to old new size s t (Err e) moment settled = record { any_moment = moment; acknowledged = tt; unchanged = λ _. settled; in_doubt = λ is. cc }
+pub goes_to : (old new : Facts) (size : Size) (s t : DurableState) (result : Result ℕ Refusal) → LeavesSince old new (StandsForEither size s t) → Settles old new size s t result → GoesTo old new size s t result
+goes_to old new size s t (Ok n) moment settled = record { any_moment = moment; acknowledged = settled; unchanged = tt; still = tt; in_doubt = λ is. cc }
+goes_to old new size s t (Err Down) moment settled = record { any_moment = moment; acknowledged = tt; unchanged = λ not_down. absurd (not_down refl); still = λ not_down. absurd (not_down refl); in_doubt = λ _. settled }
+goes_to old new size s t (Err e) moment settled = record { any_moment = moment; acknowledged = tt; unchanged = λ _. settled.0; still = λ _. settled.1; in_doubt = λ is. cc }
 
 -- refused, whatever that makes of the life
 pub refused_so : {Does : Life → Change → Result ℕ Refusal → Life → Type 0} (old new : StoreView) (c : Change) (e : Refusal) → Does old.life c (Err e) new.life
-    → LeavesSince old.disk new.disk (StandsForEither old.size (now_of old.life) (after (now_of old.life) c)) → Settles new.disk old.size (now_of old.life) (after (now_of old.life) c) (Err e)
+    → LeavesSince old.disk new.disk (StandsForEither old.size (now_of old.life) (after (now_of old.life) c)) → Settles old.disk new.disk old.size (now_of old.life) (after (now_of old.life) c) (Err e)
     → CausedRefusal old.fault_state e new.fault_state → CountedRefusal old.disk.failures e new.disk.failures → Answered Does old c (Err e) new
 refused_so old new c e did moment settled cause counts = record {
   life = did;
@@ -68,9 +69,9 @@ refused_so old new c e did moment settled cause counts = record {
   counts = counts;
 }
 
-settled_before : (disk : Facts) (size : Size) (s t : DurableState) (e : Refusal) → (e ≡ Down → ⊥) → LeavesOnly disk size s → Settles disk size s t (Err e)
-settled_before disk size s t Down up only = absurd (up refl)
-settled_before disk size s t e up only = only
+settled_before : (old new : Facts) (size : Size) (s t : DurableState) (e : Refusal) → (e ≡ Down → ⊥) → LeavesOnly new size s → LeavesSince old new (λ c. StandsFor c size s) → Settles old new size s t (Err e)
+settled_before old new size s t Down up only still = absurd (up refl)
+settled_before old new size s t e up only still = (only, still)
 
 -- refused by a store that is up, before the disk was asked
 pub refused_up : (Does : Life → Change → Result ℕ Refusal → Life → Type 0) (v : StoreView) (side : ℕ) (current : Record) (c : Change) (e : Refusal) → ((x : Content) → v.disk.since v.disk.moment x → v.disk.may_leave x)
@@ -78,9 +79,11 @@ pub refused_up : (Does : Life → Change → Result ℕ Refusal → Life → Typ
 refused_up Does v side current c e only_now up folded did not_device not_down =
     let now = now_of v.life in
     let failed = nothing_failed v.fault_state v.disk.failures e not_device not_down in
+    let still : LeavesSince v.disk v.disk (λ x. StandsFor x v.size now) =
+    leaves_none v.disk (λ x. StandsFor x v.size now) only_now (λ x left. subst (StandsFor x v.size) (sym folded) (stands_for v.size side current v.disk.content x (up x left))) in
     refused_so v v c e did
-    (leaves_none v.disk (StandsForEither v.size now (after now c)) only_now (λ x left. inl (subst (StandsFor x v.size) (sym folded) (stands_for v.size side current v.disk.content x (up x left)))))
-    (settled_before v.disk v.size now (after now c) e not_down (subst (LeavesOnly v.disk v.size) (sym folded) (up_leaves v.disk v.size side current up)))
+    (leaves_weaker v.disk v.disk (λ x. StandsFor x v.size now) (StandsForEither v.size now (after now c)) still (λ x stands. inl stands))
+    (settled_before v.disk v.disk v.size now (after now c) e not_down (subst (LeavesOnly v.disk v.size) (sym folded) (up_leaves v.disk v.size side current up)) still)
     failed.0 failed.1
 
 -- an area was written, in which the state is as before, and then a command went on
@@ -95,6 +98,7 @@ module _ (old mid : Facts) (size : Size) (s : DurableState) (first : LeavesSince
         any_moment = leaves_then old mid new (StandsForEither size s (after s c)) (first_moment (after s c)) here.any_moment;
         acknowledged = here.acknowledged;
         unchanged = here.unchanged;
+        still = IfErr-weaker result _ _ (λ e each not_down. leaves_then old mid new (λ x. StandsFor x size s) first (each not_down)) here.still;
         in_doubt = here.in_doubt;
       }
 
@@ -132,8 +136,8 @@ unwritten Fits old mid c e fits life reseen going room allowed only first why = 
     moment = first_moment old.disk mid.disk old.size (now_of old.life) first (after (now_of old.life) c)
 
     by : (f : Refusal) → WriteRefused old.disk old.fault_state f mid.disk mid.fault_state → Answered (Suspended Fits) old c (Err f) mid
-    by Device why = refused_so old mid c Device (record { reseen = reseen; told = inl (fits, inl (refl, reaches, life)) }) moment only why.1 why.0
-    by Memory why = refused_so old mid c Memory (record { reseen = reseen; told = inr (inr (inl (refl, fits, reaches, life))) }) moment only why.1 why.0
+    by Device why = refused_so old mid c Device (record { reseen = reseen; told = inl (fits, inl (refl, reaches, life)) }) moment (only, first) why.1 why.0
+    by Memory why = refused_so old mid c Memory (record { reseen = reseen; told = inr (inr (inl (refl, fits, reaches, life))) }) moment (only, first) why.1 why.0
     by f why = absurd why
 
 pub the_error : (e f : Refusal) → IsErrOf {T = ℕ} (Err e) f → e ≡ f

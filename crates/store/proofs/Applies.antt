@@ -12,13 +12,13 @@ use Rattle.store.specs.Entries.{is_plain, are_plain}
 use Rattle.store.specs.Taken.{are_taken}
 use Rattle.store.specs.Standing.{state_of, memory_in, StandsFor}
 use Rattle.store.specs.Leaves.{LeavesOnly, LeavesEither, StandsForEither}
-use Rattle.store.specs.Commits.{SameAreas, SelectsEither, IsUp, IsInDoubt}
+use Rattle.store.specs.Commits.{SameAreas, SelectsAs, SelectsEither, IsUp, IsInDoubt}
 use Rattle.store.specs.Follows.{Follows}
 use Rattle.store.specs.Lives.{Life}
 use Rattle.board_model.specs.declared.durable.Entry.{Entry}
 use Rattle.board_model.specs.declared.durable.Entry.TheVariants as entries
 use Rattle.store.proofs.Taken.{taken_more}
-use Rattle.store.proofs.States.{state_same, memory_same, of_areas, up_leaves, doubt_leaves, either_stands}
+use Rattle.store.proofs.States.{state_same, memory_same, of_areas, up_leaves, doubt_leaves, stands_for, either_stands}
 
 -- the journal, where the image's memory is this one
 abbrev pub told : List ℕ → List Entry → List Change
@@ -82,6 +82,7 @@ pub record Issues (a b : Facts) (size : Size) (side : ℕ) (opened current next 
   pub any_moment : LeavesSince a b (StandsForEither size (now_by a size opened current journal) (after (now_by a size opened current journal) (change_in entry (memory_in size next a.content))))
   pub done : IsUp b size (1 - side) next → LeavesOnly b size (after (now_by a size opened current journal) (change_in entry (memory_in size next a.content)))
   pub undone : IsUp b size side current → LeavesOnly b size (now_by a size opened current journal)
+  pub still : LeavesSince a b (SelectsAs size side current a.content) → LeavesSince a b (λ x. StandsFor x size (now_by a size opened current journal))
   pub either : side < 2 → IsInDoubt b size side current next
       → LeavesEither b size (now_by a size opened current journal) (after (now_by a size opened current journal) (change_in entry (memory_in size next a.content)))
 
@@ -179,5 +180,7 @@ module _ (a b : Facts) (size : Size) (side : ℕ) (opened current next : Record)
         (either_stands size side current next a.content x either));
     done = leaves_next;
     undone = leaves_before;
+    still = λ each. leaves_weaker a b (SelectsAs size side current a.content) (λ x. StandsFor x size now) each
+        (λ x chosen. subst (StandsFor x size) (sym folded) (stands_for size side current a.content x chosen));
     either = leaves_one;
   }

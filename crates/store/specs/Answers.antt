@@ -32,11 +32,12 @@ pub record Opened (disk : Facts) (store : StoreView) : Type 0 where
   pub at_open : store.failures_at_open ≡ disk.failures
 
 -- A command goes to the disk that makes t of s. A crash leaves the one or the other at each moment since its
--- start; t alone once it is acknowledged; s alone after a refusal, but after 6 the one or the other.
+-- start; t alone once it is acknowledged; s alone after a refusal, and at each moment of it too, but after 6 the one or the other.
 pub record GoesTo (old new : Facts) (size : Size) (s t : DurableState) (result : Result ℕ Refusal) : Type 0 where
   pub any_moment : LeavesSince old new (StandsForEither size s t)
   pub acknowledged : OnOk result (LeavesOnly new size t)
   pub unchanged : IfErr result (λ e. (e ≡ Down → ⊥) → LeavesOnly new size s)
+  pub still : IfErr result (λ e. (e ≡ Down → ⊥) → LeavesSince old new (λ c. StandsFor c size s))
   pub in_doubt : IsErrOf result Down → LeavesEither new size s t
 
 -- 5 and 6 come only where the disk failed in this call, and with another refusal it did not fail

@@ -1,6 +1,7 @@
 -- An image was loaded, and then its consumption asked: together, from the state before the load.
 use Rattle.std.proofs.Common.{◌≡◌, ◌⊎◌, ◌-◌, ℕ, List, Ok, Err, Result, OnOk, Option, Some, None, refl, sym, ap, ◌∙◌, subst, inl, inr, arith}
 use Rattle.std.specs.Result.{MatchResult}
+use Rattle.std.proofs.lemmas.Result.{IfErr-weaker}
 use Rattle.board_model.specs.Durable.{DurableState, Change, Image, Consume, after, refusal_of}
 use Rattle.board_model.specs.Shapes.{Size}
 use Rattle.board_model.specs.declared.refusal.Refusal.{Refusal}
@@ -52,6 +53,9 @@ answered_on old mid new c result life sized calm counted content first only did 
         any_moment = leaves_then old.disk mid.disk new.disk P (leaves_weaker old.disk mid.disk old.disk.may_leave P first (λ x left. inl (stands_so old.disk old.size s only x left))) goes.any_moment;
         acknowledged = goes.acknowledged;
         unchanged = goes.unchanged;
+        still = IfErr-weaker result _ _
+            (λ e each not_down. leaves_then old.disk mid.disk new.disk (λ x. StandsFor x old.size s) (leaves_weaker old.disk mid.disk old.disk.may_leave (λ x. StandsFor x old.size s) first (λ x left. stands_so old.disk old.size s only x left)) (each not_down))
+            goes.still;
         in_doubt = goes.in_doubt;
       };
       written = wrote_on old.disk mid.disk new.disk result content did.written;

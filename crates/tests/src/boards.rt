@@ -1,8 +1,9 @@
 //! Boards that are about to be run, and their runs.
 
-ghost use Rattle.std.specs.Prelude.{◌≡◌, ◌+◌, [], true, Some, All, IfOk, vec_len};
+ghost use Rattle.std.specs.Prelude.{◌≡◌, ◌+◌, ℕ, [], true, Some, All, IfOk, vec_len};
+ghost use Rattle.disk.specs.Facts.{Content};
 ghost use Rattle.store.specs.Leaves.{IsIdle};
-ghost use Rattle.store.specs.Views.{found_state, failures_at_open};
+ghost use Rattle.store.specs.Views.{disk_of, found_state, failures_at_open};
 ghost use Rattle.hart_threads.specs.Begun.{board_of};
 ghost use Rattle.machine.specs.Held.{IsHeld};
 ghost use Rattle.tallies.specs.BookViews.{id_of, parts_of};
@@ -242,6 +243,8 @@ fn shared<J: Threaded>(
     requires book { (id_of begun.1.0 ≡ J.book) × (parts_of begun.1.0 ≡ J.parts) × (J.parts ≡ harts + 2) }
     requires doubts { (id_of begun.1.1 ≡ J.doubts) × (parts_of begun.1.1 ≡ 2) }
     requires opened { failures_at_open begun.0 ≡ J.failures }
+    requires moment { (disk_of begun.0).moment ≡ J.moment }
+    requires earlier { (t : ℕ) (c : Content) → (disk_of begun.0).since t c → J.earlier t c }
     ensures many { vec_len result.2 ≡ harts }
     ensures fresh { All (λ p. p.told ≡ []) result.2.items }
 {
@@ -273,6 +276,8 @@ fn driven_as<J: Threaded + Send + Sync, R: Threads + Wait + Clock + Abort + Sync
     requires book { (id_of marks.0.0 ≡ J.book) × (parts_of marks.0.0 ≡ J.parts) × (J.parts ≡ shape.now.harts + 2) }
     requires doubts { (id_of marks.0.1 ≡ J.doubts) × (parts_of marks.0.1 ≡ 2) }
     requires opened { failures_at_open parts.store ≡ J.failures }
+    requires moment { (disk_of parts.store).moment ≡ J.moment }
+    requires earlier { (t : ℕ) (c : Content) → (disk_of parts.store).since t c → J.earlier t c }
     requires machine { J.machine ≡ board_of shape.now J.memory parts.bus.doze parts.harts.items parts.seats }
     requires driven { (marks.1.0.id ≡ J.parting) × (marks.1.1 ≡ J.halt) × (trial.turns ≡ J.turns) × (J.gated ≡ true) }
     ensures { IsIdle (⟦<SimDisk as Disk>⟧.facts result.disk) }
@@ -325,6 +330,10 @@ fn driven_as<J: Threaded + Send + Sync, R: Threads + Wait + Clock + Abort + Sync
         rt.panic("a thread was not had")
     };
     let end = end_of(&loops);
-    let disk = store.into_inner().unshare().close(heard).into_disk();
-    Ran { end, said, disk }
+    let (store, _moments) = store.into_inner().unshare().close(heard);
+    Ran {
+        end,
+        said,
+        disk: store.into_disk(),
+    }
 }

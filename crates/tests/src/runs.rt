@@ -102,7 +102,7 @@ fn bytes_left(
     match left {
         FileLeft::None => Ok(before),
         FileLeft::AtEnd(held, _disk) => Ok(held.found()),
-        FileLeft::AllAlong(kept) => {
+        FileLeft::AllAlong(kept, _moments) => {
             let sectors = kept.found();
             Vec::from_slice(alloc, sectors.as_flattened())
         }

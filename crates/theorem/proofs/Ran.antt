@@ -17,33 +17,36 @@ use Rattle.hart_threads.specs.Heard.{Hearing}
 use Rattle.board_session.specs.Commands.{party}
 use Rattle.board_session.specs.Dialogues.{DialogueEnds, dialogue_ends}
 use Rattle.board_session.specs.declared.talks.Left.{Left}
-use Rattle.board_session.specs.Sessions.{Begins, IsOfLife, TalksIf, AreByLast, AreDriven, RanOver}
+use Rattle.board_session.specs.Sessions.{Begins, IsOfLife, TalksIf, AreByLast, AreDriven, LeftBefore, RanOver, said_since}
 use Rattle.hart_threads.specs.Ends.{Ending}
 use Rattle.theorem.specs.Sessions.{FindsSession}
 use Rattle.theorem.proofs.PowerLost.{OneStanding}
 
 -- of a life that began in s, with that board: its disk, and what was read and answered
-abbrev pub IsSession : Size → DurableState → BootMode → List (List ℕ) → ℕ → Facts → Option Left → DialogueEnds → Option (List ℕ) → Option (List ℕ) → Hearing → Type 0
-IsSession size s mode payloads failures disk left a input output heard =
-    (machine : Machine) × IsBegun mode size payloads s machine × (console : List (ℕ × Entry)) × IsOfLife size s (commands_by mode s) machine.memory failures console heard.doubt disk
+abbrev pub IsSession : Size → DurableState → BootMode → List (List ℕ) → Facts → Facts → List ℕ → Option Left → DialogueEnds → Option (List ℕ) → Option (List ℕ) → Hearing → Type 0
+IsSession size s mode payloads old disk moments left a input output heard =
+    (machine : Machine) × IsBegun mode size payloads s machine × (console : List (ℕ × Entry)) × IsOfLife size s (commands_by mode s) machine.memory old.failures (LeftBefore false old size s (commands_by mode s)) old.moment moments console heard.doubt disk
     × TalksIf s (commands_by mode s) left a (dialogue_ends input output (party console heard))
 
 -- and how its harts ended
-abbrev pub IsDriven : Size → DurableState → BootMode → List (List ℕ) → ℕ → ℕ → Facts → Option Left → DialogueEnds → Option (List ℕ) → Option (List ℕ) → Hearing → List Ending → Type 0
-IsDriven size s mode payloads turns failures disk left a input output heard ends =
-    (session : IsSession size s mode payloads failures disk left a input output heard) × AreDriven size.harts session.0 turns s left ends
+abbrev pub IsDriven : Size → DurableState → BootMode → List (List ℕ) → ℕ → Facts → Facts → List ℕ → Option Left → DialogueEnds → Option (List ℕ) → Option (List ℕ) → Hearing → List Ending → Type 0
+IsDriven size s mode payloads turns old disk moments left a input output heard ends =
+    (session : IsSession size s mode payloads old disk moments left a input output heard) × AreDriven size.harts session.0 turns s left ends
     × AreByLast session.3.journal ends
 
-module _ (one : OneStanding) (new : Bool) (shape : Size) (mode : BootMode) (payloads : List (List ℕ)) (turns : ℕ) (old disk : Facts) (left : Option Left) (a : DialogueEnds) (input output : Option (List ℕ)) (heard : Hearing) (ends : List Ending) where
-  pub over : RanOver new shape mode payloads turns old disk left a input output heard ends → (size : Size) (s : DurableState) → new ≡ false → StandsFor old.content size s → IsDriven size s mode payloads turns old.failures disk left a input output heard ends
+module _ (one : OneStanding) (new : Bool) (shape : Size) (mode : BootMode) (payloads : List (List ℕ)) (turns : ℕ) (old disk : Facts) (moments : List ℕ) (left : Option Left) (a : DialogueEnds) (input output : Option (List ℕ)) (heard : Hearing) (ends : List Ending) where
+  pub over : RanOver new shape mode payloads turns old disk moments left a input output heard ends → (size : Size) (s : DurableState) → new ≡ false → StandsFor old.content size s → IsDriven size s mode payloads turns old disk moments left a input output heard ends
   over ran size s is stands =
       let begins : Begins false shape old.content ran.size ran.found = subst (λ (n : Bool). Begins n shape old.content ran.size ran.found) is ran.begins in
       let same = one old.content ran.size size ran.found s begins stands in
-      let P : Size → DurableState → Type 0 = λ z t. IsDriven z t mode payloads turns old.failures disk left a input output heard ends in
-      subst (λ (t : DurableState). P size t) same.1 (subst (λ (z : Size). P z ran.found) same.0 ((ran.machine, ran.powered, ran.console, ran.life, ran.talks), ran.driven, ran.ended))
+      let P : Size → DurableState → Type 0 = λ z t. IsDriven z t mode payloads turns old disk moments left a input output heard ends in
+      let issued = commands_by mode ran.found in
+      let Ended : Bool → Type 0 = λ b. (life : IsOfLife ran.size ran.found issued ran.machine.memory old.failures (LeftBefore b old ran.size ran.found issued) (said_since b old) moments ran.console heard.doubt disk) × AreByLast life.journal ends in
+      let ended : Ended false = subst Ended is (ran.life, ran.ended) in
+      subst (λ (t : DurableState). P size t) same.1 (subst (λ (z : Size). P z ran.found) same.0 ((ran.machine, ran.powered, ran.console, ended.0, ran.talks), ran.driven, ended.1))
 
-  pub begun : (R S : Type 0) → (R × (left ≡ None)) ⊎ (RanOver new shape mode payloads turns old disk left a input output heard ends × S) → (left ≡ None → ⊥) → (size : Size) (s : DurableState) → new ≡ false → StandsFor old.content size s
-      → IsDriven size s mode payloads turns old.failures disk left a input output heard ends
+  pub begun : (R S : Type 0) → (R × (left ≡ None)) ⊎ (RanOver new shape mode payloads turns old disk moments left a input output heard ends × S) → (left ≡ None → ⊥) → (size : Size) (s : DurableState) → new ≡ false → StandsFor old.content size s
+      → IsDriven size s mode payloads turns old disk moments left a input output heard ends
   begun R S (inl refused) some size s is stands = absurd (some refused.1)
   begun R S (inr ran) some size s is stands = over ran.0 size s is stands
 
@@ -58,9 +61,9 @@ read_after (Some c) disk given size z t found only gone reads =
       | inr is ↦ inr (c, refl, is)
     ]
 
-pub finds : (size z : Size) (s found : DurableState) (mode : BootMode) (payloads : List (List ℕ)) (before next : ℕ) (disk given : Facts) (left : Option Left) (a : DialogueEnds) (input output : Option (List ℕ)) (heard : Hearing) → IsSession size s mode payloads before disk left a input output heard
-    → IsLeft disk given → StandsFor given.content z found → next ≡ given.failures → FindsSession size s mode payloads before next left a input output heard found
-finds size z s found mode payloads before next disk given left a input output heard session gone reads counts =
+pub finds : (size z : Size) (s found : DurableState) (mode : BootMode) (payloads : List (List ℕ)) (old : Facts) (next : ℕ) (disk given : Facts) (moments : List ℕ) (left : Option Left) (a : DialogueEnds) (input output : Option (List ℕ)) (heard : Hearing) → IsSession size s mode payloads old disk moments left a input output heard
+    → IsLeft disk given → StandsFor given.content z found → next ≡ given.failures → FindsSession size s mode payloads old.failures next left a input output heard found
+finds size z s found mode payloads old next disk given moments left a input output heard session gone reads counts =
     let life = session.3 in record {
       machine = session.0;
       powered = session.1;
@@ -74,13 +77,13 @@ finds size z s found mode payloads before next disk given left a input output he
     }
   where
     by : (found ≡ fold s session.3.journal) ⊎ ((c : Change) × (session.3.doubt ≡ Some c) × (found ≡ after (fold s session.3.journal) c))
-        → (found ≡ fold s session.3.journal) ⊎ ((c : Change) × (refusal_of (fold s session.3.journal) c ≡ None) × CarriesSteps session.0.memory c × Failed before next × IsDoubtOf size (Some c) heard.doubt × (found ≡ after (fold s session.3.journal) c))
+        → (found ≡ fold s session.3.journal) ⊎ ((c : Change) × (refusal_of (fold s session.3.journal) c ≡ None) × CarriesSteps session.0.memory c × Failed old.failures next × IsDoubtOf size (Some c) heard.doubt × (found ≡ after (fold s session.3.journal) c))
     by (inl is) = inl is
     by (inr (c, doubt, is)) = inr (
       c,
       session.3.allowed c doubt,
       session.3.doubted c doubt,
-      subst (λ (n : ℕ). Failed before n) (sym (counts ∙ gone.failures)) (session.3.failed c doubt),
+      subst (λ (n : ℕ). Failed old.failures n) (sym (counts ∙ gone.failures)) (session.3.failed c doubt),
       subst (λ (o : Option Change). IsDoubtOf size o heard.doubt) doubt session.3.asked,
       is,
     )

@@ -14,4 +14,4 @@ use Rattle.theorem.specs.Prefixes.{IsAfterFirst, in_doubt}
 -- one at which the row ended.
 pub record KeepsCommands (size : Size) (s : DurableState) (commands : List Command) (acknowledged : ℕ) (why : Option Refusal) (f : FileFacts) : Type 0 where
   pub now : (c : Content) → f.may_leave c → IsAfterFirst size s commands acknowledged (acknowledged + in_doubt why) c
-  pub ever : (c : Content) → f.ever c → ∥ IsAfterFirst size s commands 0 (acknowledged + 1) c ∥₁
+  pub ever : (c : Content) → f.since 0 c → ∥ IsAfterFirst size s commands 0 (acknowledged + 1) c ∥₁

@@ -1,5 +1,5 @@
 -- A session over a disk, in the words of the headline. Source: docs/CONSOLE.md.
-use Rattle.std.specs.Prelude.{◌≡◌, ◌⊎◌, ℕ, true, List, Option, None, Some}
+use Rattle.std.specs.Prelude.{◌≡◌, ◌⊎◌, ℕ, ◌+◌, ◌≤◌, ◌<◌, true, List, Option, None, Some, length, slice_index}
 use Rattle.board_model.specs.Durable.{DurableState, Change, after, fold, refusal_of}
 use Rattle.board_model.specs.Shapes.{Size}
 use Rattle.board_model.specs.declared.durable.Entry.{Entry}
@@ -7,11 +7,13 @@ use Rattle.store.specs.Taken.{are_taken}
 use Rattle.board.specs.Begins.{IsBegun}
 use Rattle.board.specs.Moments.{commands_by}
 use Rattle.board_model.specs.declared.boot_mode.BootMode.{BootMode}
-use Rattle.disk.specs.Facts.{Failed}
+use Rattle.disk.specs.Facts.{Content, Facts, Failed}
+use Rattle.board_files.specs.Files.{FileFacts, sync_of}
 use Rattle.machine.specs.Machine.{Machine}
 use Rattle.hart_threads.specs.Doubts.{IsDoubtOf}
 use Rattle.hart_threads.specs.Heard.{Hearing}
 use Rattle.hart_threads.specs.Runs.{CarriesSteps, AllCarrySteps}
+use Rattle.hart_threads.specs.Since.{IsOfFirst, KeptSince, sent}
 use Rattle.board_session.specs.Commands.{party}
 use Rattle.board_session.specs.Dialogues.{DialogueEnds, dialogue_ends}
 use Rattle.board_session.specs.declared.talks.Left.{Left}
@@ -36,3 +38,27 @@ pub record FindsSession (size : Size) (s : DurableState) (mode : BootMode) (payl
   pub is : (found ≡ fold s journal)
       ⊎ ((c : Change) × (refusal_of (fold s journal) c ≡ None) × CarriesSteps machine.memory c
       × Failed before after_it × IsDoubtOf size (Some c) heard.doubt × (found ≡ after (fold s journal) c))
+
+-- What any crash has left at a moment of a session over a disk that stood for s, within a command and within a call of the disk too: what
+-- some first commands of its journal make of s, or these and the one in doubt. The first of these moments is that at which its boot was
+-- over; then there is one for each receipt that was made after it. From each on all commands up to that receipt are among them.
+pub record IsCutAnywhere (size : Size) (s : DurableState) (issued : List Change) (console : List (ℕ × Entry)) (begun : ℕ) (disk : Facts)
+    (moments : List ℕ) : Type 0 where
+  pub journal : List Change
+  pub acknowledged : IsAcknowledged size issued journal console
+  pub taken : are_taken s journal ≡ true
+  pub doubt : Option Change
+  pub ever : (c : Content) → disk.since begun c → ∥ IsOfFirst size s (sent journal doubt) 0 c ∥₁
+  pub many : length moments + length issued ≡ length journal + 1
+  pub passed : (i : ℕ) → i < length moments → slice_index moments i ≤ disk.moment
+  pub kept : (i : ℕ) → i < length moments → KeptSince size s (sent journal doubt) disk (slice_index moments i) (length issued + i)
+
+-- What a file that keeps its word keeps of such a session, whose disk was kept in it: now all commands of its journal, so many, or these
+-- and the one in doubt; and at each moment of the session, within a call of the file too, some first of them, with all up to each
+-- receipt that had been made by then.
+pub record KeepsSession (size : Size) (s : DurableState) (commands : List Change) (issued whole begun : ℕ) (disk : Facts) (moments : List ℕ)
+    (f : FileFacts) : Type 0 where
+  pub now : (c : Content) → f.may_leave c → ∥ IsOfFirst size s commands whole c ∥₁
+  pub ever : (c : Content) → f.since (sync_of disk f begun) c → ∥ IsOfFirst size s commands 0 c ∥₁
+  pub kept : (i : ℕ) → i < length moments → (c : Content) → f.since (sync_of disk f (slice_index moments i)) c
+      → ∥ IsOfFirst size s commands (issued + i) c ∥₁

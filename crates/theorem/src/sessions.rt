@@ -1,21 +1,25 @@
 //! The promises of a board on threads, beside an operator's console.
-ghost use Rattle.std.specs.Prelude.{◌≡◌, ℕ, List, false, None, IfOk, []};
-ghost use Rattle.board_model.specs.Durable.{DurableState};
+ghost use Rattle.std.specs.Prelude.{◌≡◌, ◌≤◌, ℕ, List, false, None, IfOk, [], length, take};
+ghost use Rattle.board_model.specs.Durable.{Change, DurableState, fold};
 ghost use Rattle.board_model.specs.Shapes.{Size};
 ghost use Rattle.board_model.specs.declared.durable.Entry.{Entry};
 ghost use Rattle.board.specs.Begins.{IsBegun};
 ghost use Rattle.board.specs.Moments.{commands_by};
 ghost use Rattle.board_session.specs.Commands.{party};
 ghost use Rattle.board_session.specs.Dialogues.{dialogue_ends};
-ghost use Rattle.board_session.specs.Sessions.{IsOfLife, TalksIf, AreByLast, AreDriven};
+ghost use Rattle.board_session.specs.Sessions.{IsOfLife, TalksIf, AreByLast, AreDriven, LeftBefore};
 ghost use Rattle.machine.specs.Machine.{Machine};
 ghost use Rattle.hart_threads.specs.Heard.{heard_nothing};
-ghost use Rattle.store.specs.Leaves.{IsIdle};
+ghost use Rattle.hart_threads.specs.Since.{IsOfFirst, sent};
+ghost use Rattle.board_files.specs.Files.{IfKnown};
+ghost use Rattle.disk.specs.Facts.{Content};
+ghost use Rattle.store.specs.Leaves.{IsIdle, LeavesOnly};
 ghost use Rattle.store.specs.Standing.{StandsFor};
 ghost use Rattle.store.specs.Views.{disk_of, found_state};
-ghost use Rattle.theorem.specs.Sessions.{FindsSession};
+ghost use Rattle.theorem.specs.Sessions.{FindsSession, IsCutAnywhere, KeepsSession};
 
 use board::Payloads;
+use board_files::{FileDisk, Filed, SectorFile};
 use board_model::Refusal;
 use board_session::{ConsoleHeard, Left, Options, SessionEnd, Streams, session};
 use disk::Disk;
@@ -30,7 +34,8 @@ use store::{Store, one_standing};
 /// *Whatever order harts, console and savers run in.* A session whose console was begun, over a disk whose bytes stand
 /// for the state s. It has one journal, whatever the order was: what its boot issued, and then the commands that were
 /// acknowledged to the console and to harts, each at the place of its receipt, and no other. A crash leaves what they make
-/// of s, or with a command in doubt that or the state after it (`IsOfLife`). A command is in doubt only where the disk failed in
+/// of s, or with a command in doubt that or the state after it (`IsOfLife`); and at each moment of the session, within a command and
+/// within a call of the disk too, what some first of them make, with all that had been acknowledged by then (`AreKept`). A command is in doubt only where the disk failed in
 /// the session. It is the one that the console has in doubt, which was answered 6; or, where the console has none, a reset or a
 /// suspension that a call of a hart asks for (`IsDoubtOf`). The session's suspension, if it has one, carries a memory
 /// that steps of harts made of that of the board which its power-on made (`IsBegun`). What was read and answered is of that
@@ -52,8 +57,9 @@ pub fn a_session<R: Threads + Wait + Sync, D: Disk + Drop + Send, I: Read + Drop
     ensures { (size : Size) (s : DurableState) → options.now.new ≡ false → StandsFor (D.facts disk).content size s
         → (result.console_left ≡ None → ⊥) → (machine : Machine) × IsBegun options.now.mode size payloads.now s machine
         × (console : List (ℕ × Entry))
-        × (life : IsOfLife size s (commands_by options.now.mode s) machine.memory (D.facts disk).failures console
-        result.heard.doubt (D.facts result.disk))
+        × (life : IsOfLife size s (commands_by options.now.mode s) machine.memory (D.facts disk).failures
+        (LeftBefore false (D.facts disk) size s (commands_by options.now.mode s)) (D.facts disk).moment
+        result.moments.at console result.heard.doubt (D.facts result.disk))
         × TalksIf s (commands_by options.now.mode s) result.console_left
         (dialogue_ends (I.remaining streams.input) (W.contents streams.out) (party [] heard_nothing))
         (dialogue_ends (I.remaining result.streams.input) (W.contents result.streams.out) (party console result.heard))
@@ -62,6 +68,95 @@ pub fn a_session<R: Threads + Wait + Sync, D: Disk + Drop + Send, I: Read + Drop
 {
     one_standing();
     session(rt, alloc, options, disk, payloads, streams)
+}
+
+/// *Wherever power fails while a session runs.* Of a session over a disk that stands for the state s alone, each content that a crash
+/// has left at some moment of it, within a command and within a call of the disk too, stands for what some first commands of its
+/// journal make of s, or these and the one in doubt. All are among them that had been acknowledged by then: from the moment of each
+/// receipt on, which the shared store notes as it makes the receipt, each command up to that one (`IsCutAnywhere`).
+pub fn a_session_cut_anywhere<
+    R: Threads + Wait + Sync,
+    D: Disk + Drop + Send,
+    I: Read + Drop,
+    W: Write + Drop,
+>(
+    rt: &R,
+    alloc: Global,
+    options: &Options,
+    disk: D,
+    payloads: &Payloads,
+    streams: Streams<I, W>,
+) -> SessionEnd<D, I, W>
+    requires { IsIdle (D.facts disk) }
+    ensures { (size : Size) (s : DurableState) → options.now.new ≡ false → StandsFor (D.facts disk).content size s
+        → LeavesOnly (D.facts disk) size s → (result.console_left ≡ None → ⊥) → (console : List (ℕ × Entry))
+        × IsCutAnywhere size s (commands_by options.now.mode s) console (D.facts disk).moment (D.facts result.disk)
+        result.moments.at }
+{
+    one_standing();
+    session(rt, alloc, options, disk, payloads, streams)
+}
+
+/// *Wherever the process of a session is killed, or its host crashes, whose disk is kept in a file* (`sbiboard --sync`). The same holds of
+/// the file: each content that a crash has left in it at some moment of the session, within a call of the file too, is of some first
+/// commands, with all that had been acknowledged by then; and what it leaves at the end, of all of them (`KeepsSession`). That is so of
+/// any file which does what [`SectorFile`](board_files::SectorFile) says of it; of a file of the system nothing is known (`IfKnown`).
+pub fn a_session_in_a_file_cut_anywhere<
+    R: Threads + Wait + Sync,
+    F: SectorFile + Drop + Send,
+    I: Read + Drop,
+    W: Write + Drop,
+>(
+    rt: &R,
+    alloc: Global,
+    options: &Options,
+    disk: FileDisk<F>,
+    payloads: &Payloads,
+    streams: Streams<I, W>,
+) -> SessionEnd<FileDisk<F>, I, W>
+    requires { IsIdle (⟦<FileDisk<F> as Disk>⟧.facts disk) }
+    ensures { (size : Size) (s : DurableState) → options.now.new ≡ false
+        → StandsFor (⟦<FileDisk<F> as Disk>⟧.facts disk).content size s
+        → LeavesOnly (⟦<FileDisk<F> as Disk>⟧.facts disk) size s → (result.console_left ≡ None → ⊥)
+        → (console : List (ℕ × Entry))
+        × (cut : IsCutAnywhere size s (commands_by options.now.mode s) console
+        (⟦<FileDisk<F> as Disk>⟧.facts disk).moment (⟦<FileDisk<F> as Disk>⟧.facts result.disk) result.moments.at)
+        × IfKnown (⟦<FileDisk<F> as Filed>⟧.file result.disk) (KeepsSession size s (sent cut.journal cut.doubt)
+        (length (commands_by options.now.mode s)) (length cut.journal) (⟦<FileDisk<F> as Disk>⟧.facts disk).moment
+        (⟦<FileDisk<F> as Disk>⟧.facts result.disk) result.moments.at) }
+{
+    one_standing();
+    crashes_now(&disk);
+    let end = session(rt, alloc, options, disk, payloads, streams);
+    crashes_now(&end.disk);
+    end.disk.stands();
+    end
+}
+
+/// What holds of each disk: what a crash has left since this moment, it may leave now; and what it may leave now, it may have left since
+/// each earlier one.
+fn crashes_now<D: Disk>(disk: &D)
+    ensures only { (c : Content) → (D.facts disk.now).since (D.facts disk.now).moment c → (D.facts disk.now).may_leave c }
+    ensures counts { (t : ℕ) (c : Content) → t ≤ (D.facts disk.now).moment → (D.facts disk.now).may_leave c
+        → (D.facts disk.now).since t c }
+{
+    let _ = disk;
+}
+
+/// *And the next open finds it.* Where the bytes of a disk, as a crash left them, stand for what some first of these commands make of s,
+/// with so many of them at least, an open that answers Ok finds that state. An image of it is the one of the last suspension among
+/// them, with its memory.
+pub fn an_open_finds_some_first<D: Disk + Drop>(
+    alloc: Global,
+    left: D,
+) -> Result<Store<D>, (D, Refusal)>
+    requires { IsIdle (D.facts left) }
+    ensures { (size : Size) (s : DurableState) (commands : List Change) (least : ℕ)
+        → ∥ IsOfFirst size s commands least (D.facts left).content ∥₁ → IfOk result (λ next. ∥ (k : ℕ) × (least ≤ k)
+        × (k ≤ length commands) × (found_state next ≡ fold s (take k commands)) ∥₁) }
+{
+    one_standing();
+    Store::open(alloc, left)
 }
 
 /// What a session gives back but for its disk.
@@ -109,6 +204,7 @@ pub fn power_lost_between_sessions<R: Threads + Wait + Sync, I: Read + Drop, W: 
         console_left,
         heard,
         harts,
+        moments: _,
     } = session(rt, alloc, options, disk, payloads, streams);
     let said = SessionSaid {
         ran,

@@ -8,6 +8,6 @@ returns g c =
     let contents = g.O.Write.contents in
     let setup = c.args.setup.now in
     let end = c.session-end.result in
-    has_run setup.options.now setup.payloads.now (facts c.args.disk) (facts end.disk) (g.I.Read.remaining c.args.streams.input) (contents c.args.streams.out)
+    has_run setup.options.now setup.payloads.now (facts c.args.disk) (facts end.disk) end.moments.at (g.I.Read.remaining c.args.streams.input) (contents c.args.streams.out)
     (contents c.begin.new.self) _ (contents end.streams.out) end.console_left _ _ end.ran c.session-end.ensures.ended
     (λ none. ap (λ s. contents s.out) (c.session-end.ensures.unheard none).0) c.begin.ensures

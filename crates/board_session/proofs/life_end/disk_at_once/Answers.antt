@@ -1,7 +1,10 @@
-use Rattle.std.proofs.Common.{[], Option, None, refl, sym, subst}
+use Rattle.std.proofs.Common.{[], length, Option, None, refl, sym, subst}
 use Rattle.board_model.specs.Durable.{Change}
 use Rattle.hart_threads.specs.Doubts.{IsDoubtOf}
-use Rattle.store.specs.Views.{size_of_store, now_state, journal_of, doubt_of}
+use Rattle.hart_threads.specs.Since.{AreKept}
+use Rattle.hart_threads.proofs.Keeping.{begun_kept}
+use Rattle.store.specs.Leaves.{LeavesOnly}
+use Rattle.store.specs.Views.{disk_of, doubt_of, found_state, journal_of, life_of, now_state, size_of_store}
 use Rattle.board_session.proofs.Backing.{at_once, none_later}
 use Rattle.board_session.proofs.Powering.{kept_reads, life_kept, life_leaves}
 use Rattle.board_session.proofs.life_end.disk_at_once.Goals as goal
@@ -25,5 +28,8 @@ returns-clause-life g c = λ begins.
       carried = (c.requires.carried begins).journal;
       doubted = (c.requires.carried begins).doubt;
       failed = o.failed;
+      kept = subst (λ d. AreKept size (found_state store) (disk_of store).since (disk_of store).moment (length (journal_of store)) (journal_of store) (doubt_of store) (g.D.Disk.facts d) c.first-moments.result.at) (sym o.disk)
+          (begun_kept size (found_state store) (disk_of store).since (disk_of store).moment (journal_of store) (life_of store) (disk_of store) c.first-moments.result.at refl (λ t x is. is) refl c.requires.up (g.met.D.Disk.only_now _)
+          (subst (λ d. LeavesOnly (g.D.Disk.facts d) size (now_state store)) o.disk (o.up (now_state store) (c.requires.up, refl))) c.first-moments.ensures);
       asked = subst (λ (x : Option Change). IsDoubtOf size x None) (sym c.requires.up) tt;
     }

@@ -1,4 +1,4 @@
-use Rattle.std.proofs.Common.{◌≡◌, ◌∙◌, ℕ, List, None, length, refl, ap, subst, arith}
+use Rattle.std.proofs.Common.{◌≡◌, ◌∙◌, ℕ, List, None, length, refl, sym, ap, subst, arith}
 use Rattle.board_model.specs.Durable.{DurableState, fold, refusal_of}
 use Rattle.board_model.specs.Shapes.{Size}
 use Rattle.board.specs.Unbooted.{LeavesLife}
@@ -6,6 +6,7 @@ use Rattle.disk.specs.Facts.{Failed}
 use Rattle.tallies.specs.Closed.{AreReceiptsOf, told_in}
 use Rattle.tallies.specs.declared.book_views.PartView.{PartView}
 use Rattle.hart_threads.specs.Noted.{entries_in}
+use Rattle.hart_threads.specs.Since.{AreKept}
 use Rattle.hart_threads.specs.Views.{parts_with}
 use Rattle.store.specs.Views.{size_of_store, now_state, journal_of, doubt_of}
 use Rattle.board_session.proofs.Backing.{acknowledged}
@@ -14,9 +15,9 @@ use Rattle.board_session.proofs.life_end.disk_of.Goals as goal
 
 pub returns-clause-life : goal.returns-clause-life
 returns-clause-life g c =
-    let store = c.close.result in
+    let store = c.close-store.result.0 in
     let o = c.into_disk.ensures in
-    let named = c.close.ensures.named in
+    let named = c.close-store.ensures.named in
     let disk = g.D.Disk.facts c.into_disk.result in
     let size = g.J.Journal.size in
     let now = fold g.J.Journal.found (journal_of store) in
@@ -31,20 +32,24 @@ returns-clause-life g c =
     let long = ap (λ (ps : List PartView). length ps) last in
     let all = c.requires.all in
     let count : length (parts_with c.gather_last.new.whole) ≡ g.J.Journal.parts = omega (arith, long, many, all) in
-    let receipts = subst (λ (ps : List PartView). AreReceiptsOf (entries_in (journal_of store)) (told_in ps)) last (c.close.ensures.all count) in (
+    let receipts = subst (λ (ps : List PartView). AreReceiptsOf (entries_in (journal_of store)) (told_in ps)) last (c.close-store.ensures.all count) in (
       record {
         journal = journal_of store;
         acknowledged = acknowledged size g.J.Journal.issued (journal_of store) c.args.boot c.args.console ds c.gather_parts.ensures.back many c.requires.boot receipts;
-        begun = begins_so g.J.Journal.issued (journal_of store) c.close.ensures.issued;
+        begun = begins_so g.J.Journal.issued (journal_of store) c.close-store.ensures.issued;
         taken = named.life.taken;
         doubt = doubt_of store;
         leaves = left';
         allowed = λ x is. subst (λ (s : DurableState). refusal_of s x ≡ None) named.life.now (o.allowed x is);
         reads = kept_reads disk size (life_kept (doubt_of store) disk size now left') (g.met.D.Disk.may_keep c.into_disk.result);
-        carried = c.close.ensures.carried.journal;
-        doubted = c.close.ensures.carried.doubt;
-        failed = λ x is. subst (λ (n : ℕ). Failed n disk.failures) c.close.ensures.opened (o.failed x is);
-        asked = c.close.ensures.doubt;
+        carried = c.close-store.ensures.carried.journal;
+        doubted = c.close-store.ensures.carried.doubt;
+        failed = λ x is. subst (λ (n : ℕ). Failed n disk.failures) c.close-store.ensures.opened (o.failed x is);
+        asked = c.close-store.ensures.doubt;
+        kept = subst (λ d. AreKept size g.J.Journal.found g.J.Journal.earlier g.J.Journal.moment (length g.J.Journal.issued) (journal_of store) (doubt_of store) (g.D.Disk.facts d) c.close-store.result.1.at) (sym o.disk) c.close-store.ensures.kept;
       },
-      ap (λ x. journal_of x) (c.close.ensures.same ∙ c.gather_last.ensures.store ∙ c.gather_parts.ensures.store ∙ c.gather_loops.ensures.store),
+      ap (λ x. journal_of x) (c.close-store.ensures.same ∙ c.gather_last.ensures.store ∙ c.gather_parts.ensures.store ∙ c.gather_loops.ensures.store),
     )
+
+pub returns-clause-moments : goal.returns-clause-moments
+returns-clause-moments g c = c.close-store.ensures.moments ∙ c.gather_last.ensures.moments ∙ c.gather_parts.ensures.moments ∙ c.gather_loops.ensures.moments

@@ -15,6 +15,7 @@ loop-rested-preserved-in-Some g c =
     let fewer = c.in-Some.ensures.cases in
     record {
       store = c.gather.ensures.store ∙ i.store;
+      moments = c.gather.ensures.moments ∙ i.moments;
       back = subst (λ (ps : List PartView). AreBack ps) (sym parts) (one_back e.local.part (parts_with c.loop-rested.whole) e.told e.ends e.noted i.back);
       many = omega (arith, long, was, fewer);
     }
@@ -29,6 +30,7 @@ loop-rested-preserved g c =
     let fewer = c.in-Some.ensures.cases in
     record {
       store = c.gather.ensures.store ∙ i.store;
+      moments = c.gather.ensures.moments ∙ i.moments;
       back = subst (λ (ps : List PartView). AreBack ps) (sym parts) (one_back e.local.part (parts_with c.loop-rested.whole) e.told e.ends e.noted i.back);
       many = omega (arith, long, was, fewer);
     }

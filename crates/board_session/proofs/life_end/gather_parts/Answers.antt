@@ -16,6 +16,7 @@ loop-part-preserved g c =
     let popped = All-pop (λ (p : PartView). p.told ≡ []) c.loop-part.parts.items c.pop.new.self.items (Some c.in-Some.part) c.in-Some.ensures.items i.fresh in
     record {
       store = c.gather.ensures.store ∙ i.store;
+      moments = c.gather.ensures.moments ∙ i.moments;
       back = subst (λ (ps : List PartView). AreBack ps) (sym parts) (fresh_back c.in-Some.part (parts_with c.loop-part.whole) popped.1 i.back);
       fresh = popped.0;
       many = omega (arith, long, was, fewer);

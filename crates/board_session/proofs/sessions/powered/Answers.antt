@@ -1,9 +1,11 @@
 use Rattle.std.proofs.Common.{◌∙◌, ap, sym, subst}
 use Rattle.store.specs.Leaves.{IsKept}
-use Rattle.store.specs.Views.{view_of, life_of}
+use Rattle.disk.specs.Facts.{LeavesSince}
+use Rattle.board.specs.Moments.{MayLeave, commands_by}
+use Rattle.store.specs.Views.{view_of, life_of, disk_of, size_of_store, found_state}
 use Rattle.board.specs.Views.{store_of, machine_of}
 use Rattle.board.specs.PowersOn.{IsUnpowered}
-use Rattle.board_session.proofs.Powering.{begins, life_carried, life_few, life_issued, life_taken, life_up, format_refuses, kept_off, refuses_disk, runs_over}
+use Rattle.board_session.proofs.Powering.{begins, life_carried, life_few, life_issued, life_taken, life_up, booted, format_refuses, kept_off, refuses_disk, runs_over}
 use Rattle.board_session.proofs.sessions.powered.Goals as goal
 
 pub returns-in-Err-clause-refused : goal.returns-in-Err-clause-refused
@@ -73,3 +75,10 @@ returns-in-Ok-power_on-clause-up g c =
 
 pub returns-in-Ok-power_on-clause-opened : goal.returns-in-Ok-power_on-clause-opened
 returns-in-Ok-power_on-clause-opened g c = c.in-Ok-power_on.ensures.on.opened ∙ c.in-Ok.ensures.failures
+
+pub returns-in-Ok-power_on-clause-moments : goal.returns-in-Ok-power_on-clause-moments
+returns-in-Ok-power_on-clause-moments g c =
+    let o = c.args.options.now in
+    let store = store_of c.in-Ok-power_on.board in
+    booted o.new (g.D.Disk.facts c.args.disk) (disk_of store) (size_of_store store) (found_state store) (commands_by o.mode (found_state store))
+    (λ is. subst (λ d. LeavesSince (g.D.Disk.facts d) (disk_of store) (MayLeave (g.D.Disk.facts d) (size_of_store store) (found_state store) (commands_by o.mode (found_state store)))) (c.in-Ok.ensures.old is) c.in-Ok-power_on.ensures.on.any_moment)

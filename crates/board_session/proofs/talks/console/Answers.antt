@@ -1,7 +1,7 @@
 use Rattle.std.proofs.Common.{Some, None}
 use Rattle.board_session.specs.Commands.{party}
 use Rattle.board_session.specs.Dialogues.{dialogue_ends}
-use Rattle.board_session.proofs.Talking.{none_left, left_as, obeyed, goes_on, leaves_after, unwritten}
+use Rattle.board_session.proofs.Talking.{none_left, left_as, obeyed, held, goes_on, leaves_after, unwritten}
 use Rattle.board_session.proofs.talks.console.Goals as goal
 
 pub returns-in_default-write_answer-clause-talks : goal.returns-in_default-write_answer-clause-talks
@@ -66,3 +66,7 @@ returns-in_default-write_answer-clause-free g c = c.answer_to-told.ensures.free
 
 pub returns-in-Some-left_after-clause-free : goal.returns-in-Some-left_after-clause-free
 returns-in-Some-left_after-clause-free g c = c.answer_to-told.ensures.free
+
+pub write_answer-requires-clause-told : goal.write_answer-requires-clause-told
+write_answer-requires-clause-told g c κs within =
+    held g.J.Journal.found g.J.Journal.issued c.line_said-said.result c.answer_to-told.result.1 _ (party c.answer_to-told.result.0.told c.answer_to-told.new.heard) c.answer_to-told.ensures.fits

@@ -1,12 +1,12 @@
 use Rattle.std.proofs.Common.{[], true}
-use Rattle.store.specs.Views.{failures_at_open, found_state}
+use Rattle.store.specs.Views.{disk_of, failures_at_open, found_state}
 use Rattle.tallies.specs.BookViews.{id_of, parts_of}
 use Rattle.hart_threads.specs.Begun.{board_of}
 use Rattle.tests.proofs.boards.driven.Given as goal
 
 -- the life that the board has just begun
 abbrev pub ghosts-driven_as-J-Journal : goal.ghosts-driven_as-J-Journal
-ghosts-driven_as-J-Journal g a = record { found = found_state a.parts.store; size = a.shape.now; issued = []; memory = a.parts.bus.ram; book = id_of a.marks.0.0; parts = parts_of a.marks.0.0; failures = failures_at_open a.parts.store; doubts = id_of a.marks.0.1 }
+ghosts-driven_as-J-Journal g a = record { found = found_state a.parts.store; size = a.shape.now; issued = []; memory = a.parts.bus.ram; book = id_of a.marks.0.0; parts = parts_of a.marks.0.0; failures = failures_at_open a.parts.store; doubts = id_of a.marks.0.1; moment = (disk_of a.parts.store).moment; earlier = (disk_of a.parts.store).since }
 
 -- and its harts, which the gate may end
 abbrev pub ghosts-driven_as-J-Threaded : goal.ghosts-driven_as-J-Threaded

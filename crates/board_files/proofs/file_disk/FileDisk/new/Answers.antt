@@ -10,4 +10,4 @@ invariant_of-result-clause-marked g c = marks_none (sim_disk.ghosts.facts c.args
 
 pub invariant_of-result-clause-kept : goal.invariant_of-result-clause-kept
 invariant_of-result-clause-kept g c = kept_begun _ _ (sim_disk.ghosts.facts c.args.memory) c.requires.durable
-    ∣ counts_now-law c.args.memory 0 _ (omega arith) (may_keep-law c.args.memory) ∣₁
+    (λ t le. counts_now-law c.args.memory t _ le (may_keep-law c.args.memory))

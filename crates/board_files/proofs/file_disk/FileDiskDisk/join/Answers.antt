@@ -1,4 +1,4 @@
-use Rattle.std.proofs.Common.{rules}
+use Rattle.std.proofs.Common.{rules, ap, length}
 use Rattle.std.proofs.lemmas.List.{with_items_is, places}
 use Rattle.disk.specs.Facts.{Stays}
 use Rattle.simdisk.specs.contracts.device.SimDiskDisk.TheImpl as sim_disk
@@ -16,6 +16,6 @@ pub invariant_of-self-clause-kept : goal.invariant_of-self-clause-kept
 invariant_of-self-clause-kept g c =
     kept_moved _ _ _ (sim_disk.ghosts.facts c.join.new.self) (with_items_is c.args.self.now.marks c.mark.new.marks (search (rules, places)))
     (kept_on _ _ _ (sim_disk.ghosts.facts c.args.self.now.memory) (sim_disk.ghosts.facts c.join.new.self) Stays c.args.self.now.kept
-    c.join.ensures.crash c.join.ensures.content.elsewhere.as_long
+    c.join.ensures.crash (ap length c.join.ensures.takes_back.ranges.past) c.join.ensures.content.elsewhere.as_long
     (spares_joined _ _ _ _ (sim_disk.ghosts.facts c.args.self.now.memory) _ _ c.args.self.now.marked
     (marks_from _ _ _ _ _ c.deref_mut.ensures.value c.mark.ensures) c.join.ensures.content.elsewhere))

@@ -18,4 +18,4 @@ invariant_of-self-clause-marked g c =
 pub invariant_of-self-clause-kept : goal.invariant_of-self-clause-kept
 invariant_of-self-clause-kept g c =
     kept_on _ _ _ (sim_disk.ghosts.facts c.args.self.now.memory) (sim_disk.ghosts.facts c.read.new.self) Stays c.args.self.now.kept
-    c.read.ensures.called.crash (ap length c.read.ensures.called.content) (spares_all _ _ _ c.read.ensures.called.content)
+    c.read.ensures.called.crash c.read.ensures.unsynced (ap length c.read.ensures.called.content) (spares_all _ _ _ c.read.ensures.called.content)

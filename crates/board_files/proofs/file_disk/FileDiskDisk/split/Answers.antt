@@ -14,7 +14,7 @@ invariant_of-self-2-clause-marked g c =
 pub invariant_of-self-2-clause-kept : goal.invariant_of-self-2-clause-kept
 invariant_of-self-2-clause-kept g c =
     kept_on _ _ _ (sim_disk.ghosts.facts c.args.self.now.memory) (sim_disk.ghosts.facts c.split.new.self) _ c.args.self.now.kept
-    c.in-Ok.ensures.crash (ap length c.in-Ok.ensures.content) (spares_all _ _ _ c.in-Ok.ensures.content)
+    c.in-Ok.ensures.crash (ap (λ (r : WriteLog). length r.past) c.in-Ok.ensures.lends.noted) (ap length c.in-Ok.ensures.content) (spares_all _ _ _ c.in-Ok.ensures.content)
 
 pub invariant_of-self-clause-marked : goal.invariant_of-self-clause-marked
 invariant_of-self-clause-marked g c =
@@ -25,4 +25,4 @@ invariant_of-self-clause-marked g c =
 pub invariant_of-self-clause-kept : goal.invariant_of-self-clause-kept
 invariant_of-self-clause-kept g c =
     kept_on _ _ _ (sim_disk.ghosts.facts c.args.self.now.memory) (sim_disk.ghosts.facts c.split.new.self) Stays c.args.self.now.kept
-    c.in_default.ensures.crash_refused (ap length c.in_default.ensures.content) (spares_all _ _ _ c.in_default.ensures.content)
+    c.in_default.ensures.crash_refused (ap (λ (r : WriteLog). length r.past) c.in_default.ensures.lends.refused) (ap length c.in_default.ensures.content) (spares_all _ _ _ c.in_default.ensures.content)

@@ -4,7 +4,7 @@ use Rattle.disk.specs.Facts.{Stays}
 use Rattle.simdisk.specs.contracts.device.SimDiskDisk.TheImpl as sim_disk
 use Rattle.simdisk.specs.contracts.device.SimDiskDisk.TheImpl.Laws.{may_keep-law, counts_now-law}
 use Rattle.board_files.proofs.Beside.{call_beside}
-use Rattle.board_files.proofs.Kept.{marks_moved, marks_cleared, kept_moved, kept_pushed, kept_synced, pushes_as, off_is_left, only_left, on_ok}
+use Rattle.board_files.proofs.Kept.{marks_moved, marks_cleared, kept_moved, kept_pushed, kept_synced, pushes_as, off_is_left, one_moment, only_left, on_ok}
 use Rattle.board_files.proofs.file_disk.FileDiskDisk.sync.Goals as goal
 
 pub returns-clause-called : goal.returns-clause-called
@@ -22,8 +22,9 @@ invariant_of-self-clause-kept g c =
     ∙ c.in_default.ensures.all ∙ c.deref_mut.ensures.value)
     (kept_pushed _ _ _ disk _ _ _ c.args.self.now.kept
     (pushes_as _ _ _ _ _ _ _ c.deref_mut.ensures.value c.content.ensures c.in_default.ensures.pushed)
-    (λ x agrees. counts_now-law c.args.self.now.memory 0 x (omega arith) ((c.exactly_the_model.ensures.now x).1
-    (off_is_left _ _ _ disk _ _ c.args.self.now.marked ((c.exactly_the_model.ensures.now _).0 (may_keep-law c.args.self.now.memory)) x agrees))))
+    (λ t x le agrees. counts_now-law c.args.self.now.memory t x le ((c.exactly_the_model.ensures.now x).1
+    (off_is_left _ _ _ disk _ _ c.args.self.now.marked ((c.exactly_the_model.ensures.now _).0 (may_keep-law c.args.self.now.memory)) x agrees)))
+    (g.met.F.SectorFile.earlier _))
 
 pub invariant_of-self-2-clause-marked : goal.invariant_of-self-2-clause-marked
 invariant_of-self-2-clause-marked g c =
@@ -36,8 +37,9 @@ invariant_of-self-2-clause-kept g c =
     let disk = sim_disk.ghosts.facts c.args.self.now.memory in
     kept_synced _ _ _ _ disk (sim_disk.ghosts.facts c.sync.new.self) Stays _ _ _ c.args.self.now.kept
     (pushes_as _ _ _ _ _ _ _ c.deref_mut.ensures.value c.content.ensures c.in-Ok.ensures.pushed)
-    (λ x agrees. counts_now-law c.args.self.now.memory 0 x (omega arith) ((c.exactly_the_model.ensures.now x).1
+    (λ t x le agrees. counts_now-law c.args.self.now.memory t x le ((c.exactly_the_model.ensures.now x).1
     (off_is_left _ _ _ disk _ _ c.args.self.now.marked ((c.exactly_the_model.ensures.now _).0 (may_keep-law c.args.self.now.memory)) x agrees)))
+    (g.met.F.SectorFile.earlier _) (counts_now-law c.sync.new.self (sim_disk.ghosts.facts c.sync.new.self).moment (sim_disk.ghosts.facts c.sync.new.self).content (omega arith) (may_keep-law c.sync.new.self)) (one_moment c.sync.result _ _ _ _ c.sync.ensures.log c.sync.ensures.log_failed)
     c.sync.ensures.called.crash c.sync.ensures.called.content
 
 pub returns-clause-file : goal.returns-clause-file

@@ -1,8 +1,9 @@
 use Rattle.std.proofs.Common.{rules, ap, length}
 use Rattle.std.proofs.lemmas.List.{with_items_is, places}
+use Rattle.disk.specs.WriteLog.{WriteLog}
 use Rattle.simdisk.specs.contracts.device.SimDiskDisk.TheImpl as sim_disk
 use Rattle.board_files.proofs.Beside.{call_beside}
-use Rattle.board_files.proofs.Kept.{marks_stay, marks_written, marks_moved, marks_from, kept_on, kept_moved, spares_all, spares_written, noted_free, more_free}
+use Rattle.board_files.proofs.Kept.{marks_stay, marks_written, marks_moved, marks_from, kept_on, kept_moved, spares_all, spares_written, noted_free, noted_moment, more_free}
 use Rattle.board_files.proofs.file_disk.FileDiskDisk.write.Goals as goal
 
 pub returns-clause-called : goal.returns-clause-called
@@ -20,7 +21,7 @@ invariant_of-self-clause-marked g c =
 pub invariant_of-self-clause-kept : goal.invariant_of-self-clause-kept
 invariant_of-self-clause-kept g c =
     kept_on _ _ _ (sim_disk.ghosts.facts c.args.self.now.memory) (sim_disk.ghosts.facts c.write.new.self) _ c.args.self.now.kept
-    c.in_default.ensures.called.crash (ap length c.in_default.ensures.stays) (spares_all _ _ _ c.in_default.ensures.stays)
+    c.in_default.ensures.called.crash (noted_moment _ _ _ _ _ c.in_default.ensures.log_failed) (ap length c.in_default.ensures.stays) (spares_all _ _ _ c.in_default.ensures.stays)
 
 pub invariant_of-self-2-clause-marked : goal.invariant_of-self-2-clause-marked
 invariant_of-self-2-clause-marked g c =
@@ -33,5 +34,5 @@ pub invariant_of-self-2-clause-kept : goal.invariant_of-self-2-clause-kept
 invariant_of-self-2-clause-kept g c =
     kept_moved _ _ _ (sim_disk.ghosts.facts c.write.new.self) (with_items_is c.args.self.now.marks c.mark.new.marks (search (rules, places)))
     (kept_on _ _ _ (sim_disk.ghosts.facts c.args.self.now.memory) (sim_disk.ghosts.facts c.write.new.self) _ c.args.self.now.kept
-    c.in-Ok.ensures.called.crash c.in-Ok.ensures.called.content.as_long
+    c.in-Ok.ensures.called.crash (ap (λ (r : WriteLog). length r.past) c.in-Ok.ensures.log) c.in-Ok.ensures.called.content.as_long
     (spares_written _ _ _ _ _ _ (marks_from _ _ _ _ _ c.deref_mut.ensures.value c.mark.ensures) c.in-Ok.ensures.called.content))

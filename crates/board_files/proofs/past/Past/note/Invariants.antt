@@ -1,6 +1,5 @@
-use Rattle.std.proofs.Common.{[], ◌∷◌}
-use Rattle.disk.specs.WriteLog.{new_log}
+use Rattle.board_files.specs.Kept.{noted}
 use Rattle.board_files.proofs.past.Past.note.Given as goal
 
-abbrev pub ghost-with_parts : goal.ghost-with_parts
-ghost-with_parts a = let passed = a._values.now in (new_log [], [], [], passed.1.now ∷ passed.0.now.contents)
+abbrev pub ghost-picked : goal.ghost-picked
+ghost-picked a = let passed = a._values.now in noted passed.1.now passed.0.now.log

@@ -1,4 +1,4 @@
-use Rattle.std.proofs.Common.{◌≡◌, ◌∙◌, ◌+◌, ℕ, Bool, List, ◌∷◌, length, sym, ap, arith}
+use Rattle.std.proofs.Common.{◌≡◌, ◌∙◌, ◌+◌, ℕ, Bool, List, ◌∷◌, length, refl, sym, ap, subst, arith}
 use Rattle.board_model.specs.Durable.{Change}
 use Rattle.board_model.specs.declared.durable.Entry.{Entry}
 use Rattle.tallies.specs.Books.{entries_of, told_after}
@@ -6,7 +6,10 @@ use Rattle.tallies.specs.declared.book_views.BookView.{BookView}
 use Rattle.hart_threads.specs.Noted.{entries_in}
 use Rattle.sbi_abi.specs.Calls.{call_of}
 use Rattle.sbi_calls.specs.Both.{harts_of_both, known}
-use Rattle.store.specs.Views.{doubt_of, journal_of}
+use Rattle.sbi.specs.declared.words.Word.{Word}
+use Rattle.store.specs.Views.{disk_of, doubt_of, journal_of}
+use Rattle.hart_threads.specs.Since.{AreKept}
+use Rattle.hart_threads.proofs.Keeping.{held_kept, moments_by}
 use Rattle.hart_threads.specs.Doubts.{noted_by}
 use Rattle.hart_threads.proofs.Doubting.{hart_asks, held, noted_on}
 use Rattle.hart_threads.proofs.Calling.{made}
@@ -27,7 +30,9 @@ invariant_of-self g c =
     let h = held size (harts_of_both c.args.tables.now) call c.args.hart.now d.new.hart (known c.args.seats) (known d.result.0) c.args.bus.now.bus d.new.self.bus old.store d.new.store d.result.1 old.named.board d.ensures.makes in
     let noted = c.note.ensures.noted ∙ ap (λ (b : Bool). noted_by b c.in_doubt.result old.doubts) c.is_up-was_up.ensures in
     let before = old.counted in
-    record { named = m.named; issued = begins_still g.J.Journal.issued (journal_of old.store) (journal_of d.new.store) old.issued same; carried = d.ensures.carried; counted = omega (arith, before, as_long); few = old.few; tied = ap entries_in same ∙ old.tied; none = old.none; opened = h.opened ∙ old.opened; doubted = noted_on size (doubt_of old.store) (doubt_of d.new.store) c.in_doubt.result old.doubts c.note.new.self c.in_doubt.ensures h.turns old.doubted noted }
+    let kept = subst (λ (w : Word). AreKept size g.J.Journal.found g.J.Journal.earlier g.J.Journal.moment (length g.J.Journal.issued) (journal_of d.new.store) (doubt_of d.new.store) (disk_of d.new.store) (moments_by w (disk_of d.new.store).moment old.moments.at)) c.in-Goes.is
+    (held_kept g.J.Journal.found size g.J.Journal.earlier g.J.Journal.moment (length g.J.Journal.issued) old.store d.new.store old.moments.at old.named (g.met.D.Disk.only_now _) old.kept (harts_of_both c.args.tables.now) call c.args.hart.now d.new.hart (known c.args.seats) (known d.result.0) c.args.bus.now.bus d.new.self.bus d.result.1 d.ensures.makes) in
+    record { named = m.named; issued = begins_still g.J.Journal.issued (journal_of old.store) (journal_of d.new.store) old.issued same; carried = d.ensures.carried; counted = omega (arith, before, as_long); few = old.few; tied = ap entries_in same ∙ old.tied; none = old.none; opened = h.opened ∙ old.opened; doubted = noted_on size (doubt_of old.store) (doubt_of d.new.store) c.in_doubt.result old.doubts c.note.new.self c.in_doubt.ensures h.turns old.doubted noted; kept = kept }
 
 pub last_entry-requires-after_bounds : goal.last_entry-requires-after_bounds
 last_entry-requires-after_bounds g c κs within =
@@ -70,12 +75,15 @@ invariant_of-self-in-Over g c =
     let before = old.counted in
     let h = held size (harts_of_both c.args.tables.now) call c.args.hart.now d.new.hart (known c.args.seats) (known d.result.0) c.args.bus.now.bus d.new.self.bus old.store d.new.store d.result.1 old.named.board d.ensures.makes in
     let noted = c.note.ensures.noted ∙ ap (λ (b : Bool). noted_by b c.in_doubt.result old.doubts) c.is_up-was_up.ensures in
+    let kept = subst (λ (ms : List ℕ). AreKept size g.J.Journal.found g.J.Journal.earlier g.J.Journal.moment (length g.J.Journal.issued) (journal_of d.new.store) (doubt_of d.new.store) (disk_of d.new.store) ms) (sym c.add.ensures)
+    (subst (λ (w : Word). AreKept size g.J.Journal.found g.J.Journal.earlier g.J.Journal.moment (length g.J.Journal.issued) (journal_of d.new.store) (doubt_of d.new.store) (disk_of d.new.store) (moments_by w (disk_of d.new.store).moment old.moments.at)) c.in-Over.is
+    (held_kept g.J.Journal.found size g.J.Journal.earlier g.J.Journal.moment (length g.J.Journal.issued) old.store d.new.store old.moments.at old.named (g.met.D.Disk.only_now _) old.kept (harts_of_both c.args.tables.now) call c.args.hart.now d.new.hart (known c.args.seats) (known d.result.0) c.args.bus.now.bus d.new.self.bus d.result.1 d.ensures.makes)) in
     let note = c.note-part.ensures in
     let entry : c.entry-noted.result ≡ c.in-Some.entry = c.entry-noted.ensures ∙ ap (λ (t : ℕ × Entry). t.1) c.new-told.ensures in
     let tied = tied_after size call by end (journal_of old.store) (journal_of d.new.store) grown old.keeper.log (old.count + 1) c.in-Some.entry c.args.part.who c.in-Some.ensures.some old.tied
     ∙ ap (λ (e : Entry). entries_of ((c.args.part.who, e) ∷ old.keeper.log)) (sym entry)
     ∙ sym (ap (λ (v : BookView). entries_of v.log) note.keeper) in
-    record { named = m.named; issued = begins_longer size call by end (journal_of old.store) (journal_of d.new.store) grown g.J.Journal.issued old.issued; carried = d.ensures.carried; counted = omega (arith, longer, before); few = omega (arith, few, before); tied = tied; none = ap (λ (v : BookView). length v.parts) note.keeper ∙ old.none; opened = h.opened ∙ old.opened; doubted = noted_on size (doubt_of old.store) (doubt_of d.new.store) c.in_doubt.result old.doubts c.note.new.self c.in_doubt.ensures h.turns old.doubted noted }
+    record { named = m.named; issued = begins_longer size call by end (journal_of old.store) (journal_of d.new.store) grown g.J.Journal.issued old.issued; carried = d.ensures.carried; counted = omega (arith, longer, before); few = omega (arith, few, before); tied = tied; none = ap (λ (v : BookView). length v.parts) note.keeper ∙ old.none; opened = h.opened ∙ old.opened; doubted = noted_on size (doubt_of old.store) (doubt_of d.new.store) c.in_doubt.result old.doubts c.note.new.self c.in_doubt.ensures h.turns old.doubted noted; kept = kept }
 
 pub returns-in-Some-clause-told : goal.returns-in-Some-clause-told
 returns-in-Some-clause-told g c =
@@ -112,3 +120,9 @@ note-requires-clause-asks g c up =
     let size = g.J.Journal.size in
     let h = held size (harts_of_both c.args.tables.now) (call_of c.args.hart.now) c.args.hart.now d.new.hart (known c.args.seats) (known d.result.0) c.args.bus.now.bus d.new.self.bus old.store d.new.store d.result.1 old.named.board d.ensures.makes in
     hart_asks size (doubt_of old.store) (doubt_of d.new.store) c.in_doubt.result c.in_doubt.ensures h.turns (sym c.is_up-was_up.ensures ∙ up)
+
+pub returns-in-Some-clause-moments : goal.returns-in-Some-clause-moments
+returns-in-Some-clause-moments g c = c.add.ensures
+
+pub returns-in-Goes-clause-moments : goal.returns-in-Goes-clause-moments
+returns-in-Goes-clause-moments g c = refl

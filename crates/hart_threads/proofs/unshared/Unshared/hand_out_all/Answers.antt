@@ -26,6 +26,7 @@ returns-in_err-parts-clause-none g c = rw (err_from_is_err_and c.from_residual.r
 pub loop-made-init : goal.loop-made-init
 loop-made-init g c = record {
   store = refl;
+  moments = refl;
   fresh = c.requires.fresh;
   told = all_nil (λ (d : PartView). d.told ≡ []) c.in_ok-parts.parts.items c.in_ok-parts.ensures.items;
   off = omega (arith, c.in_ok-parts.ensures.len);
@@ -44,6 +45,7 @@ loop-made-preserved g c =
     let was = c.loop-made.invariant in
     record {
       store = c.hand_out-part.ensures.store ∙ was.store;
+      moments = c.hand_out-part.ensures.moments ∙ was.moments;
       fresh = c.hand_out-part.ensures.fresh;
       told = all_pushed (λ (d : PartView). d.told ≡ []) c.loop-made.parts.items c.push_reserved.new.self.items c.hand_out-part.result c.push_reserved.ensures.items was.told c.hand_out-part.ensures.told;
       off = one_more_off (length (parts_with c.loop-made.self)) (vec_len c.loop-made.parts) (vec_len c.push_reserved.new.self) (length (parts_with c.hand_out-part.new.self)) (length (parts_with c.args.self.now)) was.off c.hand_out-part.ensures.rest c.push_reserved.ensures.len;
@@ -65,3 +67,9 @@ returns-clause-told g c = c.loop-made.invariant.told
 
 pub returns-clause-rest : goal.returns-clause-rest
 returns-clause-rest g c = omega (arith, c.loop-made.invariant.off, c.loop-made.invariant.made, c.loop-made-test.false, c.loop-made.auto.made-end)
+
+pub returns-clause-moments : goal.returns-clause-moments
+returns-clause-moments g c = c.loop-made.invariant.moments
+
+pub returns-in_err-parts-clause-moments : goal.returns-in_err-parts-clause-moments
+returns-in_err-parts-clause-moments g c = refl

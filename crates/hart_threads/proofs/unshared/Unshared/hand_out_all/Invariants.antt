@@ -1,11 +1,12 @@
 use Rattle.std.proofs.Common.{◌≡◌, ◌+◌, [], All, length, vec_len, vec_capacity}
-use Rattle.hart_threads.specs.Views.{inside, parts_with}
+use Rattle.hart_threads.specs.Views.{inside, moments_with, parts_with}
 use Rattle.hart_threads.proofs.unshared.Unshared.hand_out_all.Given as goal
 
 -- how many have gone off
 abbrev pub invariant-loop-made : goal.invariant-loop-made
 invariant-loop-made g l = record {
   store : inside l.self ≡ inside l.fn.self;
+  moments : moments_with l.self ≡ moments_with l.fn.self;
   fresh : All (λ d. d.told ≡ []) (parts_with l.self);
   told : All (λ d. d.told ≡ []) l.parts.items;
   off : length (parts_with l.self) + vec_len l.parts ≡ length (parts_with l.fn.self);

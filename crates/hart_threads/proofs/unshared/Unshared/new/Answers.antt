@@ -3,12 +3,15 @@ use Rattle.std.specs.Option.{option_to_list}
 use Rattle.board_model.specs.Durable.{Change, DurableState, fold}
 use Rattle.board_model.specs.Views.{durable_of}
 use Rattle.store.specs.Taken.{are_taken}
-use Rattle.store.specs.Views.{journal_of}
+use Rattle.board_model.specs.Shapes.{Size}
+use Rattle.store.specs.Leaves.{LeavesOnly}
+use Rattle.store.specs.Views.{disk_of, journal_of, life_of, now_state}
 use Rattle.tallies.specs.Books.{first_of, fresh_from}
 use Rattle.tallies.specs.declared.book_views.BookView.{BookView}
 use Rattle.tallies.specs.declared.book_views.PartView.{PartView}
 use Rattle.hart_threads.specs.Noted.{boot_told, entries_in}
 use Rattle.hart_threads.proofs.Booted.{begins_same}
+use Rattle.hart_threads.proofs.Keeping.{begun_kept}
 use Rattle.hart_threads.proofs.UntoldParts.{all_rest, first_told, fresh_many, fresh_told, one_off}
 use Rattle.hart_threads.proofs.unshared.Unshared.new.Goals as goal
 
@@ -67,6 +70,10 @@ invariant_of-whole g c = record {
   few = omega (arith, c.note_journal-part.ensures.count, ap (λ (l : List Change). length l) c.requires.issued, c.requires.few);
   tied = c.note_journal-part.ensures.tied;
   opened = c.requires.opened;
+  kept = begun_kept g.J.Journal.size g.J.Journal.found g.J.Journal.earlier g.J.Journal.moment g.J.Journal.issued (life_of c.args.store) (disk_of c.args.store) c.first-moments.result.at c.requires.moment c.requires.earlier c.requires.issued c.requires.up (g.met.D.Disk.only_now _)
+      (subst (λ (s : DurableState). LeavesOnly (disk_of c.args.store) g.J.Journal.size s) (ap (λ (s : DurableState). fold s (journal_of c.args.store)) c.requires.found ∙ ap (λ (l : List Change). fold g.J.Journal.found l) c.requires.issued)
+      (subst (λ (z : Size). LeavesOnly (disk_of c.args.store) z (now_state c.args.store)) c.requires.board (c.stands.ensures.up (now_state c.args.store) (c.requires.up, refl))))
+      c.first-moments.ensures;
   doubted = c.new-doubts.ensures.none ∙ sym (ap (λ (d : Option Change). entries_in (option_to_list d)) c.requires.up);
 }
 
@@ -78,3 +85,6 @@ returns-clause-boot g c = c.note_journal-part.ensures.told ∙ ap boot_told c.re
 
 pub returns-clause-heard : goal.returns-clause-heard
 returns-clause-heard g c = c.new-doubts.ensures.heard
+
+pub returns-clause-moments : goal.returns-clause-moments
+returns-clause-moments g c = c.first-moments.ensures

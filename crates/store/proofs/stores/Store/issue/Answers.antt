@@ -102,8 +102,10 @@ pub returns-in-Err-Unchanged-clause-answered : goal.returns-in-Err-Unchanged-cla
 returns-in-Err-Unchanged-clause-answered g c =
     let did = issued g (goal.at.returns-in-Err-Unchanged-clause-answered g c).After-commit in
     let s = c.args.self.now in
-    refused_so _ _ _ _ (inl (refl, c.requires.reaches, life_is _ _ _ _ _ _ _ _ did.found did.journal_still (none_maps Doubt _ _ s.doubt c.requires.up) refl)) did.any_moment
-    (did.undone (c.commit.ensures.commits.same (c.in-Err-Unchanged.is ∙ ap Err c.in-Err-Unchanged.field-0-is) s.shape s.current did.up)) c.in-Err-Unchanged.ensures.called.cause.err (omega (arith, c.in-Err-Unchanged.ensures.called.failures.err))
+    refused_so _ _ _ _ (inl (refl, c.requires.reaches, life_is _ _ _ _ _ _ _ _ did.found did.journal_still (none_maps Doubt _ _ s.doubt c.requires.up) refl)) did.any_moment (
+      did.undone (c.commit.ensures.commits.same (c.in-Err-Unchanged.is ∙ ap Err c.in-Err-Unchanged.field-0-is) s.shape s.current did.up),
+      did.still (c.commit.ensures.commits.still (c.in-Err-Unchanged.is ∙ ap Err c.in-Err-Unchanged.field-0-is) s.shape s.current did.up),
+    ) c.in-Err-Unchanged.ensures.called.cause.err (omega (arith, c.in-Err-Unchanged.ensures.called.failures.err))
 
 pub returns-in-Err-InDoubt-clause-answered : goal.returns-in-Err-InDoubt-clause-answered
 returns-in-Err-InDoubt-clause-answered g c =

@@ -1,0 +1,6 @@
+-- What contracts alone remember is no data, so it may go to any thread.
+use denote.Param.Send.{IsSend}
+use Rattle.hart_threads.specs.contracts.moments.Moments.{the_row}
+
+pub send : IsSend the_row
+send = record { owned = λ d vs. ((λ vss. (tt, ((λ uss. (tt, tt)), tt))), tt); leaving = λ k f vs. tt }

@@ -1,0 +1,105 @@
+-- What a crash left while a session ran.
+use Rattle.std.proofs.Common.{◌≡◌, ◌∙◌, ◌⊎◌, ◌≤◌, ◌<◌, ◌+◌, ◌-◌, ℕ, suc, List, [], ◌∷◌, ◌++◌, Option, false, inl, inr, sym, ap, subst, length, take, slice_index, arith}
+use Rattle.std.proofs.lemmas.List.{append_assoc, length-append, take-append-le}
+use Rattle.std.proofs.Math.Logic.{∥∥₁_elim, ∥∥₁_map, ∥∥₁_prop}
+use Rattle.std.specs.Option.{option_to_list}
+use Rattle.board_model.specs.Durable.{DurableState, Change, after, fold}
+use Rattle.board_model.specs.Shapes.{Size}
+use Rattle.disk.specs.Facts.{Content, Facts}
+use Rattle.store.specs.Leaves.{LeavesOnly, LeftAsBefore}
+use Rattle.store.specs.Standing.{StandsFor}
+use Rattle.board.specs.Moments.{IsAlong, MayLeave}
+use Rattle.board.proofs.Issued.{stands_alone}
+use Rattle.hart_threads.specs.Since.{IsOfFirst, sent}
+use Rattle.board_session.specs.Sessions.{IsOfLife, LeftBefore}
+use Rattle.board_files.specs.Files.{FileKnown, Unknown, Known, IfKnown, AllowedSince, LeavesNoMore}
+use Rattle.board_model.specs.declared.durable.Command.{Command}
+use Rattle.board_model.specs.declared.durable.Entry.{Entry}
+use Rattle.theorem.specs.Sessions.{IsCutAnywhere, KeepsSession}
+use Rattle.theorem.proofs.PowerLost.{OneStanding}
+
+-- some first of these commands make it
+along : (cs : List Change) (s t : DurableState) → IsAlong cs s t → (k : ℕ) × (k ≤ length cs) × (t ≡ fold s (take k cs))
+along [] s t is = (0, omega arith, is)
+along (c ∷ cs) s t (inl is) = (0, omega arith, is)
+along (c ∷ cs) s t (inr on) = let more = along cs (after s c) t on in (suc more.0, (let le = more.1 in omega (arith, le)), more.2)
+
+module _ (one : OneStanding) (size : Size) (s : DurableState) (old : Facts) (only : LeavesOnly old size s) where
+  stood : (c : Content) → old.may_leave c → StandsFor c size s
+  stood c may = stands_alone old size s only c may
+
+  -- also where the record was made anew
+  as_before : (c : Content) → LeftAsBefore old c → StandsFor c size s
+  as_before c (inl may) = stood c may
+  as_before c (inr (b, may, (version, z, t, before, after_it))) =
+      let is = one b z size t s before (stood b may) in
+      subst (λ (u : DurableState). StandsFor c size u) is.1 (subst (λ (y : Size). StandsFor c y t) is.0 after_it)
+
+  of_none : (cs : List Change) (c : Content) → StandsFor c size s → IsOfFirst size s cs 0 c
+  of_none cs c stands = (0, omega arith, omega arith, stands)
+
+  of_some : (issued more : List Change) (k : ℕ) (t : DurableState) (c : Content) → k ≤ length issued → t ≡ fold s (take k issued) → StandsFor c size t → IsOfFirst size s (issued ++ more) 0 c
+  of_some issued more k t c le is stands = (
+    k,
+    omega arith,
+    (let e = length-append issued more in omega (arith, le, e)),
+    subst (λ (u : DurableState). StandsFor c size u) (is ∙ ap (λ (cs : List Change). fold s cs) (sym (take-append-le k issued more le))) stands,
+  )
+
+  while_booted : (issued more : List Change) (c : Content) → MayLeave old size s issued c → IsOfFirst size s (issued ++ more) 0 c
+  while_booted [] more c left = of_none ([] ++ more) c (as_before c left)
+  while_booted (d ∷ issued) more c (inl left) = of_none ((d ∷ issued) ++ more) c (as_before c left)
+  while_booted (d ∷ issued) more c (inr (t, is, stands)) =
+      let first = along (d ∷ issued) s t is in
+      of_some (d ∷ issued) more first.0 t c first.1 first.2 stands
+
+  from_least : (cs : List Change) (least : ℕ) (c : Content) → IsOfFirst size s cs least c → IsOfFirst size s cs 0 c
+  from_least cs least c of = (of.0, omega arith, of.2, of.3)
+
+  each : (issued cs more : List Change) (c : Content) → cs ≡ issued ++ more → ((x : Content) → old.since old.moment x → old.may_leave x)
+      → LeftBefore false old size s issued old.moment c ⊎ IsOfFirst size s cs (length issued) c → IsOfFirst size s cs 0 c
+  each issued cs more c is only_now (inl (inl early)) = of_none cs c (stood c (only_now c early))
+  each issued cs more c is only_now (inl (inr left)) = subst (λ (ds : List Change). IsOfFirst size s ds 0 c) (sym is) (while_booted issued more c left)
+  each issued cs more c is only_now (inr of) = from_least cs (length issued) c of
+
+  at_any_moment : (issued cs more : List Change) (disk : Facts) → cs ≡ issued ++ more → ((x : Content) → old.since old.moment x → old.may_leave x)
+      → ((t : ℕ) (c : Content) → t ≤ old.moment → disk.since t c → ∥ LeftBefore false old size s issued t c ⊎ IsOfFirst size s cs (length issued) c ∥₁)
+      → (c : Content) → disk.since old.moment c → ∥ IsOfFirst size s cs 0 c ∥₁
+  at_any_moment issued cs more disk is only_now ever c left = ∥∥₁_map (ever old.moment c (omega arith) left) (each issued cs more c is only_now)
+
+  -- of the life of a session
+  pub cut_anywhere : ((x : Content) → old.since old.moment x → old.may_leave x) → (issued : List Change) (memory moments : List ℕ) (failures : ℕ) (console : List (ℕ × Entry)) (doubtful : Option Command) (disk : Facts)
+      → IsOfLife size s issued memory failures (LeftBefore false old size s issued) old.moment moments console doubtful disk → IsCutAnywhere size s issued console old.moment disk moments
+  cut_anywhere only_now issued memory moments failures console doubtful disk life =
+      let doubted = option_to_list life.doubt in
+      let is = ap (λ (js : List Change). js ++ doubted) life.begun.1 ∙ append_assoc issued life.begun.0 doubted in
+      record {
+        journal = life.journal;
+        acknowledged = life.acknowledged;
+        taken = life.taken;
+        doubt = life.doubt;
+        ever = at_any_moment issued (sent life.journal life.doubt) (life.begun.0 ++ doubted) disk is only_now life.kept.ever;
+        many = life.kept.many;
+        passed = life.kept.passed;
+        kept = life.kept.kept;
+      }
+
+-- ---- over a file
+-- what the file has left, the disk might have left
+pub keeps_session : (file : FileKnown) (size : Size) (s : DurableState) (issued : List Change) (console : List (ℕ × Entry)) (begun : ℕ) (disk : Facts) (moments : List ℕ) (cut : IsCutAnywhere size s issued console begun disk moments)
+    → ((t : ℕ) (x : Content) → t ≤ disk.moment → disk.may_leave x → disk.since t x) → 0 < length moments → begun ≤ slice_index moments 0
+    → IfKnown file (LeavesNoMore disk) → IfKnown file (AllowedSince disk)
+    → IfKnown file (KeepsSession size s (sent cut.journal cut.doubt) (length issued) (length cut.journal) begun disk moments)
+keeps_session Unknown size s issued console begun disk moments cut counts some first now since = tt
+keeps_session (Known f) size s issued console begun disk moments cut counts some first now since =
+    let many = cut.many in
+    let at = cut.passed 0 some in
+    let last = length moments - 1 in
+    let under : last < length moments = omega (arith, some) in
+    let all : length issued + last ≡ length cut.journal = omega (arith, many, some) in
+    record {
+      now = λ c may. subst (λ (n : ℕ). ∥ IsOfFirst size s (sent cut.journal cut.doubt) n c ∥₁) all
+          (cut.kept last under c (counts (slice_index moments last) c (cut.passed last under) (now c may)));
+      ever = λ c was. ∥∥₁_elim (since begun c (omega (arith, first, at)) was) ∥∥₁_prop (λ left. cut.ever c left);
+      kept = λ i less c was. ∥∥₁_elim (since (slice_index moments i) c (cut.passed i less) was) ∥∥₁_prop (λ left. cut.kept i less c left);
+    }
