@@ -1,5 +1,5 @@
 -- A sector in its block, and the sectors of a device.
-use Rattle.std.proofs.Common.{zero, suc, ◌≡◌, ◌∙◌, ℕ, ◌<◌, ◌+◌, Bool, true, false, cond, List, [], ◌∷◌, length, map, take, drop, Result, Ok, Err, arith, inl, inr, refl, sym, ap, subst, ⊎_elim}
+use Rattle.std.proofs.Common.{zero, suc, ◌≡◌, ◌∙◌, ℕ, ◌<◌, ◌≤◌, ◌⊎◌, ◌+◌, Bool, true, false, cond, List, [], ◌∷◌, length, map, take, drop, Result, Ok, Err, arith, inl, inr, refl, sym, ap, subst, ⊎_elim}
 use Rattle.std.specs.Prelude.{nat_eq}
 use Rattle.std.specs.List.{starts_with}
 use Rattle.disk.specs.Facts.{Content, Torn, Written, sector}
@@ -65,22 +65,29 @@ leaves_in n number before c d but same = (
   subst (λ (x : Content). Torn number 1 (sectors_of n but.0) x) (sym same) (torn_in n number 1 but.0 d but.2),
 )
 
+-- what was left since a moment, before the block was written or by it
+since_in : (n number : ℕ) (o m : FileFacts) (t : ℕ)
+    → ((c : Content) → m.since t c → o.since t c ⊎ LeavesBut number o.may_leave c) → (c : Content) → (facts_in n m).since t c
+    → (facts_in n o).since t c ⊎ LeavesBut number (facts_in n o).may_leave c
+since_in n number o m t since c left = ⊎_elim (λ was. inl (left.0, was, left.2))
+    (λ but. inr (leaves_in n number o.may_leave c left.0 but left.2)) (since left.0 left.1)
+
 written_ok : {T E : Type 0} (n number : ℕ) (block bytes : List ℕ) (result : Result T E) (o m : FileFacts)
     → sector_of (mark_at n number) block ≡ bytes → WritesSector number block result o m
     → WritesSector number bytes result (facts_in n o) (facts_in n m)
 written_ok n number block bytes (Ok v) o m reads wrote = record {
   written = written_in n number block bytes o.holds m.holds reads wrote.written;
   leaves = λ c left. leaves_in n number o.may_leave c left.0 (wrote.leaves left.0 left.1) left.2;
-  ever = λ c left. ⊎_elim (λ was. inl (left.0, was, left.2)) (λ but. inr (leaves_in n number o.may_leave c left.0 but left.2))
-      (wrote.ever left.0 left.1);
-  keeps = λ c was. (was.0, wrote.keeps was.0 was.1, was.2);
+  syncs = wrote.syncs;
+  since = λ t c le left. since_in n number o m t (λ d. wrote.since t d le) c left;
+  keeps = λ t c le was. (was.0, wrote.keeps t was.0 le was.1, was.2);
 }
 written_ok n number block bytes (Err e) o m reads wrote = record {
   written = tt;
   leaves = λ c left. leaves_in n number o.may_leave c left.0 (wrote.leaves left.0 left.1) left.2;
-  ever = λ c left. ⊎_elim (λ was. inl (left.0, was, left.2)) (λ but. inr (leaves_in n number o.may_leave c left.0 but left.2))
-      (wrote.ever left.0 left.1);
-  keeps = λ c was. (was.0, wrote.keeps was.0 was.1, was.2);
+  syncs = wrote.syncs;
+  since = λ t c le left. since_in n number o m t (λ d. wrote.since t d le) c left;
+  keeps = λ t c le was. (was.0, wrote.keeps t was.0 le was.1, was.2);
 }
 
 -- a block that was written is its sector
@@ -97,14 +104,18 @@ synced_in : {T E : Type 0} (n : ℕ) (result : Result T E) (o m : FileFacts) →
 synced_in n (Ok v) o m synced = record {
   durable = λ c left. left.2 ∙ ap (sectors_of n) (synced.durable left.0 left.1);
   leaves = λ c left. (left.0, synced.leaves left.0 left.1, left.2);
-  ever = λ c was. (was.0, synced.ever was.0 was.1, was.2);
-  keeps = λ c was. (was.0, synced.keeps was.0 was.1, was.2);
+  syncs = synced.syncs;
+  since = λ t c le was. (was.0, synced.since t was.0 le was.1, was.2);
+  fresh = λ c was. was.2 ∙ ap (sectors_of n) (synced.fresh was.0 was.1);
+  keeps = λ t c le was. (was.0, synced.keeps t was.0 le was.1, was.2);
 }
 synced_in n (Err e) o m synced = record {
   durable = tt;
   leaves = λ c left. (left.0, synced.leaves left.0 left.1, left.2);
-  ever = λ c was. (was.0, synced.ever was.0 was.1, was.2);
-  keeps = λ c was. (was.0, synced.keeps was.0 was.1, was.2);
+  syncs = synced.syncs;
+  since = λ t c le was. (was.0, synced.since t was.0 le was.1, was.2);
+  fresh = tt;
+  keeps = λ t c le was. (was.0, synced.keeps t was.0 le was.1, was.2);
 }
 
 pub syncs_in : {T E : Type 0} (n : ℕ) (result : Result T E) (o m : FileKnown) → Goes o m (SyncsFile result)
@@ -120,7 +131,8 @@ lies_in n Unknown = tt
 lies_in n (Known f) = record {
   holds = refl;
   leaves = λ d left. (d, left, refl);
-  ever = λ d was. (d, was, refl);
+  syncs = refl;
+  since = λ t d was. (d, was, refl);
   left = λ c left. left;
-  was = λ c was. was;
+  was = λ t c was. was;
 }

@@ -1,6 +1,6 @@
 -- A device that is written in whole blocks of B bytes, and a file of sectors in it: sector k lies alone in block k. So a write that fails
 -- or is cut, which may leave any bytes in its block, leaves any bytes in one sector. Source: docs/DISK.md, "Larger blocks".
-use Rattle.std.specs.Prelude.{◌≡◌, ℕ, zero, suc, ◌+◌, ◌-◌, ◌==◌, ◌||◌, Bool, List, [], ◌∷◌, ◌++◌, length, map, take, drop, replicate, if◌then◌else◌, nat_eq, refl}
+use Rattle.std.specs.Prelude.{◌≡◌, ℕ, zero, suc, ◌≤◌, ◌+◌, ◌-◌, ◌==◌, ◌||◌, Bool, List, [], ◌∷◌, ◌++◌, length, map, take, drop, replicate, if◌then◌else◌, nat_eq, refl}
 use Rattle.std.specs.Int.{w32, to_le_bytes, from_le_bytes}
 use Rattle.std.specs.List.{starts_with}
 use Rattle.disk.specs.Facts.{Content}
@@ -46,7 +46,8 @@ abbrev pub facts_in : ℕ → FileFacts → FileFacts
 facts_in n f = record {
   holds = sectors_of n f.holds;
   may_leave = λ c. (d : Content) × f.may_leave d × (c ≡ sectors_of n d);
-  ever = λ c. (d : Content) × f.ever d × (c ≡ sectors_of n d);
+  syncs = f.syncs;
+  since = λ t c. (d : Content) × f.since t d × (c ≡ sectors_of n d);
 }
 
 abbrev pub known_in : ℕ → FileKnown → FileKnown
@@ -58,16 +59,22 @@ known_in n (Known f) = Known (facts_in n f)
 pub record HoldsSectors (n : ℕ) (device file : FileFacts) : Type 0 where
   pub holds : file.holds ≡ sectors_of n device.holds
   pub leaves : (d : Content) → device.may_leave d → file.may_leave (sectors_of n d)
-  pub ever : (d : Content) → device.ever d → file.ever (sectors_of n d)
+  pub syncs : file.syncs ≡ device.syncs
+  pub since : (t : ℕ) (d : Content) → device.since t d → file.since t (sectors_of n d)
   pub left : (c : Content) → file.may_leave c → (d : Content) × device.may_leave d × (c ≡ sectors_of n d)
-  pub was : (c : Content) → file.ever c → (d : Content) × device.ever d × (c ≡ sectors_of n d)
+  pub was : (t : ℕ) (c : Content) → file.since t c → (d : Content) × device.since t d × (c ≡ sectors_of n d)
 
 -- The laws of a file of sectors pass on to it.
 pub keeps_in : (n : ℕ) (file : FileKnown) → IfKnown file (λ f. f.may_leave f.holds) → IfKnown (known_in n file) (λ f. f.may_leave f.holds)
 keeps_in n Unknown keeps = tt
 keeps_in n (Known f) keeps = (f.holds, keeps, refl)
 
-pub counts_in : (n : ℕ) (file : FileKnown) → IfKnown file (λ f. (c : Content) → f.may_leave c → f.ever c)
-    → IfKnown (known_in n file) (λ f. (c : Content) → f.may_leave c → f.ever c)
+pub counts_in : (n : ℕ) (file : FileKnown) → IfKnown file (λ f. (t : ℕ) (c : Content) → t ≤ f.syncs → f.may_leave c → f.since t c)
+    → IfKnown (known_in n file) (λ f. (t : ℕ) (c : Content) → t ≤ f.syncs → f.may_leave c → f.since t c)
 counts_in n Unknown counts = tt
-counts_in n (Known f) counts = λ c left. (left.0, counts left.0 left.1, left.2)
+counts_in n (Known f) counts = λ t c le left. (left.0, counts t left.0 le left.1, left.2)
+
+pub earlier_in : (n : ℕ) (file : FileKnown) → IfKnown file (λ f. (t u : ℕ) (c : Content) → t ≤ u → f.since u c → f.since t c)
+    → IfKnown (known_in n file) (λ f. (t u : ℕ) (c : Content) → t ≤ u → f.since u c → f.since t c)
+earlier_in n Unknown earlier = tt
+earlier_in n (Known f) earlier = λ t u c le was. (was.0, earlier t u was.0 le was.1, was.2)

@@ -16,7 +16,8 @@ use std::io;
 /// A write that fails, or in which power is lost, may leave any bytes in its block, and leaves every other block as it is. What is
 /// known of the device is said as of a file of sectors ([`SectorFile`]), block by block.
 pub trait BlockDevice {
-    ghost use Rattle.std.specs.Prelude.{◌≡◌, ℕ, length};
+    ghost use Rattle.std.specs.Prelude.{◌≡◌, ◌≤◌, ℕ, length};
+    ghost use Rattle.disk.specs.Facts.{Content};
     ghost use Rattle.board_files.specs.Files.{FileKnown, IfKnown, Goes, WritesSector, SyncsFile};
 
     /// What a read gives and what a crash leaves, block by block, where that is known.
@@ -44,8 +45,13 @@ pub trait BlockDevice {
     /// A process that is killed leaves what a read gives.
     ghost may_keep: { (device : Self) → IfKnown (device_facts device) (λ f. f.may_leave f.holds) };
 
-    /// This moment is one of all those.
-    ghost counts_now: { (device : Self) → IfKnown (device_facts device) (λ f. (c : _) → f.may_leave c → f.ever c) };
+    /// This moment is one of those since each earlier one.
+    ghost counts_now: { (device : Self) → IfKnown (device_facts device) (λ f. (t : ℕ) (c : Content) → t ≤ f.syncs
+        → f.may_leave c → f.since t c) };
+
+    /// What a crash might have left since a moment, it might have left since an earlier one.
+    ghost earlier: { (device : Self) → IfKnown (device_facts device) (λ f. (t u : ℕ) (c : Content) → t ≤ u → f.since u c
+        → f.since t c) };
 }
 
 /// A file of sectors in a device of larger blocks: sector k lies alone in block k, and the first block says how many bytes a block has.
@@ -85,7 +91,7 @@ impl<D: BlockDevice + Drop> SectorsInBlocks<D> {
 }
 
 impl<D: BlockDevice + Drop> SectorFile for SectorsInBlocks<D> {
-    ghost use Rattle.board_files.specs.Blocks.{counts_in, keeps_in, known_in};
+    ghost use Rattle.board_files.specs.Blocks.{counts_in, earlier_in, keeps_in, known_in};
 
     ghost file_facts = { λ s. known_in s.size.bytes (D.device_facts s.device) };
 
@@ -101,4 +107,6 @@ impl<D: BlockDevice + Drop> SectorFile for SectorsInBlocks<D> {
     ghost may_keep = { λ s. keeps_in s.size.bytes (D.device_facts s.device) (D.may_keep s.device) };
 
     ghost counts_now = { λ s. counts_in s.size.bytes (D.device_facts s.device) (D.counts_now s.device) };
+
+    ghost earlier = { λ s. earlier_in s.size.bytes (D.device_facts s.device) (D.earlier s.device) };
 }

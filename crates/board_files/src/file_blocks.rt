@@ -37,4 +37,6 @@ impl BlockDevice for FileBlocks {
     ghost may_keep = { λ _. tt };
 
     ghost counts_now = { λ _. tt };
+
+    ghost earlier = { λ _. tt };
 }

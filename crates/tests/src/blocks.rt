@@ -41,6 +41,8 @@ impl BlockDevice for MemoryBlocks {
     ghost may_keep = { λ _. tt };
 
     ghost counts_now = { λ _. tt };
+
+    ghost earlier = { λ _. tt };
 }
 
 /// What a device of four blocks of 0xee holds, once these sectors were written in turn.
