@@ -1,5 +1,5 @@
 -- A sector in its block, and the sectors of a device.
-use Rattle.std.proofs.Common.{zero, suc, ◌≡◌, ◌∙◌, ℕ, ◌<◌, ◌≤◌, ◌⊎◌, ◌+◌, Bool, true, false, cond, List, [], ◌∷◌, length, map, take, drop, Result, Ok, Err, arith, inl, inr, refl, sym, ap, subst, ⊎_elim}
+use Rattle.std.proofs.Common.{zero, suc, ◌≡◌, ◌∙◌, ℕ, ◌<◌, ◌⊎◌, ◌+◌, Bool, true, false, cond, List, [], ◌∷◌, length, map, take, drop, Result, Ok, Err, arith, inl, inr, refl, sym, ap, subst, ⊎_elim}
 use Rattle.std.specs.Prelude.{nat_eq}
 use Rattle.std.specs.List.{starts_with}
 use Rattle.disk.specs.Facts.{Content, Torn, Written, sector}

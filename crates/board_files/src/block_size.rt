@@ -24,12 +24,14 @@ impl BlockSize {
     }
 
     /// Blocks of so many bytes. None where that is no power of 2 from 512 to 65,536.
-    pub fn new(bytes: u32) -> Option<BlockSize>
+    pub fn new(bytes: u64) -> Option<BlockSize>
         ensures size { IfSome result (λ size. size.bytes ≡ bytes) }
         ensures none { result ≡ None → is_block_size bytes ≡ false }
     {
         match bytes {
-            512 | 1024 | 2048 | 4096 | 8192 | 16384 | 32768 | 65536 => Some(BlockSize { bytes }),
+            512 | 1024 | 2048 | 4096 | 8192 | 16384 | 32768 | 65536 => Some(BlockSize {
+                bytes: bytes as u32,
+            }),
             _ => None,
         }
     }
@@ -39,7 +41,7 @@ impl BlockSize {
         ensures { result.bytes ≡ told_by first.now }
     {
         let said = u32::from_le_bytes([first[20], first[21], first[22], first[23]]);
-        match BlockSize::new(said) {
+        match BlockSize::new(said as u64) {
             Some(size) => size,
             None => BlockSize::sector(),
         }

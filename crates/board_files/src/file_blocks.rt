@@ -1,7 +1,9 @@
 //! A file of the system as a device of larger blocks.
 
-use crate::block_device::BlockDevice;
+use crate::block_device::{BlockDevice, SectorsInBlocks};
 use crate::block_size::BlockSize;
+use crate::sector_file::SectorFile;
+use disk::Sector;
 use std::fs::File;
 use std::io;
 use std::os::unix::fs::FileExt;
@@ -32,6 +34,32 @@ impl BlockDevice for FileBlocks {
 
     fn sync(&mut self) -> io::Result<()> {
         self.file.sync_data()
+    }
+
+    ghost may_keep = { λ _. tt };
+
+    ghost counts_now = { λ _. tt };
+
+    ghost earlier = { λ _. tt };
+}
+
+/// A file of the system in which a session keeps the sectors of its disk, in blocks of any size. Nothing is known of it.
+#[derive(Drop)]
+pub struct KeptFile {
+    pub sectors: SectorsInBlocks<FileBlocks>,
+}
+
+impl SectorFile for KeptFile {
+    ghost use Rattle.board_files.specs.Files.{Unknown};
+
+    ghost file_facts = { λ _. Unknown };
+
+    fn write_sector(&mut self, number: usize, sector: &Sector) -> io::Result<()> {
+        self.sectors.write_sector(number, sector)
+    }
+
+    fn sync(&mut self) -> io::Result<()> {
+        self.sectors.sync()
     }
 
     ghost may_keep = { λ _. tt };

@@ -4,8 +4,8 @@ ghost use Rattle.std.specs.Prelude.{None};
 
 use crate::block_device::SectorsInBlocks;
 use crate::block_size::BlockSize;
-use crate::file_blocks::FileBlocks;
-use crate::files::{BoardFiles, DiskFiles, HeldFile, unreached};
+use crate::file_blocks::{FileBlocks, KeptFile};
+use crate::files::{BoardFiles, DiskFile, DiskFiles, HeldFile, unreached};
 use crate::formed_file::{ByteFile, FormedFile};
 use crate::held::hold;
 use crate::payload_files::PayloadFiles;
@@ -50,9 +50,31 @@ impl<'a> ByteFile for SystemFile<'a> {
     }
 }
 
-impl<'a> HeldFile for FormedFile<SystemFile<'a>> {
+/// A disk's file of the system, in whatever form it holds the sectors.
+#[derive(Drop)]
+pub struct SystemDisk<'a> {
+    pub formed: FormedFile<SystemFile<'a>>,
+}
+
+impl<'a> DiskFile for SystemDisk<'a> {
+    ghost bytes = { λ disk. None };
+
+    fn block_size(&self) -> BlockSize {
+        self.formed.block
+    }
+
+    fn length(&self) -> Result<u64, FileFault> {
+        self.formed.length()
+    }
+
+    fn read(&self, into: &mut [u8]) -> Result<(), FileFault> {
+        self.formed.read(into)
+    }
+}
+
+impl<'a> HeldFile for SystemDisk<'a> {
     fn write(&mut self, sectors: &[Sector], is_new: bool) -> Result<(), FileFault> {
-        write_disk(self, sectors, is_new)
+        write_disk(&self.formed, sectors, is_new)
     }
 }
 
@@ -67,9 +89,9 @@ impl<'a> PayloadFiles for SystemFiles<'a> {
 }
 
 impl<'a> BoardFiles for SystemFiles<'a> {
-    type Held = FormedFile<SystemFile<'a>>;
+    type Held = SystemDisk<'a>;
 
-    type Kept = SectorsInBlocks<FileBlocks>;
+    type Kept = KeptFile;
 
     ghost disk_at = { λ files path. None };
 
@@ -79,37 +101,38 @@ impl<'a> BoardFiles for SystemFiles<'a> {
         is_new: bool,
         is_synced: bool,
         block: BlockSize,
-    ) -> Result<FormedFile<SystemFile<'a>>, FileFault> {
+    ) -> Result<SystemDisk<'a>, FileFault> {
         let file = hold(self.0, path, is_new, is_synced)?;
-        if is_new {
-            Ok(FormedFile { file, block })
+        let formed = if is_new {
+            FormedFile { file, block }
         } else {
-            FormedFile::found(file)
-        }
+            FormedFile::found(file)?
+        };
+        Ok(SystemDisk { formed })
     }
 
     fn keep(
         &self,
-        held: FormedFile<SystemFile<'a>>,
+        held: SystemDisk<'a>,
         sectors: &[Sector],
         is_new: bool,
-    ) -> Result<SectorsInBlocks<FileBlocks>, FileFault> {
-        let (rt, block) = (self.0, held.block);
-        let file = kept_file(held, sectors.len(), is_new)?;
+    ) -> Result<KeptFile, FileFault> {
+        let (rt, block) = (self.0, held.formed.block);
+        let file = kept_file(held.formed, sectors.len(), is_new)?;
         match SectorsInBlocks::new(rt.alloc(), FileBlocks { file, block }) {
-            Ok(kept) => Ok(kept),
+            Ok(sectors) => Ok(KeptFile { sectors }),
             Err(_) => Err(FileFault::refused(Refusal::Memory)),
         }
     }
 }
 
 impl<'a> DiskFiles for SystemFiles<'a> {
-    type Opened = FormedFile<SystemFile<'a>>;
+    type Opened = SystemDisk<'a>;
 
     ghost disk_at = { λ files path. None };
 
     /// What is no regular file, as a folder, a device or a pipe, is a fault.
-    fn open(&self, path: &str) -> Result<FormedFile<SystemFile<'a>>, FileFault> {
+    fn open(&self, path: &str) -> Result<SystemDisk<'a>, FileFault> {
         let rt = self.0;
         let mut how = OpenOptions::new();
         how.read(true);
@@ -118,7 +141,10 @@ impl<'a> DiskFiles for SystemFiles<'a> {
             Err(e) => return Err(unreached(rt.alloc(), path, e)),
         };
         match path.to_string(rt.alloc()) {
-            Ok(path) => FormedFile::found(SystemFile { rt, path, file }),
+            Ok(path) => {
+                let formed = FormedFile::found(SystemFile { rt, path, file })?;
+                Ok(SystemDisk { formed })
+            }
             Err(_) => Err(FileFault::refused(Refusal::Memory)),
         }
     }

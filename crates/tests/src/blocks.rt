@@ -103,7 +103,7 @@ static NO_SIZES: [u32; 8] = [0, 1, 256, 511, 513, 1536, 65535, 131_072];
 #[test]
 fn a_block_has_512_to_65536_bytes(rt: HostRuntime) {
     for bytes in &SIZES {
-        let size = BlockSize::new(*bytes).expect(&rt, "a size");
+        let size = BlockSize::new(*bytes as u64).expect(&rt, "a size");
         let mut first: Sector = [0; 512];
         first[20..24].copy_from_slice(&bytes.to_le_bytes());
         assert!(&rt; size.bytes == *bytes && BlockSize::told_by(&first).bytes == *bytes);
@@ -111,6 +111,6 @@ fn a_block_has_512_to_65536_bytes(rt: HostRuntime) {
     for bytes in &NO_SIZES {
         let mut first: Sector = [0; 512];
         first[20..24].copy_from_slice(&bytes.to_le_bytes());
-        assert!(&rt; BlockSize::new(*bytes).is_none() && BlockSize::told_by(&first).bytes == 512);
+        assert!(&rt; BlockSize::new(*bytes as u64).is_none() && BlockSize::told_by(&first).bytes == 512);
     }
 }
