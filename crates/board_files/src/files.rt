@@ -2,28 +2,35 @@
 
 ghost use Rattle.board_files.specs.Faults.{IsFileFault};
 
+use crate::block_size::BlockSize;
 use crate::sector_file::SectorFile;
 use command_line::FileFault;
 use disk::Sector;
 use std::alloc::Global;
 use std::io;
 
-/// The file of a disk, open for reading.
+/// The file of a disk, open for reading, as a disk's sectors one after the other, in whatever form it holds them.
 pub trait DiskFile {
-    ghost use Rattle.std.specs.Prelude.{◌≡◌, ℕ, List, Option, IfOk, IfErr, IfSome, OnOk, length, take};
+    ghost use Rattle.std.specs.Prelude.{◌≡◌, ◌%◌, ℕ, List, Option, IfOk, IfErr, IfSome, OnOk, length, take};
     ghost use Rattle.board_files.specs.Faults.{IsFileFault};
 
-    /// Its bytes, where they are known.
+    /// The bytes of its sectors, where they are known.
     ghost bytes: { Self → Option (List ℕ) };
 
-    /// How many bytes it has.
+    /// How many bytes the block of each sector has; 512 where the sectors lie one after the other, as in each file whose bytes are
+    /// known.
+    fn block_size(&self) -> BlockSize
+        ensures { IfSome (bytes self.now) (λ all. result.bytes ≡ 512) };
+
+    /// How many bytes its sectors have.
     fn length(&self) -> Result<u64, FileFault>
         ensures counted { IfOk result (λ n. IfSome (bytes self.now) (λ all. n ≡ length all)) }
         ensures failed { IfErr result (λ e. IsFileFault e.fault) };
 
-    /// Reads its first bytes, as many as the buffer takes. That it has fewer is a fault. After a fault the buffer holds any
-    /// bytes.
+    /// Reads its first bytes, as many whole sectors as the buffer takes. That it has fewer is a fault. After a fault the buffer
+    /// holds any bytes.
     fn read(&self, into: &mut [u8]) -> Result<(), FileFault>
+        requires { length into.old % 512 ≡ 0 }
         ensures read { OnOk result (IfSome (bytes self.now) (λ all. into.new ≡ take (length into.old) all)) }
         ensures failed { IfErr result (λ e. IsFileFault e.fault) };
 }
@@ -61,8 +68,14 @@ pub trait BoardFiles {
     ghost disk_at: { Self → List ℕ → Option (List ℕ) };
 
     /// Takes the file at that path for a session. Its disk is a new one or the file's. It is kept in the file all along, or
-    /// written at the end. For a new disk the file is made if there is none.
-    fn hold(&self, path: &str, is_new: bool, is_synced: bool) -> Result<Self::Held, FileFault>
+    /// written at the end. For a new disk the file is made if there is none, and its sectors are to lie in blocks of that size.
+    fn hold(
+        &self,
+        path: &str,
+        is_new: bool,
+        is_synced: bool,
+        block: BlockSize,
+    ) -> Result<Self::Held, FileFault>
         ensures held { IfOk result (λ held. Self.Held.bytes held ≡ disk_at self.now path.now) }
         ensures failed { IfErr result (λ e. IsFileFault e.fault) };
 

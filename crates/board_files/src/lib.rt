@@ -4,11 +4,18 @@
 //! A [`FileDisk`] is a disk in memory that is kept in a file: each sync that answers `Ok` has put into the file what was
 //! written since the last one, and made it durable there (docs/CONSOLE.md, "`--sync`").
 //!
+//! A [`SectorsInBlocks`] keeps such a file in a device that is written in larger blocks, each sector in one of its own
+//! (docs/DISK.md, "Larger blocks").
+//!
 //! The files of the payloads, one for each boot slot that a command line names (docs/SCRIPT.md, "Payload files").
 #![tactic(auto)]
 
+mod block_device;
+mod block_size;
+mod file_blocks;
 mod file_disk;
 mod files;
+mod formed_file;
 mod held;
 mod memory_file;
 mod past;
@@ -20,8 +27,12 @@ mod sector_file;
 mod system;
 mod written;
 
+pub use block_device::{BlockDevice, SectorsInBlocks};
+pub use block_size::BlockSize;
+pub use file_blocks::FileBlocks;
 pub use file_disk::{FileDisk, Filed};
 pub use files::{BoardFiles, DiskFile, DiskFiles, HeldFile, unreached};
+pub use formed_file::{ByteFile, FormedFile};
 pub use memory_file::{FileFate, MemoryFile};
 pub use past::Past;
 pub use payload_files::PayloadFiles;

@@ -9,6 +9,7 @@ ghost use Rattle.command_line.specs.declared.fault.ProgramFault.TheVariants.{Ref
 ghost use Rattle.board_files.specs.Disks.{IsDiskFile, IsLookedAt, IsNoDisk, first_sectors};
 ghost use Rattle.board_files.specs.Faults.{IsFileFault};
 
+use crate::block_size::BlockSize;
 use crate::files::DiskFile;
 use board_model::{Refusal, SECTOR_BYTES, Shape};
 use command_line::FileFault;
@@ -66,6 +67,9 @@ fn shape_of(bytes: u64, first: &Sector) -> Result<Shape, Refusal>
 fn cause_of(bytes: u64, first: &Sector) -> &'static str {
     if bytes < 512 || bytes % 512 != 0 {
         return "the disk's file is empty, or not whole sectors of 512 bytes";
+    }
+    if BlockSize::told_by(first).bytes != 512 {
+        return "the disk's file is not whole blocks, of as many bytes as its superblock says";
     }
     if parse_superblock(first, MOST_SECTORS).is_ok() {
         "the disk's file is too short for the board in its superblock"

@@ -2,7 +2,11 @@
 
 ghost use Rattle.std.specs.Prelude.{None};
 
+use crate::block_device::SectorsInBlocks;
+use crate::block_size::BlockSize;
+use crate::file_blocks::{FileBlocks, KeptFile};
 use crate::files::{BoardFiles, DiskFile, DiskFiles, HeldFile, unreached};
+use crate::formed_file::{ByteFile, FormedFile};
 use crate::held::hold;
 use crate::payload_files::PayloadFiles;
 use crate::written::{kept_file, write_disk};
@@ -28,27 +32,49 @@ pub struct SystemFile<'a> {
     pub file: File,
 }
 
-impl<'a> DiskFile for SystemFile<'a> {
-    ghost bytes = { λ file. None };
+impl<'a> ByteFile for SystemFile<'a> {
+    ghost held = { λ file. None };
 
-    fn length(&self) -> Result<u64, FileFault> {
+    fn byte_count(&self) -> Result<u64, FileFault> {
         match self.file.metadata() {
             Ok(found) => Ok(found.len()),
             Err(e) => Err(unreached(self.rt.alloc(), &self.path, e)),
         }
     }
 
-    fn read(&self, into: &mut [u8]) -> Result<(), FileFault> {
-        match self.file.read_exact_at(into, 0) {
+    fn read_at(&self, at: u64, into: &mut [u8]) -> Result<(), FileFault> {
+        match self.file.read_exact_at(into, at) {
             Ok(()) => Ok(()),
             Err(e) => Err(unreached(self.rt.alloc(), &self.path, e)),
         }
     }
 }
 
-impl<'a> HeldFile for SystemFile<'a> {
+/// A disk's file of the system, in whatever form it holds the sectors.
+#[derive(Drop)]
+pub struct SystemDisk<'a> {
+    pub formed: FormedFile<SystemFile<'a>>,
+}
+
+impl<'a> DiskFile for SystemDisk<'a> {
+    ghost bytes = { λ disk. None };
+
+    fn block_size(&self) -> BlockSize {
+        self.formed.block
+    }
+
+    fn length(&self) -> Result<u64, FileFault> {
+        self.formed.length()
+    }
+
+    fn read(&self, into: &mut [u8]) -> Result<(), FileFault> {
+        self.formed.read(into)
+    }
+}
+
+impl<'a> HeldFile for SystemDisk<'a> {
     fn write(&mut self, sectors: &[Sector], is_new: bool) -> Result<(), FileFault> {
-        write_disk(self, sectors, is_new)
+        write_disk(&self.formed, sectors, is_new)
     }
 }
 
@@ -63,33 +89,50 @@ impl<'a> PayloadFiles for SystemFiles<'a> {
 }
 
 impl<'a> BoardFiles for SystemFiles<'a> {
-    type Held = SystemFile<'a>;
+    type Held = SystemDisk<'a>;
 
-    type Kept = File;
+    type Kept = KeptFile;
 
     ghost disk_at = { λ files path. None };
 
-    fn hold(&self, path: &str, is_new: bool, is_synced: bool) -> Result<SystemFile<'a>, FileFault> {
-        hold(self.0, path, is_new, is_synced)
+    fn hold(
+        &self,
+        path: &str,
+        is_new: bool,
+        is_synced: bool,
+        block: BlockSize,
+    ) -> Result<SystemDisk<'a>, FileFault> {
+        let file = hold(self.0, path, is_new, is_synced)?;
+        let formed = if is_new {
+            FormedFile { file, block }
+        } else {
+            FormedFile::found(file)?
+        };
+        Ok(SystemDisk { formed })
     }
 
     fn keep(
         &self,
-        held: SystemFile<'a>,
+        held: SystemDisk<'a>,
         sectors: &[Sector],
         is_new: bool,
-    ) -> Result<File, FileFault> {
-        kept_file(held, sectors.len(), is_new)
+    ) -> Result<KeptFile, FileFault> {
+        let (rt, block) = (self.0, held.formed.block);
+        let file = kept_file(held.formed, sectors.len(), is_new)?;
+        match SectorsInBlocks::new(rt.alloc(), FileBlocks { file, block }) {
+            Ok(sectors) => Ok(KeptFile { sectors }),
+            Err(_) => Err(FileFault::refused(Refusal::Memory)),
+        }
     }
 }
 
 impl<'a> DiskFiles for SystemFiles<'a> {
-    type Opened = SystemFile<'a>;
+    type Opened = SystemDisk<'a>;
 
     ghost disk_at = { λ files path. None };
 
     /// What is no regular file, as a folder, a device or a pipe, is a fault.
-    fn open(&self, path: &str) -> Result<SystemFile<'a>, FileFault> {
+    fn open(&self, path: &str) -> Result<SystemDisk<'a>, FileFault> {
         let rt = self.0;
         let mut how = OpenOptions::new();
         how.read(true);
@@ -98,7 +141,10 @@ impl<'a> DiskFiles for SystemFiles<'a> {
             Err(e) => return Err(unreached(rt.alloc(), path, e)),
         };
         match path.to_string(rt.alloc()) {
-            Ok(path) => Ok(SystemFile { rt, path, file }),
+            Ok(path) => {
+                let formed = FormedFile::found(SystemFile { rt, path, file })?;
+                Ok(SystemDisk { formed })
+            }
             Err(_) => Err(FileFault::refused(Refusal::Memory)),
         }
     }

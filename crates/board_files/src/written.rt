@@ -1,9 +1,11 @@
 //! The disk's file, written beside and renamed.
 
-ghost use Rattle.std.specs.Prelude.{IfErr};
+ghost use Rattle.std.specs.Prelude.{◌≡◌, IfErr, IfOk, length};
 ghost use Rattle.board_files.specs.Faults.{IsFileFault};
 
+use crate::block_size::{BlockSize, lay};
 use crate::files::unreached;
+use crate::formed_file::FormedFile;
 use crate::held::locked;
 use crate::system::SystemFile;
 use board_model::Refusal;
@@ -14,34 +16,48 @@ use std::io::{self, BufWriter, Seek, SeekFrom, Write};
 use std::os::unix::fs::{FileExt, MetadataExt, fchown};
 use std::path::Path;
 
-/// Whether the file begins with just these sectors.
-fn begins_with(file: &File, sectors: &[Sector]) -> io::Result<bool> {
-    let mut at = 0u64;
-    let mut found: Sector = [0; 512];
-    for sector in sectors {
-        file.read_exact_at(&mut found, at)?;
-        if found != *sector {
+/// A block of that size, in which sectors are laid in turn.
+fn blank_block(rt: &HostRuntime, size: BlockSize) -> io::Result<Vec<u8>>
+    ensures { IfOk result (λ block. length block.items ≡ size.bytes) }
+{
+    let block = vec![in rt.alloc(); 0; size.bytes as usize]?;
+    Ok(block)
+}
+
+/// Whether the file begins with just these sectors, each in a block of that size.
+fn begins_with(
+    rt: &HostRuntime,
+    file: &File,
+    sectors: &[Sector],
+    size: BlockSize,
+) -> io::Result<bool> {
+    let mut block = blank_block(rt, size)?;
+    let mut found = blank_block(rt, size)?;
+    for number in 0..sectors.len() {
+        lay(&mut block, size, number, &sectors[number]);
+        file.read_exact_at(&mut found, bytes_of(number, size))?;
+        if found != block {
             return Ok(false);
         }
-        at = at.saturating_add(512);
     }
     Ok(true)
 }
 
-/// So many sectors, in bytes.
-fn bytes_of(sectors: usize) -> u64 {
-    (sectors as u64).saturating_mul(512)
+/// So many sectors, in bytes, each in a block of that size.
+fn bytes_of(sectors: usize, size: BlockSize) -> u64 {
+    (sectors as u64).saturating_mul(size.bytes as u64)
 }
 
 /// Whether the file holds the disk already, so that nothing is to be written. Of a disk that was there, more bytes may follow its
 /// sectors, which are no part of it. Of a new disk none may.
-fn holds(file: &File, sectors: &[Sector], is_new: bool) -> io::Result<bool> {
+fn holds(held: &FormedFile<SystemFile<'_>>, sectors: &[Sector], is_new: bool) -> io::Result<bool> {
+    let file = &held.file.file;
     let length = file.metadata()?.len();
-    let whole = bytes_of(sectors.len());
+    let whole = bytes_of(sectors.len(), held.block);
     if length < whole || is_new && length != whole {
         return Ok(false);
     }
-    begins_with(file, sectors)
+    begins_with(held.file.rt, file, sectors, held.block)
 }
 
 /// Makes an empty file at that path, which replaces one that an earlier session left. It has the mode of the disk's file, and its
@@ -67,19 +83,23 @@ fn copy_behind<W: Write>(mut from: File, at: u64, out: &mut W) -> io::Result<()>
     Ok(())
 }
 
-/// Writes these sectors into a new file and makes it durable. Of a disk that was there, the bytes after its sectors follow.
+/// Writes these sectors into a new file, each into a block of that size, and makes it durable. Of a disk that was there, the bytes
+/// after its sectors follow.
 fn write_sectors(
     rt: &HostRuntime,
     file: File,
     sectors: &[Sector],
+    size: BlockSize,
     behind: Option<File>,
 ) -> io::Result<()> {
     let mut out = BufWriter::new(rt.alloc(), file)?;
-    for sector in sectors {
-        out.write_all(sector)?;
+    let mut block = blank_block(rt, size)?;
+    for number in 0..sectors.len() {
+        lay(&mut block, size, number, &sectors[number]);
+        out.write_all(&block)?;
     }
     if let Some(old) = behind {
-        copy_behind(old, bytes_of(sectors.len()), &mut out)?;
+        copy_behind(old, bytes_of(sectors.len(), size), &mut out)?;
     }
     out.flush()?;
     out.get_ref().sync_all()
@@ -113,20 +133,20 @@ pub fn path_beside(held: &SystemFile<'_>) -> Result<String, FileFault>
 
 /// Writes the disk into the file beside. Where it cannot be written whole it is removed.
 fn write_beside(
-    held: &SystemFile<'_>,
+    held: &FormedFile<SystemFile<'_>>,
     beside: &str,
     sectors: &[Sector],
     is_new: bool,
 ) -> io::Result<()> {
-    let rt = held.rt;
-    let file = make_beside(held, beside)?;
+    let rt = held.file.rt;
+    let file = make_beside(&held.file, beside)?;
     let behind = if is_new {
         Ok(None)
     } else {
-        held.file.try_clone().map(Some)
+        held.file.file.try_clone().map(Some)
     };
     let wrote = match behind {
-        Ok(behind) => write_sectors(rt, file, sectors, behind),
+        Ok(behind) => write_sectors(rt, file, sectors, held.block, behind),
         Err(e) => Err(e),
     };
     if let Err(e) = wrote {
@@ -139,60 +159,84 @@ fn write_beside(
 /// Writes the disk into its file, unless the file holds it already. It is written into a file beside, named `.new`, which is then
 /// renamed over the disk's. So a host that crashes meanwhile leaves the old file or the new one whole, and perhaps the file beside.
 /// Where that cannot be written whole it is removed.
-pub fn write_disk(held: &SystemFile<'_>, sectors: &[Sector], is_new: bool) -> Result<(), FileFault>
+pub fn write_disk(
+    held: &FormedFile<SystemFile<'_>>,
+    sectors: &[Sector],
+    is_new: bool,
+) -> Result<(), FileFault>
     ensures failed { IfErr result (λ e. IsFileFault e.fault) }
 {
-    if let Ok(true) = holds(&held.file, sectors, is_new) {
+    if let Ok(true) = holds(held, sectors, is_new) {
         return Ok(());
     }
-    let beside = path_beside(held)?;
+    let file = &held.file;
+    let beside = path_beside(file)?;
     if let Err(e) = write_beside(held, &beside, sectors, is_new) {
-        return Err(unreached(held.rt.alloc(), &beside, e));
+        return Err(unreached(file.rt.alloc(), &beside, e));
     }
-    match replace(held, &beside) {
+    match replace(file, &beside) {
         Ok(()) => Ok(()),
-        Err(e) => Err(unreached(held.rt.alloc(), &held.path, e)),
+        Err(e) => Err(unreached(file.rt.alloc(), &file.path, e)),
     }
 }
 
+/// Makes the file one of so many zero sectors, each in a block of that size, and makes it durable.
+fn blank(rt: &HostRuntime, file: &File, sectors: usize, size: BlockSize) -> io::Result<()> {
+    file.set_len(bytes_of(sectors, size))?;
+    if size.bytes != 512 {
+        let mut block = blank_block(rt, size)?;
+        lay(&mut block, size, 0, &[0; 512]);
+        file.write_all_at(&block, 0)?;
+    }
+    file.sync_all()
+}
+
 /// A file of so many zero sectors at that path. Its lock is taken first, so that no other session has it once it is renamed.
-fn blank_beside(held: &SystemFile<'_>, beside: &str, sectors: usize) -> io::Result<File> {
-    let file = locked(held.rt, beside, make_beside(held, beside)?)?;
-    let made = file
-        .set_len(bytes_of(sectors))
-        .and_then(|()| file.sync_all());
-    if let Err(e) = made {
-        let _gone = fs::remove_file(held.rt, beside);
+fn blank_beside(
+    held: &FormedFile<SystemFile<'_>>,
+    beside: &str,
+    sectors: usize,
+) -> io::Result<File> {
+    let rt = held.file.rt;
+    let file = locked(rt, beside, make_beside(&held.file, beside)?)?;
+    if let Err(e) = blank(rt, &file, sectors, held.block) {
+        let _gone = fs::remove_file(rt, beside);
         return Err(e);
     }
     Ok(file)
 }
 
 /// Puts a blank file of so many sectors into the place of the disk's, and gives it.
-fn blank_file(held: &SystemFile<'_>, sectors: usize) -> Result<File, FileFault>
+fn blank_file(held: &FormedFile<SystemFile<'_>>, sectors: usize) -> Result<File, FileFault>
     ensures failed { IfErr result (λ e. IsFileFault e.fault) }
 {
-    let beside = path_beside(held)?;
+    let old = &held.file;
+    let beside = path_beside(old)?;
     let file = match blank_beside(held, &beside, sectors) {
         Ok(file) => file,
-        Err(e) => return Err(unreached(held.rt.alloc(), &beside, e)),
+        Err(e) => return Err(unreached(old.rt.alloc(), &beside, e)),
     };
-    match replace(held, &beside) {
+    match replace(old, &beside) {
         Ok(()) => Ok(file),
-        Err(e) => Err(unreached(held.rt.alloc(), &held.path, e)),
+        Err(e) => Err(unreached(old.rt.alloc(), &old.path, e)),
     }
 }
 
 /// The file in which a session keeps its disk all along. For a new disk it is a blank one of so many sectors, which replaces what
 /// was there. Else it is the one that was read, which is made durable first.
-pub fn kept_file(held: SystemFile<'_>, sectors: usize, is_new: bool) -> Result<File, FileFault>
+pub fn kept_file(
+    held: FormedFile<SystemFile<'_>>,
+    sectors: usize,
+    is_new: bool,
+) -> Result<File, FileFault>
     ensures failed { IfErr result (λ e. IsFileFault e.fault) }
 {
     if is_new {
         return blank_file(&held, sectors);
     }
-    match held.file.sync_all() {
-        Ok(()) => Ok(held.file),
-        Err(e) => Err(unreached(held.rt.alloc(), &held.path, e)),
+    let SystemFile { rt, path, file } = held.file;
+    match file.sync_all() {
+        Ok(()) => Ok(file),
+        Err(e) => Err(unreached(rt.alloc(), &path, e)),
     }
 }

@@ -1,5 +1,5 @@
 -- From what an examiner makes of a disk to what the program writes of its file.
-use Rattle.std.proofs.Common.{◌≡◌, ◌≢◌, ◌⊎◌, ◌%◌, ℕ, Bool, true, false, List, [], Option, None, Some, Result, Ok, Err, IfErr, IfOk, IfSome, OnOk, inl, inr, length, refl, subst}
+use Rattle.std.proofs.Common.{◌≡◌, ◌≢◌, ◌⊎◌, ◌%◌, ℕ, Bool, true, false, List, [], ◌++◌, Option, None, Some, Result, Ok, Err, IfErr, IfOk, IfSome, OnOk, inl, inr, length, refl, subst}
 use Rattle.std.specs.Io.KnownBytes.{Appends}
 use Rattle.board_files.specs.Disks.{IsLookedAt, first_sectors}
 use Rattle.board_files.specs.Faults.{IsFileFault}
@@ -17,7 +17,7 @@ use Rattle.command_line.specs.declared.NoWork.{NoWork}
 use Rattle.command_line.specs.declared.files.FileFault.{FileFault}
 use Rattle.disk.specs.Facts.{Content, Facts, IsFresh}
 use Rattle.board_programs.specs.Examined.{IfLookedAt, IsFaultOf, IsFaultOver, IsWorked, RefusesBytes, RefusesLines, RefusesMemory, WritesMemory, WritesNothing, WritesSeen, WritesWork, has_bad, status_of}
-use Rattle.board_programs.specs.Texts.{seen_text}
+use Rattle.board_programs.specs.Texts.{block_text, seen_text}
 use Rattle.board_programs.specs.Usage.{AskForNone, sbidisk}
 use Rattle.board_programs.specs.declared.examiner_usage.DiskWork.{DiskWork}
 use Rattle.examined.specs.Memories.{HoldsMemory, MemoryRefused}
@@ -32,11 +32,11 @@ looked_at : (bytes : Option (List ℕ)) (disk : Facts) (P : Content → Type 0) 
 looked_at None disk P shows p = tt
 looked_at (Some all) disk P shows p = (shows.0, shows.1, subst P shows.2.reads p)
 
-pub writes_seen : (bytes at old now : Option (List ℕ)) (disk : Facts) (seen : Seen) (bad : Bool) → bad ≡ has_bad seen → at ≡ bytes
+pub writes_seen : (bytes at old now : Option (List ℕ)) (disk : Facts) (seen : Seen) (block : ℕ) (bad : Bool) → bad ≡ has_bad seen → at ≡ bytes
     → IfSome at (λ all. (n : ℕ) × IsLookedAt n all × IsFresh (first_sectors n all) disk) → IsSeen disk.content seen
-    → Appends old now (seen_text seen) → WritesSeen bytes bad old now
-writes_seen bytes at old now disk seen bad says is shows sees written =
-    (seen, looked_at bytes disk (λ c. IsSeen c seen) (rw (← is) shows) sees, written, says)
+    → IfSome at (λ all. block ≡ 512) → Appends old now (seen_text seen ++ block_text block) → WritesSeen bytes bad old now
+writes_seen bytes at old now disk seen block bad says is shows sees plain written =
+    (seen, block, looked_at bytes disk (λ c. IsSeen c seen) (rw (← is) shows) sees, rw (← is) plain, written, says)
 
 pub writes_memory : (bytes at old now : Option (List ℕ)) (disk : Facts) (memory : List ℕ) → at ≡ bytes
     → IfSome at (λ all. (n : ℕ) × IsLookedAt n all × IsFresh (first_sectors n all) disk) → HoldsMemory disk.content memory

@@ -1,5 +1,5 @@
 -- What the examiner makes of a disk's file, and its status. Source: docs/CONSOLE.md, "The program `sbidisk`".
-use Rattle.std.specs.Prelude.{◌≡◌, ◌≢◌, ◌⊎◌, ◌%◌, ℕ, Bool, true, false, List, [], Option, IfErr, IfOk, IfSome, Result, Ok, Err, length, ⊤}
+use Rattle.std.specs.Prelude.{◌≡◌, ◌≢◌, ◌⊎◌, ◌%◌, ℕ, Bool, true, false, List, [], ◌++◌, Option, IfErr, IfOk, IfSome, Result, Ok, Err, length, ⊤}
 use Rattle.std.specs.Io.KnownBytes.{Appends}
 use Rattle.board_files.specs.Disks.{IsLookedAt, first_sectors}
 use Rattle.board_files.specs.Faults.{IsFileFault}
@@ -10,7 +10,7 @@ use Rattle.command_line.specs.declared.NoWork.{NoWork}
 use Rattle.command_line.specs.declared.fault.ProgramFault.{ProgramFault}
 use Rattle.command_line.specs.declared.fault.ProgramFault.TheVariants.{Refused}
 use Rattle.disk.specs.Facts.{Content}
-use Rattle.board_programs.specs.Texts.{seen_text}
+use Rattle.board_programs.specs.Texts.{block_text, seen_text}
 use Rattle.board_programs.specs.Usage.{AskForNone, IsNamedBy}
 use Rattle.board_programs.specs.declared.examiner_usage.DiskWork.{DiskWork}
 use Rattle.board_programs.specs.declared.examiner_usage.DiskWork.TheVariants.{Lines, Memory}
@@ -39,10 +39,12 @@ abbrev pub has_bad : Seen → Bool
 has_bad seen = says_bad seen.inspection.live seen.inspection.other seen.inspection.image
 
 -- ---- what is written
--- the lines of what stands in the file were written, and nothing else, and they say `bad` or not
+-- The lines of what stands in the file were written, and nothing else, and they say `bad` or not. A line more says how large its blocks are,
+-- where its sectors lie in blocks; of a file whose bytes are known they do not.
 abbrev pub WritesSeen : Option (List ℕ) → Bool → Option (List ℕ) → Option (List ℕ) → Type 0
 WritesSeen bytes bad old now =
-    (seen : Seen) × IfLookedAt bytes (λ c. IsSeen c seen) × Appends old now (seen_text seen) × (bad ≡ has_bad seen)
+    (seen : Seen) × (block : ℕ) × IfLookedAt bytes (λ c. IsSeen c seen) × IfSome bytes (λ all. block ≡ 512)
+    × Appends old now (seen_text seen ++ block_text block) × (bad ≡ has_bad seen)
 
 -- the memory of the image that stands in the file was written, and nothing else
 abbrev pub WritesMemory : Option (List ℕ) → Option (List ℕ) → Option (List ℕ) → Type 0

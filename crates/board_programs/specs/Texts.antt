@@ -1,5 +1,5 @@
 -- The exact text of what is written of a disk. Source: docs/CONSOLE.md, "The program `sbidisk`".
-use Rattle.std.specs.Prelude.{ℕ, List, [], ◌++◌, Option, None, Some}
+use Rattle.std.specs.Prelude.{ℕ, List, [], ◌++◌, ◌==◌, Option, None, Some, if◌then◌else◌}
 use Rattle.std.specs.Fmt.{decimal}
 use Rattle.board_model.specs.Texts.{image_text, state_text}
 use Rattle.board_model.specs.declared.durable.ImageHead.{ImageHead}
@@ -20,3 +20,7 @@ found_text (Some f) = codes "found " ++ state_text f.state ++ codes "\n" ++ stan
 
 abbrev pub seen_text : Seen → List ℕ
 seen_text s = codes "inspect " ++ inspection_text s.inspection ++ codes "\n" ++ found_text s.found
+
+-- The line of a file whose sectors lie in blocks of so many bytes. Where they lie one after the other there is none.
+abbrev pub block_text : ℕ → List ℕ
+block_text n = if n == 512 then [] else codes "block " ++ decimal n ++ codes "\n"

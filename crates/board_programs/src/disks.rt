@@ -4,7 +4,7 @@ ghost use Rattle.std.specs.Prelude.{◌≡◌, false, string_bytes, IfOk, IfErr}
 ghost use Rattle.board_programs.specs.Operated.{Begins, IsUnread};
 
 use crate::notices::tell_shape;
-use board_files::{BoardFiles, DiskFile, disk_in, shape_in};
+use board_files::{BlockSize, BoardFiles, DiskFile, disk_in, shape_in};
 use board_model::Refusal;
 use board_session::Options;
 use command_line::FileFault;
@@ -75,7 +75,8 @@ pub fn take_disk<B: BoardFiles, F: Write + IsTerminal>(
     ensures failed { IfErr result (λ e. IsUnread options.now.new
         (B.disk_at files.now (string_bytes options.now.disk)) e.fault) }
 {
-    let held = files.hold(&options.disk, options.new, options.sync)?;
+    let block = BlockSize::sector();
+    let held = files.hold(&options.disk, options.new, options.sync, block)?;
     let disk = disk_of(alloc, options, &held, faults)?;
     Ok(TakenDisk { held, disk })
 }

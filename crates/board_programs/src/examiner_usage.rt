@@ -30,6 +30,9 @@ Lines:
       to, and the boots left
   image hart H address A opaque V pages P
       the image of that state, where there is one
+  block B
+      each sector lies in a block of B bytes, where they do not lie one after
+      the other
 
 Status:
   0  the lines or the bytes were written

@@ -9,7 +9,7 @@ ghost use Rattle.board_programs.specs.Examined.{IsExamined, IsFaultOf, IsFaultOv
 
 use crate::examiner_usage::{DiskWork, work_of};
 use crate::shows::write_seen;
-use board_files::{DiskFiles, refused_disk, seen_in};
+use board_files::{DiskFile, DiskFiles, refused_disk, seen_in};
 use command_line::{FileFault, NoWork, Pipe, end_with, show_on, without_work};
 use examined::{Seen, image_memory, see_disk, write_memory};
 use std::alloc::Global;
@@ -58,7 +58,8 @@ fn look<D: DiskFiles, W: Write + Drop>(
         Err(e) => return Err(refused_disk(&file, e)),
     };
     let is_bad = has_bad(&seen);
-    match write_seen(&seen, out) {
+    let block = file.block_size();
+    match write_seen(&seen, block.bytes, out) {
         Ok(()) => Ok(is_bad),
         Err(e) => Err(FileFault::refused(e)),
     }

@@ -6,6 +6,8 @@
 #[cfg(test)]
 mod areas;
 #[cfg(test)]
+mod blocks;
+#[cfg(test)]
 mod boards;
 #[cfg(test)]
 mod caches;

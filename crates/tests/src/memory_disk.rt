@@ -4,7 +4,7 @@ ghost use Rattle.std.specs.Prelude.{◌≡◌, Some, IfOk, drop};
 ghost use Rattle.board_files.specs.Disks.{HoldsDisk};
 ghost use Rattle.board_files.specs.Faults.{IsFileFault};
 
-use board_files::{DiskFile, HeldFile, unreached};
+use board_files::{BlockSize, DiskFile, HeldFile, unreached};
 use board_model::Refusal;
 use command_line::FileFault;
 use disk::Sector;
@@ -57,6 +57,10 @@ impl MemoryDisk {
 
 impl DiskFile for MemoryDisk {
     ghost bytes = { λ disk. Some disk.bytes.items };
+
+    fn block_size(&self) -> BlockSize {
+        BlockSize::sector()
+    }
 
     fn length(&self) -> Result<u64, FileFault> {
         if self.failing == Failing::Length {

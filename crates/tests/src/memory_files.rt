@@ -4,7 +4,9 @@ ghost use Rattle.std.specs.Prelude.{◌≡◌, None, Some, IfErr, IfOk};
 ghost use Rattle.board_files.specs.Faults.{IsFileFault};
 
 use crate::memory_disk::{Failing, MemoryDisk};
-use board_files::{BoardFiles, DiskFile, DiskFiles, FileFate, MemoryFile, PayloadFiles, unreached};
+use board_files::{
+    BlockSize, BoardFiles, DiskFile, DiskFiles, FileFate, MemoryFile, PayloadFiles, unreached,
+};
 use board_model::Refusal;
 use board_programs::Answers;
 use command_line::FileFault;
@@ -128,7 +130,13 @@ impl BoardFiles for MemoryFiles {
 
     ghost disk_at = { λ files path. Some files.disk.items };
 
-    fn hold(&self, path: &str, _is_new: bool, _is_synced: bool) -> Result<MemoryDisk, FileFault> {
+    fn hold(
+        &self,
+        path: &str,
+        _is_new: bool,
+        _is_synced: bool,
+        _block: BlockSize,
+    ) -> Result<MemoryDisk, FileFault> {
         self.disk_file(path)
     }
 
