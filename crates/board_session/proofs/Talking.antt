@@ -44,7 +44,7 @@ module _ (found : DurableState) (issued : List Change) where
 
   -- an `ok N` is answered with its receipt in the hand
   pub held : (said : Said) (answer : Reply) (old new : Party) → IsAnswerTo found issued said answer old new → HoldsReceipt answer new.told
-  held (saids.Command command) answer old new (r, may, is, newly, after) = command_held command r newly answer old new is after
+  held (saids.Command command) answer old new (r, may, is, (newly, after)) = command_held command r newly answer old new is after
   held saids.State answer old new (d, may, is, after) = rw is tt
   held saids.Wake answer old new (heard, (r, may, is, on), after) = rw is tt
   held saids.Quit answer old new (is, same) = rw is tt
