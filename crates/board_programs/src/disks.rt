@@ -3,8 +3,8 @@
 ghost use Rattle.std.specs.Prelude.{◌≡◌, false, string_bytes, IfOk, IfErr};
 ghost use Rattle.board_programs.specs.Operated.{Begins, IsUnread};
 
-use crate::notices::tell_shape;
-use board_files::{BlockSize, BoardFiles, DiskFile, disk_in, shape_in};
+use crate::notices::{tell_block, tell_shape};
+use board_files::{BoardFiles, DiskFile, disk_in, shape_in};
 use board_model::Refusal;
 use board_session::Options;
 use command_line::FileFault;
@@ -28,6 +28,7 @@ fn read_disk<H: DiskFile, F: Write + IsTerminal>(
 {
     let shape = shape_in(held)?;
     tell_shape(faults, options, &shape);
+    tell_block(faults, options, held.block_size());
     disk_in(alloc, held, &shape)
 }
 
@@ -75,8 +76,7 @@ pub fn take_disk<B: BoardFiles, F: Write + IsTerminal>(
     ensures failed { IfErr result (λ e. IsUnread options.now.new
         (B.disk_at files.now (string_bytes options.now.disk)) e.fault) }
 {
-    let block = BlockSize::sector();
-    let held = files.hold(&options.disk, options.new, options.sync, block)?;
+    let held = files.hold(&options.disk, options.new, options.sync, options.block)?;
     let disk = disk_of(alloc, options, &held, faults)?;
     Ok(TakenDisk { held, disk })
 }

@@ -2,6 +2,7 @@
 
 use crate::hart_lines::HartLines;
 use board::Payloads;
+use board_files::BlockSize;
 use board_model::{SLOTS, Shape, Slot};
 use board_session::Options;
 use hart_threads::HartEnd;
@@ -49,6 +50,17 @@ pub fn tell_shape<F: Write + IsTerminal>(faults: &mut F, options: &Options, foun
         let _told = writeln!(
             faults,
             "sbiboard: the disk's board is {harts}/{pages}/{lanes} (harts, pages, lanes): other numbers are for --new"
+        );
+    }
+}
+
+/// Where notices are wanted: tells that the command line asks for larger blocks than those of the disk's file.
+pub fn tell_block<F: Write + IsTerminal>(faults: &mut F, options: &Options, found: BlockSize) {
+    let (asked, found) = (options.block.bytes, found.bytes);
+    if asked != 512 && asked != found && is_told(faults, options) {
+        let _told = writeln!(
+            faults,
+            "sbiboard: each sector of the disk lies in a block of {found} bytes: another --block is for --new"
         );
     }
 }

@@ -24,6 +24,7 @@ pub record ReadsOptions (f : Found) (o : Options) : Type 0 where
   pub harts : option_and_then number_of (first_value f (codes "harts")) ≡ Some o.shape.harts
   pub pages : option_and_then number_of (first_value f (codes "pages")) ≡ Some o.shape.pages
   pub lanes : option_and_then number_of (first_value f (codes "lanes")) ≡ Some o.shape.lanes
+  pub block : option_and_then number_of (first_value f (codes "block")) ≡ Some o.block.bytes
   pub harts_given : o.given.harts ≡ is_present f (codes "harts")
   pub pages_given : o.given.pages ≡ is_present f (codes "pages")
   pub lanes_given : o.given.lanes ≡ is_present f (codes "lanes")

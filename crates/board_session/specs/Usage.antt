@@ -30,11 +30,12 @@ board_line modes =
     (with_rule (with_rule (with_rule (named_app (codes "sbiboard")) (required (path_rule (codes "disk")))) (mode_rule modes))
     (flag_rule (codes "new"))) (flag_rule (codes "sync"))
 
--- with the shape of a new disk
+-- with the shape of a new disk, and its blocks
 abbrev pub with_shape : App → App
 with_shape app =
-    with_rule (with_rule (with_rule app (number_rule (codes "harts") 8 (codes "1"))) (number_rule (codes "pages") 256 (codes "1")))
-    (number_rule (codes "lanes") 4 (codes "1"))
+    with_rule
+    (with_rule (with_rule (with_rule app (number_rule (codes "harts") 8 (codes "1"))) (number_rule (codes "pages") 256 (codes "1")))
+    (number_rule (codes "lanes") 4 (codes "1"))) (number_rule (codes "block") 65536 (codes "512"))
 
 -- with the files of the payloads, the turns of a hart, and whether it is told how the harts ended
 abbrev pub sbiboard : ValueParser → App

@@ -3,6 +3,7 @@
 ghost use Rattle.std.specs.Prelude.{◌<◌, string_len};
 ghost use Rattle.board_session.specs.Limits.{AreTurns};
 
+use board_files::BlockSize;
 use board_model::{BootMode, Shape};
 
 /// Which numbers of the shape stand on the command line. The others have their defaults.
@@ -29,6 +30,8 @@ pub struct Options {
     pub tell: bool,
     /// The shape of a new disk.
     pub shape: Shape,
+    /// The block in which each sector of a new disk lies; of 512 bytes where they lie one after the other.
+    pub block: BlockSize,
     /// Which numbers of the shape stand on the command line.
     pub given: ShapeGiven,
     /// The file of each boot slot's payload, where one is named. The others are empty.

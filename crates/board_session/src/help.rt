@@ -98,7 +98,12 @@ pub const PAGES: &str = "pages";
 
 pub const LANES: &str = "lanes";
 
+pub const BLOCK: &str = "block";
+
 pub const TURNS: &str = "turns";
+
+/// The most bytes of a block.
+const MOST_BLOCK: u64 = 65_536;
 
 /// The most turns of a hart.
 pub const MOST_TURNS: u64 = 1_000_000_000;
@@ -132,14 +137,21 @@ fn board<'a>(alloc: Global) -> Result<Command<'a>, AllocError>
         ))
 }
 
-/// The command with the shape of a new disk.
+/// The command with the shape of a new disk, and its blocks.
 fn shaped<'a>(alloc: Global, command: Command<'a>) -> Result<Command<'a>, AllocError>
     ensures { IfOk result (λ c. app_of c ≡ with_shape (app_of command.entry)) }
 {
     command
         .arg(number(alloc, HARTS, 8, "1", "Harts of a new disk's board, 1 to 8"))?
         .arg(number(alloc, PAGES, 256, "1", "Its pages of RAM, 1 to 256"))?
-        .arg(number(alloc, LANES, 4, "1", "Its saver lanes, 1 to 4"))
+        .arg(number(alloc, LANES, 4, "1", "Its saver lanes, 1 to 4"))?
+        .arg(number(
+            alloc,
+            BLOCK,
+            MOST_BLOCK,
+            "512",
+            "Bytes of the block in which each of its sectors lies alone: 512, 1024, .. 65536",
+        ))
 }
 
 /// The command.

@@ -1,6 +1,7 @@
 //! From words to options.
 
-ghost use Rattle.std.specs.Prelude.{◌≡◌, ◌<◌, ◌⊎◌, map, ℕ, string_len, codes, None, Some, IfErr, IfOk, IfSome, option_and_then};
+ghost use Rattle.std.specs.Prelude.{◌≡◌, ◌<◌, ◌⊎◌, map, ℕ, string_len, codes, None, Some, IfErr, IfOk, IfSome, IsTrue, option_and_then};
+ghost use Rattle.board_files.specs.Blocks.{is_block_size};
 ghost use Rattle.board_model.specs.Shapes.{IsSize, Size};
 ghost use Rattle.clap.specs.Facts.{is_present};
 ghost use Rattle.clap.specs.Words.{first_value, found_of, kind_of};
@@ -13,7 +14,10 @@ ghost use Rattle.script_lang.specs.Lines.{mode_of};
 ghost use Rattle.script_lang.specs.Words.{number_of};
 
 use crate::given::{Options, ShapeGiven};
-use crate::help::{DISK, HARTS, LANES, MODE, MOST_TURNS, NEW, PAGES, SYNC, TELL, TURNS, command};
+use crate::help::{
+    BLOCK, DISK, HARTS, LANES, MODE, MOST_TURNS, NEW, PAGES, SYNC, TELL, TURNS, command,
+};
+use board_files::BlockSize;
 use board_model::{BootMode, Shape};
 use clap::error::ErrorKind;
 use clap::parser::ValueSource;
@@ -54,6 +58,17 @@ fn shape(matches: &ArgMatches<'_>) -> Option<Shape>
     let pages = number(matches, PAGES)?;
     let lanes = number(matches, LANES)?;
     Shape::new(harts, pages, lanes).ok()
+}
+
+/// The block of each sector of a new disk.
+fn block(matches: &ArgMatches<'_>) -> Option<BlockSize>
+    ensures named { IfSome result (λ size. option_and_then number_of (first_value (found_of matches.now) (codes "block"))
+        ≡ Some size.bytes) }
+    ensures none { result ≡ None → (bytes : ℕ) → IsTrue (is_block_size bytes)
+        → option_and_then number_of (first_value (found_of matches.now) (codes "block")) ≡ Some bytes → ⊥ }
+{
+    let bytes = number(matches, BLOCK)?;
+    BlockSize::new(bytes)
 }
 
 /// Whether the words give a value of that name. A default does not count.
@@ -107,6 +122,9 @@ fn options_of(alloc: Global, matches: &ArgMatches<'_>) -> Result<Option<Options>
     let Some(shape) = shape(matches) else {
         return Ok(None);
     };
+    let Some(block) = block(matches) else {
+        return Ok(None);
+    };
     let Some(turns) = turns(matches) else {
         return Ok(None);
     };
@@ -117,6 +135,7 @@ fn options_of(alloc: Global, matches: &ArgMatches<'_>) -> Result<Option<Options>
         sync: matches.get_flag(SYNC),
         tell: matches.get_flag(TELL),
         shape,
+        block,
         given: shape_given(matches),
         payloads,
         turns,

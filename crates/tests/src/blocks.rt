@@ -1,6 +1,9 @@
 //! Sectors that lie in blocks of a device (docs/DISK.md, "Larger blocks").
 
-use board_files::{BlockDevice, BlockSize, SectorFile, SectorsInBlocks};
+use board_files::{
+    BlockDevice, BlockSize, ByteFile, DiskFile, FormedFile, SectorFile, SectorsInBlocks, unreached,
+};
+use command_line::FileFault;
 use disk::Sector;
 use std::alloc::Global;
 use std::io::{self, ErrorKind};
@@ -96,6 +99,60 @@ fn blocks_of_512_bytes_are_the_sectors(rt: HostRuntime) {
     follow(&rt, &mut bytes, 512, 0xee);
 }
 
+/// A file in memory, of whose bytes contracts know nothing.
+#[derive(Drop)]
+struct MemoryBytes {
+    alloc: Global,
+    bytes: Vec<u8>,
+}
+
+impl ByteFile for MemoryBytes {
+    ghost use Rattle.std.specs.Prelude.{None};
+
+    ghost held = { λ _. None };
+
+    fn byte_count(&self) -> Result<u64, FileFault> {
+        Ok(self.bytes.len() as u64)
+    }
+
+    fn read_at(&self, at: u64, into: &mut [u8]) -> Result<(), FileFault> {
+        let (room, count) = (self.bytes.len(), into.len());
+        if room < count || ((room - count) as u64) < at {
+            let why = io::Error::from(ErrorKind::UnexpectedEof);
+            return Err(unreached(self.alloc, "D", why));
+        }
+        let at = at as usize;
+        into.copy_from_slice(&self.bytes[at..at + count]);
+        Ok(())
+    }
+}
+
+/// Four sectors in a file of blocks of that size, as the file has them; and how many bytes it says that a block has.
+fn found(rt: &impl Abort, alloc: Global, size: BlockSize) -> (u32, Vec<u8>) {
+    let bytes = written(rt, alloc, size, &[(0, 7), (1, 8), (2, 9), (3, 10)]);
+    let Ok(file) = FormedFile::found(MemoryBytes { alloc, bytes }) else {
+        rt.panic("no form")
+    };
+    assert!(rt; matches!(file.length(), Ok(2048)));
+    let mut sectors = vec![in alloc; 0; 2048].expect(rt, "memory");
+    assert!(rt; file.read(&mut sectors).is_ok());
+    (file.block_size().bytes, sectors)
+}
+
+#[test]
+fn a_file_of_blocks_is_read_as_its_sectors(rt: HostRuntime) {
+    for size in [512, 1024, 4096, 65536] {
+        let size = BlockSize::new(size).expect(&rt, "a size");
+        let (told, sectors) = found(&rt, rt.alloc(), size);
+        // In a file of plain sectors the bytes of the mark are the superblock's, and here they are no size.
+        assert!(&rt; told == size.bytes);
+        let mut bytes: &[u8] = &sectors;
+        for value in 7..11 {
+            follow(&rt, &mut bytes, 512, value);
+        }
+    }
+}
+
 static SIZES: [u32; 8] = [512, 1024, 2048, 4096, 8192, 16384, 32768, 65536];
 
 static NO_SIZES: [u32; 8] = [0, 1, 256, 511, 513, 1536, 65535, 131_072];
@@ -111,6 +168,8 @@ fn a_block_has_512_to_65536_bytes(rt: HostRuntime) {
     for bytes in &NO_SIZES {
         let mut first: Sector = [0; 512];
         first[20..24].copy_from_slice(&bytes.to_le_bytes());
-        assert!(&rt; BlockSize::new(*bytes as u64).is_none() && BlockSize::told_by(&first).bytes == 512);
+        assert!(&rt;
+            BlockSize::new(*bytes as u64).is_none() && BlockSize::told_by(&first).bytes == 512
+        );
     }
 }

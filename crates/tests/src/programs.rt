@@ -314,7 +314,7 @@ fn each_fault_has_its_status_and_its_line(rt: HostRuntime) -> Result<(), Fail> {
 }
 
 /// Runs of words that ask for no session.
-static STATUSES: [Run; 13] = [
+static STATUSES: [Run; 15] = [
     Run {
         words: &["sbiboard", "--help"],
         ..PLAIN
@@ -368,6 +368,20 @@ static STATUSES: [Run; 13] = [
     },
     Run {
         words: &["sbiboard", "--disk", "D", "--mode", "fresh", "--lanes", "5"],
+        status: 2,
+        ..PLAIN
+    },
+    Run {
+        words: &[
+            "sbiboard", "--disk", "D", "--mode", "fresh", "--block", "600",
+        ],
+        status: 2,
+        ..PLAIN
+    },
+    Run {
+        words: &[
+            "sbiboard", "--disk", "D", "--mode", "fresh", "--block", "131072",
+        ],
         status: 2,
         ..PLAIN
     },
