@@ -69,7 +69,7 @@ doubtful w old new c lived calm reaches is = (
 )
 
 -- the table refuses nothing by 6
-not_six : (s : DurableState) (c : Change) → refusal_of s c ≡ Some 6 → ⊥
+pub not_six : (s : DurableState) (c : Change) → refusal_of s c ≡ Some 6 → ⊥
 not_six s c is = let six = of_table s c 6 is in cc
 
 -- 6 is a command in doubt, and another refusal changes nothing

@@ -9,6 +9,7 @@
 mod events;
 mod files;
 mod headline;
+mod models;
 mod resumes;
 mod scripts;
 mod sessions;
@@ -21,6 +22,7 @@ pub use headline::{
     a_board_is_resumed, a_cold_boot_finds_what_stands, a_command, a_format, a_suspension,
     commands_in_a_row, crashes_leave_contents, never_resumed_again, power_lost_in_a_command,
 };
+pub use models::a_turn_is_an_event;
 pub use resumes::resumed_byte_for_byte;
 pub use scripts::{a_script, a_script_in_any_spelling};
 pub use sessions::{SessionSaid, a_session, power_lost_between_sessions};
