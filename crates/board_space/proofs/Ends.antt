@@ -1,0 +1,46 @@
+-- Whether a board is at an end, by its power, its doze and the turns of its harts.
+use Rattle.std.proofs.Common.{◌≡◌, ◌∙◌, ℕ, ◌<◌, Bool, true, false, Option, Some, None, refl, sym, ap, subst}
+use Rattle.std.specs.Option.{is_some}
+use Rattle.board_model.specs.Shapes.{Size}
+use Rattle.model_board.specs.Boards.{Board, Life, Standing, On, Off, Ended}
+use Rattle.model_board.specs.Events.{TurnOn, IsEnd}
+use Rattle.model_board.specs.Plain.{status_of}
+use Rattle.model_board.specs.declared.powers.Status.{Status}
+use Rattle.model_board.specs.declared.powers.Status.TheVariants as statuses
+
+pub ended_ends : (b : Board) → statuses.Ended ≡ status_of b → IsEnd b
+ended_ends (On l) is = absurd (cc)
+ended_ends (Off s) is = absurd (cc)
+ended_ends (Ended s) is = tt
+
+pub off_goes : (b : Board) → statuses.Off ≡ status_of b → IsEnd b → ⊥
+off_goes (On l) is end = cc
+off_goes (Off s) is end = end
+off_goes (Ended s) is end = cc
+
+pub life_of_on : (b : Board) → statuses.On ≡ status_of b → (l : Life) × (b ≡ On l)
+life_of_on (On l) is = (l, refl)
+life_of_on (Off s) is = absurd (cc)
+life_of_on (Ended s) is = absurd (cc)
+
+none_of : {T : Type 0} (o : Option T) → false ≡ is_some o → o ≡ None
+none_of None is = refl
+none_of (Some x) is = absurd (cc)
+
+some_not : {T : Type 0} (o : Option T) → true ≡ is_some o → o ≡ None → ⊥
+some_not None is none = cc
+some_not (Some x) is none = cc
+
+pub doze_goes : (l : Life) → true ≡ is_some l.machine.doze → IsEnd (On l) → ⊥
+doze_goes l some end = some_not l.machine.doze some end.0
+
+pub rest_ends : (l : Life) (shape : Size) → false ≡ is_some l.machine.doze → l.machine.size ≡ shape → ((h : ℕ) (c : Board) → h < shape.harts → TurnOn h (On l) c → c ≡ On l) → IsEnd (On l)
+rest_ends l shape none size rests = (none_of l.machine.doze none, λ h c lt turn. rests h c (subst (λ (s : Size). h < s.harts) size lt) turn)
+
+pub move_goes : (l : Life) (shape : Size) → l.machine.size ≡ shape → (((h : ℕ) (c : Board) → h < shape.harts → TurnOn h (On l) c → c ≡ On l) → ⊥) → IsEnd (On l) → ⊥
+move_goes l shape size moves end = moves (λ h c lt turn. end.1 h c (subst (λ (s : Size). h < s.harts) (sym size) lt) turn)
+
+pub standing_of_ended : (b : Board) → statuses.Ended ≡ status_of b → (s : Standing) × (b ≡ Ended s)
+standing_of_ended (On l) is = absurd (cc)
+standing_of_ended (Off s) is = absurd (cc)
+standing_of_ended (Ended s) is = (s, refl)

@@ -1,0 +1,23 @@
+use Rattle.std.proofs.Common.{◌≡◌, ◌⊎◌, ⊎_elim, inl, inr, subst, sym}
+use Rattle.model_board.specs.Events.{Event}
+use Rattle.model_board.specs.Maps.{Map, Keeps, SameOutside}
+use Rattle.board_space.specs.Happenings.{event_of}
+use Rattle.board_space.specs.declared.happenings.Happening.{Happening}
+use Rattle.board_space.proofs.Ready.{same_memory}
+use Rattle.board_space.proofs.happenings.Happening.happen.Goals as goal
+
+pub returns-in-Turn-clause-happens : goal.returns-in-Turn-clause-happens
+returns-in-Turn-clause-happens c is = rw c.in-Turn.is (c.turn.ensures.turns c.args.payload.now)
+
+pub returns-in-Turn-clause-memory : goal.returns-in-Turn-clause-memory
+returns-in-Turn-clause-memory c map keeps = inl (c.turn.ensures.outside map (subst (λ (h : Happening). Keeps map (event_of h) c.args.board.now.board) c.in-Turn.is keeps))
+
+pub returns-in-Refused-clause-memory : goal.returns-in-Refused-clause-memory
+returns-in-Refused-clause-memory c map keeps = inl (c.refused.ensures.outside map (subst (λ (h : Happening). Keeps map (event_of h) c.args.board.now.board) c.in-Refused.is keeps))
+
+pub returns-in-PowerOn-clause-memory : goal.returns-in-PowerOn-clause-memory
+returns-in-PowerOn-clause-memory c map keeps =
+    ⊎_elim
+    (λ same. inl (same_memory map c.args.board.now.machine.memory c.power_on.new.self.machine.memory same))
+    (λ boots. inr boots)
+    c.power_on.ensures.memory

@@ -1,0 +1,31 @@
+use Rattle.board_space.proofs.Reduced.{Moving}
+use Rattle.board_space.proofs.Every as every
+use Rattle.board_space.proofs.orders.every_order.Goals as goal
+
+pub returns-clause-ends : goal.returns-clause-ends
+returns-clause-ends g c asked map tables graph one searched all events last run =
+    let m = c.one_hart_moves.ensures in
+    let moving : Moving = record {
+      turns = m.turns;
+      one = m.one;
+      moves = m.moves;
+      decides = m.decides;
+      keeps_back = m.keeps_back;
+      keeps_own = m.keeps_own;
+      swaps = m.swaps;
+    } in
+    (every.meets moving asked map (g.S.StandsFor.stands tables) one graph searched all events last run).ended
+
+pub returns-clause-no_dead_end : goal.returns-clause-no_dead_end
+returns-clause-no_dead_end g c asked map tables graph one searched all reach events last run =
+    let m = c.one_hart_moves.ensures in
+    let moving : Moving = record {
+      turns = m.turns;
+      one = m.one;
+      moves = m.moves;
+      decides = m.decides;
+      keeps_back = m.keeps_back;
+      keeps_own = m.keeps_own;
+      swaps = m.swaps;
+    } in
+    every.no_dead_end moving asked map (g.S.StandsFor.stands tables) one graph searched all reach events last run
