@@ -11,12 +11,12 @@ use Rattle.board_space.specs.declared.outcomes.Outcome.{Outcome}
 module _ (from to : ℕ) (stands : List ℕ → Board → Type 0) (graph : Graph) where
   -- a row that is at no end
   pub show_other : (n : ℕ) (all : Option Outcome) → (IsEnd graph n → ⊥) → AllShow from to stands graph n all → AllShow from to stands graph (n + 1) all
-  show_other n None other before k lt end =
+  show_other n None other before = λ k lt end.
       ⊎_elim (λ below. before k below end) (λ last. other (subst (λ (m : ℕ). IsEnd graph m) (is_last k n lt last) end)) (cases_lt k n)
     where
       is_last : (k n : ℕ) → k < n + 1 → n ≤ k → k ≡ n
       is_last k n lt le = omega arith
-  show_other n (Some outcome) other before k b lt end has =
+  show_other n (Some outcome) other before = λ k b lt end has.
       ⊎_elim (λ below. before k b below end has) (λ last. absurd (other (subst (λ (m : ℕ). IsEnd graph m) (is_last k n lt last) end))) (cases_lt k n)
     where
       is_last : (k n : ℕ) → k < n + 1 → n ≤ k → k ≡ n

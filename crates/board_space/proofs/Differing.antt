@@ -1,29 +1,70 @@
 -- A board that a row stands for has what the row has.
-use Rattle.std.proofs.Common.{ℕ, List, Bool, ◌≡◌, ◌+◌, ◌*◌, ◌<◌, length, refl, sym, ap, subst, ◌∙◌, arith}
-use Rattle.std.specs.Prelude.{get_or, slice_index, Option, None}
+use Rattle.std.proofs.Common.{ℕ, List, Bool, ◌≡◌, ◌+◌, ◌*◌, ◌<◌, ◌≤◌, length, refl, sym, ap, subst, ◌∙◌, arith}
+use Rattle.std.specs.Prelude.{get_or, slice_index, map, take, Option, None}
+use Rattle.std.proofs.lemmas.List.{get_or-map, get_or-take, length-take-le}
 use Rattle.board_model.specs.Shapes.{Size}
 use Rattle.board_model.specs.declared.durable.Reason.{Reason}
 use Rattle.hart.specs.State.{ArchState}
+use Rattle.hsm.specs.Copies.{state_told}
+use Rattle.hsm.specs.States.{HartState, stopped}
+use Rattle.hsm.specs.declared.standings.Standing.{Standing}
+use Rattle.hsm.specs.declared.standings.Standing.TheVariants as told
 use Rattle.machine.specs.Machine.{Machine, hart_at}
-use Rattle.model_board.specs.Boards.{Board, On}
+use Rattle.model_board.specs.Boards.{Board, On, Off, Ended}
 use Rattle.model_board.specs.Plain.{Sized, board_shown, standing}
-use Rattle.model_board.specs.Rests.{IsRest, with_rest}
+use Rattle.model_board.specs.Rests.{IsRest, with_rest, table_copied}
 use Rattle.model_board.specs.declared.powers.Power.{Power}
 use Rattle.model_board.specs.declared.powers.Power.TheVariants as powers
 use Rattle.model_board.specs.declared.rests.Rest.{Rest}
+use Rattle.model_board.specs.declared.tables.TableCopy.{TableCopy}
 use Rattle.ram.specs.Memory.{value}
+use Rattle.sbi_calls.specs.Both.{TableState}
 use Rattle.state_space.specs.Numbered.{words_of}
 use Rattle.board_space.specs.Layouts.{size_of, tracked_of}
 use Rattle.board_space.specs.Records.{IsAt}
 use Rattle.board_space.specs.Rows.{Stands}
 use Rattle.board_space.specs.Tracked.{segment, segment_count}
 use Rattle.board_space.specs.declared.board_rows.BoardRows.{BoardRows}
-use Rattle.board_space.proofs.Numbers.{one_at}
+use Rattle.board_space.specs.OneBoard.{one_at}
 
-on_by : (power : Power) (reason other : Reason) (down fell : Bool) (m n : Machine) → board_shown power reason down m ≡ board_shown powers.On other fell n → (power ≡ powers.On) × (m ≡ n)
-on_by powers.On reason other down fell m n e = (refl, cc)
-on_by (powers.Off at) reason other down fell m n e = absurd (cc)
-on_by powers.Ended reason other down fell m n e = absurd (cc)
+machine_on : Board → Machine → Machine
+machine_on (On l) m = l.machine
+machine_on (Off s) m = m
+machine_on (Ended s) m = m
+
+on_by : (power : Power) (why other : Reason) (down fell : Bool) (m n : Machine) → board_shown power why down m ≡ board_shown powers.On other fell n → (power ≡ powers.On) × (m ≡ n)
+unfolding machine_on
+on_by powers.On why other down fell m n e = (refl, ap (λ (b : Board). machine_on b m) e)
+on_by (powers.Off at) why other down fell m n e = absurd (cc)
+on_by powers.Ended why other down fell m n e = absurd (cc)
+
+-- ---- states
+told_one : (a b : Standing) → state_told a ≡ state_told b → a ≡ b
+told_one told.Stopped told.Stopped e = refl
+told_one told.Stopped (told.StartPending p o) e = absurd (cc)
+told_one told.Stopped told.Started e = absurd (cc)
+told_one told.Stopped told.Suspended e = absurd (cc)
+told_one (told.StartPending a o) told.Stopped e = absurd (cc)
+told_one (told.StartPending a o) (told.StartPending p q) e = cc
+told_one (told.StartPending a o) told.Started e = absurd (cc)
+told_one (told.StartPending a o) told.Suspended e = absurd (cc)
+told_one told.Started told.Stopped e = absurd (cc)
+told_one told.Started (told.StartPending p o) e = absurd (cc)
+told_one told.Started told.Started e = refl
+told_one told.Started told.Suspended e = absurd (cc)
+told_one told.Suspended told.Stopped e = absurd (cc)
+told_one told.Suspended (told.StartPending p o) e = absurd (cc)
+told_one told.Suspended told.Started e = absurd (cc)
+told_one told.Suspended told.Suspended e = refl
+
+told_at : (n h : ℕ) (d : Standing) (a : TableCopy) → h < n → n ≤ length a.states → get_or (table_copied n a).states h stopped ≡ state_told (get_or a.states h d)
+told_at n h d a low enough =
+    get_or-map state_told (take n a.states) h d stopped (omega (arith, low, length-take-le n a.states enough)) ∙ ap (λ (s : Standing). state_told s) (get_or-take n a.states h d low)
+
+one_state : (n h : ℕ) (d : Standing) (a b : TableCopy) → h < n → n ≤ length a.states → n ≤ length b.states → table_copied n a ≡ table_copied n b → get_or a.states h d ≡ get_or b.states h d
+one_state n h d a b low enough here e =
+    told_one (get_or a.states h d) (get_or b.states h d)
+    (sym (told_at n h d a low enough) ∙ (ap (λ (t : TableState). get_or t.states h stopped) e ∙ told_at n h d b low here))
 
 module _ (rows : BoardRows) (row : List ℕ) (b : Sized) (rest own : Rest) (rested : IsAt rows.rests.records.items (slice_index row 0) rest) (on : rest.power ≡ powers.On)
     (x : Stands rows row b.board) where
@@ -59,3 +100,13 @@ module _ (rows : BoardRows) (row : List ℕ) (b : Sized) (rest own : Rest) (rest
     same_word s j low within =
         (x.is.memory.segments s low).1.each j within
         ∙ ap (λ (m : Machine). value m.memory (8 * slice_index (segment (tracked_of rows.layout) s) j) 8) (sym machines)
+
+    tables : table_copied b.machine.size.harts own.tables ≡ table_copied b.machine.size.harts rest.tables
+    tables =
+        ap (λ (m : Machine). m.table) both.1
+        ∙ (x.is.table
+        ∙ (ap (λ (r : Rest). table_copied x.machine.size.harts r.tables) same_rest
+        ∙ ap (λ (m : Machine). table_copied m.size.harts rest.tables) (sym machines)))
+
+    pub same_state : (h : ℕ) (d : Standing) → h < b.machine.size.harts → b.machine.size.harts ≤ length rest.tables.states → b.machine.size.harts ≤ length own.tables.states → get_or rest.tables.states h d ≡ get_or own.tables.states h d
+    same_state h d low enough here = one_state b.machine.size.harts h d rest.tables own.tables low enough here (sym tables)

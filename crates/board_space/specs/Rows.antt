@@ -5,7 +5,7 @@ use Rattle.hart.specs.State.{ArchState, never_started}
 use Rattle.hsm.specs.declared.standings.Standing.TheVariants.{Stopped}
 use Rattle.machine.specs.Machine.{Machine, hart_at, stopped_harts}
 use Rattle.model_board.specs.Boards.{Board}
-use Rattle.model_board.specs.Plain.{Sized, board_shown}
+use Rattle.model_board.specs.Plain.{Sized, board_shown, with_machine}
 use Rattle.model_board.specs.Rests.{Fits, table_copied}
 use Rattle.model_board.specs.declared.powers.Power.{Power}
 use Rattle.model_board.specs.declared.powers.Power.TheVariants as powers
@@ -92,6 +92,10 @@ seen_by base rest m = record {
   harts = seen_harts rest.power m;
   table = table_copied m.size.harts (seen_rest rest).tables;
 }
+
+-- the board is what its parts show
+abbrev pub IsShownByParts : Sized → Type 0
+IsShownByParts b = b ≡ with_machine b.machine b
 
 -- ---- rows that grow
 -- so many numbers more
