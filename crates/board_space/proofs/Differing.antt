@@ -1,7 +1,7 @@
 -- A board that a row stands for has what the row has.
 use Rattle.std.proofs.Common.{ℕ, List, Bool, ◌≡◌, ◌+◌, ◌*◌, ◌<◌, ◌≤◌, length, refl, sym, ap, subst, ◌∙◌, arith}
 use Rattle.std.specs.Prelude.{get_or, slice_index, map, take, Option, None}
-use Rattle.std.proofs.lemmas.List.{get_or-map, get_or-take, length-take-le}
+use Rattle.std.proofs.lemmas.List.{get_or-map, get_or-take, length-take, length-take-le}
 use Rattle.board_model.specs.Shapes.{Size}
 use Rattle.board_model.specs.declared.durable.Reason.{Reason}
 use Rattle.hart.specs.State.{ArchState}
@@ -12,7 +12,7 @@ use Rattle.hsm.specs.declared.standings.Standing.TheVariants as told
 use Rattle.machine.specs.Machine.{Machine, hart_at}
 use Rattle.model_board.specs.Boards.{Board, On, Off, Ended}
 use Rattle.model_board.specs.Plain.{Sized, board_shown, standing}
-use Rattle.model_board.specs.Rests.{IsRest, with_rest, table_copied}
+use Rattle.model_board.specs.Rests.{Fits, IsCopy, IsRest, with_rest, table_copied}
 use Rattle.model_board.specs.declared.powers.Power.{Power}
 use Rattle.model_board.specs.declared.powers.Power.TheVariants as powers
 use Rattle.model_board.specs.declared.rests.Rest.{Rest}
@@ -61,6 +61,9 @@ told_at : (n h : ℕ) (d : Standing) (a : TableCopy) → h < n → n ≤ length 
 told_at n h d a low enough =
     get_or-map state_told (take n a.states) h d stopped (omega (arith, low, length-take-le n a.states enough)) ∙ ap (λ (s : Standing). state_told s) (get_or-take n a.states h d low)
 
+is_enough : (n : ℕ) (a : TableCopy) → IsCopy n a → n ≤ length a.states
+is_enough n a copy = omega (arith, copy.1, length-take n a.states)
+
 one_state : (n h : ℕ) (d : Standing) (a b : TableCopy) → h < n → n ≤ length a.states → n ≤ length b.states → table_copied n a ≡ table_copied n b → get_or a.states h d ≡ get_or b.states h d
 one_state n h d a b low enough here e =
     told_one (get_or a.states h d) (get_or b.states h d)
@@ -108,5 +111,8 @@ module _ (rows : BoardRows) (row : List ℕ) (b : Sized) (rest own : Rest) (rest
         ∙ (ap (λ (r : Rest). table_copied x.machine.size.harts r.tables) same_rest
         ∙ ap (λ (m : Machine). table_copied m.size.harts rest.tables) (sym machines)))
 
-    pub same_state : (h : ℕ) (d : Standing) → h < b.machine.size.harts → b.machine.size.harts ≤ length rest.tables.states → b.machine.size.harts ≤ length own.tables.states → get_or rest.tables.states h d ≡ get_or own.tables.states h d
-    same_state h d low enough here = one_state b.machine.size.harts h d rest.tables own.tables low enough here (sym tables)
+    pub same_state : (h : ℕ) (d : Standing) → h < (size_of rows.layout).harts → Fits b.machine.size.harts own → b.machine.size ≡ size_of rows.layout → get_or rest.tables.states h d ≡ get_or own.tables.states h d
+    same_state h d low fits size =
+        let there : h < b.machine.size.harts = subst (λ (s : Size). h < s.harts) (sym size) low in
+        let stood : Fits b.machine.size.harts rest = subst (λ (r : Rest). Fits b.machine.size.harts r) same_rest (subst (λ (m : Machine). Fits m.size.harts x.rest) (sym machines) x.fits) in
+        one_state b.machine.size.harts h d rest.tables own.tables there (is_enough b.machine.size.harts rest.tables stood.tables) (is_enough b.machine.size.harts own.tables fits.tables) (sym tables)

@@ -4,7 +4,7 @@ ghost use Rattle.std.specs.Prelude.{◌≡◌, ◌<◌, ◌≤◌, ◌+◌, ◌*
 ghost use Rattle.hart.specs.State.{ArchState, never_started};
 ghost use Rattle.model_board.specs.Boards.{Board as AnyBoard};
 ghost use Rattle.model_board.specs.Plain.{with_machine};
-ghost use Rattle.model_board.specs.Rests.{IsRest};
+ghost use Rattle.model_board.specs.Rests.{Fits, IsRest};
 ghost use Rattle.ram.specs.Memory.{value};
 ghost use Rattle.state_space.specs.Numbered.{word_count, words_of};
 ghost use Rattle.board_space.specs.Layouts.{IsBased, size_of, tracked_of, base_of};
@@ -308,6 +308,7 @@ impl BoardRows {
         ensures based { IsBased self.now.layout board.new }
     {
         let harts = self.layout.harts();
+        let _plain = board.rest();
         board.put_rest(self.rests.get(row[0]));
         put_harts(&self.harts, harts, row, board);
         put_segments(&self.layout, &self.words, 1 + harts, row, board);
@@ -327,6 +328,7 @@ impl BoardRows {
         requires rested { IsAt self.now.rests.records.items (slice_index row.now 0) rest.now }
         requires on { rest.now.power ≡ Power.On }
         requires own { IsRest own.now board.now }
+        requires fits { Fits board.now.machine.size.harts own.now }
         requires size { board.now.machine.size ≡ size_of self.now.layout }
         requires within { hart < (size_of self.now.layout).harts }
         ensures { result ≡ true → Stands self.now row.now board.now.board → ⊥ }

@@ -10,7 +10,7 @@ pub loop-segment-init : goal.loop-segment-init
 loop-segment-init c = segments_none c.args.layout.now c.args.words.now c.args.from c.args.row.now c.args.board.now c.requires.shown
 
 pub put_values-requires-clause-shown : goal.put_values-requires-clause-shown
-put_values-requires-clause-shown c = framed_shown _ _ _ c.loop-segment.invariant.others
+put_values-requires-clause-shown c = framed_shown (record c.args.board.now.machine { memory = c.loop-segment.board.machine.memory }) c.args.board.now c.loop-segment.board c.loop-segment.invariant.others
 
 pub put_values-requires-clause-within : goal.put_values-requires-clause-within
 put_values-requires-clause-within c =

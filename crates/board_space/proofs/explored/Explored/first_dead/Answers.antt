@@ -1,0 +1,4 @@
+use Rattle.board_space.proofs.explored.Explored.first_dead.Goals as goal
+
+pub returns : goal.returns
+returns c = ?
