@@ -1,7 +1,7 @@
 -- A board that a row stands for has what the row has.
 use Rattle.std.proofs.Common.{ℕ, List, Bool, ◌≡◌, ◌+◌, ◌*◌, ◌<◌, ◌≤◌, length, refl, sym, ap, subst, ◌∙◌, arith}
 use Rattle.std.specs.Prelude.{get_or, slice_index, map, take, Option, None}
-use Rattle.std.proofs.lemmas.List.{get_or-map, get_or-take, length-take, length-take-le}
+use Rattle.std.proofs.lemmas.List.{get_or-map, get_or-take, get_or_read, length-take, length-take-le}
 use Rattle.board_model.specs.Shapes.{Size}
 use Rattle.board_model.specs.declared.durable.Reason.{Reason}
 use Rattle.hart.specs.State.{ArchState}
@@ -116,3 +116,16 @@ module _ (rows : BoardRows) (row : List ℕ) (b : Sized) (rest own : Rest) (rest
         let there : h < b.machine.size.harts = subst (λ (s : Size). h < s.harts) (sym size) low in
         let stood : Fits b.machine.size.harts rest = subst (λ (r : Rest). Fits b.machine.size.harts r) same_rest (subst (λ (m : Machine). Fits m.size.harts x.rest) (sym machines) x.fits) in
         one_state b.machine.size.harts h d rest.tables own.tables there (is_enough b.machine.size.harts rest.tables stood.tables) (is_enough b.machine.size.harts own.tables fits.tables) (sym tables)
+
+    pub same_read : (place h : ℕ) (r s : Standing) → place ≡ h → h < (size_of rows.layout).harts → Fits b.machine.size.harts own → b.machine.size ≡ size_of rows.layout → r ≡ get_or rest.tables.states place r → s ≡ get_or own.tables.states place s → r ≡ s
+    same_read place h r s at low fits size one other =
+        let n : ℕ = b.machine.size.harts in
+        let stood : Fits n rest = subst (λ (t : Rest). Fits n t) same_rest (subst (λ (m : Machine). Fits m.size.harts x.rest) (sym machines) x.fits) in
+        let there : place < n = subst (λ (k : ℕ). k < n) (sym at) (subst (λ (t : Size). h < t.harts) (sym size) low) in
+        let left = is_enough n rest.tables stood.tables in
+        let right = is_enough n own.tables fits.tables in
+        get_or_read rest.tables.states place r (omega (arith, there, left)) one told.Stopped
+        ∙ (ap (λ (k : ℕ). get_or rest.tables.states k told.Stopped) at
+        ∙ (same_state h told.Stopped low fits size
+        ∙ (ap (λ (k : ℕ). get_or own.tables.states k told.Stopped) (sym at)
+        ∙ sym (get_or_read own.tables.states place s (omega (arith, there, right)) other told.Stopped))))

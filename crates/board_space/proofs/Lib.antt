@@ -13,3 +13,4 @@ pub mod Ends
 pub mod AllShown
 pub mod Tracking
 pub mod Stuck
+pub mod Answered

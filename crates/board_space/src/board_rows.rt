@@ -297,7 +297,8 @@ impl BoardRows {
             seen_memory(board, &self.layout, rest.power),
             &self.layout,
             row,
-        )
+        )?;
+        Ok(())
     }
 
     /// Puts the board of a row in the place of a board of that shape.

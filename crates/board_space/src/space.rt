@@ -65,6 +65,7 @@ fn fresh_board(
     requires { length payload.now ≤ ram_bytes_of shape.now }
     ensures board { IfOk result (λ b. b.board ≡ Off (standing reason None)) }
     ensures size { IfOk result (λ b. b.size ≡ shape.now) }
+    ensures raw { IfOk result (λ b. b.machine.size ≡ shape.now) }
     ensures memory { IfOk result (λ b. b.machine.memory ≡ boot_memory shape.now payload.now) }
 {
     let Ok(mut board) = Board::new(alloc, shape, reason) else {
@@ -157,6 +158,8 @@ impl BoardSpace {
     pub fn first_board(&self) -> Result<Board, Refused>
         ensures board { IfOk result (λ b. b.board ≡ Off (standing self.now.reason None)) }
         ensures size { IfOk result (λ b. b.size ≡ self.now.shape) }
+        ensures raw { IfOk result (λ b. b.machine.size ≡ self.now.shape) }
+        ensures memory { IfOk result (λ b. b.machine.memory ≡ boot_memory self.now.shape self.now.payload.items) }
     {
         fresh_board(self.alloc, &self.shape, &self.payload, self.reason)
     }
@@ -451,9 +454,8 @@ impl System for BoardSpace {
 
     fn start(&mut self) -> Result<Vec<u32>, Refused> {
         let board = self.first_board()?;
-        self.board = board;
-        self.rows.row_of(&self.board, &mut self.row)?;
-        Ok(self.row.clone()?)
+        self.rows.row_of(&board, &mut self.row)?;
+        Ok(self.row.as_slice().to_vec(self.alloc)?)
     }
 
     fn expand(&mut self, row: &[u32], found: &mut Successors) -> Result<Expansion, Refused> {

@@ -12,4 +12,8 @@ returns-in-Off-clause-put c =
     c.put-in-Off.ensures.put)
 
 pub returns-in-Ended-clause-put : goal.returns-in-Ended-clause-put
-returns-in-Ended-clause-put c = ?
+returns-in-Ended-clause-put c =
+    rw c.in-Ended.is
+    (IfOk-weaker c.put-in-Ended.result _ _
+    (λ n put. at_same c.put-in-Ended.new.self.records.items n c.stopped-in-Ended.result _ put (c.stopped-in-Ended.ensures ∙ sym (stopped_at c.args.board.now.machine.size.harts c.args.hart (never_started c.args.hart) c.requires)))
+    c.put-in-Ended.ensures.put)

@@ -1,4 +1,5 @@
 use Rattle.std.proofs.Common.{rules, ℕ, ◌≡◌, ◌+◌, ◌<◌, ⊎_elim, inl, inr, length, subst, sym, arith}
+use Rattle.std.specs.Prelude.{slice_index}
 use Rattle.std.proofs.lemmas.Bool.{cases_lt}
 use Rattle.std.proofs.lemmas.Result.{IfOk-weaker}
 use Rattle.board_space.specs.Tracked.{IsKept}
@@ -28,8 +29,7 @@ loop-word-preserved c =
               | inl below ↦ until.added k below is
               | inr from ↦ (
                   let same : k ≡ c.loop-word.word = omega arith in
-                  let other = w.if-groups-word in
-                  ?)
+                  absurd (w.if-groups-word.false (subst (λ (n : ℕ). slice_index c.args.groups.now n ≡ c.args.group) same is)))
             ];
             only = until.only;
           })
