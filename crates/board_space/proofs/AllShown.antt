@@ -1,10 +1,9 @@
 -- What all ends among the first rows show.
-use Rattle.std.proofs.Common.{◌≡◌, ◌⊎◌, ⊎_elim, ℕ, ◌+◌, ◌<◌, ◌≤◌, Bool, true, false, List, Option, Some, None, IfSome, sym, ◌∙◌, subst, arith}
+use Rattle.std.proofs.Common.{◌≡◌, ⊎_elim, ℕ, ◌+◌, ◌<◌, ◌≤◌, List, Option, Some, None, IfSome, subst, arith}
 use Rattle.std.proofs.lemmas.Bool.{cases_lt}
-use Rattle.std.specs.Prelude.{slice_index_or}
 use Rattle.model_board.specs.Boards.{Board}
 use Rattle.state_space.specs.declared.graph.Graph.{Graph}
-use Rattle.state_space.specs.Graphs.{IsEnd, row_at, expanded_of}
+use Rattle.state_space.specs.Graphs.{IsEnd, row_at}
 use Rattle.board_space.specs.Shown.{Shows, IsSame, AllShow}
 use Rattle.board_space.specs.declared.outcomes.Outcome.{Outcome}
 

@@ -1,5 +1,5 @@
 -- What is answered, or refused.
-use Rattle.std.proofs.Common.{◌≡◌, Bool, true, false, IfOk, IfSome, Ok, Err, Option, Some, None}
+use Rattle.std.proofs.Common.{◌≡◌, false, IfOk, IfSome, Ok, Err, Option, Some, None}
 use Rattle.std.specs.Prelude.{Result, IfNone}
 use Rattle.std.specs.Option.{is_some}
 

@@ -1,17 +1,17 @@
 -- A board that a row stands for has what the row has.
 use Rattle.std.proofs.Common.{ℕ, List, Bool, ◌≡◌, ◌+◌, ◌*◌, ◌<◌, ◌≤◌, length, refl, sym, ap, subst, ◌∙◌, arith}
-use Rattle.std.specs.Prelude.{get_or, slice_index, map, take, Option, None}
+use Rattle.std.specs.Prelude.{get_or, slice_index, take}
 use Rattle.std.proofs.lemmas.List.{get_or-map, get_or-take, get_or_read, length-take, length-take-le}
 use Rattle.board_model.specs.Shapes.{Size}
 use Rattle.board_model.specs.declared.durable.Reason.{Reason}
 use Rattle.hart.specs.State.{ArchState}
 use Rattle.hsm.specs.Copies.{state_told}
-use Rattle.hsm.specs.States.{HartState, stopped}
+use Rattle.hsm.specs.States.{stopped}
 use Rattle.hsm.specs.declared.standings.Standing.{Standing}
 use Rattle.hsm.specs.declared.standings.Standing.TheVariants as told
 use Rattle.machine.specs.Machine.{Machine, hart_at}
 use Rattle.model_board.specs.Boards.{Board, On, Off, Ended}
-use Rattle.model_board.specs.Plain.{Sized, board_shown, standing}
+use Rattle.model_board.specs.Plain.{Sized, board_shown}
 use Rattle.model_board.specs.Rests.{Fits, IsCopy, IsRest, with_rest, table_copied}
 use Rattle.model_board.specs.declared.powers.Power.{Power}
 use Rattle.model_board.specs.declared.powers.Power.TheVariants as powers

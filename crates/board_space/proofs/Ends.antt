@@ -1,5 +1,5 @@
 -- Whether a board is at an end, by its power, its doze and the turns of its harts.
-use Rattle.std.proofs.Common.{◌≡◌, ◌∙◌, ℕ, ◌<◌, Bool, true, false, Option, Some, None, refl, sym, ap, subst}
+use Rattle.std.proofs.Common.{◌≡◌, ℕ, ◌<◌, Bool, true, false, Option, Some, None, refl, sym, ap, subst}
 use Rattle.std.specs.Option.{is_some}
 use Rattle.board_model.specs.Shapes.{Size}
 use Rattle.board_model.specs.declared.durable.Reason.{Reason}
@@ -9,7 +9,6 @@ use Rattle.model_board.specs.Events.{TurnOn, IsEnd}
 use Rattle.model_board.specs.Plain.{status_of, board_shown}
 use Rattle.model_board.specs.declared.powers.Power.{Power}
 use Rattle.model_board.specs.declared.powers.Power.TheVariants as powers
-use Rattle.model_board.specs.declared.powers.Status.{Status}
 use Rattle.model_board.specs.declared.powers.Status.TheVariants as statuses
 
 pub ended_ends : (b : Board) → statuses.Ended ≡ status_of b → IsEnd b

@@ -1,5 +1,5 @@
 -- A board stays one on which rows can be put.
-use Rattle.std.proofs.Common.{◌≡◌, ◌≢◌, ◌⊎◌, ⊎_elim, ℕ, ◌+◌, ◌-◌, ◌*◌, ◌/◌, ◌<◌, ◌++◌, List, IsTrue, length, slice_index, replicate, refl, sym, ◌∙◌, subst, ap, arith}
+use Rattle.std.proofs.Common.{◌≡◌, ◌≢◌, ◌⊎◌, ⊎_elim, ℕ, ◌*◌, ◌/◌, ◌<◌, List, length, slice_index, sym, ◌∙◌, subst, ap, arith}
 use Rattle.board_model.specs.Shapes.{Size}
 use Rattle.model_board.specs.Boards.{Board}
 use Rattle.model_board.specs.Events.{Event, Does}

@@ -5,7 +5,7 @@ use Rattle.model_board.specs.Boards.{Board}
 use Rattle.model_board.specs.Events.{Event, Turn, IsEnd, GoesOn}
 use Rattle.model_board.specs.Maps.{Map}
 use Rattle.state_space.specs.declared.graph.Graph.{Graph}
-use Rattle.state_space.specs.Orders.{Runs, Leads, Only, Chain, Reduction, IsClosed, CanEnd}
+use Rattle.state_space.specs.Orders.{Runs, Leads, Only, Reduction, IsClosed, CanEnd}
 use Rattle.state_space.specs.Systems.{Moves}
 use Rattle.state_space.specs.Graphs.{count_of, expanded_of, row_at, first_step, target_of, event_of, StepOf, IsSearched, IsFound}
 use Rattle.state_space.specs.Deads.{ReachesEnd}

@@ -1,6 +1,5 @@
 -- Rows of numbers, and the boards for which they stand.
-use Rattle.std.specs.Prelude.{◌≡◌, ℕ, ◌+◌, ◌*◌, ◌<◌, List, length, slice_index, get_or, replicate, Bool, true, false, if◌then◌else◌, Option, Some, None}
-use Rattle.board_model.specs.Shapes.{Size}
+use Rattle.std.specs.Prelude.{◌≡◌, ℕ, ◌+◌, ◌*◌, ◌<◌, List, length, slice_index, get_or, replicate, Bool, true, false, if◌then◌else◌, Some, None}
 use Rattle.hart.specs.State.{ArchState, never_started}
 use Rattle.hsm.specs.declared.standings.Standing.TheVariants.{Stopped}
 use Rattle.machine.specs.Machine.{Machine, hart_at, stopped_harts}

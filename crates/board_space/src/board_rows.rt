@@ -13,8 +13,8 @@ ghost use Rattle.board_space.specs.Records.{IsAt, Stays};
 ghost use Rattle.board_space.specs.Rows.{IsShownByParts, Hold, AreSegments, AreHarts, Stands, Extends, Grows, no_tables, seen_rest, seen_harts, seen_memory};
 
 use crate::differs::{hart_differs, state_differs};
-use crate::row_layout::Layout;
 use crate::records::Records;
+use crate::row_layout::Layout;
 use board_model::HartId;
 use hart::Hart;
 use hsm::Standing;

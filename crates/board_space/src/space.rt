@@ -15,8 +15,8 @@ ghost use Rattle.board_space.specs.Mapped.{map_in};
 
 use crate::board_rows::BoardRows;
 use crate::happenings::{HAPPENINGS, Happening};
-use crate::row_layout::Layout;
 use crate::outcomes::Outcome;
+use crate::row_layout::Layout;
 use crate::settling::settle;
 use board_model::{HartId, Reason, Shape};
 use model_board::{Board, Break, Status, TouchMap};

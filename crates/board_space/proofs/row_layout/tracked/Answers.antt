@@ -1,4 +1,4 @@
-use Rattle.std.proofs.Common.{rules, ℕ, List, ◌≡◌, ◌<◌, ◌⊎◌, ⊎_elim, inl, inr, length, subst, arith}
+use Rattle.std.proofs.Common.{ℕ, List, ◌≡◌, ◌<◌, ◌⊎◌, ⊎_elim, inl, inr, length, subst, arith}
 use Rattle.std.specs.Prelude.{slice_index}
 use Rattle.std.proofs.lemmas.Bool.{cases_lt}
 use Rattle.board_space.specs.Tracked.{IsTracked}
@@ -9,9 +9,9 @@ loop-group-preserved c =
     let until = c.loop-group.invariant in
     let told = c.in_ok-add_group.ensures in
     let added : (k : ℕ) → k < length c.in_ok-groups.groups.items → slice_index c.in_ok-groups.groups.items k ≡ c.loop-group.group → IsTracked c.add_group.new.tracked k
-        = subst (λ (g : List ℕ). (k : ℕ) → k < length g → slice_index g k ≡ c.loop-group.group → IsTracked c.add_group.new.tracked k) c.deref.ensures.value told.added in
+    = subst (λ (g : List ℕ). (k : ℕ) → k < length g → slice_index g k ≡ c.loop-group.group → IsTracked c.add_group.new.tracked k) c.deref.ensures.value told.added in
     let only : (k : ℕ) → IsTracked c.add_group.new.tracked k → IsTracked c.loop-group.tracked k ⊎ (k < length c.in_ok-groups.groups.items)
-        = subst (λ (g : List ℕ). (k : ℕ) → IsTracked c.add_group.new.tracked k → IsTracked c.loop-group.tracked k ⊎ (k < length g)) c.deref.ensures.value told.only in
+    = subst (λ (g : List ℕ). (k : ℕ) → IsTracked c.add_group.new.tracked k → IsTracked c.loop-group.tracked k ⊎ (k < length g)) c.deref.ensures.value told.only in
     record {
       none = told.none;
       covers = λ k low is. elim (cases_lt (slice_index c.in_ok-groups.groups.items k) c.loop-group.group) [

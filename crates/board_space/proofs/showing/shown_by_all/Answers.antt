@@ -1,4 +1,4 @@
-use Rattle.std.proofs.Common.{rules, ℕ, List, true, false, ◌≡◌, ◌∙◌, ◌<◌, Option, IfSome, sym, subst, arith}
+use Rattle.std.proofs.Common.{ℕ, List, true, false, ◌≡◌, ◌∙◌, ◌<◌, Option, IfSome, sym, subst, arith}
 use Rattle.model_board.specs.Boards.{Board}
 use Rattle.state_space.specs.Graphs.{count_of, expanded_of}
 use Rattle.board_space.specs.Rows.{Stands}

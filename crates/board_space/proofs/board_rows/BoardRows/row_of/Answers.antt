@@ -1,7 +1,7 @@
 use Rattle.std.proofs.Common.{rules, ℕ, List, [], ◌∷◌, ◌≡◌, ◌∙◌, ◌<◌, length, refl, sym, ap, subst}
 use Rattle.std.specs.Prelude.{slice_index}
 use Rattle.machine.specs.Machine.{Machine}
-use Rattle.board_space.specs.Layouts.{base_of, tracked_of}
+use Rattle.board_space.specs.Layouts.{tracked_of}
 use Rattle.board_space.specs.Rows.{AreSegments}
 use Rattle.board_space.specs.Tracked.{AreWithin}
 use Rattle.board_space.specs.declared.board_rows.BoardRows.{BoardRows}

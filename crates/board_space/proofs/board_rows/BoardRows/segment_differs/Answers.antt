@@ -1,4 +1,4 @@
-use Rattle.std.proofs.Common.{ℕ, List, ◌≡◌, ◌∙◌, ◌+◌, ◌*◌, ◌<◌, length, sym, ap, subst}
+use Rattle.std.proofs.Common.{ℕ, List, ◌∙◌, ◌+◌, ◌*◌, ◌<◌, length, sym, ap, subst}
 use Rattle.std.specs.Prelude.{slice_index}
 use Rattle.ram.specs.Memory.{value}
 use Rattle.state_space.specs.Numbered.{words_of}

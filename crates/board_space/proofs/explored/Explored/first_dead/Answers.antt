@@ -1,4 +1,4 @@
-use Rattle.std.proofs.Common.{ℕ, ◌≡◌, ◌∙◌, ◌<◌, ◌≤◌, IfOk, IfSome, sym, subst, arith}
+use Rattle.std.proofs.Common.{◌≡◌, ◌∙◌, ◌<◌, ◌≤◌, IfOk, IfSome, sym, subst, arith}
 use Rattle.model_board.specs.Boards.{Board}
 use Rattle.model_board.specs.Events.{GoesOn, IsEnd}
 use Rattle.state_space.specs.Deads.{ReachesEnd}

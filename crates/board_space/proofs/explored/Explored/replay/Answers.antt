@@ -1,4 +1,4 @@
-use Rattle.std.proofs.Common.{◌≡◌, sym, subst}
+use Rattle.std.proofs.Common.{sym, subst}
 use Rattle.board_space.specs.Space.{Asked, Happens}
 use Rattle.board_space.proofs.explored.Explored.replay.Goals as goal
 

@@ -1,4 +1,4 @@
-use Rattle.std.proofs.Common.{ℕ, List, IfOk, IfSome, subst}
+use Rattle.std.proofs.Common.{IfOk, IfSome, subst}
 use Rattle.state_space.specs.Ways.{IsWay}
 use Rattle.board_space.specs.Mapped.{map_in}
 use Rattle.board_space.specs.Settings.{asked_of}

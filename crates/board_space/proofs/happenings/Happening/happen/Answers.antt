@@ -1,6 +1,5 @@
-use Rattle.std.proofs.Common.{◌≡◌, ◌⊎◌, ⊎_elim, inl, inr, subst, sym}
-use Rattle.model_board.specs.Events.{Event}
-use Rattle.model_board.specs.Maps.{Map, Keeps, SameOutside}
+use Rattle.std.proofs.Common.{⊎_elim, inl, inr, subst}
+use Rattle.model_board.specs.Maps.{Keeps}
 use Rattle.board_space.specs.Happenings.{event_of}
 use Rattle.board_space.specs.declared.happenings.Happening.{Happening}
 use Rattle.board_space.proofs.Ready.{same_memory}

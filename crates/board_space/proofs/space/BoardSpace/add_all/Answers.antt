@@ -1,13 +1,12 @@
 use Rattle.std.proofs.Common.{◌≡◌, ◌∙◌, ℕ, sym, subst, arith}
 use Rattle.model_board.specs.Boards.{Board}
-use Rattle.model_board.specs.Events.{Event}
 use Rattle.board_space.specs.Expanding.{IsTeller, AreTold}
 use Rattle.board_space.specs.Happenings.{event_of}
 use Rattle.board_space.specs.Mapped.{map_in}
 use Rattle.board_space.specs.OneBoard.{one_board}
 use Rattle.board_space.specs.Rows.{Stands}
-use Rattle.board_space.specs.Settings.{Setting, asked_of, setting_of}
-use Rattle.board_space.specs.Space.{IsOne, KeepsEach, number_of}
+use Rattle.board_space.specs.Settings.{Setting, asked_of}
+use Rattle.board_space.specs.Space.{IsOne, KeepsEach}
 use Rattle.board_space.proofs.Moves.{told_more, told_other}
 use Rattle.board_space.proofs.space.BoardSpace.add_all.Goals as goal
 use Rattle.board_space.proofs.space.BoardSpace.add_all.Goals.{in-Some+in_ok-add, in_default}

@@ -1,4 +1,4 @@
-use Rattle.std.proofs.Common.{ℕ, List, ◌≡◌, ◌≢◌, ◌∙◌, ◌*◌, ◌<◌, ◌≤◌, length, sym, ap, subst, IsTrue, arith}
+use Rattle.std.proofs.Common.{ℕ, List, ◌≡◌, ◌≢◌, ◌∙◌, ◌<◌, ◌≤◌, length, sym, ap, subst}
 use Rattle.std.specs.Prelude.{slice_index}
 use Rattle.board_model.specs.Shapes.{ram_bytes_of}
 use Rattle.model_board.specs.Masks.{Masks, map_of}
@@ -20,7 +20,7 @@ invariant_of-result c =
     let base : base_of layout ≡ boot_memory c.args.shape.now items = ap (λ (l : Layout). base_of l) made ∙ (c.in_ok-new.ensures.base ∙ ap (λ (p : List ℕ). boot_memory c.args.shape.now p) (sym is)) in
     let long : length (base_of layout) ≡ ram_bytes_of c.args.shape.now = layout.whole ∙ ap ram_bytes_of size in
     let covers : (k : ℕ) → k < length masks → slice_index masks k ≢ 0 → IsTracked (tracked_of c.in_ok-new.field-0) k
-        = subst (λ (m : List ℕ). (k : ℕ) → k < length m → slice_index m k ≢ 0 → IsTracked (tracked_of c.in_ok-new.field-0) k) c.deref.ensures.value c.in_ok-new.ensures.covers in
+    = subst (λ (m : List ℕ). (k : ℕ) → k < length m → slice_index m k ≢ 0 → IsTracked (tracked_of c.in_ok-new.field-0) k) c.deref.ensures.value c.in_ok-new.ensures.covers in
     record {
       fits = subst (λ (p : List ℕ). length p ≤ ram_bytes_of c.args.shape.now) (sym is) c.requires;
       size = size;

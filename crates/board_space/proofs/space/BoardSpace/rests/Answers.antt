@@ -1,6 +1,5 @@
 use Rattle.std.proofs.Common.{ℕ, ◌≡◌, ◌∙◌, ◌<◌, inl, inr, sym, ap, subst, arith}
 use Rattle.std.proofs.lemmas.Bool.{cases_lt}
-use Rattle.board_model.specs.Shapes.{Size}
 use Rattle.model_board.specs.Boards.{Board}
 use Rattle.model_board.specs.Events.{TurnOn}
 use Rattle.model_board.specs.Maps.{TurnKeeps}

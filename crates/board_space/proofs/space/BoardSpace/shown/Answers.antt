@@ -1,6 +1,6 @@
 use Rattle.std.proofs.Common.{◌≡◌, ◌∙◌, List, ℕ, sym, subst, ap}
 use Rattle.std.specs.Prelude.{slice_range}
-use Rattle.model_board.specs.Boards.{Board, Life, Standing, On, Ended}
+use Rattle.model_board.specs.Boards.{Board, Life, On, Ended}
 use Rattle.model_board.specs.Plain.{Sized}
 use Rattle.model_board.specs.Rests.{with_rest}
 use Rattle.board_space.specs.Shown.{Shows}

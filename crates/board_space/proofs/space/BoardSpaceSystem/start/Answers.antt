@@ -17,7 +17,9 @@ row_of-requires c = record {
 pub returns-clause-first : goal.returns-clause-first
 returns-clause-first c =
     let start : Board = Off (standing c.args.self.now.reason None) in
-    let is : c.in_ok-to_vec.field-0.items ≡ c.row_of.new.row.items = c.in_ok-to_vec.ensures.items_if_clones_equal (λ x y same. same) ∙ c.as_slice.ensures.value in
-    (start, settled c.args.self.now.shape (map_in c.args.self.now.map) start,
-    subst (λ (r : List ℕ). Stands c.row_of.new.self r start) (sym is)
-    (subst (λ (b : Board). Stands c.row_of.new.self c.row_of.new.row.items b) c.in_ok-board.ensures.board c.in_ok-row_of.ensures.stands))
+    let is : c.in_ok-to_vec.field-0.items ≡ c.row_of.new.row.items = c.in_ok-to_vec.ensures.items_if_clones_equal (λ x y same. same) ∙ c.as_slice.ensures.value in (
+      start,
+      settled c.args.self.now.shape (map_in c.args.self.now.map) start,
+      subst (λ (r : List ℕ). Stands c.row_of.new.self r start) (sym is)
+          (subst (λ (b : Board). Stands c.row_of.new.self c.row_of.new.row.items b) c.in_ok-board.ensures.board c.in_ok-row_of.ensures.stands),
+    )
