@@ -1,0 +1,16 @@
+pub mod Differing
+pub mod Kept
+pub mod Numbers
+pub mod Telling
+pub mod Putting
+pub mod Reduced
+pub mod Every
+pub mod Chains
+pub mod Ready
+pub mod Moves
+pub mod EventNumbers
+pub mod Ends
+pub mod AllShown
+pub mod Tracking
+pub mod Stuck
+pub mod Answered

@@ -1,0 +1,15 @@
+pub mod Records
+pub mod Tracked
+pub mod Layouts
+pub mod Rows
+pub mod OneMemory
+pub mod OneBoard
+pub mod Space
+pub mod Happenings
+pub mod Mapped
+pub mod Ready
+pub mod Expanding
+pub mod Settings
+pub mod Shown
+pub mod WaysOf
+pub mod Explorations

@@ -1,0 +1,248 @@
+//! What a program asks of a kernel: all boards that its boot may lead to, and what they say of every order.
+
+ghost use Rattle.std.specs.Prelude.{◌≡◌, ◌≤◌, ◌<◌, ℕ, List, IfOk, IfSome, IfNone, OnOk, Ok, Some, true, false, length};
+ghost use Rattle.board_model.specs.Shapes.{ram_bytes_of};
+ghost use Rattle.model_board.specs.Boards.{Board as AnyBoard};
+ghost use Rattle.model_board.specs.Events.{Event, GoesOn, IsEnd};
+ghost use Rattle.state_space.specs.Orders.{Runs, Leads, CanEnd};
+ghost use Rattle.board_space.specs.Happenings.{event_of};
+ghost use Rattle.board_space.specs.Space.{Asked, Happens, IsOne, number_of, start_of};
+
+use crate::happenings::Happening;
+use crate::orders::{StandsFor, every_order};
+use crate::outcomes::Outcome;
+use crate::seeds::{allow, seed};
+use crate::settling::settle_one;
+use crate::showing::shown_by_all;
+use crate::space::{BoardSpace, Failures};
+use board_model::{HartId, Reason, Shape};
+use model_board::{Board, TouchMap};
+use state_space::{Graph, Limits, Refused, Verdict, explore, first_dead, way_to};
+use std::alloc::Global;
+use std::marker::Model;
+
+/// What is asked of a kernel.
+#[derive(Drop)]
+pub struct Question<'a> {
+    /// The board.
+    pub shape: Shape,
+    /// The kernel: what its boot slot holds, at most as long as RAM.
+    pub payload: &'a [u8],
+    /// The reset reason that its first boot finds.
+    pub reason: Reason,
+    /// Which failures may come.
+    pub failures: Failures,
+    /// Where the search is given up.
+    pub limits: Limits,
+}
+
+/// How often a search starts over with a wider map before it is given up.
+const MOST_MAPS: u32 = 10_000;
+
+/// The boards that some events lead to from one that was never on, as far as the search went.
+#[derive(Drop)]
+pub struct Explored {
+    alloc: Global,
+    graph: Graph,
+    space: BoardSpace,
+    verdict: Verdict,
+}
+
+impl Model for Explored {
+    ghost use Rattle.board_space.specs.Space.{Asked};
+
+    ghost Value = { Asked };
+
+    ghost use Rattle.board_space.specs.Settings.{asked_of};
+    ghost use Rattle.board_space.specs.Explorations.{IsSearchOf};
+
+    ghost view = { λ e. asked_of e.space };
+
+    ghost invariant = { λ e. IsSearchOf e.space e.graph };
+}
+
+impl StandsFor for BoardSpace {
+    ghost use Rattle.board_space.specs.Rows.{Stands};
+    ghost use Rattle.board_space.specs.declared.space.BoardSpace.{BoardSpace as Space};
+
+    ghost Tables = { Space };
+
+    ghost stands = { λ s. Stands s.rows };
+}
+
+/// Explores a kernel. Refused where there is no room, and where more than 10,000 maps were tried.
+pub fn explore_board(alloc: Global, question: &Question) -> Result<Explored, Refused>
+    requires { length question.now.payload.now ≤ ram_bytes_of question.now.shape }
+    ensures { IfOk result (λ e. e ≡ record {
+      size = question.now.shape;
+      payload = question.now.payload.now;
+      reason = question.now.reason;
+      cuts = question.now.failures.cuts;
+      refusals = question.now.failures.refusals;
+    }) }
+{
+    let Ok(mut map) = TouchMap::new(alloc, &question.shape) else {
+        return Err(Refused::Memory);
+    };
+    seed(alloc, question, &mut map)?;
+    for _round in 0..MOST_MAPS {
+        let mut space = BoardSpace::new(
+            alloc,
+            &question.shape,
+            question.payload,
+            question.reason,
+            question.failures,
+            map,
+        )?;
+        let (graph, verdict) = explore(alloc, &mut space, question.limits)?;
+        let Some((hart, broke)) = space.broke() else {
+            return Ok(Explored {
+                alloc,
+                graph,
+                space,
+                verdict,
+            });
+        };
+        map = space.into_map();
+        allow(&mut map, hart, broke);
+    }
+    Err(Refused::Numbers)
+}
+
+impl Explored {
+    ghost use Rattle.board_space.specs.Shown.{Shows};
+    ghost use Rattle.board_space.specs.WaysOf.{IsWayOf};
+
+    /// What every order shows at its end: `Some` only where the search is closed, no board that was found is dead, and all ends that were
+    /// found show the same in the bytes `from..to` of RAM. It speaks of all orders of the events that were asked for, of any length: each end
+    /// shows it, and from each board that they lead to, some events that are no failures lead to an end.
+    pub fn outcome(&mut self, from: usize, to: usize) -> Result<Option<Outcome>, Refused>
+        requires order { from ≤ to }
+        requires within { to ≤ ram_bytes_of self.old.size }
+        ensures ends { IfOk result (λ found. IfSome found (λ outcome. (events : List Event) (last : AnyBoard)
+            → Runs (Happens self.old) events (start_of self.old) last → IsEnd last → Shows from to outcome last)) }
+        ensures no_dead_end { IfOk result (λ found. IfSome found (λ outcome. (events : List Event) (last : AnyBoard)
+            → Runs (Happens self.old) events (start_of self.old) last → CanEnd (Happens self.old) GoesOn IsEnd last)) }
+        ensures same { self.new ≡ self.old }
+    {
+        every_order::<BoardSpace>();
+        if self.graph.expanded() != self.graph.count() {
+            return Ok(None);
+        }
+        if first_dead(self.alloc, &self.space, &self.graph)?.is_some() {
+            return Ok(None);
+        }
+        shown_by_all(&mut self.space, &self.graph, from, to)
+    }
+
+    /// How the search ended.
+    pub fn verdict(&self) -> Verdict {
+        self.verdict
+    }
+
+    /// Whether each board that was found is expanded.
+    pub fn is_closed(&self) -> bool {
+        self.graph.expanded() == self.graph.count()
+    }
+
+    /// How many boards were found.
+    pub fn count(&self) -> usize {
+        self.graph.count()
+    }
+
+    /// How many steps there are between them.
+    pub fn steps(&self) -> usize {
+        self.graph.steps()
+    }
+
+    /// Which hart may touch which word, by the map that held.
+    pub fn map(&self) -> &TouchMap {
+        self.space.map()
+    }
+
+    /// The rows of the boards that are at an end, among those that are expanded.
+    pub fn ends(&self) -> Result<Vec<usize>, Refused> {
+        let mut ends = Vec::new(self.alloc);
+        for row in 0..self.graph.expanded() {
+            if self.graph.is_end(row) {
+                ends.push(row)?;
+            }
+        }
+        Ok(ends)
+    }
+
+    /// The first row whose board comes to no end by events that are no failures, where the search is closed. So some events lead to a
+    /// board from which no such events lead to an end.
+    pub fn first_dead(&self) -> Result<Option<usize>, Refused>
+        ensures { IfOk result (λ found. IfSome found (λ _. (b : AnyBoard) × Leads (Happens self.now) (start_of self.now) b
+            × (CanEnd (Happens self.now) GoesOn IsEnd b → ⊥))) }
+    {
+        every_order::<BoardSpace>();
+        let _few = self.space.harts();
+        if self.graph.expanded() != self.graph.count() {
+            return Ok(None);
+        }
+        first_dead(self.alloc, &self.space, &self.graph)
+    }
+
+    /// The events, by their numbers, of a way from the start to a row, before the first of which and after each the board settles. `None`
+    /// where there is no such row.
+    pub fn way(&self, row: usize) -> Result<Option<Vec<u8>>, Refused>
+        ensures { IfOk result (λ found. IfSome found (λ way. IsWayOf self.now way.items)) }
+    {
+        every_order::<BoardSpace>();
+        way_to(self.alloc, &self.graph, row)
+    }
+
+    /// The board of a row: some events lead to it.
+    pub fn board(&mut self, row: usize) -> Option<&Board>
+        ensures { IfSome result (λ board. Leads (Happens self.old) (start_of self.old) board.now.board) }
+    {
+        every_order::<BoardSpace>();
+        if self.graph.count() <= row {
+            return None;
+        }
+        self.space.show(self.graph.row(row));
+        Some(self.space.current())
+    }
+
+    /// The board with which the search began.
+    pub fn first_board(&self) -> Result<Board, Refused>
+        ensures board { IfOk result (λ b. b.board ≡ start_of self.now) }
+        ensures size { IfOk result (λ b. b.size ≡ self.now.size) }
+    {
+        self.space.first_board()
+    }
+
+    /// The happening of that number, where it was asked for.
+    pub fn happening(&self, number: u8) -> Option<Happening>
+        ensures some { IfSome result (λ h. IsOne self.now (event_of h) × (number_of (event_of h) ≡ number)) }
+        ensures none { IfNone result ((e : Event) → IsOne self.now e → number_of e ≡ number → ⊥) }
+    {
+        self.space.happening(number)
+    }
+
+    /// Makes a happening happen to a board, and answers whether it could. The board has not settled then.
+    pub fn replay(&self, board: &mut Board, number: u8) -> bool
+        requires { board.old.size ≡ self.now.size }
+        ensures happens { result ≡ true → (e : Event) × (number_of e ≡ number) × Happens self.now e board.old.board board.new.board }
+        ensures never { result ≡ false → (e : Event) (c : AnyBoard) → number_of e ≡ number
+            → Happens self.now e board.old.board c → ⊥ }
+        ensures size { board.new.size ≡ board.old.size }
+    {
+        self.space.replay(board, number)
+    }
+
+    /// Makes the local turns of a hart by which a board settles, and answers how many. A board settles by those of hart 0 first, then by those
+    /// of the next, up to the last.
+    pub fn settle(&self, board: &mut Board, number: u64) -> u32
+        ensures turns { board.old.size ≡ self.now.size → Leads (Happens self.now) board.old.board board.new.board }
+        ensures size { board.new.size ≡ board.old.size }
+    {
+        every_order::<BoardSpace>();
+        match board.machine().shape().hart(number) {
+            Some(hart) => settle_one(board, self.space.map(), hart),
+            None => 0,
+        }
+    }
+}

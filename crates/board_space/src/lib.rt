@@ -1,0 +1,28 @@
+//! The states of a model board, explored: boards as rows of numbers and back, exactly; all boards that some orders of events lead to; and what
+//! they say of every order.
+#![tactic(auto)]
+
+mod board_rows;
+mod differs;
+mod explored;
+mod happenings;
+mod keys;
+mod orders;
+mod outcomes;
+mod records;
+mod row_layout;
+mod seeds;
+mod settling;
+mod showing;
+mod space;
+#[cfg(test)]
+mod tests;
+
+pub use board_rows::BoardRows;
+pub use explored::{Explored, Question, explore_board};
+pub use happenings::Happening;
+pub use orders::{StandsFor, every_order};
+pub use outcomes::Outcome;
+pub use records::{Recorded, Records};
+pub use row_layout::Layout;
+pub use space::{BoardSpace, Failures};

@@ -1,0 +1,97 @@
+//! A map to begin with, by runs at random. It is a guess: what it lacks is found by the search, which then starts over.
+
+ghost use Rattle.std.specs.Prelude.{◌≡◌, ◌<◌, ◌≤◌, length};
+ghost use Rattle.board_model.specs.Shapes.{ram_bytes_of};
+
+use crate::explored::Question;
+use board_model::HartId;
+use model_board::{Board, Break, Status, TouchMap};
+use state_space::Refused;
+use std::alloc::Global;
+
+/// How many turns a run has.
+const TURNS: u64 = 50_000;
+
+/// The next number of a sequence that looks random (Marsaglia, Xorshift RNGs, 2003).
+fn draw(state: &mut u64) -> u64 {
+    *state ^= *state << 13;
+    *state ^= *state >> 7;
+    *state ^= *state << 17;
+    *state
+}
+
+/// Lets a hart do what broke the map.
+pub(crate) fn allow(map: &mut TouchMap, hart: HartId, broke: Break) {
+    match broke {
+        Break::Reads(word) => map.let_read(hart, word),
+        Break::Writes(word) => map.let_write(hart, word),
+        Break::Sends(target) => map.let_send(hart, target),
+    }
+}
+
+/// Widens the map by what the next turn of a hart touches, which is four things at most.
+fn widen(board: &mut Board, map: &mut TouchMap, hart: HartId)
+    requires { hart < board.old.size.harts }
+    ensures { board.new ≡ board.old }
+{
+    for touch in 0..12u8 {
+        match board.keeps(hart, map) {
+            Ok(()) => return,
+            Err(broke) => allow(map, hart, broke),
+        }
+    }
+}
+
+/// Brings a board on where it is off, and wakes it where it dozes. Whether it is on then.
+fn bring_on(board: &mut Board, payload: &[u8]) -> bool
+    requires { length payload.now ≤ ram_bytes_of board.old.size }
+    ensures { board.new.size ≡ board.old.size }
+{
+    match board.status() {
+        Status::On => {
+            let _woke = board.wake();
+            true
+        }
+        Status::Off => board.power_on(payload),
+        Status::Ended => false,
+    }
+}
+
+/// A run of turns of harts that are drawn, each for a number of turns that is drawn below `longest`.
+fn run(board: &mut Board, question: &Question, map: &mut TouchMap, longest: u64, state: &mut u64)
+    requires fits { length question.now.payload.now ≤ ram_bytes_of question.now.shape }
+    requires size { board.old.size ≡ question.now.shape }
+    requires some { 0 < longest }
+{
+    let harts = u64::from(question.shape.harts());
+    let mut left = 0;
+    let mut turning = None;
+    for turn in 0..TURNS {
+        if left == 0 {
+            if !bring_on(board, question.payload) {
+                return;
+            }
+            turning = question.shape.hart(draw(state) % harts);
+            left = 1 + draw(state) % longest;
+        }
+        left -= 1;
+        if let Some(hart) = turning {
+            widen(board, map, hart);
+            board.turn(hart);
+        }
+    }
+}
+
+/// Widens a map by what some runs from a boot touch.
+pub(crate) fn seed(alloc: Global, question: &Question, map: &mut TouchMap) -> Result<(), Refused>
+    requires { length question.now.payload.now ≤ ram_bytes_of question.now.shape }
+{
+    let mut state = 0x9e37_79b9_7f4a_7c15;
+    for longest in [1, 10, 100, 1000] {
+        let Ok(mut board) = Board::new(alloc, &question.shape, question.reason) else {
+            return Err(Refused::Memory);
+        };
+        run(&mut board, question, map, longest, &mut state);
+    }
+    Ok(())
+}

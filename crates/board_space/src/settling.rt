@@ -1,0 +1,133 @@
+//! Local turns, made until one is not: what a board settles to. How far they go is a guess; that each is local is not.
+
+ghost use Rattle.std.specs.Prelude.{◌≡◌, ◌<◌, ◌≤◌};
+ghost use Rattle.model_board.specs.Maps.{SameOutside};
+ghost use Rattle.board_space.specs.Mapped.{map_in};
+ghost use Rattle.board_space.specs.Space.{Settles};
+
+use board_model::{HartId, Shape};
+use hart::Hart;
+use model_board::{Board, TouchMap};
+use rv_decode::Reg;
+
+/// The most turns of a hart in one go.
+const MOST_TURNS: u32 = 10_000;
+
+/// Whether a hart stands before another, by its pc and its registers in their order: any order would do.
+fn is_less(a: &Hart, b: &Hart) -> bool {
+    if a.pc() != b.pc() {
+        return a.pc() < b.pc();
+    }
+    for number in 1..32u8 {
+        let register = Reg::new(number);
+        if a.reg(register) != b.reg(register) {
+            return a.reg(register) < b.reg(register);
+        }
+    }
+    false
+}
+
+/// Makes local turns of a hart until one is not, or until the hart stands as it stood before. How many they were, and whether it does.
+#[tactic(auto, using(crate::proofs::Chains::settled, crate::proofs::Chains::settles_by, crate::proofs::Chains::same_outside, crate::proofs::Chains::outside_on))]
+fn run(board: &mut Board, map: &TouchMap, hart: HartId) -> (u32, bool)
+    requires { hart < board.old.size.harts }
+    ensures few { result.0 ≤ 10000 }
+    ensures settles { Settles board.old.size (map_in map.now) board.old.board board.new.board }
+    ensures size { board.new.size ≡ board.old.size }
+    ensures raw { board.new.machine.size ≡ board.old.machine.size }
+    ensures memory { SameOutside (map_in map.now) board.old.machine.memory board.new.machine.memory }
+{
+    let mut seen = board.machine().hart(hart).copy();
+    let mut next = 16;
+    for turn in 1..=MOST_TURNS {
+        if !board.move_alone(hart, map) {
+            return (turn - 1, false);
+        }
+        let stands = board.machine().hart(hart);
+        if stands.is_as(&seen) {
+            return (turn, true);
+        }
+        if turn == next {
+            seen = stands.copy();
+            next *= 2;
+        }
+    }
+    (MOST_TURNS, false)
+}
+
+/// The least that a hart stands as, while it goes round once more, and how many turns these are.
+#[tactic(auto, using(crate::proofs::Chains::settled, crate::proofs::Chains::settles_by, crate::proofs::Chains::same_outside, crate::proofs::Chains::outside_on))]
+fn go_round(board: &mut Board, map: &TouchMap, hart: HartId) -> (u32, Hart)
+    requires { hart < board.old.size.harts }
+    ensures few { result.0 ≤ 10000 }
+    ensures settles { Settles board.old.size (map_in map.now) board.old.board board.new.board }
+    ensures size { board.new.size ≡ board.old.size }
+    ensures raw { board.new.machine.size ≡ board.old.machine.size }
+    ensures memory { SameOutside (map_in map.now) board.old.machine.memory board.new.machine.memory }
+{
+    let first = board.machine().hart(hart).copy();
+    let mut least = first.copy();
+    for turn in 1..=MOST_TURNS {
+        if !board.move_alone(hart, map) {
+            return (turn - 1, least);
+        }
+        let stands = board.machine().hart(hart);
+        if stands.is_as(&first) {
+            return (turn, least);
+        }
+        if is_less(stands, &least) {
+            least = stands.copy();
+        }
+    }
+    (MOST_TURNS, least)
+}
+
+/// Makes local turns of a hart until it stands so, and answers how many.
+#[tactic(auto, using(crate::proofs::Chains::settled, crate::proofs::Chains::settles_by, crate::proofs::Chains::same_outside, crate::proofs::Chains::outside_on))]
+fn run_to(board: &mut Board, map: &TouchMap, hart: HartId, at: &Hart) -> u32
+    requires { hart < board.old.size.harts }
+    ensures few { result ≤ 10000 }
+    ensures settles { Settles board.old.size (map_in map.now) board.old.board board.new.board }
+    ensures size { board.new.size ≡ board.old.size }
+    ensures raw { board.new.machine.size ≡ board.old.machine.size }
+    ensures memory { SameOutside (map_in map.now) board.old.machine.memory board.new.machine.memory }
+{
+    for turn in 0..MOST_TURNS {
+        if board.machine().hart(hart).is_as(at) || !board.move_alone(hart, map) {
+            return turn;
+        }
+    }
+    MOST_TURNS
+}
+
+/// Makes local turns of a hart, and answers how many. Where it goes round in them, it ends at the least that it stands as.
+#[tactic(auto, using(crate::proofs::Chains::settled, crate::proofs::Chains::settles_on, crate::proofs::Chains::same_outside, crate::proofs::Chains::outside_on))]
+pub(crate) fn settle_one(board: &mut Board, map: &TouchMap, hart: HartId) -> u32
+    requires { hart < board.old.size.harts }
+    ensures settles { Settles board.old.size (map_in map.now) board.old.board board.new.board }
+    ensures size { board.new.size ≡ board.old.size }
+    ensures raw { board.new.machine.size ≡ board.old.machine.size }
+    ensures memory { SameOutside (map_in map.now) board.old.machine.memory board.new.machine.memory }
+{
+    let (turns, is_round) = run(board, map, hart);
+    if !is_round {
+        return turns;
+    }
+    let (round, least) = go_round(board, map, hart);
+    turns + round + run_to(board, map, hart, &least)
+}
+
+/// Makes local turns of each hart in turn.
+#[tactic(auto, using(crate::proofs::Chains::settled, crate::proofs::Chains::settles_on, crate::proofs::Chains::same_outside, crate::proofs::Chains::outside_on))]
+pub(crate) fn settle(board: &mut Board, map: &TouchMap)
+    ensures settles { Settles board.old.size (map_in map.now) board.old.board board.new.board }
+    ensures size { board.new.size ≡ board.old.size }
+    ensures raw { board.new.machine.size ≡ board.old.machine.size }
+    ensures memory { SameOutside (map_in map.now) board.old.machine.memory board.new.machine.memory }
+{
+    for number in 0..8u64 {
+        if let Some(hart) = board.machine().shape().hart(number) {
+            let _turns = settle_one(board, map, hart);
+        }
+    }
+}

@@ -1,0 +1,53 @@
+//! What all ends of a search show.
+
+ghost use Rattle.std.specs.Prelude.{◌≡◌, ◌≤◌, IfOk, IfSome, Some, true};
+ghost use Rattle.board_model.specs.Shapes.{ram_bytes_of};
+ghost use Rattle.state_space.specs.Graphs.{expanded_of};
+ghost use Rattle.board_space.specs.Explorations.{IsSearchOf};
+ghost use Rattle.board_space.specs.Rows.{Stands};
+ghost use Rattle.board_space.specs.Settings.{setting_of};
+ghost use Rattle.board_space.specs.Shown.{AllShow, IsSame};
+
+use crate::outcomes::Outcome;
+use crate::space::BoardSpace;
+use state_space::{Graph, Refused};
+
+/// Whether what was shown first, where something was, is shown to be the same.
+fn agrees(first: &Option<Outcome>, outcome: &Outcome) -> bool
+    ensures { result ≡ true → IfSome first.now (λ f. IsSame f outcome.now) }
+{
+    match first {
+        Some(first) => outcome.is_as(first),
+        None => true,
+    }
+}
+
+/// What all ends among the rows of a search show, where there is one and they show the same.
+pub(crate) fn shown_by_all(
+    space: &mut BoardSpace,
+    graph: &Graph,
+    from: usize,
+    to: usize,
+) -> Result<Option<Outcome>, Refused>
+    requires searched { IsSearchOf space.old graph.now }
+    requires order { from ≤ to }
+    requires within { to ≤ ram_bytes_of space.old.shape }
+    ensures all { IfOk result (λ found. IfSome found (λ outcome. AllShow from to (Stands space.old.rows) graph.now
+        (expanded_of graph.now) (Some outcome))) }
+    ensures rows { space.new.rows ≡ space.old.rows }
+    ensures setting { setting_of space.new ≡ setting_of space.old }
+{
+    let mut all: Option<Outcome> = None;
+    for row in 0..graph.expanded() {
+        if graph.is_end(row) {
+            let Some(outcome) = space.shown(graph.row(row), from, to)? else {
+                return Ok(None);
+            };
+            if !agrees(&all, &outcome) {
+                return Ok(None);
+            }
+            all = Some(outcome);
+        }
+    }
+    Ok(all)
+}

@@ -1,0 +1,487 @@
+//! A model board as a system that `state_space` searches.
+
+ghost use Rattle.std.specs.Prelude.{◌≡◌, ◌<◌, ◌≤◌, ◌*◌, ℕ, List, IfOk, IfSome, IfNone, Some, None, Ok, true, false, length};
+ghost use Rattle.board_model.specs.Shapes.{Size, ram_bytes_of};
+ghost use Rattle.model_board.specs.Boards.{Board as AnyBoard, Off};
+ghost use Rattle.model_board.specs.Events.{Event, TurnOn, IsEnd};
+ghost use Rattle.model_board.specs.Maps.{Map, TurnKeeps};
+ghost use Rattle.model_board.specs.Plain.{standing};
+ghost use Rattle.state_space.specs.Successors.{found_count, found_width};
+ghost use Rattle.board_space.specs.Layouts.{size_of, base_of, width_of, IsBased};
+ghost use Rattle.board_space.specs.Ready.{Tracks, boot_memory, MasksOf};
+ghost use Rattle.board_space.specs.Space.{Happens, IsOne, KeepsEach, number_of};
+ghost use Rattle.board_space.specs.Happenings.{event_of};
+ghost use Rattle.board_space.specs.Mapped.{map_in};
+
+use crate::board_rows::BoardRows;
+use crate::happenings::{HAPPENINGS, Happening};
+use crate::outcomes::Outcome;
+use crate::row_layout::Layout;
+use crate::settling::settle;
+use board_model::{HartId, Reason, Shape};
+use model_board::{Board, Break, Status, TouchMap};
+use state_space::{Expansion, Refused, Successors, System};
+use std::alloc::Global;
+
+/// Which failures may come, beside the turns of the harts and what the operator does.
+#[derive(Clone, Copy, PartialEq, Eq, Drop)]
+pub struct Failures {
+    /// Whether power may fail, at any moment.
+    pub cuts: bool,
+    /// Whether the store may refuse a sleep or a reset.
+    pub refusals: bool,
+}
+
+/// The boards that some events lead to from one that was never on, as rows.
+#[derive(Drop)]
+pub struct BoardSpace {
+    alloc: Global,
+    shape: Shape,
+    payload: Vec<u8>,
+    reason: Reason,
+    failures: Failures,
+    map: TouchMap,
+    rows: BoardRows,
+    /// The board on which rows are put.
+    board: Board,
+    /// The row that was told last.
+    row: Vec<u32>,
+    /// What broke the map.
+    broke: Option<(HartId, Break)>,
+    ghost fits: { length payload.items ≤ ram_bytes_of shape },
+    ghost size: { size_of rows.layout ≡ shape },
+    ghost base: { base_of rows.layout ≡ boot_memory shape payload.items },
+    ghost tracks: { Tracks rows.layout (map_in map) },
+    ghost based: { IsBased rows.layout board },
+}
+
+/// A board of that shape that is off, whose RAM holds the payload and zeros after it.
+fn fresh_board(
+    alloc: Global,
+    shape: &Shape,
+    payload: &[u8],
+    reason: Reason,
+) -> Result<Board, Refused>
+    requires { length payload.now ≤ ram_bytes_of shape.now }
+    ensures board { IfOk result (λ b. b.board ≡ Off (standing reason None)) }
+    ensures size { IfOk result (λ b. b.size ≡ shape.now) }
+    ensures raw { IfOk result (λ b. b.machine.size ≡ shape.now) }
+    ensures memory { IfOk result (λ b. b.machine.memory ≡ boot_memory shape.now payload.now) }
+{
+    let Ok(mut board) = Board::new(alloc, shape, reason) else {
+        return Err(Refused::Memory);
+    };
+    let _sized = board.machine();
+    board.load(payload);
+    Ok(board)
+}
+
+/// Of each word of a map the harts that may write it, as the bits of a number.
+fn writers(alloc: Global, shape: &Shape, map: &TouchMap) -> Result<Vec<u8>, Refused>
+    ensures masks { IfOk result (λ masks. MasksOf (map_in map.now) masks.items) }
+    ensures long { IfOk result (λ masks. 8 * length masks.items ≡ ram_bytes_of shape.now) }
+{
+    let mut masks = Vec::new(alloc);
+    for word in 0..shape.ram_bytes() / 8 {
+        masks.push(map.writers(word as u64))?;
+    }
+    Ok(masks)
+}
+
+impl BoardSpace {
+    ghost use Rattle.state_space.specs.declared.found.Successors.{Successors as Found};
+    ghost use Rattle.board_space.specs.Rows.{Stands};
+    ghost use Rattle.board_space.specs.Expanding.{IsTeller, AreTold};
+    ghost use Rattle.board_space.specs.Shown.{Shows};
+    ghost use Rattle.board_space.specs.Settings.{Setting, setting_of, asked_of, RowsStay};
+
+    /// Of a board of that shape whose boot slot holds the payload, whose first boot finds that reason, with those failures, under a map.
+    pub fn new(
+        alloc: Global,
+        shape: &Shape,
+        payload: &[u8],
+        reason: Reason,
+        failures: Failures,
+        map: TouchMap,
+    ) -> Result<BoardSpace, Refused>
+        requires { length payload.now ≤ ram_bytes_of shape.now }
+        ensures { IfOk result (λ space. asked_of space ≡ record {
+          size = shape.now;
+          payload = payload.now;
+          reason = reason;
+          cuts = failures.cuts;
+          refusals = failures.refusals;
+        }) }
+    {
+        let masks = writers(alloc, shape, &map)?;
+        Ok(BoardSpace {
+            alloc,
+            shape: *shape,
+            payload: payload.to_vec(alloc)?,
+            reason,
+            failures,
+            map,
+            rows: BoardRows::new(alloc, Layout::new(alloc, shape, payload, &masks)?)?,
+            board: fresh_board(alloc, shape, payload, reason)?,
+            row: Vec::new(alloc),
+            broke: None,
+        })
+    }
+
+    /// What broke the map, where something did.
+    pub fn broke(&self) -> Option<(HartId, Break)> {
+        self.broke
+    }
+
+    /// How many harts the board has.
+    pub fn harts(&self) -> u32
+        ensures count { result ≡ self.now.shape.harts }
+        ensures few { result ≤ 8 }
+    {
+        self.shape.harts()
+    }
+
+    /// The map.
+    pub fn map(&self) -> &TouchMap
+        ensures { map_in result.now ≡ (setting_of self.now).map }
+    {
+        &self.map
+    }
+
+    /// The map, to be made wider.
+    pub fn into_map(self) -> TouchMap {
+        let BoardSpace { map, .. } = self;
+        map
+    }
+
+    /// The board with which the search begins: it is off, and no image stands.
+    pub fn first_board(&self) -> Result<Board, Refused>
+        ensures board { IfOk result (λ b. b.board ≡ Off (standing self.now.reason None)) }
+        ensures size { IfOk result (λ b. b.size ≡ self.now.shape) }
+        ensures raw { IfOk result (λ b. b.machine.size ≡ self.now.shape) }
+        ensures memory { IfOk result (λ b. b.machine.memory ≡ boot_memory self.now.shape self.now.payload.items) }
+    {
+        fresh_board(self.alloc, &self.shape, &self.payload, self.reason)
+    }
+
+    /// Makes the happening of that number happen to a board of this shape, and answers whether it could.
+    pub fn replay(&self, board: &mut Board, number: u8) -> bool
+        requires { board.old.size ≡ self.now.shape }
+        ensures happens { result ≡ true → (e : Event) × (number_of e ≡ number)
+            × Happens (asked_of self.now) e board.old.board board.new.board }
+        ensures never { result ≡ false → (e : Event) (c : AnyBoard) → number_of e ≡ number
+            → Happens (asked_of self.now) e board.old.board c → ⊥ }
+        ensures size { board.new.size ≡ board.old.size }
+    {
+        match self.happening(number) {
+            Some(happening) => happening.happen(board, &self.payload),
+            None => false,
+        }
+    }
+
+    /// Puts the board of a row, to be looked at.
+    pub fn show(&mut self, row: &[u32])
+        requires { (b : AnyBoard) × Stands self.old.rows row.now b }
+        ensures board { (b : AnyBoard) → Stands self.old.rows row.now b → self.new.board.board ≡ b }
+        ensures rows { self.new.rows ≡ self.old.rows }
+        ensures setting { setting_of self.new ≡ setting_of self.old }
+    {
+        self.rows.put(row, &mut self.board);
+    }
+
+    /// The board that was put last.
+    pub fn current(&self) -> &Board
+        ensures { result.now ≡ self.now.board }
+    {
+        &self.board
+    }
+
+    /// What the board of a row that is at an end shows, in those bytes of its memory.
+    pub fn shown(&mut self, row: &[u32], from: usize, to: usize) -> Result<Option<Outcome>, Refused>
+        requires known { (b : AnyBoard) × Stands self.old.rows row.now b }
+        requires order { from ≤ to }
+        requires within { to ≤ ram_bytes_of self.old.shape }
+        ensures shows { IfOk result (λ found. IfSome found (λ outcome. (b : AnyBoard) → Stands self.old.rows row.now b
+            → Shows from to outcome b)) }
+        ensures rows { self.new.rows ≡ self.old.rows }
+        ensures setting { setting_of self.new ≡ setting_of self.old }
+    {
+        self.rows.put(row, &mut self.board);
+        let machine = self.board.machine();
+        match self.board.status() {
+            Status::On => {
+                let ram = machine.ram().bytes();
+                let bytes = ram[from..to].to_vec(self.alloc)?;
+                Ok(Some(Outcome::Rests(bytes)))
+            }
+            Status::Off => Ok(None),
+            Status::Ended => {
+                let rest = self.board.rest();
+                Ok(Some(Outcome::Ends(rest.reason)))
+            }
+        }
+    }
+
+    /// Whether a happening is asked for.
+    fn wants(&self, happening: &Happening) -> bool
+        ensures wants { result ≡ true → IsOne (asked_of self.now) (event_of happening.now) }
+        ensures other { result ≡ false → IsOne (asked_of self.now) (event_of happening.now) → ⊥ }
+    {
+        match *happening {
+            Happening::Turn(hart) => hart.number() < self.shape.harts(),
+            Happening::Refused(hart, _) => {
+                self.failures.refusals && hart.number() < self.shape.harts()
+            }
+            Happening::Wake => true,
+            Happening::Cut => self.failures.cuts,
+            Happening::PowerOn => true,
+        }
+    }
+
+    /// The happening of that number, where it is one that is asked for.
+    pub fn happening(&self, number: u8) -> Option<Happening>
+        ensures one { IfSome result (λ h. IsOne (asked_of self.now) (event_of h)) }
+        ensures number { IfSome result (λ h. number_of (event_of h) ≡ number) }
+        ensures only { IfSome result (λ h. (e : Event) → IsOne (asked_of self.now) e → number_of e ≡ number → e ≡ event_of h) }
+        ensures none { IfNone result ((e : Event) → IsOne (asked_of self.now) e → number_of e ≡ number → ⊥) }
+    {
+        let _harts = self.shape.harts();
+        match Happening::of_number(number) {
+            Some(happening) => {
+                if self.wants(&happening) {
+                    Some(happening)
+                } else {
+                    None
+                }
+            }
+            None => None,
+        }
+    }
+
+    /// What the next turn of a hart of that number touches first that the map does not let it, where it does.
+    fn break_of(&mut self, number: u64) -> Option<(HartId, Break)>
+        ensures board { self.new.board ≡ self.old.board }
+        ensures rows { self.new.rows ≡ self.old.rows }
+        ensures setting { setting_of self.new ≡ setting_of self.old }
+        ensures keeps { IfNone result (number < self.old.shape.harts
+            → TurnKeeps (map_in self.old.map) number self.old.board.board) }
+    {
+        let _sized = self.board.machine();
+        let hart = self.shape.hart(number)?;
+        match self.board.keeps(hart, &self.map) {
+            Ok(()) => None,
+            Err(broke) => Some((hart, broke)),
+        }
+    }
+
+    /// What the next turn of some hart touches first that the map does not let it, where it does.
+    fn first_break(&mut self) -> Option<(HartId, Break)>
+        ensures board { self.new.board ≡ self.old.board }
+        ensures rows { self.new.rows ≡ self.old.rows }
+        ensures setting { setting_of self.new ≡ setting_of self.old }
+        ensures keeps { IfNone result ((h : ℕ) → h < self.old.shape.harts
+            → TurnKeeps (map_in self.old.map) h self.old.board.board) }
+    {
+        let _harts = self.shape.harts();
+        for number in 0..8u64 {
+            if let Some(broke) = self.break_of(number) {
+                return Some(broke);
+            }
+        }
+        None
+    }
+
+    /// Adds what a happening leads to from the board of a row, where it can happen.
+    fn add(
+        &mut self,
+        row: &[u32],
+        happening: &Happening,
+        found: &mut Successors,
+    ) -> Result<(), Refused>
+        requires known { (b : AnyBoard) × Stands self.old.rows row.now b }
+        requires one { IsOne (asked_of self.old) (event_of happening.now) }
+        requires keeps { (b : AnyBoard) → Stands self.old.rows row.now b → (e : Event) → KeepsEach (asked_of self.old) (map_in self.old.map) e b }
+        requires width { found_width found.old ≡ width_of self.old.rows.layout }
+        ensures teller { IfOk result (λ _. (b : AnyBoard) → Stands self.old.rows row.now b
+            → IsTeller (asked_of self.old) (map_in self.old.map) (Stands self.new.rows) found.old found.new b (event_of happening.now)) }
+        ensures stay { RowsStay self.old self.new }
+        ensures setting { setting_of self.new ≡ setting_of self.old }
+        ensures width { found_width found.new ≡ found_width found.old }
+    {
+        model_board::one_event();
+        let number = happening.number();
+        self.rows.put(row, &mut self.board);
+        let _sized = self.board.machine();
+        if !happening.happen(&mut self.board, self.payload.as_slice()) {
+            return Ok(());
+        }
+        settle(&mut self.board, &self.map);
+        self.rows.row_of(&self.board, &mut self.row)?;
+        found.push(number, &self.row)?;
+        Ok(())
+    }
+
+    /// Adds what the happenings lead to from the board of a row.
+    fn add_all(&mut self, row: &[u32], found: &mut Successors) -> Result<(), Refused>
+        requires known { (b : AnyBoard) × Stands self.old.rows row.now b }
+        requires keeps { (b : AnyBoard) → Stands self.old.rows row.now b → (e : Event) → KeepsEach (asked_of self.old) (map_in self.old.map) e b }
+        requires width { found_width found.old ≡ width_of self.old.rows.layout }
+        requires none { found_count found.old ≡ 0 }
+        ensures told { IfOk result (λ _. (b : AnyBoard) → Stands self.old.rows row.now b
+            → AreTold (asked_of self.old) (map_in self.old.map) (Stands self.new.rows) found.new b 27) }
+        ensures stay { RowsStay self.old self.new }
+        ensures setting { setting_of self.new ≡ setting_of self.old }
+        ensures width { found_width found.new ≡ found_width found.old }
+    {
+        for number in 0..HAPPENINGS {
+            if let Some(happening) = self.happening(number) {
+                self.add(row, &happening, found)?;
+            }
+        }
+        Ok(())
+    }
+
+    /// Whether a turn of a hart changes the board of a row, which is on.
+    fn changes(&mut self, row: &[u32], hart: HartId) -> Result<bool, Refused>
+        requires known { (b : AnyBoard) × Stands self.old.rows row.now b }
+        requires keeps { (b : AnyBoard) → Stands self.old.rows row.now b → TurnKeeps (map_in self.old.map) hart b }
+        requires hart { hart < self.old.shape.harts }
+        ensures stays { result ≡ Ok false → (b c : AnyBoard) → Stands self.old.rows row.now b → TurnOn hart b c → c ≡ b }
+        ensures changes { result ≡ Ok true → (b : AnyBoard) → Stands self.old.rows row.now b
+            → ((c : AnyBoard) → TurnOn hart b c → c ≡ b) → ⊥ }
+        ensures stay { RowsStay self.old self.new }
+        ensures setting { setting_of self.new ≡ setting_of self.old }
+    {
+        model_board::one_event();
+        self.rows.put(row, &mut self.board);
+        let _sized = self.board.machine();
+        self.board.turn(hart);
+        if self.rows.differs(row, &self.board) {
+            return Ok(true);
+        }
+        self.rows.row_of(&self.board, &mut self.row)?;
+        if self.row.as_slice() == row {
+            return Ok(false);
+        }
+        Err(Refused::Numbers)
+    }
+
+    /// Whether a turn of the hart of that number, where there is one, changes the board of a row, which is on.
+    fn changes_by(&mut self, row: &[u32], number: u64) -> Result<bool, Refused>
+        requires known { (b : AnyBoard) × Stands self.old.rows row.now b }
+        requires keeps { (b : AnyBoard) → Stands self.old.rows row.now b → (h : ℕ) → h < self.old.shape.harts
+            → TurnKeeps (map_in self.old.map) h b }
+        ensures stays { result ≡ Ok false → (b c : AnyBoard) → Stands self.old.rows row.now b → number < self.old.shape.harts
+            → TurnOn number b c → c ≡ b }
+        ensures changes { result ≡ Ok true → (b : AnyBoard) → Stands self.old.rows row.now b
+            → ((h : ℕ) (c : AnyBoard) → h < self.old.shape.harts → TurnOn h b c → c ≡ b) → ⊥ }
+        ensures stay { RowsStay self.old self.new }
+        ensures setting { setting_of self.new ≡ setting_of self.old }
+    {
+        match self.shape.hart(number) {
+            Some(hart) => self.changes(row, hart),
+            None => Ok(false),
+        }
+    }
+
+    /// Whether no turn of a hart changes the board of a row, which is on.
+    fn rests(&mut self, row: &[u32]) -> Result<bool, Refused>
+        requires known { (b : AnyBoard) × Stands self.old.rows row.now b }
+        requires keeps { (b : AnyBoard) → Stands self.old.rows row.now b → (h : ℕ) → h < self.old.shape.harts
+            → TurnKeeps (map_in self.old.map) h b }
+        ensures rests { result ≡ Ok true → (b : AnyBoard) → Stands self.old.rows row.now b
+            → (h : ℕ) (c : AnyBoard) → h < self.old.shape.harts → TurnOn h b c → c ≡ b }
+        ensures moves { result ≡ Ok false → (b : AnyBoard) → Stands self.old.rows row.now b
+            → ((h : ℕ) (c : AnyBoard) → h < self.old.shape.harts → TurnOn h b c → c ≡ b) → ⊥ }
+        ensures stay { RowsStay self.old self.new }
+        ensures setting { setting_of self.new ≡ setting_of self.old }
+    {
+        let _harts = self.shape.harts();
+        for number in 0..8u64 {
+            if self.changes_by(row, number)? {
+                return Ok(false);
+            }
+        }
+        Ok(true)
+    }
+
+    /// Whether the board of a row is at an end.
+    fn is_end(&mut self, row: &[u32]) -> Result<bool, Refused>
+        requires known { (b : AnyBoard) × Stands self.old.rows row.now b }
+        requires keeps { (b : AnyBoard) → Stands self.old.rows row.now b → (h : ℕ) → h < self.old.shape.harts → TurnKeeps (map_in self.old.map) h b }
+        ensures ends { result ≡ Ok true → (b : AnyBoard) → Stands self.old.rows row.now b → IsEnd b }
+        ensures goes { result ≡ Ok false → (b : AnyBoard) → Stands self.old.rows row.now b → IsEnd b → ⊥ }
+        ensures stay { RowsStay self.old self.new }
+        ensures setting { setting_of self.new ≡ setting_of self.old }
+    {
+        self.rows.put(row, &mut self.board);
+        let _sized = self.board.machine();
+        match self.board.status() {
+            Status::Ended => Ok(true),
+            Status::Off => Ok(false),
+            Status::On => {
+                if self.board.rest().doze.is_some() {
+                    Ok(false)
+                } else {
+                    self.rests(row)
+                }
+            }
+        }
+    }
+}
+
+impl System for BoardSpace {
+    ghost use Rattle.std.specs.Prelude.{◌≡◌, ℕ, List};
+    ghost use Rattle.model_board.specs.Boards.{Board};
+    ghost use Rattle.board_space.specs.Rows.{Stands};
+    ghost use Rattle.board_space.specs.Settings.{Setting, setting_of};
+    ghost use Rattle.board_space.specs.Space.{board_rules};
+    ghost use Rattle.board_space.specs.OneBoard.{one_board};
+
+    ghost State = { Board };
+
+    ghost Setting = { Setting };
+
+    ghost setting = { setting_of };
+
+    ghost rules = { λ s. board_rules s.asked s.map };
+
+    ghost width = { λ s. s.width };
+
+    ghost stands = { λ s. Stands s.rows };
+
+    ghost one = { λ s. one_board s.rows };
+
+    fn start(&mut self) -> Result<Vec<u32>, Refused> {
+        let board = self.first_board()?;
+        self.rows.row_of(&board, &mut self.row)?;
+        Ok(self.row.as_slice().to_vec(self.alloc)?)
+    }
+
+    fn expand(&mut self, row: &[u32], found: &mut Successors) -> Result<Expansion, Refused> {
+        let _harts = self.shape.harts();
+        self.rows.put(row, &mut self.board);
+        if let Some(broke) = self.first_break() {
+            self.broke = Some(broke);
+            return Ok(Expansion::Halts);
+        }
+        self.add_all(row, found)?;
+        Ok(if self.is_end(row)? {
+            Expansion::Ends
+        } else {
+            Expansion::Goes
+        })
+    }
+
+    fn goes(&self, event: u8) -> bool {
+        match self.happening(event) {
+            Some(Happening::Refused(_, _)) => false,
+            Some(Happening::Cut) => false,
+            _ => true,
+        }
+    }
+
+    fn bytes(&self) -> u64 {
+        self.rows.bytes()
+    }
+}
