@@ -53,7 +53,8 @@ pub struct SharedStore<D: Disk + Drop, J: Journal> {
     pub(crate) book: Book<J>,
     pub(crate) keeper: Keeper<J>,
     pub(crate) doubts: Doubts<J>,
-    pub(crate) moments: Moments,
+    // For the functions of this file alone, each of which says what it does with them: under a lock no other can.
+    moments: Moments,
     ghost named: { IsNamed J.found J.size store },
     ghost issued: { BeginsWith J.issued (journal_of store) },
     ghost carried: { IsCarried J.memory (life_of store) },
@@ -69,6 +70,30 @@ pub struct SharedStore<D: Disk + Drop, J: Journal> {
 
 impl<D: Disk + Drop, J: Journal> SharedStore<D, J> {
     ghost use Rattle.hart_threads.specs.Views.{bus_in, store_in, inside, moments_in, moments_with, parts_with};
+
+    /// The store, to be shared: all parts are handed out.
+    pub(crate) fn of(whole: Unshared<D, J>) -> SharedStore<D, J>
+        requires none { length (parts_with whole) ≡ 0 }
+        ensures store { store_in result ≡ inside whole }
+        ensures moments { moments_in result ≡ moments_with whole }
+    {
+        let Unshared {
+            store,
+            count,
+            book,
+            keeper,
+            doubts,
+            moments,
+        } = whole;
+        SharedStore {
+            store,
+            count,
+            book,
+            keeper,
+            doubts,
+            moments,
+        }
+    }
 
     /// What is kept from one holder of the lock to the next.
     pub fn stands(&self)

@@ -141,22 +141,7 @@ impl<D: Disk + Drop, J: Journal> Unshared<D, J> {
         ensures store { store_in result ≡ inside self }
         ensures moments { moments_in result ≡ moments_with self }
     {
-        let Unshared {
-            store,
-            count,
-            book,
-            keeper,
-            doubts,
-            moments,
-        } = self;
-        SharedStore {
-            store,
-            count,
-            book,
-            keeper,
-            doubts,
-            moments,
-        }
+        SharedStore::of(self)
     }
 
     /// A part comes back.

@@ -61,7 +61,7 @@ read_after (Some c) disk given size z t found only gone reads =
       | inr is ↦ inr (c, refl, is)
     ]
 
-pub finds : (size z : Size) (s found : DurableState) (mode : BootMode) (payloads : List (List ℕ)) (old : Facts) (next : ℕ) (disk given : Facts) (moments : List ℕ) (left : Option Left) (a : DialogueEnds) (input output : Option (List ℕ)) (heard : Hearing) → IsSession size s mode payloads old disk moments left a input output heard
+finds : (size z : Size) (s found : DurableState) (mode : BootMode) (payloads : List (List ℕ)) (old : Facts) (next : ℕ) (disk given : Facts) (moments : List ℕ) (left : Option Left) (a : DialogueEnds) (input output : Option (List ℕ)) (heard : Hearing) → IsSession size s mode payloads old disk moments left a input output heard
     → IsLeft disk given → StandsFor given.content z found → next ≡ given.failures → FindsSession size s mode payloads old.failures next left a input output heard found
 finds size z s found mode payloads old next disk given moments left a input output heard session gone reads counts =
     let life = session.3 in record {
@@ -87,3 +87,11 @@ finds size z s found mode payloads old next disk given moments left a input outp
       subst (λ (o : Option Change). IsDoubtOf size o heard.doubt) doubt session.3.asked,
       is,
     )
+
+-- and what the next open finds then
+pub left_by : (one : OneStanding) (new : Bool) (shape : Size) (mode : BootMode) (payloads : List (List ℕ)) (turns : ℕ) (old disk : Facts) (moments : List ℕ) (left : Option Left) (a : DialogueEnds) (input output : Option (List ℕ)) (heard : Hearing) (ends : List Ending)
+    → (R S : Type 0) → (R × (left ≡ None)) ⊎ (RanOver new shape mode payloads turns old disk moments left a input output heard ends × S) → (left ≡ None → ⊥) → (size : Size) (s : DurableState) → new ≡ false → StandsFor old.content size s
+    → (z : Size) (found : DurableState) (given : Facts) (next : ℕ) → IsLeft disk given → StandsFor given.content z found → next ≡ given.failures → FindsSession size s mode payloads old.failures next left a input output heard found
+left_by one new shape mode payloads turns old disk moments left a input output heard ends R S ended some size s is stands z found given next gone reads counts =
+    finds size z s found mode payloads old next disk given moments left a input output heard
+    (begun one new shape mode payloads turns old disk moments left a input output heard ends R S ended some size s is stands).0 gone reads counts

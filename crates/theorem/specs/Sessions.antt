@@ -39,19 +39,31 @@ pub record FindsSession (size : Size) (s : DurableState) (mode : BootMode) (payl
       ⊎ ((c : Change) × (refusal_of (fold s journal) c ≡ None) × CarriesSteps machine.memory c
       × Failed before after_it × IsDoubtOf size (Some c) heard.doubt × (found ≡ after (fold s journal) c))
 
--- What any crash has left at a moment of a session over a disk that stood for s, within a command and within a call of the disk too: what
--- some first commands of its journal make of s, or these and the one in doubt. The first of these moments is that at which its boot was
--- over; then there is one for each receipt that was made after it. From each on all commands up to that receipt are among them.
-pub record IsCutAnywhere (size : Size) (s : DurableState) (issued : List Change) (console : List (ℕ × Entry)) (begun : ℕ) (disk : Facts)
-    (moments : List ℕ) : Type 0 where
+-- What any crash has left at a moment of a session over the disk old, which stood for s, within a command and within a call of the disk
+-- too: what some first commands of its journal make of s, or these and the one in doubt. The first of these moments is that at which its
+-- boot was over; then there is one for each receipt that was made after it. From each on all commands up to that receipt are among them.
+-- The journal is of just those commands that were acknowledged to the boot, the console and the harts, and what was read and answered is
+-- of it. A command is in doubt only where the disk failed in the session, and the console or a hart asked for it. A suspension of them
+-- carries a memory that steps of harts made of the one that the boot left.
+pub record IsCutAnywhere (size : Size) (s : DurableState) (mode : BootMode) (payloads : List (List ℕ)) (old disk : Facts)
+    (moments : List ℕ) (left : Option Left) (a : DialogueEnds) (input output : Option (List ℕ)) (heard : Hearing) : Type 0 where
+  pub machine : Machine
+  pub powered : IsBegun mode size payloads s machine
   pub journal : List Change
-  pub acknowledged : IsAcknowledged size issued journal console
+  pub console : List (ℕ × Entry)
+  pub acknowledged : IsAcknowledged size (commands_by mode s) journal console
   pub taken : are_taken s journal ≡ true
+  pub carried : AllCarrySteps machine.memory journal
+  pub talks : TalksIf s (commands_by mode s) left a (dialogue_ends input output (party console heard))
   pub doubt : Option Change
-  pub ever : (c : Content) → disk.since begun c → ∥ IsOfFirst size s (sent journal doubt) 0 c ∥₁
-  pub many : length moments + length issued ≡ length journal + 1
+  pub doubted : (c : Change) → doubt ≡ Some c
+      → (refusal_of (fold s journal) c ≡ None) × CarriesSteps machine.memory c × Failed old.failures disk.failures
+  pub asked : IsDoubtOf size doubt heard.doubt
+  pub ever : (c : Content) → disk.since old.moment c → ∥ IsOfFirst size s (sent journal doubt) 0 c ∥₁
+  pub many : length moments + length (commands_by mode s) ≡ length journal + 1
   pub passed : (i : ℕ) → i < length moments → slice_index moments i ≤ disk.moment
-  pub kept : (i : ℕ) → i < length moments → KeptSince size s (sent journal doubt) disk (slice_index moments i) (length issued + i)
+  pub kept : (i : ℕ) → i < length moments
+      → KeptSince size s (sent journal doubt) disk (slice_index moments i) (length (commands_by mode s) + i)
 
 -- What a file that keeps its word keeps of such a session, whose disk was kept in it: now all commands of its journal, so many, or these
 -- and the one in doubt; and at each moment of the session, within a call of the file too, some first of them, with all up to each

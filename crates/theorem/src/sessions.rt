@@ -35,11 +35,11 @@ use store::{Store, one_standing};
 /// for the state s. It has one journal, whatever the order was: what its boot issued, and then the commands that were
 /// acknowledged to the console and to harts, each at the place of its receipt, and no other. A crash leaves what they make
 /// of s, or with a command in doubt that or the state after it (`IsOfLife`); and at each moment of the session, within a command and
-/// within a call of the disk too, what some first of them make, with all that had been acknowledged by then (`AreKept`). A command is in doubt only where the disk failed in
-/// the session. It is the one that the console has in doubt, which was answered 6; or, where the console has none, a reset or a
-/// suspension that a call of a hart asks for (`IsDoubtOf`). The session's suspension, if it has one, carries a memory
-/// that steps of harts made of that of the board which its power-on made (`IsBegun`). What was read and answered is of that
-/// journal (`TalksIf`). Each hart is one of that board, and went by its own turns, one after another, from where the power-on
+/// within a call of the disk too, what some first of them make, with all that had been acknowledged by then (`AreKept`). A command is in
+/// doubt only where the disk failed in the session. It is the one that the console has in doubt, which was answered 6; or, where the
+/// console has none, a reset or a suspension that a call of a hart asks for (`IsDoubtOf`). The session's suspension, if it has one,
+/// carries a memory that steps of harts made of that of the board which its power-on made (`IsBegun`). What was read and answered is of
+/// that journal (`TalksIf`). Each hart is one of that board, and went by its own turns, one after another, from where the power-on
 /// left it to where its end says that it stands; it made all turns that it was given, or a hart ended the life by a command
 /// that was acknowledged, or the console halted the harts when it left (`AreDriven`). Where another hart ended the life, its
 /// command is the last of that journal (`AreByLast`). So a session by `resume` begins with the
@@ -70,10 +70,11 @@ pub fn a_session<R: Threads + Wait + Sync, D: Disk + Drop + Send, I: Read + Drop
     session(rt, alloc, options, disk, payloads, streams)
 }
 
-/// *Wherever power fails while a session runs.* Of a session over a disk that stands for the state s alone, each content that a crash
-/// has left at some moment of it, within a command and within a call of the disk too, stands for what some first commands of its
-/// journal make of s, or these and the one in doubt. All are among them that had been acknowledged by then: from the moment of each
-/// receipt on, which the shared store notes as it makes the receipt, each command up to that one (`IsCutAnywhere`).
+/// *Wherever power fails while a session runs.* Of a session over a disk that stands for the state s alone, whose console was begun:
+/// each content that a crash has left at some moment of it, within a command and within a call of the disk too, stands for what some
+/// first commands of its journal make of s, or these and the one in doubt. All are among them that had been acknowledged by then: from
+/// the moment of each receipt on, which the shared store notes as it makes the receipt, each command up to that one. Journal, doubt and
+/// dialogue are those of a session (`IsCutAnywhere`).
 pub fn a_session_cut_anywhere<
     R: Threads + Wait + Sync,
     D: Disk + Drop + Send,
@@ -89,11 +90,14 @@ pub fn a_session_cut_anywhere<
 ) -> SessionEnd<D, I, W>
     requires { IsIdle (D.facts disk) }
     ensures { (size : Size) (s : DurableState) → options.now.new ≡ false → StandsFor (D.facts disk).content size s
-        → LeavesOnly (D.facts disk) size s → (result.console_left ≡ None → ⊥) → (console : List (ℕ × Entry))
-        × IsCutAnywhere size s (commands_by options.now.mode s) console (D.facts disk).moment (D.facts result.disk)
-        result.moments.at }
+        → LeavesOnly (D.facts disk) size s → (result.console_left ≡ None → ⊥)
+        → IsCutAnywhere size s options.now.mode payloads.now (D.facts disk) (D.facts result.disk) result.moments.at
+        result.console_left
+        (dialogue_ends (I.remaining streams.input) (W.contents streams.out) (party [] heard_nothing))
+        (I.remaining result.streams.input) (W.contents result.streams.out) result.heard }
 {
     one_standing();
+    crashes_now(&disk);
     session(rt, alloc, options, disk, payloads, streams)
 }
 
@@ -118,9 +122,10 @@ pub fn a_session_in_a_file_cut_anywhere<
     ensures { (size : Size) (s : DurableState) → options.now.new ≡ false
         → StandsFor (⟦<FileDisk<F> as Disk>⟧.facts disk).content size s
         → LeavesOnly (⟦<FileDisk<F> as Disk>⟧.facts disk) size s → (result.console_left ≡ None → ⊥)
-        → (console : List (ℕ × Entry))
-        × (cut : IsCutAnywhere size s (commands_by options.now.mode s) console
-        (⟦<FileDisk<F> as Disk>⟧.facts disk).moment (⟦<FileDisk<F> as Disk>⟧.facts result.disk) result.moments.at)
+        → (cut : IsCutAnywhere size s options.now.mode payloads.now (⟦<FileDisk<F> as Disk>⟧.facts disk)
+        (⟦<FileDisk<F> as Disk>⟧.facts result.disk) result.moments.at result.console_left
+        (dialogue_ends (I.remaining streams.input) (W.contents streams.out) (party [] heard_nothing))
+        (I.remaining result.streams.input) (W.contents result.streams.out) result.heard)
         × IfKnown (⟦<FileDisk<F> as Filed>⟧.file result.disk) (KeepsSession size s (sent cut.journal cut.doubt)
         (length (commands_by options.now.mode s)) (length cut.journal) (⟦<FileDisk<F> as Disk>⟧.facts disk).moment
         (⟦<FileDisk<F> as Disk>⟧.facts result.disk) result.moments.at) }
@@ -152,8 +157,8 @@ pub fn an_open_finds_some_first<D: Disk + Drop>(
 ) -> Result<Store<D>, (D, Refusal)>
     requires { IsIdle (D.facts left) }
     ensures { (size : Size) (s : DurableState) (commands : List Change) (least : ℕ)
-        → ∥ IsOfFirst size s commands least (D.facts left).content ∥₁ → IfOk result (λ next. ∥ (k : ℕ) × (least ≤ k)
-        × (k ≤ length commands) × (found_state next ≡ fold s (take k commands)) ∥₁) }
+        → ∥ IsOfFirst size s commands least (D.facts left).content ∥₁ → IfOk result (λ next. ∥ ((k : ℕ) × (least ≤ k)
+        × (k ≤ length commands) × (found_state next ≡ fold s (take k commands))) ∥₁) }
 {
     one_standing();
     Store::open(alloc, left)
