@@ -1,5 +1,8 @@
 //! What C keeps for the library: numbers and bytes alone (c/sbistore.h).
 
+ghost use Rattle.std.specs.Prelude.{◌≡◌};
+ghost use Rattle.sbistore.specs.Told.{told_of};
+
 /// Nothing more is asked for, and `number` is the code.
 pub const DONE: u32 = 0;
 
@@ -11,6 +14,12 @@ pub const WRITE: u32 = 2;
 
 /// What was written is to be made durable.
 pub const SYNC: u32 = 3;
+
+/// The 8 sectors from `number` on are to be read into page `page`.
+pub const READ_PAGE: u32 = 4;
+
+/// Page `page` is to be written into the 8 sectors from `number` on.
+pub const WRITE_PAGE: u32 = 5;
 
 /// The code of a command or a look where no store is open.
 pub const NOT_OPEN: u32 = 100;
@@ -29,7 +38,12 @@ pub struct Sbistore {
     pub number: u64,
     /// How many commands of this life were acknowledged.
     pub receipts: u64,
+    /// The page of a request of one.
+    pub page: u64,
     pub(crate) sectors: u64,
+    /// Where a suspended board goes on, and the value that it then finds.
+    pub(crate) address: u64,
+    pub(crate) opaque: u64,
     /// Which plan is under way, and for a commit and a format which step of it; 0 where none is.
     pub(crate) phase: u32,
     pub(crate) step: u32,
@@ -44,8 +58,13 @@ pub struct Sbistore {
     pub(crate) pages: u32,
     pub(crate) lanes: u32,
     pub(crate) side: u32,
+    /// The hart that a suspended board goes on with.
+    pub(crate) hart: u32,
+    /// How many places of an image were read.
+    pub(crate) done: u32,
     /// The record that is selected, and the one that a commit writes, as their sectors have them.
     pub(crate) live: [u8; 512],
+    /// Of a load the bytes that tell which pages came.
     pub(crate) next: [u8; 512],
 }
 
@@ -69,7 +88,9 @@ pub struct Durable {
 }
 
 /// Tells the durable state.
-pub(crate) fn tell(state: &board_model::Durable, told: &mut Durable) {
+pub(crate) fn tell(state: &board_model::Durable, told: &mut Durable)
+    ensures { told.new ≡ told_of state.now }
+{
     told.next = state.next;
     told.slot = state.slot.number();
     told.reason = state.reason.number();

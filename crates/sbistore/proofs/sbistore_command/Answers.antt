@@ -11,7 +11,7 @@ use Rattle.sbistore.proofs.sbistore_command.Goals as goal
 
 pub returns-in-Ok : goal.returns-in-Ok
 returns-in-Ok c life command kept is =
-    let same = some_is _ _ (c.in-Some-store_of.ensures life kept) in
+    let same = some_is _ _ (c.in-Some-store_of.ensures.exact life kept) in
     let which = some_is _ _ (c.in-Some.ensures command is) in
     let plans : PlansCommand life command c.in-Ok.plan =
     subst (λ (o : OpenStore). PlansCommand o command c.in-Ok.plan) same

@@ -1,0 +1,9 @@
+mod Counting
+mod Bounds
+mod LoadSteps
+mod LoadEnds
+mod Chunks
+mod SaveBounds
+mod SaveSteps
+mod SavingArea
+mod SaveEnds
