@@ -4,9 +4,9 @@ use Rattle.board_model.specs.Durable.{DurableState, Change, refusal_of, after, e
 use Rattle.board_model.specs.Shapes.{Size}
 use Rattle.board_model.specs.declared.refusal.Refusal.{Refusal}
 use Rattle.board_model.specs.declared.refusal.Refusal.TheVariants.{Device, Down}
-use Rattle.disk.specs.Facts.{Facts, Content, Lent, counted, most}
+use Rattle.disk.specs.Facts.{Facts, Content, Lent, LeavesSince, counted, most}
 use Rattle.disk.specs.FaultState.{FaultState}
-use Rattle.disk.specs.Moments.{leaves_none}
+use Rattle.disk.specs.Moments.{leaves_none, leaves_weaker}
 use Rattle.layout.specs.Records.{IsInRange}
 use Rattle.layout.specs.declared.records.Record.{Record}
 use Rattle.layout.specs.declared.records.Version.TheVariants.{Two}
@@ -14,7 +14,7 @@ use Rattle.store.specs.Answers.{GoesTo, CountedRefusal}
 use Rattle.store.specs.Commits.{IsUp}
 use Rattle.store.specs.Leaves.{StandsForEither}
 use Rattle.store.specs.Opens.{CausedRefusal}
-use Rattle.store.specs.Standing.{state_of}
+use Rattle.store.specs.Standing.{state_of, StandsFor}
 use Rattle.store.proofs.Answering.{the_error}
 use Rattle.store.proofs.Renewing.{four_sectors}
 use Rattle.store.proofs.States.{up_leaves, stands_for}
@@ -30,7 +30,7 @@ use Rattle.planned_store.specs.declared.plans.Plan.{Plan}
 use Rattle.planned_store.specs.declared.plans.Plan.TheVariants.{Settling, ReadingSuperblock, ReadingGate, ReadingRecord, Found, Renewing, Committing, Formatting, Refused}
 use Rattle.planned_store.specs.declared.plans.Request.TheVariants.{Done}
 use Rattle.planned_store.specs.declared.stores.OpenStore.{OpenStore}
-use Rattle.planned_store.proofs.Committing.{done_up, done_moment, done_calls, done_wrote, unchanged_up, unchanged_moment, unchanged_calls, doubted, doubt_moment, doubt_calls, next_same, goes_done, goes_unchanged, goes_doubt}
+use Rattle.planned_store.proofs.Committing.{done_up, done_moment, done_calls, done_wrote, unchanged_up, unchanged_moment, unchanged_still, unchanged_calls, doubted, doubt_moment, doubt_calls, next_same, goes_done, goes_unchanged, goes_doubt}
 
 not_both : (b : Bool) → b ≡ false → b ≡ true → ⊥
 not_both b isn is = cc
@@ -51,11 +51,17 @@ module _ {D : Type 0} (f : D → Facts) (m : D → FaultState) (may_keep : (d : 
   now = state_now old (f a).content
 
   -- ---- no call was made
+  still_now : old.down ≡ false → LeavesSince (f a) (f a) (λ x. StandsFor x old.selected.shape now)
+  still_now up =
+      leaves_none (f a) (λ x. StandsFor x old.selected.shape now) (only_now a)
+      (λ x left. stands_for old.selected.shape old.selected.side old.selected.live (f a).content x (holds.up up x left))
+
   refused_goes : old.down ≡ false → (t : DurableState) (e : Refusal) → (e ≡ Down → ⊥) → GoesTo (f a) (f a) old.selected.shape now t (Err e)
   refused_goes up t e not_down = record {
-    any_moment = leaves_none (f a) (StandsForEither old.selected.shape now t) (only_now a) (λ x left. inl (stands_for old.selected.shape old.selected.side old.selected.live (f a).content x (holds.up up x left)));
+    any_moment = leaves_weaker (f a) (f a) (λ x. StandsFor x old.selected.shape now) (StandsForEither old.selected.shape now t) (still_now up) (λ x stands. inl stands);
     acknowledged = tt;
     unchanged = λ _. up_leaves (f a) old.selected.shape old.selected.side old.selected.live (holds.up up);
+    still = λ _. still_now up;
     in_doubt = λ is. absurd (not_down (the_error e Down is));
   }
 
@@ -128,7 +134,8 @@ module _ {D : Type 0} (f : D → Facts) (m : D → FaultState) (may_keep : (d : 
             answered = λ _. record {
               told = inl (refl, reaches, refl);
               leaves = goes_unchanged (f a) (f b) size old.selected.side old.selected.live next holds.known (after now c) makes
-                  (unchanged_moment f m may_keep only_now size old.selected.side old.selected.live next holds.known a b is_up range at) calls.content one;
+                  (unchanged_moment f m may_keep only_now size old.selected.side old.selected.live next holds.known a b is_up range at)
+                  (unchanged_still f m may_keep only_now size old.selected.side old.selected.live next holds.known a b is_up range at) calls.content one;
               written = tt;
               cause = calls.cause.err;
               counts = omega (arith, calls.failures.err);
