@@ -1,5 +1,5 @@
 -- Each call of a load leaves fewer to come.
-use Rattle.std.proofs.Common.{◌≡◌, ◌∙◌, ◌+◌, ◌*◌, ◌-◌, ◌<◌, nat_lt, if◌then◌else◌, true, false, Bool, ℕ, List, Ok, Err, refl, sym, ap, subst, arith}
+use Rattle.std.proofs.Common.{◌≡◌, ◌+◌, ◌<◌, nat_lt, if◌then◌else◌, true, false, Bool, ℕ, List, Ok, Err, refl, sym, subst, arith}
 use Rattle.planned_store.specs.Commits.{Answer}
 use Rattle.planned_images.specs.Loads.{load_asks_at, load_asks, HeadGoes, LoadGoes, LoadGoesAt, HasPlaceAt, HasPlace, page_taken, loads_left, loads_left_at}
 use Rattle.planned_images.specs.declared.loads.Loading.{Loading}

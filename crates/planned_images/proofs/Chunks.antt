@@ -1,5 +1,5 @@
 -- The sectors of a page, as chunks of its bytes.
-use Rattle.std.proofs.Common.{◌≡◌, ◌∙◌, zero, suc, ℕ, ◌+◌, ◌*◌, ◌-◌, ◌/◌, ◌<◌, Result, Ok, Err, OnOk, List, [], ◌∷◌, length, take, drop, slice_range, refl, sym, ap, arith}
+use Rattle.std.proofs.Common.{◌≡◌, ◌∙◌, zero, suc, ℕ, ◌+◌, ◌*◌, ◌-◌, ◌/◌, ◌<◌, Ok, Err, OnOk, List, length, take, drop, slice_range, refl, sym, ap, arith}
 use Rattle.std.proofs.lemmas.List.{drop-drop, drop-take, take-take}
 use Rattle.std.specs.Simd.{first_chunks}
 use Rattle.disk.specs.Facts.{Content, Written, sector}
@@ -39,7 +39,7 @@ module _ (memory bytes : List ℕ) (chunks : Content) (page : ℕ) (is : bytes �
   eight_chunks = ap (λ (c : Content). length c) are ∙ length_chunks 512 (length bytes / 512) bytes ∙ eight
 
   pub page_written : (first : ℕ) (old new : Content) (answer : Answer) → OnOk answer (Written first chunks old new) → OnOk answer (PageWritten first page memory new)
-  page_written first old new (Ok v) written j lt =
+  page_written first old new (Ok v) written = λ j lt.
       written.there j (omega (arith, eight_chunks, lt))
       ∙ ap (λ (c : Content). sector c j) are
       ∙ chunk_at 512 (length bytes / 512) bytes j (omega (arith, eight, lt))

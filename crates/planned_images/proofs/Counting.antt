@@ -1,5 +1,5 @@
 -- Where a place stands that is counted through the lanes.
-use Rattle.std.proofs.Common.{◌≡◌, ◌∙◌, zero, suc, ℕ, ◌+◌, ◌-◌, ◌<◌, ◌≤◌, List, [], ◌∷◌, ◌++◌, length, slice_index, sum, take, drop, refl, sym, ap, subst, arith}
+use Rattle.std.proofs.Common.{◌≡◌, ◌∙◌, zero, suc, ℕ, ◌+◌, ◌*◌, ◌-◌, ◌^◌, ◌<◌, ◌≤◌, List, [], ◌∷◌, ◌++◌, length, slice_index, sum, take, drop, refl, sym, ap, subst, arith}
 use Rattle.std.proofs.lemmas.List.{length-append, get_or-append_right, get_or_append_left, take-append-drop, drop_more}
 use Rattle.std.proofs.lemmas.List.Sums.{sum_by-cons}
 use Rattle.board_model.specs.Shapes.{Size, area_sectors_of}
@@ -79,3 +79,11 @@ place_there size counts n are lt =
   where
     from_zero : (i : ℕ) → i ≡ 0 + i
     from_zero i = omega arith
+
+-- a place stands near the begin of its area
+pub few_sectors : (lane p q : ℕ) → lane < 4 → p ≤ 256 → q < 256 → lane * (9 * p) + 9 * q < 2 ^ 16
+few_sectors zero p q lt few small = omega (arith, few, small)
+few_sectors (suc zero) p q lt few small = omega (arith, few, small)
+few_sectors (suc (suc zero)) p q lt few small = omega (arith, few, small)
+few_sectors (suc (suc (suc zero))) p q lt few small = omega (arith, few, small)
+few_sectors (suc (suc (suc (suc lane)))) p q lt few small = absurd (omega (arith, lt))

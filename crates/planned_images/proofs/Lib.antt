@@ -6,4 +6,5 @@ mod Chunks
 mod SaveBounds
 mod SaveSteps
 mod SavingArea
+mod SavedRecords
 mod SaveEnds

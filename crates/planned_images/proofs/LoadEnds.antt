@@ -1,5 +1,5 @@
 -- A load that has ended, and its answer.
-use Rattle.std.proofs.Common.{◌≡◌, ◌∙◌, ◌⊎◌, inl, inr, ⊎_elim, ◌*◌, ◌≤◌, ◌^◌, ◌<◌, ℕ, Bool, true, false, List, [], length, Option, Some, None, Result, Ok, Err, OnOk, IfErr, refl, sym, ap, subst, arith}
+use Rattle.std.proofs.Common.{◌≡◌, ◌∙◌, ◌⊎◌, inl, inr, ⊎_elim, ◌*◌, ℕ, Bool, true, false, List, [], length, Option, Some, None, Result, Ok, Err, refl, sym, ap, subst, arith}
 use Rattle.board_model.specs.Durable.{Image}
 use Rattle.board_model.specs.Shapes.{Size, ram_bytes_of}
 use Rattle.board_model.specs.declared.refusal.Refusal.{Refusal}
@@ -16,7 +16,7 @@ use Rattle.store.proofs.Loading.{read_alone, none_read, stays_keeps, image_now, 
 use Rattle.planned_store.specs.Stores.{state_now, Holds}
 use Rattle.planned_store.specs.declared.stores.OpenStore.{OpenStore}
 use Rattle.planned_images.specs.Images.{LoadsTo}
-use Rattle.planned_images.specs.Loads.{load_asks_at, load_asks, loaded_at, loaded_by, PlansLoad, NoLoad}
+use Rattle.planned_images.specs.Loads.{load_asks_at, load_asks, loaded_at, loaded_by, NoLoad}
 use Rattle.planned_images.specs.LoadReached.{image_here, LoadAt, LoadReached}
 use Rattle.planned_images.specs.declared.loads.Loading.{Loading}
 use Rattle.planned_images.specs.declared.loads.LoadStep.{LoadStep}

@@ -1,5 +1,5 @@
 -- One call more of a load.
-use Rattle.std.proofs.Common.{◌≡◌, ◌≢◌, ◌∙◌, inl, inr, ⊎_elim, nat_lt, if◌then◌else◌, true, false, Bool, zero, suc, ℕ, ◌+◌, ◌*◌, ◌<◌, ◌≤◌, ◌^◌, List, [], ◌∷◌, ◌++◌, length, slice_index, get_or, map, replicate, set, take, drop, Result, Ok, Err, OnOk, refl, sym, ap, subst, arith, length-take}
+use Rattle.std.proofs.Common.{◌≡◌, ◌∙◌, inl, inr, ⊎_elim, nat_lt, if◌then◌else◌, true, false, Bool, zero, suc, ℕ, ◌+◌, ◌*◌, ◌<◌, ◌≤◌, ◌^◌, List, [], ◌∷◌, ◌++◌, length, slice_index, get_or, replicate, set, take, drop, Ok, Err, OnOk, refl, sym, ap, subst, arith, length-take}
 use Rattle.std.proofs.lemmas.Bool.{cases_Bool, cases_eq, cases_lt, lt-ltb, ltb-true}
 use Rattle.std.proofs.lemmas.List.{ext_get_or, get_or_past, get_or-map, get_or-take, get_or-set_same, get_or-set_other, get_or-replicate, length-map, length-set, length-replicate, take_all, take_more}
 use Rattle.std.specs.List.{flat_map}
@@ -13,11 +13,10 @@ use Rattle.disk.specs.declared.device.Fault.{Fault}
 use Rattle.layout.specs.Places.{IsPlaceHead}
 use Rattle.layout.specs.Records.{AreCounts}
 use Rattle.layout.specs.Sizes.{area_start}
-use Rattle.layout.specs.declared.places.PlaceHead.{PlaceHead}
 use Rattle.layout.proofs.SpelledPlaces.{page_in as page_of_head}
-use Rattle.image.specs.Images.{area_of, page_of, is_head, is_whole, memory_of}
+use Rattle.image.specs.Images.{area_of, page_of, is_head, is_whole}
 use Rattle.image.specs.Reading.{came, IsTaken}
-use Rattle.image.specs.Refusals.{HasRead, ReadsOn}
+use Rattle.image.specs.Refusals.{HasRead}
 use Rattle.image.proofs.Heads.{area_sector, behind_is, head_from, head_true}
 use Rattle.image.proofs.ReadingOn.{reads_none, reads_place, reads_failed, reads_spoilt, reads_more}
 use Rattle.image.proofs.Taking.{no_head, came_twice, taken_more, taken_none, taken_all, not_whole}
@@ -25,7 +24,7 @@ use Rattle.planned_store.specs.Commits.{Answer}
 use Rattle.planned_store.proofs.Calls.{called_ok}
 use Rattle.planned_images.specs.Loads.{flags, all_places, place_now, place_sector, load_asks, load_asks_at, HeadGoes, LoadGoes, LoadGoesAt, page_taken}
 use Rattle.planned_images.specs.LoadServed.{PageFilled, IsLoadServed}
-use Rattle.planned_images.specs.LoadReached.{area_here, image_here, ReadSo, HeadSo, LoadAt, LoadReached}
+use Rattle.planned_images.specs.LoadReached.{area_here, ReadSo, HeadSo, LoadAt, LoadReached}
 use Rattle.planned_images.specs.declared.loads.Loading.{Loading}
 use Rattle.planned_images.specs.declared.loads.LoadStep.{LoadStep}
 use Rattle.planned_images.specs.declared.loads.LoadStep.TheVariants.{ReadHead, ReadPage, Loaded, Spoilt, Failed}
@@ -36,7 +35,7 @@ abbrev is_set : ℕ → Bool
 is_set b = nat_lt 0 b
 
 length-flags : (bytes : List ℕ) → length bytes ≡ 512 → length (flags bytes) ≡ 256
-length-flags bytes long = length-map is_set (take 256 bytes) ∙ length-take 256 bytes ∙ omega (arith, long)
+length-flags bytes long = length-map (take 256 bytes) is_set ∙ length-take 256 bytes ∙ omega (arith, long)
 
 flag_at : (bytes : List ℕ) (k : ℕ) → length bytes ≡ 512 → k < 256 → came (flags bytes) k ≡ is_set (slice_index bytes k)
 flag_at bytes k long lt =
@@ -65,8 +64,8 @@ flags_set bytes page long lt =
 
 none_flagged : (k : ℕ) → came (flags (replicate 512 0)) k ≡ false
 none_flagged k = elim (cases_lt k 256) [
-  | inl lt ↦ flag_at (replicate 512 0) k (length-replicate 512 0) lt ∙ ap is_set (get_or-replicate 512 k 0 0 (omega (arith, lt)))
-  | inr past ↦ get_or_past (flags (replicate 512 0)) k false (let long = length-flags (replicate 512 0) (length-replicate 512 0) in omega (arith, long, past))
+  | inl lt ↦ flag_at (replicate 512 0) k (length-replicate {A = ℕ} 512 0) lt ∙ ap is_set (get_or-replicate 512 k 0 0 (omega (arith, lt)))
+  | inr past ↦ get_or_past (flags (replicate 512 0)) k false (let long = length-flags (replicate 512 0) (length-replicate {A = ℕ} 512 0) in omega (arith, long, past))
 ]
 
 unset : (bytes : List ℕ) (k : ℕ) → length bytes ≡ 512 → k < 256 → slice_index bytes k ≡ 0 → came (flags bytes) k ≡ false
@@ -76,8 +75,8 @@ not_unset : (bytes : List ℕ) (k : ℕ) → length bytes ≡ 512 → k < 256 �
 not_unset bytes k long lt some = flag_at bytes k long lt ∙ lt-ltb 0 (slice_index bytes k) (positive (slice_index bytes k) some)
   where
     positive : (n : ℕ) → (n ≡ 0 → ⊥) → 0 < n
-    positive zero no = absurd (no refl)
-    positive (suc n) no = omega arith
+    positive zero some = absurd (some refl)
+    positive (suc n) some = omega arith
 
 pub ends_within : (area n k : ℕ) → area < 2 → 8 + 2 * n ≤ k → 8 + area * n + n ≤ k
 ends_within zero n k lt le = omega arith
@@ -95,11 +94,11 @@ begins f m p a memory board counts wide area enough long idle few is =
       wide = wide;
       area = area;
       enough = enough;
-      came = length-replicate 512 0;
+      came = length-replicate {A = ℕ} 512 0;
       long = long;
       at = record {
         more = omega (arith, board);
-        taken = taken_none p.shape p.saved.head.serial (area_of p.shape p.saved.area (f a).content) (flags (replicate 512 0)) memory (length-flags (replicate 512 0) (length-replicate 512 0)) none_flagged long;
+        taken = taken_none p.shape p.saved.head.serial (area_of p.shape p.saved.area (f a).content) (flags (replicate 512 0)) memory (length-flags (replicate 512 0) (length-replicate {A = ℕ} 512 0)) none_flagged long;
         read = reads_none (f a) (m a) idle few;
       };
     })
@@ -259,14 +258,14 @@ module _ {D : Type 0} (f : D → Facts) (m : D → FaultState) (bounded : (d : D
             taken_all size serial p.saved.counts here (flags (set p.came page 1)) new reached.counts (subst (λ (places : List ℕ). IsTaken size serial here places (flags (set p.came page 1)) new) whole taken_then),
           )
         where
-          ltb_false : (x y : ℕ) → nat_lt x y ≡ false → y ≤ x
-          ltb_false x y no = elim (cases_lt x y) [
-            | inl lt ↦ absurd (clash (nat_lt x y) (lt-ltb x y lt) no)
-            | inr past ↦ past
-          ]
-
           clash : (b : Bool) → b ≡ true → b ≡ false → ⊥
           clash b is not = cc
+
+          ltb_false : (x y : ℕ) → nat_lt x y ≡ false → y ≤ x
+          ltb_false x y isnt = elim (cases_lt x y) [
+            | inl lt ↦ absurd (clash (nat_lt x y) (lt-ltb x y lt) isnt)
+            | inr past ↦ past
+          ]
 
       page_read : Then (page_taken page p)
       page_read = record {

@@ -1,7 +1,7 @@
 -- Each call of a suspension leaves fewer to come.
-use Rattle.std.proofs.Common.{◌≡◌, ◌+◌, ◌*◌, ◌-◌, ◌<◌, nat_lt, if◌then◌else◌, true, false, Bool, ℕ, Ok, Err, refl, sym, subst, arith}
+use Rattle.std.proofs.Common.{◌≡◌, ◌+◌, ◌<◌, nat_lt, if◌then◌else◌, true, false, Bool, Ok, Err, refl, sym, subst, arith}
 use Rattle.planned_store.specs.Commits.{Answer}
-use Rattle.planned_images.specs.Saves.{save_asks_at, save_asks, SaveGoes, SaveGoesAt, HasPage, next_page, saves_left, saves_left_at}
+use Rattle.planned_images.specs.Saves.{save_asks_at, save_asks, SaveGoes, SaveGoesAt, HasPage, saves_left, saves_left_at}
 use Rattle.planned_images.specs.declared.saves.Saving.{Saving}
 use Rattle.planned_images.specs.declared.saves.SaveStep.{SaveStep}
 use Rattle.planned_images.specs.declared.saves.SaveStep.TheVariants.{WriteHead, WritePage, SyncArea, Saved, Failed}

@@ -1,32 +1,31 @@
 -- A suspension, from its plan to its answer.
-use Rattle.std.proofs.Common.{◌≡◌, ◌∙◌, ◌⊎◌, inl, inr, ⊎_elim, ◌+◌, ◌*◌, ◌-◌, ◌^◌, ◌≤◌, ◌<◌, zero, suc, ℕ, Bool, true, false, List, [], if◌then◌else◌, slice_index, length, Option, Some, None, Result, Ok, Err, OnOk, IfErr, refl, sym, ap, subst, arith}
+use Rattle.std.proofs.Common.{◌≡◌, ◌∙◌, ◌⊎◌, inl, inr, ⊎_elim, ◌+◌, ◌*◌, ◌-◌, ◌^◌, ◌≤◌, ◌<◌, ℕ, Bool, true, false, List, [], if◌then◌else◌, length, Option, Some, None, Result, Ok, Err, OnOk, IfErr, refl, sym, ap, subst, arith}
 use Rattle.std.specs.Result.{MatchResult}
+use Rattle.std.proofs.lemmas.Result.{IfErr-weaker}
 use Rattle.std.proofs.lemmas.Bool.{eq-eqb, ne_eqb}
-use Rattle.board_model.specs.Durable.{DurableState, Change, Suspend, Image, refusal_of, after}
+use Rattle.board_model.specs.Durable.{DurableState, Change, refusal_of, after}
 use Rattle.board_model.specs.Views.{number_of_refusal}
 use Rattle.board_model.specs.Shapes.{Size, IsSize, ram_bytes_of, sectors_of, area_sectors_of}
 use Rattle.board_model.specs.declared.refusal.Refusal.{Refusal}
 use Rattle.board_model.specs.declared.refusal.Refusal.TheVariants.{BadShape, Device, Down, Over, JournalFull, SerialsSpent}
-use Rattle.disk.specs.Facts.{Facts, Content, Torn, LeavesSince, counted, most}
+use Rattle.disk.specs.Facts.{Facts, Content, LeavesSince, counted, most}
 use Rattle.disk.specs.FaultState.{FaultState}
-use Rattle.disk.specs.declared.device.Fault.{Fault}
 use Rattle.disk.specs.Moments.{leaves_none, leaves_then, leaves_weaker}
 use Rattle.image.specs.Images.{area_of, memory_of}
-use Rattle.layout.specs.Records.{IsInRange, IsSaved}
+use Rattle.layout.specs.Records.{IsInRange}
 use Rattle.layout.specs.Sizes.{area_start}
 use Rattle.layout.specs.declared.records.Record.{Record}
 use Rattle.layout.specs.declared.saved.Saved.{Saved}
 use Rattle.store.specs.Answers.{GoesTo, CountedRefusal}
-use Rattle.store.specs.Commits.{IsUp, SameImage}
+use Rattle.store.specs.Commits.{IsUp}
 use Rattle.store.specs.Follows.{durable_after, suspended}
 use Rattle.store.specs.Leaves.{LeavesOnly, StandsForEither, WroteACommand}
 use Rattle.store.specs.Opens.{CausedRefusal}
-use Rattle.store.specs.Standing.{StandsFor, state_of, saved_memory, selected, live_sector}
+use Rattle.store.specs.Standing.{StandsFor, state_of, selected, live_sector}
 use Rattle.store.specs.declared.saving.Resumption.{Resumption}
-use Rattle.store.proofs.Answering.{goes_to, wrote_later}
 use Rattle.store.proofs.Freeing.{Frees, frees, free_up}
-use Rattle.store.proofs.Renewing.{trial_in_two}
-use Rattle.store.proofs.States.{up_leaves, stands_for, state_same}
+use Rattle.store.proofs.States.{up_leaves, stands_for}
+use Rattle.planned_store.specs.Reached.{Ended, Reached}
 use Rattle.planned_store.specs.Stores.{state_now, Holds, Reaches, Told, Applied, Asked, receipt_at, receipt_of}
 use Rattle.planned_store.specs.declared.commits.Commit.{Commit}
 use Rattle.planned_store.specs.declared.commits.CommitStep.{CommitStep}
@@ -37,13 +36,14 @@ use Rattle.planned_store.specs.declared.commits.Selected.{Selected}
 use Rattle.planned_store.specs.declared.stores.OpenStore.{OpenStore}
 use Rattle.planned_images.specs.Saves.{free_side, counts_of, save_asks_at, save_asks, saved_record, commit_at, commit_of, PlansSave, NoSave}
 use Rattle.planned_images.specs.SaveReached.{WroteRange, PageStands, WroteArea, SaveAt, SaveReached}
-use Rattle.planned_images.specs.Suspends.{SuspendTold, suspension, Fits, Suspended, SuspendsTo}
+use Rattle.planned_images.specs.Suspends.{SuspendTold, suspension, Fits, SuspendsTo}
 use Rattle.planned_images.specs.declared.saves.Saving.{Saving}
 use Rattle.planned_images.specs.declared.requests.ImageRequest.TheVariants as requests
 use Rattle.planned_images.specs.declared.saves.SaveStep.{SaveStep}
 use Rattle.planned_images.specs.declared.saves.SaveStep.TheVariants.{WriteHead, WritePage, SyncArea, Saved as AreaSaved, Failed}
 use Rattle.planned_images.proofs.LoadSteps.{ends_within}
-use Rattle.planned_images.proofs.SavingArea.{are_counts, area_reads}
+use Rattle.planned_images.proofs.SavedRecords.{free_two, saved_range}
+use Rattle.planned_images.proofs.SavingArea.{area_reads}
 
 not_both : (b : Bool) → b ≡ false → b ≡ true → ⊥
 not_both b isn is = cc
@@ -56,9 +56,10 @@ free_of : (image : Option Saved) → ((saved : Saved) → image ≡ Some saved �
 free_of None few saved is = cc
 free_of (Some t) few saved is = let same : t ≡ saved = cc in let small = few saved is in let side : 1 - t.area ≡ 1 - saved.area = ap (λ (u : Saved). 1 - u.area) same in (λ one two. absurd (omega (arith, one, two, side)), λ one two. absurd (omega (arith, one, two, side)))
 
-pub free_two : (image : Option Saved) → free_side image < 2
-free_two None = omega arith
-free_two (Some t) = omega arith
+-- what a command wrote after the area was written, it wrote of what stood before that
+wrote_later : (old mid new : Facts) → selected mid.content ≡ selected old.content → live_sector mid.content ≡ live_sector old.content → WroteACommand mid new → WroteACommand old new
+unfolding WroteACommand
+wrote_later old mid new same live wrote c left = let w = wrote c left in (w.0 ∙ ap (λ (k : ℕ). 1 - k) same, w.1, w.2 ∙ live)
 
 module _ {D : Type 0} (f : D → Facts) (m : D → FaultState) (may_keep : (d : D) → (f d).may_leave (f d).content) (only_now : (d : D) (c : Content) → (f d).since (f d).moment c → (f d).may_leave c)
     (bounded : (d : D) → (f d).failures ≤ most) (a : D) (old : OpenStore) (memory : List ℕ) (at : Resumption) (holds : Holds (f a) old) where
@@ -81,9 +82,9 @@ module _ {D : Type 0} (f : D → Facts) (m : D → FaultState) (may_keep : (d : 
       (λ o. ⊎_elim (λ over. inr (inr (inl (over.0, over.2, refl))))
       (λ j. ⊎_elim (λ full. inr (inr (inr (full.0, full.2, full.3, refl))))
       (λ s. ⊎_elim
-      (λ shape. inr (inl (shape.0, λ board. shape.4 (omega (arith, board.0, fits), (board.1, board.2)), shape.2, shape.3, refl)))
+      (λ shape. inr (inl (shape.0, λ board. shape.4 (omega (arith, board.0, fits), board.1, board.2), shape.2, shape.3, refl)))
       (λ spent. inl (
-        (omega (arith, fits, spent.4.0), (spent.4.1, spent.4.2)),
+        (omega (arith, fits, spent.4.0), spent.4.1, spent.4.2),
         inr (inr (inr (inr (spent_so e spent.0 spent.5, spent.2, spent.3, refl)))),
       )) s) j) o) why
     where
@@ -120,11 +121,15 @@ module _ {D : Type 0} (f : D → Facts) (m : D → FaultState) (may_keep : (d : 
   only_here : old.down ≡ false → LeavesOnly (f a) size now
   only_here up = up_leaves (f a) size old.selected.side live (holds.up up)
 
+  still_here : old.down ≡ false → LeavesSince (f a) (f a) (λ x. StandsFor x size now)
+  still_here up = leaves_none (f a) (λ x. StandsFor x size now) (only_now a) (λ x left. stands_for size old.selected.side live (f a).content x (holds.up up x left))
+
   goes_nowhere : old.down ≡ false → (e : Refusal) → (e ≡ Down → ⊥) → GoesTo (f a) (f a) size now (after now c) (Err e)
   goes_nowhere up e not_down = record {
-    any_moment = leaves_none (f a) (StandsForEither size now (after now c)) (only_now a) (λ x left. inl (stands_for size old.selected.side live (f a).content x (holds.up up x left)));
+    any_moment = leaves_weaker (f a) (f a) (λ x. StandsFor x size now) (StandsForEither size now (after now c)) (still_here up) (λ x stands. inl stands);
     acknowledged = tt;
     unchanged = λ _. only_here up;
+    still = λ _. still_here up;
     in_doubt = λ is. absurd (not_down (the_error e Down is));
   }
 
@@ -159,7 +164,7 @@ module _ {D : Type 0} (f : D → Facts) (m : D → FaultState) (may_keep : (d : 
     chosen saved is = ((is_up (f a).content (may_keep a)).selects.is.0.image saved is).area
 
     fits_board : Fits old memory at
-    fits_board = (omega (arith, fits, plans.fits.0), (plans.fits.1, plans.fits.2))
+    fits_board = (omega (arith, fits, plans.fits.0), plans.fits.1, plans.fits.2)
 
     allowed_in : (content : Content) → refusal_of (state_of size live content) c ≡ None
     allowed_in content = ap (λ (b : Bool). if b then Some 12 else None) (ne_eqb live.next (2 ^ 64 - 1) (λ is. absurd (omega (arith, is, plans.serial))))
@@ -167,7 +172,7 @@ module _ {D : Type 0} (f : D → Facts) (m : D → FaultState) (may_keep : (d : 
     reaches : Reaches old now c
     reaches = (plans.going, plans.room, allowed_in (f a).content)
 
-    module _ (r : Result (Unit {0}) Fault) (calls : ℕ) (wrote : WroteRange (area_start size area) (area_sectors_of size) calls (f a) (m a) r (f b) (m b)) where
+    module _ (r : Ended) (calls : ℕ) (wrote : WroteRange (area_start size area) (area_sectors_of size) calls (f a) (m a) r (f b) (m b)) where
       freed : Frees (f a) (f b) size live live []
       freed = frees (f a) (f b) size old.selected.side live live [] area holds.known (free_two live.image) (free_of live.image chosen) is_up (may_keep a) wrote.content wrote.crash (λ none. refl) refl (only_now a)
 
@@ -192,6 +197,7 @@ module _ {D : Type 0} (f : D → Facts) (m : D → FaultState) (may_keep : (d : 
           any_moment = first_moment (Err tt) (2 * size.pages + 1) wrote;
           acknowledged = tt;
           unchanged = λ _. subst (LeavesOnly (f b) size) (now_same (Err tt) (2 * size.pages + 1) wrote) (up_leaves (f b) size old.selected.side live (still_up (Err tt) (2 * size.pages + 1) wrote));
+          still = λ _. (freed (Err tt) (2 * size.pages + 1) wrote).any_moment;
           in_doubt = λ is. let no : Device ≡ Down = the_error Device Down is in cc;
         };
         written = tt;
@@ -266,30 +272,18 @@ module _ {D : Type 0} (f : D → Facts) (m : D → FaultState) (may_keep : (d : 
       pub allowed : refusal_of (state_of size live (f b).content) c ≡ None
       allowed = allowed_in (f b).content
 
-      saved_small : (i : ℕ) → i < 4 → slice_index (counts_of size) i < 256 ^ 4
-      saved_small zero lt = omega (arith, board)
-      saved_small (suc zero) lt = omega (arith, board)
-      saved_small (suc (suc zero)) lt = omega (arith, board)
-      saved_small (suc (suc (suc zero))) lt = omega (arith, board)
-      saved_small (suc (suc (suc (suc i)))) lt = absurd (omega (arith, lt))
-
       pub range : at.opaque < 2 ^ 64 → IsInRange size next
-      range opaque = record {
-        slot = range_was.slot;
-        image = λ x is. subst (IsSaved size (live.next + 1)) (saved_is x is) (record {
-          serial = omega arith;
-          area = free_two live.image;
-          hart = plans.fits.1;
-          address = plans.fits.2;
-          counts = are_counts size board;
-          fit = (omega (arith, plans.serial), (omega (arith, free_two live.image), (omega (arith, plans.fits.1, board), (omega (arith, plans.fits.2.1, board), (omega (arith, opaque), (saved_small 0 (omega arith), (saved_small 1 (omega arith), (saved_small 2 (omega arith), (saved_small 3 (omega arith), tt)))))))));
-        });
-        trial = trial_in_two live.version live.trial range_was.trial;
-        fit = (omega arith, (range_was.fit.1.0, (range_was.fit.1.1.0, (omega arith, (omega (arith, plans.serial), tt)))));
-      }
-        where
-          saved_is : (x : Saved) → next.image ≡ Some x → record { head = record { serial = live.next; hart = at.hart; address = at.address; opaque = at.opaque }; area = area; counts = counts_of size } ≡ x
-          saved_is x is = cc
+      range opaque = saved_range old.selected at board range_was plans.fits.1 plans.fits.2 plans.serial opaque
+
+      -- ---- before the first call of its commit
+      enough_then : 4 ≤ length (f b).content
+      enough_then = omega (arith, enough_was, wrote.content.as_long)
+
+      side_then : s.from.side < 2
+      side_then = subst (λ (x : Selected). x.side < 2) (sym same_from) holds.known
+
+      pub begins_commit : Reached f m (Committing (record { from = s.from; next = saved_record s; step = WriteRecord })) b b
+      begins_commit = (side_then, enough_then, refl)
 
       -- ---- and the commit was asked for
       module _ (result : Result ℕ Refusal) (d : D) (new : OpenStore) (asked : Asked f m b old c result d new) (few : IfErr result (λ e. (e ≡ Device) ⊎ (e ≡ Down))) where
@@ -322,6 +316,7 @@ module _ {D : Type 0} (f : D → Facts) (m : D → FaultState) (may_keep : (d : 
               any_moment = leaves_then (f a) (f b) (f d) (StandsForEither size now (after now c)) (first_moment (Ok tt) many wrote) here.any_moment;
               acknowledged = here.acknowledged;
               unchanged = here.unchanged;
+              still = IfErr-weaker result _ _ (λ e each not_down. leaves_then (f a) (f b) (f d) (λ x. StandsFor x size now) (freed (Ok tt) many wrote).any_moment (each not_down)) here.still;
               in_doubt = here.in_doubt;
             }
 

@@ -1,20 +1,19 @@
 -- One call more of a suspension.
-use Rattle.std.proofs.Common.{◌≡◌, ◌∙◌, ◌⊎◌, inl, inr, nat_lt, if◌then◌else◌, true, false, Bool, zero, suc, ℕ, ◌+◌, ◌*◌, ◌<◌, ◌≤◌, List, [], ◌∷◌, length, Result, Ok, Err, OnOk, refl, sym, ap, subst, arith}
+use Rattle.std.proofs.Common.{◌≡◌, ◌∙◌, inl, inr, nat_lt, if◌then◌else◌, true, false, Bool, ℕ, ◌+◌, ◌*◌, ◌≤◌, List, [], ◌∷◌, length, Ok, Err, OnOk, refl, sym, ap, subst, arith}
 use Rattle.std.proofs.lemmas.Bool.{cases_eq, cases_lt, lt-ltb, ltb-true}
 use Rattle.board_model.specs.Shapes.{Size, IsSize, ram_bytes_of, sectors_of, places_of, area_sectors_of}
 use Rattle.disk.specs.Calls.{MakesCalls}
-use Rattle.disk.specs.Facts.{Facts, Content, Lent, sector, Torn, Written, Stays, Passes, Only, counted, most}
+use Rattle.disk.specs.Facts.{Facts, Content, Lent, sector, Torn, Written, Stays, Passes, Only, most}
 use Rattle.disk.specs.FaultState.{FaultState, Cause}
 use Rattle.disk.specs.Moments.{passes_none, passes_then, passes_weaker}
 use Rattle.disk.specs.declared.device.Fault.{Fault}
 use Rattle.layout.specs.Places.{place_head_of}
-use Rattle.layout.specs.Sizes.{area_start}
 use Rattle.image.proofs.Written.{lanes_of}
 use Rattle.planned_store.specs.Commits.{Answer}
 use Rattle.planned_store.proofs.Calls.{called_ok}
-use Rattle.planned_images.specs.Saves.{free_side, save_sector, save_asks, save_asks_at, SavePuts, SavePutsAt, SaveGoes, SaveGoesAt, next_page}
+use Rattle.planned_images.specs.Saves.{save_sector, save_asks, save_asks_at, SavePuts, SavePutsAt, SaveGoes, SaveGoesAt}
 use Rattle.planned_images.specs.SaveServed.{PageWritten, IsSaveServed}
-use Rattle.planned_images.specs.SaveReached.{WroteRange, HeadStands, PageStands, first_of, PagesStand, WroteArea, SaveAt, SaveReached}
+use Rattle.planned_images.specs.SaveReached.{WroteRange, PageStands, first_of, PagesStand, WroteArea, SaveAt, SaveReached}
 use Rattle.planned_images.specs.declared.saves.Saving.{Saving}
 use Rattle.planned_images.specs.declared.saves.SaveStep.{SaveStep}
 use Rattle.planned_images.specs.declared.saves.SaveStep.TheVariants.{WriteHead, WritePage, SyncArea, Saved, Failed}
@@ -186,8 +185,8 @@ module _ {D : Type 0} (f : D → Facts) (m : D → FaultState) (a b c : D) (s : 
         clash b is not = cc
 
         ltb_false : (x y : ℕ) → nat_lt x y ≡ false → y ≤ x
-        ltb_false x y no = elim (cases_lt x y) [
-          | inl lt ↦ absurd (clash (nat_lt x y) (lt-ltb x y lt) no)
+        ltb_false x y isnt = elim (cases_lt x y) [
+          | inl lt ↦ absurd (clash (nat_lt x y) (lt-ltb x y lt) isnt)
           | inr past ↦ past
         ]
 

@@ -1,14 +1,14 @@
 -- An area in which the pages stand in their order reads as their memory.
-use Rattle.std.proofs.Common.{◌≡◌, ◌∙◌, inl, inr, true, false, Bool, zero, suc, ℕ, ◌+◌, ◌*◌, ◌-◌, ◌/◌, ◌%◌, ◌<◌, ◌≤◌, ◌^◌, List, [], ◌∷◌, ◌++◌, length, slice_index, sum, replicate, set, take, drop, min, nat_lt, if◌then◌else◌, refl, sym, ap, subst, arith, append_assoc, mul_comm, length-take, length-drop}
+use Rattle.std.proofs.Common.{◌≡◌, ◌∙◌, inl, inr, true, false, Bool, zero, suc, ℕ, ◌+◌, ◌*◌, ◌-◌, ◌%◌, ◌<◌, ◌≤◌, ◌^◌, List, [], ◌∷◌, ◌++◌, length, slice_index, sum, replicate, set, take, drop, min, if◌then◌else◌, refl, sym, ap, subst, arith, append_assoc, mul_comm, length-take, length-drop}
 use Rattle.std.proofs.Math.Nat.{mod-lt}
 use Rattle.std.proofs.lemmas.Nat.{div-add-mod'}
 use Rattle.std.proofs.lemmas.Bool.{cases_lt, lt-ltb}
-use Rattle.std.proofs.lemmas.List.{drop-drop, drop_more, take-append-drop, get_or-replicate, get_or-set_other, get_or_past, length-replicate, length-set, take_all, take_more}
+use Rattle.std.proofs.lemmas.List.{drop-drop, drop_more, take-append-drop, get_or-replicate, get_or-set_other, get_or_past, length-replicate, take_all, take_more}
 use Rattle.std.proofs.lemmas.List.Sums.{sum_by-cons}
 use Rattle.std.specs.List.{flat_map}
 use Rattle.board_model.specs.Shapes.{Size, IsSize, ram_bytes_of, places_of, area_sectors_of}
 use Rattle.disk.specs.Facts.{Content, sector}
-use Rattle.layout.specs.Places.{place_head_of, IsPlaceHead}
+use Rattle.layout.specs.Places.{IsPlaceHead}
 use Rattle.layout.specs.Records.{AreCounts, most_places}
 use Rattle.layout.specs.Sizes.{area_start}
 use Rattle.layout.specs.declared.places.PlaceHead.{PlaceHead}
@@ -16,10 +16,8 @@ use Rattle.layout.proofs.SpelledPlaces.{page_in as page_of_head}
 use Rattle.image.specs.Images.{area_of, places_in, memory_of}
 use Rattle.image.specs.Reading.{came, IsTaken}
 use Rattle.image.proofs.Heads.{area_sector, head_from}
-use Rattle.image.proofs.Lists.{place_at}
-use Rattle.image.proofs.Pages.{filled}
 use Rattle.image.proofs.Taking.{behind, taken_more, taken_none, taken_all}
-use Rattle.image.proofs.Whole.{bytes_of, more}
+use Rattle.image.proofs.Whole.{more}
 use Rattle.image.proofs.Written.{lanes_of}
 use Rattle.planned_images.specs.Saves.{counts_by, counts_of}
 use Rattle.planned_images.specs.SaveReached.{PageStands}
@@ -164,6 +162,7 @@ seen zero = replicate 256 false
 seen (suc n) = set (seen n) n true
 
 not_seen : (n k : ℕ) → n ≤ k → came (seen n) k ≡ false
+unfolding seen
 not_seen zero k le = elim (cases_lt k 256) [
   | inl lt ↦ get_or-replicate 256 k false false lt
   | inr past ↦ get_or_past (replicate 256 false) k false (let long : length (replicate 256 false) ≡ 256 = length-replicate 256 false in omega (arith, long, past))
@@ -225,6 +224,7 @@ module _ (size : Size) (board : IsSize size) (area serial : ℕ) (memory : List 
         shift_on a j = omega arith
 
   taken : (n : ℕ) → n ≤ size.pages → IsTaken size serial here (take n places) (seen n) memory
+  unfolding seen
   taken zero le = taken_none size serial here (replicate 256 false) memory (length-replicate 256 false) (λ k. not_seen 0 k (omega arith)) long
   taken (suc n) le =
       let lt : n < size.pages = omega (arith, le) in

@@ -1,16 +1,16 @@
 -- What a load has made of a disk and a memory by the calls so far: of disk a at its begin, and disk b and that memory now.
-use Rattle.std.specs.Prelude.{◌≡◌, ◌≤◌, ◌<◌, ◌^◌, ℕ, List, [], length, slice_index, take, Ok, Err, Result}
-use Rattle.board_model.specs.Shapes.{Size, IsSize, ram_bytes_of, sectors_of}
+use Rattle.std.specs.Prelude.{◌≡◌, ◌≤◌, ◌<◌, ◌^◌, ℕ, List, [], length, slice_index, take, Ok, Err}
+use Rattle.board_model.specs.Shapes.{IsSize, ram_bytes_of, sectors_of}
 use Rattle.board_model.specs.declared.refusal.Refusal.TheVariants.{BadImage, Device}
 use Rattle.disk.specs.Calls.{MakesCalls}
 use Rattle.disk.specs.Facts.{Facts, Content, sector, Stays}
 use Rattle.disk.specs.FaultState.{FaultState}
+use Rattle.disk.specs.declared.device.Fault.{Fault}
 use Rattle.layout.specs.Places.{IsPlaceHead}
 use Rattle.layout.specs.Records.{AreCounts}
 use Rattle.image.specs.Images.{area_of, memory_of}
 use Rattle.image.specs.Reading.{IsTaken}
 use Rattle.image.specs.Refusals.{HasRead, ReadsOn}
-use Rattle.planned_store.specs.Commits.{Answer}
 use Rattle.planned_images.specs.Loads.{flags, all_places, place_now}
 use Rattle.planned_images.specs.declared.loads.Loading.{Loading}
 use Rattle.planned_images.specs.declared.loads.LoadStep.{LoadStep}
@@ -36,7 +36,7 @@ module _ {D : Type 0} (f : D → Facts) (m : D → FaultState) where
     pub before : ReadSo p a mid memory
     pub head : IsPlaceHead p.shape (record { page = page; serial = p.saved.head.serial }) (sector (area_here p a) (place_now p))
     pub fresh : slice_index p.came page ≡ 0
-    pub called : MakesCalls {T = Unit {0}} {E = Unit {0}} 1 Stays (f mid) (f b) (m mid) (m b) (Ok tt)
+    pub called : MakesCalls {T = Unit {0}} {E = Fault} 1 Stays (f mid) (f b) (m mid) (m b) (Ok tt)
     pub still : (f b).moment ≡ (f mid).moment
 
   abbrev pub LoadAt : LoadStep → Loading → D → D → List ℕ → Type 0

@@ -6,7 +6,7 @@ use Rattle.disk.specs.Facts.{Facts, Content, sector, Stays, AreSectorsAt}
 use Rattle.disk.specs.FaultState.{FaultState}
 use Rattle.planned_store.specs.Commits.{Answer}
 use Rattle.planned_images.specs.declared.requests.ImageRequest.{ImageRequest}
-use Rattle.planned_images.specs.declared.requests.ImageRequest.TheVariants.{Read, ReadPage, Write, WritePage, Sync, Done}
+use Rattle.planned_images.specs.declared.requests.ImageRequest.TheVariants.{Read, ReadPage}
 
 -- a load asks for reads alone
 abbrev pub IsALoad : ImageRequest → Type 0

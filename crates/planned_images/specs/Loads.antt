@@ -1,5 +1,5 @@
 -- The calls of a load, one after another. Source: docs/IMAGE.md, "Reading".
-use Rattle.std.specs.Prelude.{◌≡◌, ◌⊎◌, ◌+◌, ◌*◌, ◌-◌, ◌<◌, ℕ, Bool, true, false, nat_lt, if◌then◌else◌, List, length, slice_index, map, take, replicate, slice_set, Result, Ok, Err, Some, None}
+use Rattle.std.specs.Prelude.{◌≡◌, ◌+◌, ◌*◌, ◌-◌, ◌<◌, ℕ, Bool, true, false, nat_lt, if◌then◌else◌, List, slice_index, map, take, replicate, slice_set, Result, Ok, Err, Some, None}
 use Rattle.board_model.specs.Shapes.{Size}
 use Rattle.board_model.specs.declared.refusal.Refusal.{Refusal}
 use Rattle.board_model.specs.declared.refusal.Refusal.TheVariants as refusals

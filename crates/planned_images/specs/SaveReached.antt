@@ -1,11 +1,11 @@
 -- What the calls of a suspension so far have made of a disk: of disk a at its begin, and disk b now.
-use Rattle.std.specs.Prelude.{◌≡◌, ◌≤◌, ◌<◌, ◌+◌, ◌*◌, ℕ, List, length, Result, Ok, Err, OnOk, OnErr}
+use Rattle.std.specs.Prelude.{◌≡◌, ◌≤◌, ◌<◌, ◌+◌, ◌*◌, ℕ, List, length, Ok, Err, OnOk, OnErr}
 use Rattle.board_model.specs.Shapes.{IsSize, ram_bytes_of, sectors_of, area_sectors_of}
 use Rattle.disk.specs.Facts.{Facts, Content, sector, Torn, Passes, Only, Failed, counted}
 use Rattle.disk.specs.FaultState.{FaultState, Cause}
 use Rattle.layout.specs.Places.{place_head_of}
 use Rattle.layout.specs.Sizes.{area_start}
-use Rattle.planned_store.specs.Commits.{Answer}
+use Rattle.planned_store.specs.Reached.{Ended}
 use Rattle.planned_images.specs.Saves.{free_side, save_sector}
 use Rattle.planned_images.specs.SaveServed.{PageWritten}
 use Rattle.planned_images.specs.declared.saves.Saving.{Saving}
@@ -13,7 +13,7 @@ use Rattle.planned_images.specs.declared.saves.SaveStep.{SaveStep}
 use Rattle.planned_images.specs.declared.saves.SaveStep.TheVariants.{WriteHead, WritePage, SyncArea, Saved, Failed as SaveFailed}
 
 -- So many calls were made that wrote these sectors alone, or the last of them failed. Nothing is lent.
-pub record WroteRange (first n calls : ℕ) (old : Facts) (m : FaultState) (answer : Answer) (new : Facts) (o : FaultState) : Type 0
+pub record WroteRange (first n made : ℕ) (old : Facts) (m : FaultState) (answer : Ended) (new : Facts) (o : FaultState) : Type 0
   where
     pub content : Torn first n old.content new.content
     pub crash : Passes old new (Torn first n)
@@ -21,7 +21,7 @@ pub record WroteRange (first n calls : ℕ) (old : Facts) (m : FaultState) (answ
     pub no_failure : OnOk answer (new.failures ≡ old.failures)
     pub unmoved : OnOk answer (o ≡ m)
     pub failed : OnErr answer (Failed old.failures new.failures × Cause m o)
-    pub calls : OnOk answer (new.calls ≡ counted old.calls calls)
+    pub calls : OnOk answer (new.calls ≡ counted old.calls made)
 
 -- the header of a page stands there
 abbrev pub HeadStands : ℕ → ℕ → ℕ → Content → Type 0
@@ -40,7 +40,7 @@ module _ {D : Type 0} (f : D → Facts) (m : D → FaultState) where
   PagesStand n s memory b =
       (p : ℕ) → p < n → PageStands (first_of s + 9 * p) p s.from.live.next memory (f b).content
 
-  abbrev pub WroteArea : ℕ → Saving → D → Answer → D → Type 0
+  abbrev pub WroteArea : ℕ → Saving → D → Ended → D → Type 0
   WroteArea calls s a answer b =
       WroteRange (first_of s) (area_sectors_of s.from.shape) calls (f a) (m a) answer (f b) (m b)
 

@@ -5,7 +5,7 @@ use Rattle.disk.specs.Facts.{Facts, Content, sector, Torn, Written, Stays, Only}
 use Rattle.disk.specs.FaultState.{FaultState}
 use Rattle.planned_store.specs.Commits.{Answer}
 use Rattle.planned_images.specs.declared.requests.ImageRequest.{ImageRequest}
-use Rattle.planned_images.specs.declared.requests.ImageRequest.TheVariants.{Read, ReadPage, Write, WritePage, Sync, Done}
+use Rattle.planned_images.specs.declared.requests.ImageRequest.TheVariants.{Write, WritePage, Sync}
 
 -- a suspension asks for writes and syncs alone
 abbrev pub IsASave : ImageRequest → Type 0

@@ -1,5 +1,5 @@
 -- The calls of a suspension up to its commit, one after another. Source: docs/IMAGE.md, "Writing".
-use Rattle.std.specs.Prelude.{◌≡◌, ◌⊎◌, ◌+◌, ◌*◌, ◌-◌, ◌^◌, ◌<◌, ℕ, Bool, true, false, nat_lt, if◌then◌else◌, min, List, [], ◌∷◌, Option, Some, None, Result, Ok, Err}
+use Rattle.std.specs.Prelude.{◌≡◌, ◌⊎◌, ◌+◌, ◌*◌, ◌-◌, ◌^◌, ◌<◌, ℕ, true, false, nat_lt, if◌then◌else◌, min, List, [], ◌∷◌, Option, Some, None, Ok, Err}
 use Rattle.board_model.specs.Shapes.{Size, places_of, IsValidAddress}
 use Rattle.board_model.specs.declared.refusal.Refusal.{Refusal}
 use Rattle.board_model.specs.declared.refusal.Refusal.TheVariants as refusals

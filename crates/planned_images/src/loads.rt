@@ -90,7 +90,8 @@ impl Loading {
         ensures place { HasPlace self.new }
         ensures same { (self.new.shape ≡ self.old.shape) × (self.new.saved ≡ self.old.saved) }
     {
-        match self.step {
+        let step = self.step;
+        match step {
             LoadStep::ReadHead => self.step = self.head_read(sector),
             LoadStep::ReadPage(page) => self.page_read(page),
             _ => {}

@@ -1,5 +1,5 @@
 //! Places in use, counted through the lanes.
-ghost use Rattle.std.specs.Prelude.{◌≡◌, ◌<◌, ◌≤◌, ◌+◌, slice_index};
+ghost use Rattle.std.specs.Prelude.{◌≡◌, ◌<◌, ◌≤◌, ◌+◌, ◌^◌, slice_index};
 ghost use Rattle.board_model.specs.Shapes.{area_sectors_of};
 ghost use Rattle.layout.specs.Records.{AreCounts};
 ghost use Rattle.image.specs.Images.{places_in};
@@ -13,6 +13,7 @@ pub(crate) fn place_of(shape: &Shape, counts: &[u32; 4], number: usize) -> usize
     requires there { number < shape.now.pages }
     ensures value { result ≡ slice_index (places_in shape.now 0 counts.now) number }
     ensures within { result + 9 ≤ area_sectors_of shape.now }
+    ensures small { result < 2 ^ 16 }
 {
     let mut left = number;
     for lane in 0..counts.len() {

@@ -1,6 +1,6 @@
 //! The loop of a suspension's caller, over any disk and memory.
-ghost use Rattle.std.specs.Prelude.{◌≡◌, ◌≤◌, ◌<◌, ◌+◌, ◌*◌, ◌^◌, IsTrue, false, length};
-ghost use Rattle.board_model.specs.Shapes.{ram_bytes_of, sectors_of};
+ghost use Rattle.std.specs.Prelude.{◌≡◌, ◌≤◌, ◌<◌, ◌+◌, ◌*◌, ◌^◌, ℕ, List, IsTrue, false, length};
+ghost use Rattle.board_model.specs.Shapes.{IsSize, ram_bytes_of, sectors_of};
 ghost use Rattle.store.specs.Leaves.{IsIdle, SameLength};
 ghost use Rattle.planned_store.specs.Stores.{Holds};
 ghost use Rattle.planned_images.specs.Saves.{save_asks, HasPage, saves_left};
@@ -32,6 +32,7 @@ pub fn run_saving<D: Disk>(disk: &mut D, plan: &mut Saving, ram: &Ram)
 /// Makes the call that the suspension asks for, and tells it how that ended: whether it asked for one.
 fn turn<D: Disk>(disk: &mut D, plan: &mut Saving, ram: &Ram) -> bool
     requires none_out { IsIdle (D.facts disk.old) }
+    requires board { IsSize plan.old.from.shape }
     requires page { HasPage plan.old }
     requires enough { sectors_of plan.old.from.shape ≤ length (D.facts disk.old).content }
     requires long { length ram.now ≡ ram_bytes_of plan.old.from.shape }

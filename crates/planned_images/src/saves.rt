@@ -1,11 +1,11 @@
 //! The calls of a suspension up to its commit: page by page a header and then the page, and a sync.
 ghost use Rattle.std.specs.Prelude.{◌≡◌, ◌≤◌, ◌<◌, ◌↔◌, IsTrue, ◌+◌, ◌*◌, ◌-◌, ◌^◌, ℕ, List, length, Ok, Err, Some, None, IfOk, IfErr, IfSome};
-ghost use Rattle.board_model.specs.Shapes.{places_of, ram_bytes_of, sectors_of};
+ghost use Rattle.board_model.specs.Shapes.{IsSize, places_of, ram_bytes_of, sectors_of};
 ghost use Rattle.disk.specs.Facts.{Content};
 ghost use Rattle.disk.specs.declared.device.Fault.{Fault};
-ghost use Rattle.layout.specs.Records.{AreCounts};
+ghost use Rattle.layout.specs.Records.{AreCounts, IsInRange};
 ghost use Rattle.layout.specs.declared.saved.Saved.{Saved};
-ghost use Rattle.planned_images.specs.Saves.{HasPage, save_asks, save_sector, SavePuts, SaveGoes, next_page, counts_of, free_side, saved_record, commit_of, PlansSave, NoSave};
+ghost use Rattle.planned_images.specs.Saves.{HasPage, save_asks, save_sector, SavePuts, SaveGoes, next_page, counts_of, free_side, saved_record, commit_of, HasBoard, PlansSave, NoSave};
 ghost use Rattle.planned_images.specs.SaveServed.{IsASave, IsSaveWithin};
 
 use crate::requests::ImageRequest;
@@ -43,6 +43,7 @@ pub struct Saving {
 impl Saving {
     /// The call that comes next. Before a write of a sector the sector has its bytes.
     pub fn asks(&self, sector: &mut Sector) -> ImageRequest
+        requires board { IsSize self.now.from.shape }
         requires page { HasPage self.now }
         ensures asked { result ≡ save_asks self.now }
         ensures bytes { SavePuts self.now sector.new }
@@ -73,6 +74,7 @@ impl Saving {
 
     /// Where on the disk the page's place stands. Lanes are filled one after another, so that places follow pages.
     fn sector(&self) -> usize
+        requires board { IsSize self.now.from.shape }
         requires page { self.now.page < self.now.from.shape.pages }
         ensures value { result ≡ save_sector self.now }
         ensures within { result + 9 ≤ sectors_of self.now.from.shape }
@@ -139,8 +141,12 @@ impl Saving {
     /// The commit of the record that names the area, once that is durable; none where a call failed.
     pub fn commit(&self) -> Option<Commit>
         requires next { self.now.from.live.next + 1 < 2 ^ 64 }
-        ensures { result ≡ commit_of self.now }
+        ensures value { result ≡ commit_of self.now }
+        ensures range { IsSize self.now.from.shape → IsInRange self.now.from.shape self.now.from.live
+            → HasBoard self.now.from.shape self.now.from.shape.pages self.now.at.hart self.now.at.address
+            → IfSome result (λ c. IsInRange c.from.shape c.next) }
     {
+        let _opaque = self.at.opaque;
         match self.step {
             SaveStep::Saved => Some(Commit {
                 from: self.from,
@@ -212,7 +218,8 @@ pub fn plan_suspend(store: &OpenStore, pages: u64, at: Resumption) -> Result<Sav
     if !fits_board(&from.shape, pages, at.hart, at.address) {
         return Err(Refusal::BadShape);
     }
-    if from.live.next == u64::MAX {
+    let serial = store.selected.live.next;
+    if serial == u64::MAX {
         return Err(Refusal::SerialsSpent);
     }
     let Some(page) = from.shape.page(0) else {

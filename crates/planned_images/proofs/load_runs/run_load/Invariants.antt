@@ -1,5 +1,5 @@
 use Rattle.std.proofs.Common.{◌≡◌, ◌≤◌, length}
-use Rattle.board_model.specs.Shapes.{ram_bytes_of, sectors_of}
+use Rattle.board_model.specs.Shapes.{sectors_of}
 use Rattle.planned_images.specs.Loads.{HasPlace, loads_left}
 use Rattle.planned_images.specs.LoadReached.{LoadReached}
 use Rattle.planned_images.proofs.load_runs.run_load.Given as goal
