@@ -1,7 +1,7 @@
 -- A load and a suspension in the numbers and bytes that C keeps, beside the open store that they are of; and what a call of C makes
 -- of them.
 use Rattle.std.specs.Prelude.{◌≡◌, ◌⊎◌, ◌+◌, ◌^◌, ◌<◌, ℕ, List, Option, Some, None}
-use Rattle.board_model.specs.Shapes.{Size}
+use Rattle.board_model.specs.Shapes.{Size, IsValidAddress}
 use Rattle.board_model.specs.Views.{number_of_refusal}
 use Rattle.board_model.specs.declared.refusal.Refusal.{Refusal}
 use Rattle.planned_images.specs.Loads.{load_asks, LoadGoes, loaded_by, PlansLoad, NoLoad}
@@ -22,6 +22,7 @@ use Rattle.store.specs.declared.saving.Resumption.{Resumption}
 use Rattle.planned_store.specs.declared.stores.OpenStore.{OpenStore}
 use Rattle.sbistore.specs.Ends.{Keeps, answer_code}
 use Rattle.sbistore.specs.Next.{IsAnswer, AsksFor}
+use Rattle.sbistore.specs.Packed.{IsSelectedSound}
 use Rattle.sbistore.specs.declared.state.Sbistore.{Sbistore}
 
 -- the number of a step, and one past them all where a load has ended
@@ -121,14 +122,39 @@ pub record IsSavePacked (life : OpenStore) (s : Saving) (store : Sbistore) : Typ
   pub page : store.page ≡ s.page
   pub below : s.page < s.from.shape.pages
   pub serial : s.from.live.next + 1 < 2 ^ 64
+  pub has_hart : s.at.hart < s.from.shape.harts
+  pub has_address : IsValidAddress s.from.shape s.at.address
   pub step : store.step ≡ save_number s.step
   pub going : store.step < 3
 
 -- the suspension goes on to its commit, or ends with 5 where a call failed
-abbrev pub CommitsOrEnds : OpenStore → Option Commit → ℕ → Sbistore → List ℕ → Type 0
-CommitsOrEnds life (Some c) kind new put =
+abbrev pub CommitsOrEnds : Option Commit → ℕ → Sbistore → List ℕ → Type 0
+CommitsOrEnds (Some c) kind new put =
     AsksFor (asked (Committing c)) (Committing c) kind new × Puts (Committing c) put × (new.ends ≡ 1)
-CommitsOrEnds life None kind new put = (kind ≡ 0) × (new.phase ≡ 0) × (new.number ≡ 5)
+CommitsOrEnds None kind new put = (kind ≡ 0) × (new.phase ≡ 0) × (new.number ≡ 5)
+
+-- and so where the open store is kept, and stays so
+abbrev pub Commits : Saving → Sbistore → ℕ → Sbistore → List ℕ → Type 0
+Commits s old kind new put =
+    (life : OpenStore) → Keeps life old → old.ends ≡ 1 → s.from ≡ life.selected
+    → CommitsOrEnds (commit_of s) kind new put × Keeps life new
+
+-- C is asked for that call of a suspension, and the state keeps the suspension that asked for it; or it goes on to its commit
+abbrev pub AsksSave : ImageRequest → Saving → Sbistore → ℕ → Sbistore → List ℕ → Type 0
+AsksSave (requests.Write n) s old kind new put =
+    (kind ≡ 2) × (new ≡ record (with_save s old) { asked = 1; number = n })
+AsksSave (requests.WritePage n page) s old kind new put =
+    (kind ≡ 5) × (new ≡ record (with_save s old) { asked = 1; number = n })
+AsksSave requests.Sync s old kind new put =
+    (kind ≡ 3) × (new ≡ record (with_save s old) { asked = 1; number = 0 })
+AsksSave request s old kind new put = Commits s old kind new put
+
+-- each number of a suspension is in its range
+pub record IsSaveSound (s : Saving) : Type 0 where
+  pub from : IsSelectedSound s.from
+  pub hart : s.at.hart < s.from.shape.harts
+  pub address : IsValidAddress s.from.shape s.at.address
+  pub serial : s.from.live.next + 1 < 2 ^ 64
 
 -- the call of a suspension, as C is asked for it: a page that is written is told beside the number of its first sector
 abbrev pub IsAskedSave : OpenStore → ImageRequest → Saving → ℕ → Sbistore → List ℕ → Type 0
@@ -137,7 +163,7 @@ IsAskedSave life (requests.Write n) s kind new put =
 IsAskedSave life (requests.WritePage n page) s kind new put =
     (kind ≡ 5) × (new.number ≡ n) × (new.page ≡ page) × (new.asked ≡ 1) × IsSavePacked life s new
 IsAskedSave life requests.Sync s kind new put = (kind ≡ 3) × (new.asked ≡ 1) × IsSavePacked life s new
-IsAskedSave life request s kind new put = CommitsOrEnds life (commit_of s) kind new put
+IsAskedSave life request s kind new put = CommitsOrEnds (commit_of s) kind new put
 
 -- A suspension of an open store was under way. It is told how its last call ended, where one was asked for, and asks for the next
 -- one; the store is kept. Before a write of a sector, PUT has its bytes.

@@ -1,16 +1,17 @@
 //! A load and a suspension: their plans, to the numbers and bytes that C keeps beside the open store, and back.
-ghost use Rattle.std.specs.Prelude.{◌≡◌, ◌<◌, ◌+◌, ◌^◌, Some, None, IfSome};
+ghost use Rattle.std.specs.Prelude.{◌≡◌, ◌<◌, ◌≤◌, Some, None, IfSome, IfNone};
 ghost use Rattle.board_model.specs.Shapes.{Size, IsValidAddress};
-ghost use Rattle.planned_images.specs.Loads.{HasPlace, load_asks};
-ghost use Rattle.planned_images.specs.Saves.{HasPage, commit_of};
+ghost use Rattle.planned_images.specs.Loads.{HasPlace, LoadGoes, load_asks, loaded_by};
+ghost use Rattle.planned_images.specs.Saves.{HasPage, SaveGoes, SavePuts, save_asks};
 ghost use Rattle.planned_images.specs.declared.loads.Loading.{Loading};
 ghost use Rattle.planned_images.specs.declared.loads.LoadStep.{LoadStep};
 ghost use Rattle.planned_images.specs.declared.saves.Saving.{Saving};
 ghost use Rattle.planned_images.specs.declared.saves.SaveStep.{SaveStep};
+ghost use Rattle.planned_store.specs.Commits.{Answer};
 ghost use Rattle.planned_store.specs.declared.stores.OpenStore.{OpenStore};
-ghost use Rattle.sbistore.specs.Ends.{Keeps};
-ghost use Rattle.sbistore.specs.Images.{load_number, page_of_step, with_load, IsLoadPacked, IsStep, AsksLoad, LoadNext, save_number, with_save, IsSavePacked, CommitsOrEnds, SaveNext, resumption};
-ghost use Rattle.sbistore.specs.Packed.{IsSelectedSound};
+ghost use Rattle.sbistore.specs.Ends.{answer_code};
+ghost use Rattle.sbistore.specs.Images.{load_number, page_of_step, with_load, IsLoadPacked, IsStep, AsksLoad, LoadNext, save_number, with_save, IsSavePacked, IsSaveSound, AsksSave, Commits, SaveNext, resumption};
+ghost use Rattle.sbistore.specs.Next.{IsAnswer};
 
 use crate::packing::store_of;
 use crate::state::{DONE, READ, READ_PAGE, SPOILT, SYNC, Sbistore, WRITE, WRITE_PAGE};
@@ -31,7 +32,7 @@ pub const SAVING: u32 = 9;
 fn pack_load(store: &mut Sbistore, plan: &Loading)
     ensures { store.new ≡ with_load plan.now store.old }
 {
-    store.done = plan.done as u32;
+    store.done = plan.done as u64;
     store.next = plan.came;
     store.step = number_of_load(plan.step);
     store.page = page_of_load(plan.step);
@@ -54,8 +55,11 @@ fn page_of_load(step: LoadStep) -> u64
     ensures { result ≡ page_of_step step }
 {
     match step {
+        LoadStep::ReadHead => 0,
         LoadStep::ReadPage(page) => page.number() as u64,
-        _ => 0,
+        LoadStep::Loaded => 0,
+        LoadStep::Spoilt => 0,
+        LoadStep::Failed => 0,
     }
 }
 
@@ -64,13 +68,20 @@ fn loading_of(store: &Sbistore) -> Option<Loading>
     ensures exact { (life : OpenStore) → (plan : Loading) → IsLoadPacked life plan store.now → result ≡ Some plan }
     ensures place { IfSome result (λ plan. HasPlace plan) }
 {
-    let open = store_of(store)?;
+    let Some(open) = store_of(store) else {
+        return None;
+    };
     let shape = open.selected.shape;
-    let saved = open.selected.live.image?;
-    if shape.pages() <= store.done {
+    let image = open.selected.live.image;
+    let Some(saved) = image else {
+        return None;
+    };
+    if shape.pages() as u64 <= store.done {
         return None;
     }
-    let step = load_step(store, &shape)?;
+    let Some(step) = load_step(store, &shape) else {
+        return None;
+    };
     Some(Loading {
         shape,
         saved,
@@ -87,7 +98,10 @@ fn load_step(store: &Sbistore, shape: &Shape) -> Option<LoadStep>
 {
     match store.step {
         0 => Some(LoadStep::ReadHead),
-        1 => Some(LoadStep::ReadPage(shape.page(store.page)?)),
+        1 => match shape.page(store.page) {
+            Some(page) => Some(LoadStep::ReadPage(page)),
+            None => None,
+        },
         _ => None,
     }
 }
@@ -97,29 +111,52 @@ pub fn next_of_load(store: &mut Sbistore, failed: u32, sector: &Sector) -> u32
     ensures { (life : OpenStore) → (plan : Loading) → IsLoadPacked life plan store.old
         → LoadNext life plan store.old failed sector.now result store.new }
 {
-    let Some(mut plan) = loading_of(store) else {
+    let Some(plan) = loading_of(store) else {
         end(store, SPOILT);
         return DONE;
     };
-    if store.asked != 0 {
-        plan.told(answer(failed), sector);
-    }
+    let plan = load_gone_on(store.asked, plan, failed, sector);
     ask_load(store, &plan)
+}
+
+/// The load once it is told how its last call ended, where one was asked for.
+fn load_gone_on(asked: u32, plan: Loading, failed: u32, sector: &Sector) -> Loading
+    requires place { HasPlace plan }
+    ensures place { HasPlace result }
+    ensures same { (result.shape ≡ plan.shape) × (result.saved ≡ plan.saved) }
+    ensures first { asked ≡ 0 → result ≡ plan }
+    ensures told { 0 < asked → (answer : Answer) × IsAnswer failed answer × LoadGoes plan answer sector.now result }
+{
+    if asked == 0 {
+        return plan;
+    }
+    let mut next = plan;
+    next.told(answer(failed), sector);
+    next
 }
 
 /// Asks for the call of a load that comes next, or ends it.
 fn ask_load(store: &mut Sbistore, plan: &Loading) -> u32
     requires place { HasPlace plan.now }
-    ensures asks { AsksLoad (load_asks plan.now) plan.now store.old result store.new }
+    ensures { AsksLoad (load_asks plan.now) plan.now store.old result store.new }
 {
     match plan.asks() {
         ImageRequest::Read(number) => keep_load(store, plan, READ, number),
         ImageRequest::ReadPage(number, _) => keep_load(store, plan, READ_PAGE, number),
-        _ => {
-            end(store, code_of(plan.loaded()));
-            DONE
-        }
+        ImageRequest::Write(_) => end_load(store, plan),
+        ImageRequest::WritePage(..) => end_load(store, plan),
+        ImageRequest::Sync => end_load(store, plan),
+        ImageRequest::Done => end_load(store, plan),
     }
+}
+
+/// No load is under way: the code is the answer of the last one.
+fn end_load(store: &mut Sbistore, plan: &Loading) -> u32
+    ensures kind { result ≡ 0 }
+    ensures store { store.new ≡ record store.old { phase = 0; number = answer_code (loaded_by plan.now) } }
+{
+    end(store, code_of(plan.loaded()));
+    DONE
 }
 
 /// Keeps a load that asks for a call of that kind.
@@ -142,15 +179,23 @@ pub fn begin_load(store: &mut Sbistore, plan: &Loading)
 }
 
 /// Where the board goes on, where the board of the store has that hart and that address.
-pub fn resumption(open: &OpenStore, hart: u32, address: u64, opaque: u64) -> Option<Resumption>
+pub fn resumption(life: &OpenStore, hart: u32, address: u64, opaque: u64) -> Option<Resumption>
     ensures some { IfSome result (λ at. at ≡ resumption hart address opaque) }
-    ensures none { result ≡ None → (hart < open.now.selected.shape.harts)
-        → IsValidAddress open.now.selected.shape address → ⊥ }
+    ensures fits { IfSome result (λ at. (at.hart < life.now.selected.shape.harts)
+        × IsValidAddress life.now.selected.shape at.address) }
+    ensures none { IfNone result ((hart < life.now.selected.shape.harts)
+        → IsValidAddress life.now.selected.shape address → ⊥) }
 {
-    let shape = &open.selected.shape;
+    let shape = &life.selected.shape;
+    let Some(id) = shape.hart(hart as u64) else {
+        return None;
+    };
+    let Some(start) = shape.address(address) else {
+        return None;
+    };
     Some(Resumption {
-        hart: shape.hart(hart as u64)?,
-        address: shape.address(address)?,
+        hart: id,
+        address: start,
         opaque,
     })
 }
@@ -193,17 +238,24 @@ fn save_step(number: u32) -> Option<SaveStep>
 /// The suspension that is under way; none where no call of the library left the state so.
 fn saving_of(store: &Sbistore) -> Option<Saving>
     ensures exact { (life : OpenStore) → (plan : Saving) → IsSavePacked life plan store.now → result ≡ Some plan }
-    ensures page { IfSome result (λ plan. HasPage plan × (plan.from.live.next + 1 < 2 ^ 64)
-        × IsSelectedSound plan.from) }
+    ensures sound { IfSome result (λ plan. HasPage plan × IsSaveSound plan) }
 {
-    let open = store_of(store)?;
+    let Some(open) = store_of(store) else {
+        return None;
+    };
     let from = open.selected;
     if from.live.next == u64::MAX {
         return None;
     }
-    let at = resumption(&open, store.hart, store.address, store.opaque)?;
-    let page = from.shape.page(store.page)?;
-    let step = save_step(store.step)?;
+    let Some(at) = resumption(&open, store.hart, store.address, store.opaque) else {
+        return None;
+    };
+    let Some(page) = from.shape.page(store.page) else {
+        return None;
+    };
+    let Some(step) = save_step(store.step) else {
+        return None;
+    };
     Some(Saving {
         from,
         at,
@@ -217,26 +269,51 @@ pub fn next_of_save(store: &mut Sbistore, failed: u32, sector: &mut Sector) -> u
     ensures { (life : OpenStore) → (plan : Saving) → IsSavePacked life plan store.old
         → SaveNext life plan store.old failed result store.new sector.new }
 {
-    let Some(mut plan) = saving_of(store) else {
+    let Some(plan) = saving_of(store) else {
         end(store, SPOILT);
         return DONE;
     };
-    if store.asked != 0 {
-        plan.told(answer(failed));
+    let plan = save_gone_on(store.asked, plan, failed);
+    ask_save(store, &plan, sector)
+}
+
+/// The suspension once it is told how its last call ended, where one was asked for.
+fn save_gone_on(asked: u32, plan: Saving, failed: u32) -> Saving
+    requires page { HasPage plan }
+    ensures page { HasPage result }
+    ensures same { (result.from ≡ plan.from) × (result.at ≡ plan.at) }
+    ensures first { asked ≡ 0 → result ≡ plan }
+    ensures told { 0 < asked → (answer : Answer) × IsAnswer failed answer × SaveGoes plan answer result }
+{
+    if asked == 0 {
+        return plan;
     }
+    let mut next = plan;
+    next.told(answer(failed));
+    next
+}
+
+/// Asks for the call of a suspension that comes next, or goes on to its commit.
+fn ask_save(store: &mut Sbistore, plan: &Saving, sector: &mut Sector) -> u32
+    requires page { HasPage plan.now }
+    requires sound { IsSaveSound plan.now }
+    ensures bytes { SavePuts plan.now sector.new }
+    ensures asks { AsksSave (save_asks plan.now) plan.now store.old result store.new sector.new }
+{
     match plan.asks(sector) {
-        ImageRequest::Write(number) => keep_save(store, &plan, WRITE, number),
-        ImageRequest::WritePage(number, _) => keep_save(store, &plan, WRITE_PAGE, number),
-        ImageRequest::Sync => keep_save(store, &plan, SYNC, 0),
-        _ => commit_save(store, &plan, sector),
+        ImageRequest::Read(_) => commit_save(store, plan, sector),
+        ImageRequest::ReadPage(..) => commit_save(store, plan, sector),
+        ImageRequest::Write(number) => keep_save(store, plan, WRITE, number),
+        ImageRequest::WritePage(number, _) => keep_save(store, plan, WRITE_PAGE, number),
+        ImageRequest::Sync => keep_save(store, plan, SYNC, 0),
+        ImageRequest::Done => commit_save(store, plan, sector),
     }
 }
 
 /// Goes on from the area to the commit of the record that names it, or ends where a call failed.
 fn commit_save(store: &mut Sbistore, plan: &Saving, sector: &mut Sector) -> u32
-    requires next { plan.now.from.live.next + 1 < 2 ^ 64 }
-    ensures { (life : OpenStore) → Keeps life store.old → store.old.ends ≡ 1 → plan.now.from ≡ life.selected
-        → CommitsOrEnds life (commit_of plan.now) result store.new sector.new × Keeps life store.new }
+    requires sound { IsSaveSound plan.now }
+    ensures { Commits plan.now store.old result store.new sector.new }
 {
     match plan.commit() {
         Some(commit) => ask(store, &Plan::Committing(commit), sector),

@@ -127,11 +127,11 @@ pub extern "C" fn sbistore_suspend(
 }
 
 /// Why a suspension with a hart or an address that the board has not is refused.
-fn no_board(open: &OpenStore) -> Refusal
-    ensures { (pages : ℕ) (at : Resumption) → (HasBoard open.now.selected.shape pages at.hart at.address → ⊥)
-        → NoSave open.now pages at result }
+fn no_board(life: &OpenStore) -> Refusal
+    ensures { (pages : ℕ) (at : Resumption) → (HasBoard life.now.selected.shape pages at.hart at.address → ⊥)
+        → NoSave life.now pages at result }
 {
-    match open.takes() {
+    match life.takes() {
         Ok(()) => Refusal::BadShape,
         Err(refusal) => refusal,
     }

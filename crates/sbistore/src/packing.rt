@@ -1,5 +1,5 @@
 //! The plan and the open store, to the numbers and bytes that C keeps, and back.
-ghost use Rattle.std.specs.Prelude.{◌≡◌, ◌<◌, Some, IfSome};
+ghost use Rattle.std.specs.Prelude.{◌≡◌, ◌<◌, Some, None, IfSome};
 ghost use Rattle.board_model.specs.Shapes.{Size, IsSize};
 ghost use Rattle.layout.specs.Records.{IsRecord, IsInRange};
 ghost use Rattle.layout.specs.declared.records.Record.{Record};
@@ -133,7 +133,8 @@ fn number_of_format(step: FormatStep) -> u32
 
 /// The plan that is under way; none where no call of the library left the state so.
 pub fn plan_of(store: &Sbistore) -> Option<Plan>
-    ensures { (plan : Plan) → IsPacked plan store.now → result ≡ Some plan }
+    ensures exact { (plan : Plan) → IsPacked plan store.now → result ≡ Some plan }
+    ensures none { 7 < store.now.phase → result ≡ None }
 {
     match store.phase {
         SETTLING => Some(Plan::Settling(store.sectors as usize)),
@@ -251,6 +252,7 @@ fn shape_of(store: &Sbistore) -> Option<Shape>
 pub fn store_of(store: &Sbistore) -> Option<OpenStore>
     ensures exact { (life : OpenStore) → Keeps life store.now → result ≡ Some life }
     ensures sound { IfSome result (λ life. IsSelectedSound life.selected) }
+    ensures closed { store.now.opened ≡ 0 → result ≡ None }
 {
     if store.opened == 0 {
         return None;
