@@ -58,30 +58,54 @@ static uint32_t fails(void)
     return dead || call == fail;
 }
 
+static uint32_t read_some(uint64_t first, unsigned count, uint8_t *bytes)
+{
+    if (fails() || first + count > SECTORS)
+        return 1;
+    memcpy(bytes, now[first], 512 * count);
+    return 0;
+}
+
+static uint32_t write_some(uint64_t first, unsigned count, const uint8_t *bytes)
+{
+    int was = dead;
+    uint32_t failed = fails();
+    if (was || first + count > SECTORS)
+        return 1;
+    for (unsigned i = 0; i < count; i++)
+        dirty[first + i] = 1;
+    memcpy(now[first], bytes, 512 * count);
+    return failed;
+}
+
 uint32_t device_read(uint64_t number, uint8_t *sector)
 {
-    if (fails() || number >= SECTORS)
-        return 1;
-    memcpy(sector, now[number], 512);
-    return 0;
+    return read_some(number, 1, sector);
 }
 
 uint32_t device_write(uint64_t number, const uint8_t *sector)
 {
-    int was = dead;
-    uint32_t failed = fails();
-    if (was || number >= SECTORS)
-        return 1;
-    dirty[number] = 1;
-    memcpy(now[number], sector, 512);
-    return failed;
+    return write_some(number, 1, sector);
+}
+
+uint32_t device_read_page(uint64_t first, uint8_t *page)
+{
+    return read_some(first, 8, page);
+}
+
+uint32_t device_write_page(uint64_t first, const uint8_t *page)
+{
+    return write_some(first, 8, page);
 }
 
 uint32_t device_sync(void)
 {
     if (fails())
         return 1;
-    device_settle();
+    for (unsigned n = 0; n < SECTORS; n++)
+        if (dirty[n])
+            memcpy(durable[n], now[n], 512);
+    memset(dirty, 0, sizeof dirty);
     return 0;
 }
 
@@ -105,7 +129,9 @@ void device_crash(enum fill fill)
     for (unsigned n = 0; n < SECTORS; n++)
         if (dirty[n])
             tear(n, fill);
-    memcpy(now, durable, sizeof now);
+    for (unsigned n = 0; n < SECTORS; n++)
+        if (dirty[n])
+            memcpy(now[n], durable[n], 512);
     memset(dirty, 0, sizeof dirty);
     dead = 0;
     cut = fail = -1;

@@ -5,7 +5,8 @@
 
 #include <stdint.h>
 
-enum { SECTORS = 26 };
+/* Of a board of 8 pages: eight sectors, and two areas of 8 places. */
+enum { PAGES = 8, SECTORS = 8 + 2 * 9 * PAGES };
 
 /* What a cut leaves of a sector that was written since the last sync. */
 enum fill { ZEROS, ONES, HALF, OLD, NEW, NOISE, FILLS };
@@ -29,6 +30,10 @@ long device_calls(void);
 uint32_t device_read(uint64_t number, uint8_t *sector);
 uint32_t device_write(uint64_t number, const uint8_t *sector);
 uint32_t device_sync(void);
+
+/* The 8 sectors from that number on, by one call. */
+uint32_t device_read_page(uint64_t first, uint8_t *page);
+uint32_t device_write_page(uint64_t first, const uint8_t *page);
 
 /* The sector as a read gives it, to look at or to change. */
 uint8_t *device_sector(unsigned number);

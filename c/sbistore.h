@@ -1,4 +1,5 @@
-/* sbistore.h: a small durable state on a device of 512-byte sectors, which no power cut undoes or leaves half done.
+/* sbistore.h: a small durable state, and the memory of a suspended board, on a device of 512-byte sectors, which no power cut undoes or
+ * leaves half done.
  *
  * The library makes no call of its own: it takes no memory, starts no thread and calls nothing back. It says which call of the device
  * comes next, and you make it:
@@ -12,9 +13,17 @@
  *             case SBISTORE_READ:  failed = my_read(store->number, sector);  break;
  *             case SBISTORE_WRITE: failed = my_write(store->number, sector); break;
  *             case SBISTORE_SYNC:  failed = my_sync();                       break;
+ *             case SBISTORE_READ_PAGE:
+ *                 failed = my_read_eight(store->number, pages[store->page]);
+ *                 break;
+ *             case SBISTORE_WRITE_PAGE:
+ *                 failed = my_write_eight(store->number, pages[store->page]);
+ *                 break;
  *             default:             return (uint32_t)store->number;
  *             }
  *     }
+ *
+ * The last two are asked for by sbistore_load and sbistore_suspend alone, over the 4,096-byte pages of your memory.
  *
  * What it promises holds for a caller that makes each call once, in the order that it is asked for, tells how it ended, and lets
  * nothing else write the device; and for a device that does what docs/DISK.md says: until a sync has gone well a crash may leave any
@@ -45,10 +54,12 @@ enum {
     SBISTORE_BAD_RECORD = 4,     /* open: the selected record is not in its form */
     SBISTORE_DEVICE = 5,         /* a call of the device failed; the state is as it was. Of a format see docs/STORE.md */
     SBISTORE_DOWN = 6,           /* the gate could not be written: a command is in doubt. Every later one answers 6 until an open */
-    SBISTORE_OVER = 7,           /* a reset has ended this life: open again */
-    SBISTORE_NO_IMAGE = 8,       /* consume or discard without an image */
+    SBISTORE_OVER = 7,           /* a reset or a suspension has ended this life: open again */
+    SBISTORE_NO_IMAGE = 8,       /* consume, discard or load without an image */
     SBISTORE_BAD_SLOT = 9,       /* a slot above 3 */
     SBISTORE_FULL = 10,          /* 2^64 - 1 commands of this life were acknowledged */
+    SBISTORE_SERIALS = 12,       /* suspend: no serial is left */
+    SBISTORE_BAD_IMAGE = 13,     /* load: the image reads as no memory; your pages are of no use, the image stays */
     SBISTORE_BAD_TRIES = 19,     /* a trial has 1 to 7 boots */
     SBISTORE_NO_TRIAL = 20,      /* good or attempt where no trial stands */
     SBISTORE_NOT_OPEN = 100,     /* no open has gone well in this state, or a format was begun since */
@@ -57,7 +68,9 @@ enum {
 };
 
 /* The requests. */
-enum { SBISTORE_DONE, SBISTORE_READ, SBISTORE_WRITE, SBISTORE_SYNC };
+enum { SBISTORE_DONE, SBISTORE_READ, SBISTORE_WRITE, SBISTORE_SYNC, SBISTORE_READ_PAGE, SBISTORE_WRITE_PAGE };
+
+#define SBISTORE_PAGE 4096
 
 /* The commands, and what they carry. Each but a reset may be followed by others. */
 enum {
@@ -70,11 +83,12 @@ enum {
     SBISTORE_ATTEMPT = 7  /* a boot uses up one of the trial's, or falls back where none is left: before each boot, where a trial stands */
 };
 
-/* The library's state. Zero it before its first use (memset), and read the first two fields alone. It may be moved between calls. */
+/* The library's state. Zero it before its first use (memset), and read the first three fields alone. It may be moved between calls. */
 struct sbistore {
-    uint64_t number;   /* of a request the sector, from 0; after SBISTORE_DONE the code */
+    uint64_t number;   /* of a request the sector, or the first of eight, from 0; after SBISTORE_DONE the code */
     uint64_t receipts; /* how many commands were acknowledged since the open */
-    uint64_t hidden[7];
+    uint64_t page;     /* of SBISTORE_READ_PAGE and SBISTORE_WRITE_PAGE the page of your memory, from 0 */
+    uint64_t hidden[10];
     uint8_t records[2 * SBISTORE_SECTOR];
 };
 
@@ -106,9 +120,22 @@ void sbistore_open(struct sbistore *store, size_t sectors);
 /* Begins the command of that KIND. Codes 0, 5 to 10, 19, 20, 100, 101: 6, 7, 10, 9, 19, 8 and 20 before any call of the device. */
 void sbistore_command(struct sbistore *store, uint32_t kind, uint32_t one, uint32_t other);
 
+/* Begins a suspension: the PAGES of your memory go to the area that no image uses, and a record that names them is committed. The command
+ * is then acknowledged, and the life over. HART (below the board's), ADDRESS (a multiple of 4 from 0x80000000 on, within PAGES) and OPAQUE
+ * are kept beside the image. Your memory may not change before SBISTORE_DONE. 2 * PAGES + 5 calls of the device. Codes 0, 3 (PAGES are
+ * not the board's, or it has no such hart or address), 5, 6, 7, 10, 12, 100: 6, 7, 10, 3 and 12 before any call. After 5, as at each
+ * moment before the commit, a crash leaves the state before, with its image, byte for byte. */
+void sbistore_suspend(struct sbistore *store, uint64_t pages, uint32_t hart, uint64_t address, uint64_t opaque);
+
+/* Begins a load of the image that stands into your PAGES: two calls of the device for each, in the order in which they stand there, and no
+ * write. Codes 0, 3 (PAGES are not the board's), 5, 6, 8, 13, 100: 6, 3 and 8 before any call. After 0 your pages are the memory that was
+ * suspended, byte for byte; after 5 and 13 they are of no use. The image stays: SBISTORE_CONSUME before its hart is resumed. */
+void sbistore_load(struct sbistore *store, uint64_t pages);
+
 /* Tells how the last request ended (FAILED is 0 where it went well; the first call after a begin has nothing to tell), and answers the
  * next one: SBISTORE_READ, sector store->number into SECTOR; SBISTORE_WRITE, SECTOR to sector store->number; SBISTORE_SYNC, make durable
- * what was written; SBISTORE_DONE, store->number is the code. */
+ * what was written; SBISTORE_READ_PAGE, the 8 sectors from store->number on into page store->page of your memory; SBISTORE_WRITE_PAGE, that
+ * page to those sectors; SBISTORE_DONE, store->number is the code. */
 uint32_t sbistore_next(struct sbistore *store, uint32_t failed, uint8_t sector[SBISTORE_SECTOR]);
 
 /* The durable state of the open store, without a command in doubt: 0, or 100 where none is open, and STATE is then left as it was. No

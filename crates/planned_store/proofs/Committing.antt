@@ -12,14 +12,14 @@ use Rattle.layout.specs.declared.records.Record.{Record}
 use Rattle.layout.specs.declared.records.Version.TheVariants.{Two}
 use Rattle.layout.proofs.SpelledRecords.{selected_by-gate_of}
 use Rattle.store.specs.Answers.{GoesTo}
-use Rattle.store.specs.Commits.{SameAreas, SelectsEither, IsUp, IsInDoubt}
+use Rattle.store.specs.Commits.{SameAreas, SelectsAs, SelectsEither, IsUp, IsInDoubt}
 use Rattle.store.specs.Leaves.{LeavesOnly, LeavesEither, StandsForEither, WroteACommand}
-use Rattle.store.specs.Standing.{selected, state_of}
+use Rattle.store.specs.Standing.{selected, state_of, StandsFor}
 use Rattle.store.proofs.Answering.{goes_to, wrote}
 use Rattle.store.proofs.Called.{called_apart}
 use Rattle.store.proofs.Contents.{gate_selects, kept_live, stands_there, areas_then}
-use Rattle.store.proofs.States.{of_areas, state_same, up_leaves, doubt_leaves, either_stands}
-use Rattle.store.proofs.Steps.{while_recorded, while_selected, in_doubt, committed, still_up}
+use Rattle.store.proofs.States.{of_areas, state_same, up_leaves, doubt_leaves, stands_for, either_stands}
+use Rattle.store.proofs.Steps.{still_recorded, while_recorded, while_selected, in_doubt, committed, still_up}
 use Rattle.planned_store.specs.Reached.{Recorded, CommitAt}
 use Rattle.planned_store.specs.declared.commits.CommitStep.TheVariants.{Committed, Unchanged, InDoubt}
 
@@ -69,6 +69,9 @@ module _ {D : Type 0} (f : D → Facts) (m : D → FaultState) (may_keep : (d : 
     pub unchanged_moment : LeavesSince (f a) (f b) (SelectsEither size side r next (f a).content)
     unchanged_moment = while_recorded (f a) (f b) size side r next known up (only_now a) failed.crash
 
+    pub unchanged_still : LeavesSince (f a) (f b) (SelectsAs size side r (f a).content)
+    unchanged_still = still_recorded (f a) (f b) size side r next known up (only_now a) failed.crash
+
     pub unchanged_calls : MakesCalls {T = Unit {0}} {E = Unit {0}} 2 SameAreas (f a) (f b) (m a) (m b) (Err tt)
     unchanged_calls = called_apart 2 (2 + (1 - side)) (f a) (f b) (m a) (m b) (Err tt) (omega arith) failed
 
@@ -98,8 +101,13 @@ module _ (a b : Facts) (size : Size) (side : ℕ) (r next : Record) (known : sid
   pub goes_done : (n : ℕ) → LeavesSince a b (SelectsEither size side r next a.content) → SameAreas a.content b.content → IsUp b size (1 - side) next → GoesTo a b size (state_of size r a.content) t (Ok n)
   goes_done n any areas up = goes_to a b size (state_of size r a.content) t (Ok n) (either_moment any) (subst (LeavesOnly b size) (next_same areas) (up_leaves b size (1 - side) next up))
 
-  pub goes_unchanged : LeavesSince a b (SelectsEither size side r next a.content) → SameAreas a.content b.content → IsUp b size side r → GoesTo a b size (state_of size r a.content) t (Err Device)
-  goes_unchanged any areas up = goes_to a b size (state_of size r a.content) t (Err Device) (either_moment any) (subst (LeavesOnly b size) (old_same areas) (up_leaves b size side r up))
+  still_moment : LeavesSince a b (SelectsAs size side r a.content) → LeavesSince a b (λ c. StandsFor c size (state_of size r a.content))
+  still_moment each = leaves_weaker a b (SelectsAs size side r a.content) (λ c. StandsFor c size (state_of size r a.content)) each (stands_for size side r a.content)
+
+  pub goes_unchanged : LeavesSince a b (SelectsEither size side r next a.content) → LeavesSince a b (SelectsAs size side r a.content) → SameAreas a.content b.content → IsUp b size side r
+      → GoesTo a b size (state_of size r a.content) t (Err Device)
+  goes_unchanged any each areas up =
+      goes_to a b size (state_of size r a.content) t (Err Device) (either_moment any) (subst (LeavesOnly b size) (old_same areas) (up_leaves b size side r up), still_moment each)
 
   pub goes_doubt : LeavesSince a b (SelectsEither size side r next a.content) → SameAreas a.content b.content → IsInDoubt b size side r next → GoesTo a b size (state_of size r a.content) t (Err Down)
   goes_doubt any areas doubt =

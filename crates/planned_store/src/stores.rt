@@ -65,8 +65,8 @@ impl OpenStore {
         Ok(Plan::Committing(Commit::new(self.selected, next)))
     }
 
-    /// What each command is asked first.
-    fn takes(&self) -> Result<(), Refusal>
+    /// What each command is asked first: refused `Down`, `Over` and `JournalFull` as [`OpenStore::plan`].
+    pub fn takes(&self) -> Result<(), Refusal>
         ensures ok { OnOk result
             ((self.now.down ≡ false) × (self.now.over ≡ false) × (self.now.receipts < 2 ^ 64 - 1)) }
         ensures refused { IfErr result (λ e. self.now.down ≡ false

@@ -1,2 +1,5 @@
 pub mod Packed
 pub mod Ended
+pub mod Keeping
+pub mod Loads
+pub mod Saves

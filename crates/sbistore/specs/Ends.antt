@@ -82,6 +82,10 @@ IsCommand kind one other (commands.Tries n boots) = (kind ≡ 5) × (n ≡ one) 
 IsCommand kind one other commands.Good = kind ≡ 6
 IsCommand kind one other commands.Attempt = kind ≡ 7
 
+-- no command has that number
+abbrev pub NoCommand : ℕ → Type 0
+NoCommand kind = (kind ≡ 0) ⊎ (7 < kind)
+
 -- a command is refused before any call of the device
 pub record RefusesCommand (life : OpenStore) (command : Command) (e : Refusal) : Type 0 where
   pub down : life.down ≡ true → e ≡ Down

@@ -1,3 +1,5 @@
 pub mod Packed
 pub mod Ends
 pub mod Next
+pub mod Images
+pub mod Told

@@ -2,25 +2,35 @@
 //! asked for, and tells how each ended. Here is what turns that state into the values of the crate `planned_store`, and back.
 #![tactic(auto)]
 
-ghost use Rattle.std.specs.Prelude.{◌≡◌, ◌<◌, Bool, Some};
+ghost use Rattle.std.specs.Prelude.{◌≡◌, ◌<◌, ℕ, Bool, Some, None, IsSome};
+ghost use Rattle.layout.specs.Records.{durable_in};
 ghost use Rattle.board_model.specs.Shapes.{IsSize, board_size};
 ghost use Rattle.board_model.specs.declared.durable.Command.{Command};
+ghost use Rattle.planned_images.specs.Saves.{HasBoard, NoSave};
+ghost use Rattle.store.specs.declared.saving.Resumption.{Resumption};
+ghost use Rattle.planned_images.specs.declared.loads.Loading.{Loading};
+ghost use Rattle.planned_images.specs.declared.saves.Saving.{Saving};
 ghost use Rattle.planned_store.specs.Commits.{Answer};
 ghost use Rattle.planned_store.specs.Opens.{opened_by};
 ghost use Rattle.planned_store.specs.Plans.{asked, Puts, Goes, BeginsOpen, BeginsFormat};
 ghost use Rattle.planned_store.specs.declared.plans.Plan.{Plan};
 ghost use Rattle.planned_store.specs.declared.stores.OpenStore.{OpenStore};
-ghost use Rattle.sbistore.specs.Ends.{flag_number, Keeps, EndsOpen, EndsCommand, answer_code, Ended, Begun, KeepsOn, IsCommand, CommandBegun};
+ghost use Rattle.sbistore.specs.Ends.{flag_number, Keeps, NoCommand, EndsOpen, EndsCommand, answer_code, Ended, Begun, KeepsOn, IsCommand, CommandBegun};
+ghost use Rattle.sbistore.specs.Images.{IsLoadPacked, LoadNext, LoadBegun, IsSavePacked, SaveNext, SaveBegun};
+ghost use Rattle.sbistore.specs.Told.{told_of};
 ghost use Rattle.sbistore.specs.Next.{IsAnswer, AsksFor, NextOf};
 ghost use Rattle.sbistore.specs.Packed.{IsPacked, IsSound, packed_by};
 
+mod images;
 mod packing;
 mod state;
 
 use board_model::{Command, Entry, Reason, Refusal, Shape};
 use disk::{Fault, Sector};
+use images::{LOADING, SAVING, begin_load, begin_save, next_of_load, next_of_save, resumption};
 use packing::{NONE, keep, pack, plan_of, store_of};
-use planned_store::{Plan, Request};
+use planned_images::{plan_load, plan_suspend};
+use planned_store::{OpenStore, Plan, Request};
 use state::{DONE, Durable, NO_COMMAND, NOT_OPEN, READ, SPOILT, SYNC, Sbistore, WRITE, tell};
 
 /// Begins an open of a device of so many sectors. What was open in this state is no more.
@@ -41,7 +51,9 @@ pub extern "C" fn sbistore_format(
     pages: u64,
     lanes: u64,
 )
-    ensures { IsSize (board_size harts pages lanes)
+    ensures bad { (IsSize (board_size harts pages lanes) → ⊥)
+        → store.new ≡ record store.old { opened = 0; phase = 0; number = 3 } }
+    ensures begins { IsSize (board_size harts pages lanes)
         → (plan : Plan) × BeginsFormat sectors (board_size harts pages lanes) plan × Begun plan store.old store.new }
 {
     store.opened = 0;
@@ -54,7 +66,10 @@ pub extern "C" fn sbistore_format(
 /// Begins a command: its kind, and what it carries.
 #[unsafe(no_mangle)]
 pub extern "C" fn sbistore_command(store: &mut Sbistore, kind: u32, one: u32, other: u32)
-    ensures { (life : OpenStore) → (command : Command) → Keeps life store.old → IsCommand kind one other command
+    ensures none { NoCommand kind → store.new ≡ record store.old { phase = 0; number = 101 } }
+    ensures closed { (NoCommand kind → ⊥) → store.old.opened ≡ 0
+        → store.new ≡ record store.old { phase = 0; number = 100 } }
+    ensures begins { (life : OpenStore) → (command : Command) → Keeps life store.old → IsCommand kind one other command
         → CommandBegun life command store.old store.new }
 {
     let Some(command) = command_of(kind, one, other) else {
@@ -70,15 +85,80 @@ pub extern "C" fn sbistore_command(store: &mut Sbistore, kind: u32, one: u32, ot
     }
 }
 
-/// Tells how the last request ended, 0 where it went well, and asks for the next one: 0 done, 1 read, 2 write, 3 sync.
-/// The first call after a begin has nothing to tell.
+/// Begins a load of the image that stands into a memory of so many pages.
+#[unsafe(no_mangle)]
+pub extern "C" fn sbistore_load(store: &mut Sbistore, pages: u64)
+    ensures closed { store.old.opened ≡ 0 → store.new ≡ record store.old { phase = 0; number = 100 } }
+    ensures begins { (life : OpenStore) → Keeps life store.old → LoadBegun life pages store.old store.new }
+{
+    let Some(open) = store_of(store) else {
+        return end(store, NOT_OPEN);
+    };
+    match plan_load(&open, pages) {
+        Ok(plan) => begin_load(store, &plan),
+        Err(refusal) => end(store, refusal.code()),
+    }
+}
+
+/// Begins a suspension of a memory of so many pages, where the board goes on with that hart at that address, and with that value.
+#[unsafe(no_mangle)]
+pub extern "C" fn sbistore_suspend(
+    store: &mut Sbistore,
+    pages: u64,
+    hart: u32,
+    address: u64,
+    opaque: u64,
+)
+    ensures closed { store.old.opened ≡ 0 → store.new ≡ record store.old { phase = 0; number = 100 } }
+    ensures begins { (life : OpenStore) → Keeps life store.old
+        → SaveBegun life pages hart address opaque store.old store.new }
+{
+    let Some(open) = store_of(store) else {
+        return end(store, NOT_OPEN);
+    };
+    let Some(at) = resumption(&open, hart, address, opaque) else {
+        return end(store, no_board(&open).code());
+    };
+    store.ends = flag(true);
+    match plan_suspend(&open, pages, at) {
+        Ok(plan) => begin_save(store, &plan),
+        Err(refusal) => end(store, refusal.code()),
+    }
+}
+
+/// Why a suspension with a hart or an address that the board has not is refused.
+fn no_board(life: &OpenStore) -> Refusal
+    ensures { (pages : ℕ) (at : Resumption) → (HasBoard life.now.selected.shape pages at.hart at.address → ⊥)
+        → NoSave life.now pages at result }
+{
+    match life.takes() {
+        Ok(()) => Refusal::BadShape,
+        Err(refusal) => refusal,
+    }
+}
+
+/// Tells how the last request ended, 0 where it went well, and asks for the next one: 0 done, 1 read, 2 write, 3 sync, 4 read
+/// a page. The first call after a begin has nothing to tell.
 #[unsafe(no_mangle)]
 pub extern "C" fn sbistore_next(store: &mut Sbistore, failed: u32, sector: &mut [u8; 512]) -> u32
-    ensures { (plan : Plan) → IsPacked plan store.old
+    ensures nothing { store.old.phase ≡ 0 → (result ≡ 0) × (store.new ≡ store.old) }
+    ensures spoilt { 9 < store.old.phase
+        → (result ≡ 0) × (store.new ≡ record store.old { phase = 0; number = 102 }) }
+    ensures saves { (life : OpenStore) → (plan : Saving) → IsSavePacked life plan store.old
+        → SaveNext life plan store.old failed result store.new sector.new }
+    ensures loads { (life : OpenStore) → (plan : Loading) → IsLoadPacked life plan store.old
+        → LoadNext life plan store.old failed sector.old result store.new }
+    ensures plans { (plan : Plan) → IsPacked plan store.old
         → NextOf plan store.old failed sector.old result store.new sector.new }
 {
     if store.phase == NONE {
         return DONE;
+    }
+    if store.phase == LOADING {
+        return next_of_load(store, failed, sector);
+    }
+    if store.phase == SAVING {
+        return next_of_save(store, failed, sector);
     }
     let Some(plan) = plan_of(store) else {
         end(store, SPOILT);
@@ -101,7 +181,7 @@ fn gone_on(asked: u32, plan: Plan, failed: u32, sector: &Sector) -> Plan
 }
 
 /// Asks for the call that comes next, or ends the plan.
-fn ask(store: &mut Sbistore, plan: &Plan, sector: &mut Sector) -> u32
+pub(crate) fn ask(store: &mut Sbistore, plan: &Plan, sector: &mut Sector) -> u32
     ensures asks { IsSound plan.now → AsksFor (asked plan.now) plan.now result store.new }
     ensures bytes { Puts plan.now sector.new }
     ensures ends { IsSound plan.now → asked plan.now ≡ Request.Done → Ended plan.now store.old store.new }
@@ -139,7 +219,11 @@ fn keep_begun(store: &mut Sbistore, plan: &Plan)
 
 /// The durable state of an open store: 0, or 100 where none is open.
 #[unsafe(no_mangle)]
-pub extern "C" fn sbistore_look(store: &Sbistore, durable: &mut Durable) -> u32 {
+pub extern "C" fn sbistore_look(store: &Sbistore, durable: &mut Durable) -> u32
+    ensures open { (life : OpenStore) → Keeps life store.now
+        → (result ≡ 0) × (durable.new ≡ told_of (durable_in life.selected.live)) }
+    ensures closed { store.now.opened ≡ 0 → (result ≡ 100) × (durable.new ≡ durable.old) }
+{
     match store_of(store) {
         Some(open) => {
             tell(&open.now(), durable);
@@ -151,7 +235,9 @@ pub extern "C" fn sbistore_look(store: &Sbistore, durable: &mut Durable) -> u32 
 
 /// The command of that kind.
 fn command_of(kind: u32, one: u32, other: u32) -> Option<Command>
-    ensures { (command : Command) → IsCommand kind one other command → result ≡ Some command }
+    ensures none { NoCommand kind → result ≡ None }
+    ensures some { (NoCommand kind → ⊥) → IsSome result }
+    ensures exact { (command : Command) → IsCommand kind one other command → result ≡ Some command }
 {
     match kind {
         1 => Some(Command::Slot(one)),
@@ -169,7 +255,7 @@ fn command_of(kind: u32, one: u32, other: u32) -> Option<Command>
     }
 }
 
-fn answer(failed: u32) -> Result<(), Fault>
+pub(crate) fn answer(failed: u32) -> Result<(), Fault>
     ensures { IsAnswer failed result }
 {
     if failed == 0 { Ok(()) } else { Err(Fault) }
@@ -188,7 +274,7 @@ fn begin(store: &mut Sbistore, plan: &Plan)
 }
 
 /// No plan is under way: this is the code of the last one.
-fn end(store: &mut Sbistore, code: u32)
+pub(crate) fn end(store: &mut Sbistore, code: u32)
     ensures { store.new ≡ record store.old { phase = 0; number = code } }
 {
     store.phase = NONE;
@@ -245,7 +331,7 @@ fn is_set(number: u32) -> bool
     number != 0
 }
 
-fn code_of(answer: Result<(), Refusal>) -> u32
+pub(crate) fn code_of(answer: Result<(), Refusal>) -> u32
     ensures { result ≡ answer_code answer }
 {
     match answer {

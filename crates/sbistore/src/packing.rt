@@ -1,7 +1,7 @@
 //! The plan and the open store, to the numbers and bytes that C keeps, and back.
-ghost use Rattle.std.specs.Prelude.{◌≡◌, ◌<◌, Some};
-ghost use Rattle.board_model.specs.Shapes.{Size};
-ghost use Rattle.layout.specs.Records.{IsRecord};
+ghost use Rattle.std.specs.Prelude.{◌≡◌, ◌<◌, Some, None, IfSome};
+ghost use Rattle.board_model.specs.Shapes.{Size, IsSize};
+ghost use Rattle.layout.specs.Records.{IsRecord, IsInRange};
 ghost use Rattle.layout.specs.declared.records.Record.{Record};
 ghost use Rattle.planned_store.specs.declared.commits.Commit.{Commit};
 ghost use Rattle.planned_store.specs.declared.commits.CommitStep.{CommitStep};
@@ -133,7 +133,8 @@ fn number_of_format(step: FormatStep) -> u32
 
 /// The plan that is under way; none where no call of the library left the state so.
 pub fn plan_of(store: &Sbistore) -> Option<Plan>
-    ensures { (plan : Plan) → IsPacked plan store.now → result ≡ Some plan }
+    ensures exact { (plan : Plan) → IsPacked plan store.now → result ≡ Some plan }
+    ensures none { 7 < store.now.phase → result ≡ None }
 {
     match store.phase {
         SETTLING => Some(Plan::Settling(store.sectors as usize)),
@@ -218,7 +219,8 @@ fn commit_of(store: &Sbistore) -> Option<Commit>
 }
 
 fn selected_of(store: &Sbistore) -> Option<Selected>
-    ensures { (found : Selected) → HasSelected found store.now → result ≡ Some found }
+    ensures exact { (found : Selected) → HasSelected found store.now → result ≡ Some found }
+    ensures sound { IfSome result (λ found. IsSelectedSound found) }
 {
     let shape = shape_of(store)?;
     let live = record_in(&store.live, &shape)?;
@@ -227,7 +229,8 @@ fn selected_of(store: &Sbistore) -> Option<Selected>
 }
 
 fn record_in(sector: &Sector, shape: &Shape) -> Option<Record>
-    ensures { (r : Record) → IsRecord shape.now r sector.now → result ≡ Some r }
+    ensures exact { (r : Record) → IsRecord shape.now r sector.now → result ≡ Some r }
+    ensures sound { IfSome result (λ r. IsInRange shape.now r) }
 {
     match parse_record(sector, shape) {
         Ok(record) => Some(record),
@@ -236,7 +239,8 @@ fn record_in(sector: &Sector, shape: &Shape) -> Option<Record>
 }
 
 fn shape_of(store: &Sbistore) -> Option<Shape>
-    ensures { (size : Size) → HasShape size store.now → result ≡ Some size }
+    ensures exact { (size : Size) → HasShape size store.now → result ≡ Some size }
+    ensures sound { IfSome result (λ size. IsSize size) }
 {
     match Shape::new(store.harts as u64, store.pages as u64, store.lanes as u64) {
         Ok(shape) => Some(shape),
@@ -246,7 +250,9 @@ fn shape_of(store: &Sbistore) -> Option<Shape>
 
 /// The open store; none where no open stands.
 pub fn store_of(store: &Sbistore) -> Option<OpenStore>
-    ensures { (life : OpenStore) → Keeps life store.now → result ≡ Some life }
+    ensures exact { (life : OpenStore) → Keeps life store.now → result ≡ Some life }
+    ensures sound { IfSome result (λ life. IsSelectedSound life.selected) }
+    ensures closed { store.now.opened ≡ 0 → result ≡ None }
 {
     if store.opened == 0 {
         return None;

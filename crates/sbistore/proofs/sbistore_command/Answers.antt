@@ -9,10 +9,10 @@ use Rattle.sbistore.proofs.Packed.{some_is}
 use Rattle.sbistore.proofs.Ended.{begun_command, kept_ends}
 use Rattle.sbistore.proofs.sbistore_command.Goals as goal
 
-pub returns-in-Ok : goal.returns-in-Ok
-returns-in-Ok c life command kept is =
-    let same = some_is _ _ (c.in-Some-store_of.ensures life kept) in
-    let which = some_is _ _ (c.in-Some.ensures command is) in
+pub returns-in-Ok-clause-begins : goal.returns-in-Ok-clause-begins
+returns-in-Ok-clause-begins c life command kept is =
+    let same = some_is _ _ (c.in-Some-store_of.ensures.exact life kept) in
+    let which = some_is _ _ (c.in-Some.ensures.exact command is) in
     let plans : PlansCommand life command c.in-Ok.plan =
     subst (λ (o : OpenStore). PlansCommand o command c.in-Ok.plan) same
     (subst (λ (k : Command). PlansCommand c.in-Some-store_of.open k c.in-Ok.plan) which c.in-Ok.ensures.ok) in

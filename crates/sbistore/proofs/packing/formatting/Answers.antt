@@ -7,5 +7,5 @@ use Rattle.sbistore.proofs.packing.formatting.Goals as goal
 
 pub returns : goal.returns
 returns c f has step few =
-    ap (λ (z : Size). Some (Formatting (record { shape = z; step = c.in_ok-step.step }))) (some_is _ _ (c.in_ok-shape.ensures f.shape has))
+    ap (λ (z : Size). Some (Formatting (record { shape = z; step = c.in_ok-step.step }))) (some_is _ _ (c.in_ok-shape.ensures.exact f.shape has))
     ∙ ap (λ (t : FormatStep). Some (Formatting (record { shape = f.shape; step = t }))) (some_is _ _ (c.in_ok-step.ensures f.step step few))

@@ -5,4 +5,4 @@ use Rattle.sbistore.proofs.Packed.{some_is}
 use Rattle.sbistore.proofs.packing.reading_gate.Goals as goal
 
 pub returns : goal.returns
-returns c size has = ap (λ (z : Size). Some (ReadingGate z)) (some_is _ _ (c.in_ok-shape_of.ensures size has))
+returns c size has = ap (λ (z : Size). Some (ReadingGate z)) (some_is _ _ (c.in_ok-shape_of.ensures.exact size has))

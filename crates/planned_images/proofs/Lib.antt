@@ -1,0 +1,10 @@
+mod Counting
+mod Bounds
+mod LoadSteps
+mod LoadEnds
+mod Chunks
+mod SaveBounds
+mod SaveSteps
+mod SavingArea
+mod SavedRecords
+mod SaveEnds
