@@ -15,8 +15,8 @@ use Rattle.store.specs.Leaves.{IsKept, Leaves, LeavesOnly, LeavesEither, NoMore}
 use Rattle.store.specs.Lives.{Life, now_of}
 use Rattle.store.specs.Opens.{CausedRefusal}
 use Rattle.store.specs.Standing.{StandsFor}
-use Rattle.story.specs.Story.{Now, begin, unpowered, arming, cut_off, begun_in, May, Opens}
-use Rattle.story.specs.Told.{IsOn, IsOff}
+use Rattle.story.specs.Story.{Now, begin, begun_in, May, Opens}
+use Rattle.story.specs.Told.{IsOn, IsOff, unpowered, arming, cut_off}
 use Rattle.story.specs.declared.asks.Seen.{Seen}
 use Rattle.story.specs.declared.asks.Seen.TheVariants.{Opened, Denied}
 use Rattle.story.proofs.Stays.{no_doubt}
@@ -36,7 +36,8 @@ as_off size w disk m off = record { kept = off.kept; only = off.only; faults = o
 
 pub opens_from : (w v : Now) (seen : Seen) → Opens (unpowered w) seen v → Opens w seen v
 opens_from w v (Opened found) is = is
-opens_from w v (Denied e) is = is
+opens_from w v (Denied Device) is = is
+opens_from w v (Denied Memory) is = is
 opens_from w v seen is = absurd is
 
 left_fewer : (disk left : Facts) → IsLeft disk left → (c : Content) → left.may_leave c → disk.may_leave c
@@ -119,8 +120,12 @@ opens size w disk m store found off opened same is = (
 
 why : (e : Refusal) (w : Now) (m n : FaultState) → w.faults ≡ m → (e ≡ Device) ⊎ (e ≡ Memory) → CausedRefusal m e n → Opens w (Denied e) (record w { on = false; faults = n })
 why e w m n at (inl is) cause =
-    (inl (is, subst (λ (f : FaultState). CausedRefusal f Device n) (sym at) (subst (λ (x : Refusal). CausedRefusal m x n) is cause)), refl)
-why e w m n at (inr is) cause = let same : n ≡ m = subst (λ (x : Refusal). CausedRefusal m x n) is cause in (inr (is, same ∙ sym at), refl)
+    subst (λ (x : Refusal). Opens w (Denied x) (record w { on = false; faults = n })) (sym is)
+    (subst (λ (f : FaultState). CausedRefusal f Device n) (sym at) (subst (λ (x : Refusal). CausedRefusal m x n) is cause), refl)
+why e w m n at (inr is) cause =
+    let same : n ≡ m = subst (λ (x : Refusal). CausedRefusal m x n) is cause in
+    subst (λ (x : Refusal). Opens w (Denied x) (record w { on = false; faults = n })) (sym is)
+    (ap (λ (f : FaultState). record w { on = false; faults = f }) (same ∙ sym at))
 
 pub refuses : (size : Size) (w : Now) (disk new : Facts) (m n : FaultState) (e : Refusal) → IsOff size w disk m → (e ≡ Device) ⊎ (e ≡ Memory) → CausedRefusal m e n → IsKept new size → NoMore disk new
     → (v : Now) × Opens w (Denied e) v × IsOff size v new n

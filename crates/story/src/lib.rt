@@ -6,7 +6,7 @@ mod power;
 mod stories;
 
 pub use asks::{Asked, Seen};
-pub use stories::story;
+pub use stories::{story, story_left};
 
 #[cfg(test)]
 mod tests;

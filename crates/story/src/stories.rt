@@ -1,15 +1,16 @@
 //! What whoever runs the firmware asks of one disk, and what is seen, as one run.
-ghost use Rattle.std.specs.Prelude.{◌≡◌, ◌⊎◌, ◌<◌, ℕ, None, length, IfOk, IfErr};
+ghost use Rattle.std.specs.Prelude.{◌≡◌, ◌⊎◌, ◌≤◌, ℕ, [], None, length, vec_len, vec_capacity, IfOk, IfErr};
 ghost use Rattle.board_model.specs.Durable.{DurableState, Suspend};
-ghost use Rattle.board_model.specs.Shapes.{Size, sectors_of, ram_bytes_of};
+ghost use Rattle.board_model.specs.Shapes.{Size};
 ghost use Rattle.board_model.specs.Views.{change_of};
 ghost use Rattle.board_model.specs.declared.refusal.Refusal.{Refusal};
 ghost use Rattle.disk.specs.Facts.{Content};
-ghost use Rattle.store.specs.Leaves.{IsIdle, IsMarked};
+ghost use Rattle.store.specs.Leaves.{IsIdle};
+ghost use Rattle.store.specs.Opens.{FormatRefused, CausedRefusal};
 ghost use Rattle.store.specs.Standing.{StandsFor};
 ghost use Rattle.store.specs.Views.{doubt_of, view_of};
-ghost use Rattle.story.specs.Story.{Now, begin, unpowered, cut_off, arming, May, Opens, Commands, Suspends, Loads, Resumes, Answers, Step, Tells};
-ghost use Rattle.story.specs.Told.{IsOn, IsOff, IsAt, IsCall, seen_of};
+ghost use Rattle.story.specs.Story.{Now, begin, May, Opens, Commands, Loads, Resumes, Step, Tells};
+ghost use Rattle.story.specs.Told.{IsOn, IsOff, IsAt, IsCall, Answers, unpowered, cut_off, arming, seen_of};
 
 use crate::asks::{Asked, Seen};
 use crate::power::{Power, Resting};
@@ -26,33 +27,79 @@ use susp::wake_image;
 /// disk as it then is. What was seen is a story: the state that an open finds is what the acknowledged commands make of
 /// the formatted one, with at most the one in doubt; and no image goes on twice.
 ///
-/// Refused `Memory` where memory is refused, and as a format is: `AlreadyFormatted` for a disk with the mark, `BadShape`
-/// for one that is too small, and `Device` where it failed.
+/// Refused `Memory`, before anything is asked of the disk, where there is no room for the answers; and as a format is:
+/// `BadShape` for a disk that is too small, `AlreadyFormatted` for one with the mark, and `Device` where it failed. A
+/// refusal gives the disk back.
 pub fn story<C: Crew>(
+    alloc: Global,
+    disk: SimDisk,
+    shape: &Shape,
+    crew: &C,
+    asked: &[Asked],
+) -> Result<(Vec<Seen>, SimDisk), (SimDisk, Refusal)>
+    requires { IsIdle (⟦<SimDisk as Disk>⟧.facts disk) }
+    ensures told { IfOk result (λ run. (w : Now)
+        × Tells shape.now (begin (⟦<SimDisk as Disk>⟧.fault_state disk)) asked.now run.0.items w
+        × (⟦<SimDisk as Disk>⟧.fault_state run.1 ≡ w.faults)) }
+    ensures refused { IfErr result (λ e. ((e.1 ≡ Refusal.Memory) × (e.0 ≡ disk))
+        ⊎ (FormatRefused (⟦<SimDisk as Disk>⟧.facts disk) shape.now e.1 (⟦<SimDisk as Disk>⟧.facts e.0)
+        × CausedRefusal (⟦<SimDisk as Disk>⟧.fault_state disk) e.1 (⟦<SimDisk as Disk>⟧.fault_state e.0))) }
+{
+    story_left(alloc, disk, shape, crew, asked)
+}
+
+/// The same, and whatever power that fails then leaves of the disk, byte for byte, stands for a state that the next open
+/// may find.
+pub fn story_left<C: Crew>(
     alloc: Global,
     mut disk: SimDisk,
     shape: &Shape,
     crew: &C,
     asked: &[Asked],
-) -> Result<(Vec<Seen>, SimDisk), Refusal>
+) -> Result<(Vec<Seen>, SimDisk), (SimDisk, Refusal)>
     requires { IsIdle (⟦<SimDisk as Disk>⟧.facts disk) }
     ensures told { IfOk result (λ run. (w : Now)
         × Tells shape.now (begin (⟦<SimDisk as Disk>⟧.fault_state disk)) asked.now run.0.items w
         × (⟦<SimDisk as Disk>⟧.fault_state run.1 ≡ w.faults)
         × ((c : Content) → (⟦<SimDisk as Disk>⟧.facts run.1).may_leave c → (s : DurableState) × May w s × StandsFor c shape.now s)) }
-    ensures refused { IfErr result (λ e. (e ≡ Refusal.Memory) ⊎ (e ≡ Refusal.Device)
-        ⊎ ((e ≡ Refusal.AlreadyFormatted) × IsMarked (⟦<SimDisk as Disk>⟧.facts disk).content)
-        ⊎ ((e ≡ Refusal.BadShape) × (length (⟦<SimDisk as Disk>⟧.facts disk).content < sectors_of shape.now))) }
+    ensures refused { IfErr result (λ e. ((e.1 ≡ Refusal.Memory) × (e.0 ≡ disk))
+        ⊎ (FormatRefused (⟦<SimDisk as Disk>⟧.facts disk) shape.now e.1 (⟦<SimDisk as Disk>⟧.facts e.0)
+        × CausedRefusal (⟦<SimDisk as Disk>⟧.fault_state disk) e.1 (⟦<SimDisk as Disk>⟧.fault_state e.0))) }
 {
-    format(&mut disk, shape)?;
-    let mut seen = Vec::with_capacity(alloc, asked.len())?;
+    let Ok(seen) = Vec::with_capacity(alloc, asked.len()) else {
+        return Err((disk, Refusal::Memory));
+    };
+    match format(&mut disk, shape) {
+        Ok(()) => Ok(all_seen(alloc, shape, crew, asked, disk, seen)),
+        Err(refusal) => Err((disk, refusal)),
+    }
+}
+
+/// What is asked is done, in its order. What is seen goes into that list, which has room for it.
+fn all_seen<C: Crew>(
+    alloc: Global,
+    shape: &Shape,
+    crew: &C,
+    asked: &[Asked],
+    disk: SimDisk,
+    mut seen: Vec<Seen>,
+) -> (Vec<Seen>, SimDisk)
+    requires idle { IsIdle (⟦<SimDisk as Disk>⟧.facts disk) }
+    requires none { seen.items ≡ [] }
+    requires empty { vec_len seen ≡ 0 }
+    requires room { length asked.now ≤ vec_capacity seen }
+    ensures { (w : Now)
+        → IsOff shape.now w (⟦<SimDisk as Disk>⟧.facts disk) (⟦<SimDisk as Disk>⟧.fault_state disk)
+        → (v : Now) × Tells shape.now w asked.now result.0.items v
+        × IsOff shape.now (unpowered v) (⟦<SimDisk as Disk>⟧.facts result.1) (⟦<SimDisk as Disk>⟧.fault_state result.1) }
+{
     let mut power = Power::Off(Resting { disk });
     for ask in asked {
         let (next, answer) = step(alloc, shape, crew, power, ask);
         power = next;
         seen.push_reserved(answer);
     }
-    Ok((seen, left(power)))
+    (seen, left(power))
 }
 
 /// What is asked is done.
@@ -197,7 +244,7 @@ fn suspension_seen<C: Crew>(
     at: Resumption,
 ) -> Seen
     ensures { (size : Size) (w : Now) → IsOn size w (view_of store.old)
-        → (v : Now) × Suspends size w (Suspend at.hart at.address at.opaque ram.now) result v
+        → (v : Now) × Commands size w (Suspend at.hart at.address at.opaque ram.now) result v
         × IsOn size v (view_of store.new) }
 {
     let answer = store.suspend(saving, ram, at);
@@ -209,9 +256,8 @@ fn load_seen(alloc: Global, shape: &Shape, store: &mut Store<SimDisk>) -> Seen
     ensures { (w : Now) → IsOn shape.now w (view_of store.old)
         → (v : Now) × Loads w result v × IsOn shape.now v (view_of store.new) }
 {
-    let mut ram = match Ram::new(alloc, *shape) {
-        Ok(ram) => ram,
-        Err(refusal) => return Seen::Denied(refusal),
+    let Ok(mut ram) = Ram::new(alloc, *shape) else {
+        return Seen::Denied(Refusal::Memory);
     };
     shape_in_range(shape);
     whole_images_load::<SimDisk>();
@@ -238,9 +284,8 @@ fn wake_seen(alloc: Global, shape: &Shape, store: &mut Store<SimDisk>) -> Seen
     ensures { (w : Now) → IsOn shape.now w (view_of store.old)
         → (v : Now) × Resumes shape.now w result v × IsOn shape.now v (view_of store.new) }
 {
-    let mut ram = match Ram::new(alloc, *shape) {
-        Ok(ram) => ram,
-        Err(refusal) => return Seen::Denied(refusal),
+    let Ok(mut ram) = Ram::new(alloc, *shape) else {
+        return Seen::Denied(Refusal::Memory);
     };
     shape_in_range(shape);
     whole_images_load::<SimDisk>();

@@ -128,7 +128,9 @@ fn seen<R: Abort + Threads + Sync>(rt: &R, alloc: Global, asked: &[Asked]) -> Ve
     let shape = board(rt);
     let disk = SimDisk::blank(alloc, shape.sectors()).expect(rt, "memory");
     let crew: Sequential<R> = Sequential::new([1, 0, 3, 2]).expect(rt, "an order");
-    let (seen, _disk) = story(alloc, disk, &shape, &crew, asked).expect(rt, "a story");
+    let Ok((seen, _disk)) = story(alloc, disk, &shape, &crew, asked) else {
+        rt.panic("a story");
+    };
     seen
 }
 
