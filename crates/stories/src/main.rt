@@ -13,7 +13,6 @@ mod told;
 
 use crate::lists::list_of;
 use crate::told::AllSeen;
-use simdisk::SimDisk;
 use std::alloc::{AllocError, Global};
 use std::io::Read;
 use std::thread::Threads;
@@ -24,13 +23,12 @@ fn answer<R: Threads + Sync>(alloc: Global, line: &str) -> Result<String, AllocE
     let Some(list) = list_of::<R>(alloc, line) else {
         return String::from_str(alloc, "?");
     };
-    let disk = SimDisk::blank(alloc, list.shape.sectors())?;
-    match story(alloc, disk, &list.shape, &list.crew, &list.asked) {
-        Ok((seen, _disk)) => {
+    match story(alloc, &list.shape, &list.crew, &list.asked) {
+        Ok(seen) => {
             let told = AllSeen(&seen);
             format!(in alloc; "{told}")
         }
-        Err((_disk, refusal)) => {
+        Err(refusal) => {
             let number = refusal.code();
             format!(in alloc; "refused {number}")
         }

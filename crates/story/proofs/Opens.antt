@@ -1,5 +1,5 @@
 -- A disk in a story without a store: it is opened, left by a store, armed or cut.
-use Rattle.std.proofs.Common.{◌≡◌, ◌⊎◌, ◌∙◌, Option, Some, None, inl, inr, refl, sym, ap, subst, length, false}
+use Rattle.std.proofs.Common.{◌≡◌, ◌⊎◌, ◌∙◌, Option, Some, None, inl, inr, refl, sym, ap, subst, length, true, false}
 use Rattle.board_model.specs.Durable.{DurableState, Change, formatted, after, IsWhole}
 use Rattle.board_model.specs.Shapes.{Size}
 use Rattle.board_model.specs.Views.{durable_of}
@@ -15,7 +15,7 @@ use Rattle.store.specs.Leaves.{IsKept, Leaves, LeavesOnly, LeavesEither, NoMore}
 use Rattle.store.specs.Lives.{Life, now_of}
 use Rattle.store.specs.Opens.{CausedRefusal}
 use Rattle.store.specs.Standing.{StandsFor}
-use Rattle.story.specs.Story.{Now, begin, begun_in, May, Opens}
+use Rattle.story.specs.Story.{Now, begin, settled, May, Opens}
 use Rattle.story.specs.Told.{IsOn, IsOff, unpowered, arming, cut_off}
 use Rattle.story.specs.declared.asks.Seen.{Seen}
 use Rattle.story.specs.declared.asks.Seen.TheVariants.{Opened, Denied}
@@ -97,7 +97,7 @@ begins size disk m n only same = record {
 pub opens : (size : Size) (w : Now) (disk : Facts) (m : FaultState) (store : StoreView) (found : Durable) → IsOff size w disk m → answers.Opened disk store → store.fault_state ≡ m → found ≡ durable_of store.life.found
     → (v : Now) × Opens w (Opened found) v × IsOn size v store
 opens size w disk m store found off opened same is = (
-  begun_in store.life.found w,
+  settled store.life.found true w.faults,
   (store.life.found, may.1, is, refl),
   record {
     board = may.0;
@@ -114,7 +114,7 @@ opens size w disk m store found off opened same is = (
     may : (store.size ≡ size) × May w store.life.found
     may = off.only store.size store.life.found opened.earlier
 
-    whole : (s : DurableState) → May (begun_in store.life.found w) s → IsWhole size s
+    whole : (s : DurableState) → May (settled store.life.found true w.faults) s → IsWhole size s
     whole s (inl is) = subst (IsWhole size) (sym is) (off.whole store.life.found may.1)
     whole s (inr (c, doubt, is)) = absurd (no_doubt None c refl doubt)
 

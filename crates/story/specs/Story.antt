@@ -25,14 +25,13 @@ pub record Now : Type 0 where
   pub receipts : ℕ
   pub faults : FaultState
 
+-- it stands for this state alone, and no command was acknowledged since
+abbrev pub settled : DurableState → Bool → FaultState → Now
+settled s on faults = record { state = s; doubt = None; on = on; over = false; receipts = 0; faults = faults }
+
 -- after a format
 abbrev pub begin : FaultState → Now
-begin faults =
-    record { state = formatted; doubt = None; on = false; over = false; receipts = 0; faults = faults }
-
--- an open found this state
-abbrev pub begun_in : DurableState → Now → Now
-begun_in s w = record w { state = s; doubt = None; on = true; over = false; receipts = 0 }
+begin faults = settled formatted false faults
 
 -- a command was acknowledged
 abbrev pub acknowledged : Now → Change → Now
@@ -48,7 +47,7 @@ May w s = (s ≡ w.state) ⊎ ((c : Change) × (w.doubt ≡ Some c) × (s ≡ af
 
 -- What is seen of an open: a state that it may find, all but the memory. From then on that is settled.
 abbrev pub Opens : Now → Seen → Now → Type 0
-Opens w (Opened found) v = (s : DurableState) × May w s × (found ≡ durable_of s) × (v ≡ begun_in s w)
+Opens w (Opened found) v = (s : DurableState) × May w s × (found ≡ durable_of s) × (v ≡ settled s true w.faults)
 Opens w (Denied Device) v = Fails (record w { on = false }) v
 Opens w (Denied Memory) v = v ≡ record w { on = false }
 Opens w seen v = ⊥
@@ -62,9 +61,10 @@ abbrev pub Fits : Size → Change → Type 0
 Fits size (Suspend hart address opaque memory) = FitsBoard size memory hart address
 Fits size c = Unit {0}
 
--- the table of commands refuses it by that number
-abbrev pub Refuses : Size → Now → Change → ℕ → Type 0
-Refuses size w c n = Takes w × Fits size c × (refusal_of w.state c ≡ Some n)
+-- The life takes the command, it is of the board, and the table of commands says that of it: the number by which it is
+-- refused, or none, and then it goes to the disk.
+abbrev pub Decides : Size → Now → Change → Option ℕ → Type 0
+Decides size w c number = Takes w × Fits size c × (refusal_of w.state c ≡ number)
 
 -- Why a command is refused before it goes to the disk. Nothing has changed then.
 abbrev pub Checks : Size → Now → Change → Refusal → Type 0
@@ -72,18 +72,14 @@ Checks size w c Down = (d : Change) × (w.doubt ≡ Some d)
 Checks size w c Over = (w.doubt ≡ None) × (w.over ≡ true)
 Checks size w c JournalFull = (w.doubt ≡ None) × (w.over ≡ false) × (w.receipts ≡ 4096)
 Checks size w c BadShape = Takes w × (Fits size c → ⊥)
-Checks size w c NoImage = Refuses size w c 8
-Checks size w c BadSlot = Refuses size w c 9
-Checks size w c SerialsSpent = Refuses size w c 12
-Checks size w c BadTries = Refuses size w c 19
-Checks size w c NoTrial = Refuses size w c 20
+Checks size w c NoImage = Decides size w c (Some 8)
+Checks size w c BadSlot = Decides size w c (Some 9)
+Checks size w c SerialsSpent = Decides size w c (Some 12)
+Checks size w c BadTries = Decides size w c (Some 19)
+Checks size w c NoTrial = Decides size w c (Some 20)
 Checks size w c e = ⊥
 
--- the command goes to the disk
-abbrev pub Goes : Size → Now → Change → Type 0
-Goes size w c = Takes w × Fits size c × (refusal_of w.state c ≡ None)
-
--- Why it is refused then. 5: nothing of it is found. 6: it is in doubt. 11: a suspension was refused memory before it
+-- Why it is refused once it goes there. 5: nothing of it is found. 6: it is in doubt. 11: a suspension was refused memory before it
 -- asked the disk.
 abbrev pub Stops : Now → Refusal → Change → Now → Type 0
 Stops w Device c v = Fails w v
@@ -93,8 +89,8 @@ Stops w e c v = ⊥
 
 -- what is seen of a command
 abbrev pub Commands : Size → Now → Change → Seen → Now → Type 0
-Commands size w c (Acked n) v = Goes size w c × (n ≡ w.receipts + 1) × (v ≡ acknowledged w c)
-Commands size w c (Denied e) v = (Checks size w c e × (v ≡ w)) ⊎ (Goes size w c × Stops w e c v)
+Commands size w c (Acked n) v = Decides size w c None × (n ≡ w.receipts + 1) × (v ≡ acknowledged w c)
+Commands size w c (Denied e) v = (Checks size w c e × (v ≡ w)) ⊎ (Decides size w c None × Stops w e c v)
 Commands size w c seen v = ⊥
 
 -- What is seen of a load: the memory of the image, byte for byte. An image that stands is never refused as bad.
@@ -111,7 +107,7 @@ Loads w seen v = ⊥
 abbrev pub Resumes : Size → Now → Seen → Now → Type 0
 Resumes size w (Woke hart memory) v =
     (i : Image) × (w.state.image ≡ Some i) × (hart ≡ started i.hart i.address i.opaque) × (memory ≡ i.memory)
-    × Goes size w Consume × (v ≡ acknowledged w Consume)
+    × Decides size w Consume None × (v ≡ acknowledged w Consume)
 Resumes size w (Denied e) v =
     ((w.doubt ≡ None) × Loads w (Denied e) v)
     ⊎ ((w.doubt ≡ None → w.state.image ≡ None → ⊥) × Commands size w Consume (Denied e) v)

@@ -5,6 +5,7 @@ ghost use Rattle.board_model.specs.Shapes.{Size};
 ghost use Rattle.board_model.specs.Views.{change_of};
 ghost use Rattle.board_model.specs.declared.refusal.Refusal.{Refusal};
 ghost use Rattle.disk.specs.Facts.{Content};
+ghost use Rattle.disk.specs.FaultState.{no_fault};
 ghost use Rattle.store.specs.Leaves.{IsIdle};
 ghost use Rattle.store.specs.Opens.{FormatRefused, CausedRefusal};
 ghost use Rattle.store.specs.Standing.{StandsFor};
@@ -20,36 +21,40 @@ use disk::{ArmedFault, Disk};
 use ram::Ram;
 use simdisk::{Fill, SimDisk};
 use std::alloc::Global;
-use store::{Receipt, Resumption, Saving, Store, format, kept_disks, whole_images_load};
+use store::{
+    Receipt, Resumption, Saving, Store, blank_disks, format, kept_disks, whole_images_load,
+};
 use susp::wake_image;
 
-/// *The theorem, as a run.* Formats a disk, does what is asked, in its order, and answers what was seen of each, and the
-/// disk as it then is. What was seen is a story: the state that an open finds is what the acknowledged commands make of
-/// the formatted one, with at most the one in doubt; and no image goes on twice.
+/// *The theorem, as a run.* Formats a new disk in memory, does what is asked, in its order, and answers what was seen of
+/// each. What was seen is a story: the state that an open finds is what the acknowledged commands make of the formatted one,
+/// with at most the one in doubt; and no image goes on twice.
+///
+/// Refused `Memory` where there is no room for the disk or for the answers, and `Device` where the disk failed by itself in
+/// the format. [`story_left`] says the same of any disk.
+pub fn story<C: Crew>(
+    alloc: Global,
+    shape: &Shape,
+    crew: &C,
+    asked: &[Asked],
+) -> Result<Vec<Seen>, Refusal>
+    ensures told { IfOk result (λ seen. (w : Now) × Tells shape.now (begin no_fault) asked.now seen.items w) }
+    ensures refused { IfErr result (λ e. (e ≡ Refusal.Memory) ⊎ (e ≡ Refusal.Device)) }
+{
+    blank_disks::<SimDisk>();
+    let disk = SimDisk::blank(alloc, shape.sectors())?;
+    match story_left(alloc, disk, shape, crew, asked) {
+        Ok((seen, _disk)) => Ok(seen),
+        Err((_disk, refusal)) => Err(refusal),
+    }
+}
+
+/// The same of any disk of which nothing is lent, and besides: whatever power that fails then leaves of the disk, byte for
+/// byte, stands for a state that the next open may find.
 ///
 /// Refused `Memory`, before anything is asked of the disk, where there is no room for the answers; and as a format is:
 /// `BadShape` for a disk that is too small, `AlreadyFormatted` for one with the mark, and `Device` where it failed. A
 /// refusal gives the disk back.
-pub fn story<C: Crew>(
-    alloc: Global,
-    disk: SimDisk,
-    shape: &Shape,
-    crew: &C,
-    asked: &[Asked],
-) -> Result<(Vec<Seen>, SimDisk), (SimDisk, Refusal)>
-    requires { IsIdle (⟦<SimDisk as Disk>⟧.facts disk) }
-    ensures told { IfOk result (λ run. (w : Now)
-        × Tells shape.now (begin (⟦<SimDisk as Disk>⟧.fault_state disk)) asked.now run.0.items w
-        × (⟦<SimDisk as Disk>⟧.fault_state run.1 ≡ w.faults)) }
-    ensures refused { IfErr result (λ e. ((e.1 ≡ Refusal.Memory) × (e.0 ≡ disk))
-        ⊎ (FormatRefused (⟦<SimDisk as Disk>⟧.facts disk) shape.now e.1 (⟦<SimDisk as Disk>⟧.facts e.0)
-        × CausedRefusal (⟦<SimDisk as Disk>⟧.fault_state disk) e.1 (⟦<SimDisk as Disk>⟧.fault_state e.0))) }
-{
-    story_left(alloc, disk, shape, crew, asked)
-}
-
-/// The same, and whatever power that fails then leaves of the disk, byte for byte, stands for a state that the next open
-/// may find.
 pub fn story_left<C: Crew>(
     alloc: Global,
     mut disk: SimDisk,

@@ -1,4 +1,4 @@
-use Rattle.std.proofs.Common.{◌∙◌, refl, sym, inl, inr}
+use Rattle.std.proofs.Common.{◌∙◌, refl, inl, inr}
 use Rattle.story.proofs.Stays.{no_doubt}
 use Rattle.story.proofs.stories.resume_seen.Goals as goal
 

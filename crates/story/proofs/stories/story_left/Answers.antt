@@ -1,4 +1,4 @@
-use Rattle.std.proofs.Common.{sym, refl, inl, inr}
+use Rattle.std.proofs.Common.{sym}
 use Rattle.simdisk.specs.contracts.device.SimDiskDisk.TheImpl as sim_disk
 use Rattle.story.specs.Story.{begin}
 use Rattle.story.specs.Told.{unpowered}
