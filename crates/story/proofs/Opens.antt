@@ -16,7 +16,7 @@ use Rattle.store.specs.Lives.{Life, now_of}
 use Rattle.store.specs.Opens.{CausedRefusal}
 use Rattle.store.specs.Standing.{StandsFor}
 use Rattle.story.specs.Story.{Now, begin, settled, May, Opens}
-use Rattle.story.specs.Told.{IsOn, IsOff, unpowered, arming, cut_off}
+use Rattle.story.specs.Told.{IsOn, IsOff, Rests, unpowered, arming, cut_off}
 use Rattle.story.specs.declared.asks.Seen.{Seen}
 use Rattle.story.specs.declared.asks.Seen.TheVariants.{Opened, Denied}
 use Rattle.story.proofs.Stays.{no_doubt}
@@ -75,9 +75,30 @@ armed_on size w old new fault on board life armed = record {
   whole = on.whole;
 }
 
-pub stands_at_end : (size : Size) (w : Now) (disk : Facts) (m : FaultState) → IsOff size w disk m → (c : Content) → disk.may_leave c → (s : DurableState) × May w s × StandsFor c size s
+-- it rests: so a story begins and ends
+abbrev OneStanding : Type 0
+OneStanding = (c : Content) (y z : Size) (s t : DurableState) → StandsFor c y s → StandsFor c z t → (y ≡ z) × (s ≡ t)
+
+pub begins_at_rest : OneStanding → (size : Size) (w : Now) (disk : Facts) (m : FaultState) → Rests size w disk m → IsOff size (unpowered w) disk m
 unfolding IsKept Leaves
-stands_at_end size w disk m off c may = let is = off.kept c may in (is.0, (off.only size is.0 (c, may, is.1)).1, is.1)
+begins_at_rest one size w disk m rests = record {
+  kept = λ c may. let is = rests.leaves c may in (is.0, is.2);
+  only = λ z s leaves.
+      let is = rests.leaves leaves.0 leaves.1 in
+      let same = one leaves.0 z size s is.0 leaves.2 is.2 in
+      (same.0, subst (May w) (sym same.1) is.1);
+  faults = rests.faults;
+  on = refl;
+  whole = rests.whole;
+}
+
+pub ends_at_rest : (size : Size) (w : Now) (disk : Facts) (m : FaultState) → IsOff size (unpowered w) disk m → Rests size w disk m
+unfolding IsKept Leaves
+ends_at_rest size w disk m off = record {
+  leaves = λ c may. let is = off.kept c may in (is.0, (off.only size is.0 (c, may, is.1)).1, is.1);
+  whole = off.whole;
+  faults = off.faults;
+}
 
 -- a formatted one
 pub begins : (size : Size) (disk : Facts) (m n : FaultState) → LeavesOnly disk size formatted → n ≡ m → IsOff size (begin m) disk n

@@ -1,16 +1,17 @@
--- How a disk stands in a story, between two steps of the run: what the proof of the story goes by.
+-- How a disk stands in a story, before it and after it, and between two steps of the run: what its proof goes by.
 use Rattle.std.specs.Prelude.{◌≡◌, ℕ, true, false, Result, Ok, Err, length}
 use Rattle.board_model.specs.Durable.{DurableState, Suspend, IsWhole}
 use Rattle.board_model.specs.Shapes.{Size}
 use Rattle.board_model.specs.Views.{change_of}
 use Rattle.board_model.specs.declared.refusal.Refusal.{Refusal}
-use Rattle.disk.specs.Facts.{Facts}
+use Rattle.disk.specs.Facts.{Content, Facts}
 use Rattle.disk.specs.FaultState.{FaultState, fault_state_armed, fault_state_left}
 use Rattle.disk.specs.declared.device.ArmedFault.{ArmedFault}
 use Rattle.simdisk.specs.contracts.device.SimDiskDisk.TheImpl as sim_disk
 use Rattle.store.specs.Answers.{StoreView}
 use Rattle.store.specs.Leaves.{IsKept, Leaves}
 use Rattle.store.specs.Lives.{now_of}
+use Rattle.store.specs.Standing.{StandsFor}
 use Rattle.store.specs.Views.{view_of}
 use Rattle.story.specs.Story.{Now, May, Commands, Loads, Resumes}
 use Rattle.story.specs.declared.asks.Asked.{Asked}
@@ -19,6 +20,13 @@ use Rattle.story.specs.declared.power.Power.{Power}
 use Rattle.story.specs.declared.power.Power.TheVariants.{Off, On}
 use Rattle.story.specs.declared.asks.Seen.{Seen}
 use Rattle.story.specs.declared.asks.Seen.TheVariants.{Acked, Denied}
+
+-- Whatever a crash leaves of the disk stands for a state that the next open may find. Each such state has an image of this
+-- board, if it has one.
+pub record Rests (size : Size) (w : Now) (disk : Facts) (m : FaultState) : Type 0 where
+  pub leaves : (c : Content) → disk.may_leave c → (s : DurableState) × May w s × StandsFor c size s
+  pub whole : (s : DurableState) → May w s → IsWhole size s
+  pub faults : w.faults ≡ m
 
 -- in an open store
 pub record IsOn (size : Size) (w : Now) (store : StoreView) : Type 0 where

@@ -6,7 +6,7 @@ mod power;
 mod stories;
 
 pub use asks::{Asked, Seen};
-pub use stories::{story, story_left};
+pub use stories::{story, story_on};
 
 #[cfg(test)]
 mod tests;

@@ -1,17 +1,14 @@
 //! What whoever runs the firmware asks of one disk, and what is seen, as one run.
 ghost use Rattle.std.specs.Prelude.{◌≡◌, ◌⊎◌, ◌≤◌, ℕ, [], None, length, vec_len, vec_capacity, IfOk, IfErr};
-ghost use Rattle.board_model.specs.Durable.{DurableState, Suspend};
+ghost use Rattle.board_model.specs.Durable.{Suspend};
 ghost use Rattle.board_model.specs.Shapes.{Size};
 ghost use Rattle.board_model.specs.Views.{change_of};
 ghost use Rattle.board_model.specs.declared.refusal.Refusal.{Refusal};
-ghost use Rattle.disk.specs.Facts.{Content};
 ghost use Rattle.disk.specs.FaultState.{no_fault};
 ghost use Rattle.store.specs.Leaves.{IsIdle};
-ghost use Rattle.store.specs.Opens.{FormatRefused, CausedRefusal};
-ghost use Rattle.store.specs.Standing.{StandsFor};
 ghost use Rattle.store.specs.Views.{doubt_of, view_of};
-ghost use Rattle.story.specs.Story.{Now, begin, May, Opens, Commands, Loads, Resumes, Step, Tells};
-ghost use Rattle.story.specs.Told.{IsOn, IsOff, IsAt, IsCall, Answers, unpowered, cut_off, arming, seen_of};
+ghost use Rattle.story.specs.Story.{Now, begin, Opens, Commands, Loads, Resumes, Step, Tells};
+ghost use Rattle.story.specs.Told.{IsOn, IsOff, IsAt, Rests, IsCall, Answers, unpowered, cut_off, arming, seen_of};
 
 use crate::asks::{Asked, Seen};
 use crate::power::{Power, Resting};
@@ -22,7 +19,8 @@ use ram::Ram;
 use simdisk::{Fill, SimDisk};
 use std::alloc::Global;
 use store::{
-    Receipt, Resumption, Saving, Store, blank_disks, format, kept_disks, whole_images_load,
+    Receipt, Resumption, Saving, Store, blank_disks, format, kept_disks, one_standing,
+    whole_images_load,
 };
 use susp::wake_image;
 
@@ -31,7 +29,7 @@ use susp::wake_image;
 /// with at most the one in doubt; and no image goes on twice.
 ///
 /// Refused `Memory` where there is no room for the disk or for the answers, and `Device` where the disk failed by itself in
-/// the format. [`story_left`] says the same of any disk.
+/// the format. [`story_on`] says the same of any disk.
 pub fn story<C: Crew>(
     alloc: Global,
     shape: &Shape,
@@ -42,42 +40,37 @@ pub fn story<C: Crew>(
     ensures refused { IfErr result (λ e. (e ≡ Refusal.Memory) ⊎ (e ≡ Refusal.Device)) }
 {
     blank_disks::<SimDisk>();
-    let disk = SimDisk::blank(alloc, shape.sectors())?;
-    match story_left(alloc, disk, shape, crew, asked) {
+    let mut disk = SimDisk::blank(alloc, shape.sectors())?;
+    format(&mut disk, shape)?;
+    match story_on(alloc, disk, shape, crew, asked) {
         Ok((seen, _disk)) => Ok(seen),
-        Err((_disk, refusal)) => Err(refusal),
+        Err(_disk) => Err(Refusal::Memory),
     }
 }
 
-/// The same of any disk of which nothing is lent, and besides: whatever power that fails then leaves of the disk, byte for
-/// byte, stands for a state that the next open may find.
-///
-/// Refused `Memory`, before anything is asked of the disk, where there is no room for the answers; and as a format is:
-/// `BadShape` for a disk that is too small, `AlreadyFormatted` for one with the mark, and `Device` where it failed. A
-/// refusal gives the disk back.
-pub fn story_left<C: Crew>(
+/// The same of any disk in memory that stands for what an open may find, as a format leaves it, or another story; and so it
+/// stands again at the end, byte for byte, whatever power that fails then leaves of it. Without room for the answers nothing
+/// is asked of the disk.
+pub fn story_on<C: Crew>(
     alloc: Global,
-    mut disk: SimDisk,
+    disk: SimDisk,
     shape: &Shape,
     crew: &C,
     asked: &[Asked],
-) -> Result<(Vec<Seen>, SimDisk), (SimDisk, Refusal)>
+) -> Result<(Vec<Seen>, SimDisk), SimDisk>
     requires { IsIdle (⟦<SimDisk as Disk>⟧.facts disk) }
     ensures told { IfOk result (λ run. (w : Now)
-        × Tells shape.now (begin (⟦<SimDisk as Disk>⟧.fault_state disk)) asked.now run.0.items w
-        × (⟦<SimDisk as Disk>⟧.fault_state run.1 ≡ w.faults)
-        × ((c : Content) → (⟦<SimDisk as Disk>⟧.facts run.1).may_leave c → (s : DurableState) × May w s × StandsFor c shape.now s)) }
-    ensures refused { IfErr result (λ e. ((e.1 ≡ Refusal.Memory) × (e.0 ≡ disk))
-        ⊎ (FormatRefused (⟦<SimDisk as Disk>⟧.facts disk) shape.now e.1 (⟦<SimDisk as Disk>⟧.facts e.0)
-        × CausedRefusal (⟦<SimDisk as Disk>⟧.fault_state disk) e.1 (⟦<SimDisk as Disk>⟧.fault_state e.0))) }
+        → Rests shape.now w (⟦<SimDisk as Disk>⟧.facts disk) (⟦<SimDisk as Disk>⟧.fault_state disk)
+        → (v : Now) × Tells shape.now (unpowered w) asked.now run.0.items v
+        × Rests shape.now v (⟦<SimDisk as Disk>⟧.facts run.1) (⟦<SimDisk as Disk>⟧.fault_state run.1)) }
+    ensures idle { IfOk result (λ run. IsIdle (⟦<SimDisk as Disk>⟧.facts run.1)) }
+    ensures refused { IfErr result (λ left. left ≡ disk) }
 {
+    one_standing();
     let Ok(seen) = Vec::with_capacity(alloc, asked.len()) else {
-        return Err((disk, Refusal::Memory));
+        return Err(disk);
     };
-    match format(&mut disk, shape) {
-        Ok(()) => Ok(all_seen(alloc, shape, crew, asked, disk, seen)),
-        Err(refusal) => Err((disk, refusal)),
-    }
+    Ok(all_seen(alloc, shape, crew, asked, disk, seen))
 }
 
 /// What is asked is done, in its order. What is seen goes into that list, which has room for it.
@@ -93,7 +86,8 @@ fn all_seen<C: Crew>(
     requires none { seen.items ≡ [] }
     requires empty { vec_len seen ≡ 0 }
     requires room { length asked.now ≤ vec_capacity seen }
-    ensures { (w : Now)
+    ensures idle { IsIdle (⟦<SimDisk as Disk>⟧.facts result.1) }
+    ensures told { (w : Now)
         → IsOff shape.now w (⟦<SimDisk as Disk>⟧.facts disk) (⟦<SimDisk as Disk>⟧.fault_state disk)
         → (v : Now) × Tells shape.now w asked.now result.0.items v
         × IsOff shape.now (unpowered v) (⟦<SimDisk as Disk>⟧.facts result.1) (⟦<SimDisk as Disk>⟧.fault_state result.1) }

@@ -25,8 +25,8 @@ loop-ask-preserved g c = record {
   room = omega (arith, c.loop-ask.invariant.room, c.push_reserved.ensures.capacity);
 }
 
-pub returns : goal.returns
-returns g c = λ w off.
+pub returns-clause-told : goal.returns-clause-told
+returns-clause-told g c = λ w off.
     let size = c.args.shape.now in
     let inv = c.loop-ask.invariant.told w off in
     let P : List Asked → Type 0 = λ xs. Tells size w xs c.loop-ask.seen.items inv.0 in
