@@ -5,3 +5,4 @@ pub mod Opens
 pub mod Lists
 pub mod Loads
 pub mod Steps
+pub mod Images

@@ -12,10 +12,6 @@ one_more size w u v (a ∷ asks) (s ∷ answers) ask answer told step = (told.0,
 one_more size w u v [] (s ∷ answers) ask answer told step = absurd told
 one_more size w u v (a ∷ asks) [] ask answer told step = absurd told
 
-pub none : (size : Size) (w : Now) (asks : List Asked) → Tells size w (take 0 asks) [] w
-none size w [] = refl
-none size w (a ∷ asks) = refl
-
 pub more : (size : Size) (w u v : Now) (asks : List Asked) (i : ℕ) (ask : Asked) (answers new : List Seen) (answer : Seen) → i < length asks → ask ≡ get_or asks i ask → new ≡ answers ++ answer ∷ []
     → Tells size w (take i asks) answers u → Step size u ask answer v → Tells size w (take (i + 1) asks) new v
 more size w u v asks i ask answers new answer lt is grown told step =

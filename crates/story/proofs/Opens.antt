@@ -1,5 +1,5 @@
 -- A disk in a story without a store: it is opened, left by a store, armed or cut.
-use Rattle.std.proofs.Common.{◌≡◌, ◌⊎◌, ◌∙◌, Option, Some, None, inl, inr, refl, sym, ap, subst, length, false}
+use Rattle.std.proofs.Common.{◌≡◌, ◌⊎◌, ◌∙◌, Option, Some, None, inl, inr, refl, sym, ap, subst, length, true, false}
 use Rattle.board_model.specs.Durable.{DurableState, Change, formatted, after, IsWhole}
 use Rattle.board_model.specs.Shapes.{Size}
 use Rattle.board_model.specs.Views.{durable_of}
@@ -15,8 +15,8 @@ use Rattle.store.specs.Leaves.{IsKept, Leaves, LeavesOnly, LeavesEither, NoMore}
 use Rattle.store.specs.Lives.{Life, now_of}
 use Rattle.store.specs.Opens.{CausedRefusal}
 use Rattle.store.specs.Standing.{StandsFor}
-use Rattle.story.specs.Story.{Now, begin, unpowered, arming, cut_off, begun_in, May, Opens}
-use Rattle.story.specs.Told.{IsOn, IsOff}
+use Rattle.story.specs.Story.{Now, begin, settled, May, Opens}
+use Rattle.story.specs.Told.{IsOn, IsOff, Rests, unpowered, arming, cut_off}
 use Rattle.story.specs.declared.asks.Seen.{Seen}
 use Rattle.story.specs.declared.asks.Seen.TheVariants.{Opened, Denied}
 use Rattle.story.proofs.Stays.{no_doubt}
@@ -36,7 +36,8 @@ as_off size w disk m off = record { kept = off.kept; only = off.only; faults = o
 
 pub opens_from : (w v : Now) (seen : Seen) → Opens (unpowered w) seen v → Opens w seen v
 opens_from w v (Opened found) is = is
-opens_from w v (Denied e) is = is
+opens_from w v (Denied Device) is = is
+opens_from w v (Denied Memory) is = is
 opens_from w v seen is = absurd is
 
 left_fewer : (disk left : Facts) → IsLeft disk left → (c : Content) → left.may_leave c → disk.may_leave c
@@ -74,9 +75,30 @@ armed_on size w old new fault on board life armed = record {
   whole = on.whole;
 }
 
-pub stands_at_end : (size : Size) (w : Now) (disk : Facts) (m : FaultState) → IsOff size w disk m → (c : Content) → disk.may_leave c → (s : DurableState) × May w s × StandsFor c size s
+-- it rests: so a story begins and ends
+abbrev OneStanding : Type 0
+OneStanding = (c : Content) (y z : Size) (s t : DurableState) → StandsFor c y s → StandsFor c z t → (y ≡ z) × (s ≡ t)
+
+pub begins_at_rest : OneStanding → (size : Size) (w : Now) (disk : Facts) (m : FaultState) → Rests size w disk m → IsOff size (unpowered w) disk m
 unfolding IsKept Leaves
-stands_at_end size w disk m off c may = let is = off.kept c may in (is.0, (off.only size is.0 (c, may, is.1)).1, is.1)
+begins_at_rest one size w disk m rests = record {
+  kept = λ c may. let is = rests.leaves c may in (is.0, is.2);
+  only = λ z s leaves.
+      let is = rests.leaves leaves.0 leaves.1 in
+      let same = one leaves.0 z size s is.0 leaves.2 is.2 in
+      (same.0, subst (May w) (sym same.1) is.1);
+  faults = rests.faults;
+  on = refl;
+  whole = rests.whole;
+}
+
+pub ends_at_rest : (size : Size) (w : Now) (disk : Facts) (m : FaultState) → IsOff size (unpowered w) disk m → Rests size w disk m
+unfolding IsKept Leaves
+ends_at_rest size w disk m off = record {
+  leaves = λ c may. let is = off.kept c may in (is.0, (off.only size is.0 (c, may, is.1)).1, is.1);
+  whole = off.whole;
+  faults = off.faults;
+}
 
 -- a formatted one
 pub begins : (size : Size) (disk : Facts) (m n : FaultState) → LeavesOnly disk size formatted → n ≡ m → IsOff size (begin m) disk n
@@ -96,7 +118,7 @@ begins size disk m n only same = record {
 pub opens : (size : Size) (w : Now) (disk : Facts) (m : FaultState) (store : StoreView) (found : Durable) → IsOff size w disk m → answers.Opened disk store → store.fault_state ≡ m → found ≡ durable_of store.life.found
     → (v : Now) × Opens w (Opened found) v × IsOn size v store
 opens size w disk m store found off opened same is = (
-  begun_in store.life.found w,
+  settled store.life.found true w.faults,
   (store.life.found, may.1, is, refl),
   record {
     board = may.0;
@@ -113,14 +135,18 @@ opens size w disk m store found off opened same is = (
     may : (store.size ≡ size) × May w store.life.found
     may = off.only store.size store.life.found opened.earlier
 
-    whole : (s : DurableState) → May (begun_in store.life.found w) s → IsWhole size s
+    whole : (s : DurableState) → May (settled store.life.found true w.faults) s → IsWhole size s
     whole s (inl is) = subst (IsWhole size) (sym is) (off.whole store.life.found may.1)
     whole s (inr (c, doubt, is)) = absurd (no_doubt None c refl doubt)
 
 why : (e : Refusal) (w : Now) (m n : FaultState) → w.faults ≡ m → (e ≡ Device) ⊎ (e ≡ Memory) → CausedRefusal m e n → Opens w (Denied e) (record w { on = false; faults = n })
 why e w m n at (inl is) cause =
-    (inl (is, subst (λ (f : FaultState). CausedRefusal f Device n) (sym at) (subst (λ (x : Refusal). CausedRefusal m x n) is cause)), refl)
-why e w m n at (inr is) cause = let same : n ≡ m = subst (λ (x : Refusal). CausedRefusal m x n) is cause in (inr (is, same ∙ sym at), refl)
+    subst (λ (x : Refusal). Opens w (Denied x) (record w { on = false; faults = n })) (sym is)
+    (subst (λ (f : FaultState). CausedRefusal f Device n) (sym at) (subst (λ (x : Refusal). CausedRefusal m x n) is cause), refl)
+why e w m n at (inr is) cause =
+    let same : n ≡ m = subst (λ (x : Refusal). CausedRefusal m x n) is cause in
+    subst (λ (x : Refusal). Opens w (Denied x) (record w { on = false; faults = n })) (sym is)
+    (ap (λ (f : FaultState). record w { on = false; faults = f }) (same ∙ sym at))
 
 pub refuses : (size : Size) (w : Now) (disk new : Facts) (m n : FaultState) (e : Refusal) → IsOff size w disk m → (e ≡ Device) ⊎ (e ≡ Memory) → CausedRefusal m e n → IsKept new size → NoMore disk new
     → (v : Now) × Opens w (Denied e) v × IsOff size v new n

@@ -6,7 +6,7 @@ use Rattle.board_model.specs.Shapes.{Size}
 use Rattle.board_model.proofs.Steps.{whole_after}
 use Rattle.store.specs.Answers.{StoreView}
 use Rattle.store.specs.Lives.{Life, now_of, Reaches, IsReseen}
-use Rattle.story.specs.Story.{Now, acknowledged, May, Takes, Fits, Goes}
+use Rattle.story.specs.Story.{Now, acknowledged, May, Takes, Fits, Decides}
 use Rattle.story.specs.Told.{IsOn}
 
 pub no_doubt : (o : Option Change) (d : Change) → o ≡ None → o ≡ Some d → ⊥
@@ -51,7 +51,7 @@ module _ (size : Size) (w : Now) (old new : StoreView) (on : IsOn size w old) (b
     pub takes : old.life.over ≡ false → length old.life.journal < 4096 → Takes w
     takes going few = (on.doubt ∙ calm, on.over ∙ going, subst (λ (n : ℕ). n < 4096) (sym on.receipts) few)
 
-    pub goes : Reaches old.life c → Goes size w c
+    pub goes : Reaches old.life c → Decides size w c None
     goes reaches = (takes reaches.0 reaches.1, fits, ap (λ (s : DurableState). refusal_of s c) on.state ∙ reaches.2)
 
     next_whole : IsWhole size (after w.state c)

@@ -1,2 +1,3 @@
 pub mod Story
+pub mod Images
 pub mod Told

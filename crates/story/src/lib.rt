@@ -2,11 +2,13 @@
 #![tactic(auto)]
 
 mod asks;
+mod laws;
 mod power;
 mod stories;
 
 pub use asks::{Asked, Seen};
-pub use stories::story;
+pub use laws::images_go_on_once;
+pub use stories::{story, story_on};
 
 #[cfg(test)]
 mod tests;

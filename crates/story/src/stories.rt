@@ -1,15 +1,14 @@
 //! What whoever runs the firmware asks of one disk, and what is seen, as one run.
-ghost use Rattle.std.specs.Prelude.{◌≡◌, ◌⊎◌, ◌<◌, ℕ, None, length, IfOk, IfErr};
-ghost use Rattle.board_model.specs.Durable.{DurableState, Suspend};
-ghost use Rattle.board_model.specs.Shapes.{Size, sectors_of, ram_bytes_of};
+ghost use Rattle.std.specs.Prelude.{◌≡◌, ◌⊎◌, ◌≤◌, ℕ, [], None, length, vec_len, vec_capacity, IfOk, IfErr};
+ghost use Rattle.board_model.specs.Durable.{Suspend};
+ghost use Rattle.board_model.specs.Shapes.{Size};
 ghost use Rattle.board_model.specs.Views.{change_of};
 ghost use Rattle.board_model.specs.declared.refusal.Refusal.{Refusal};
-ghost use Rattle.disk.specs.Facts.{Content};
-ghost use Rattle.store.specs.Leaves.{IsIdle, IsMarked};
-ghost use Rattle.store.specs.Standing.{StandsFor};
+ghost use Rattle.disk.specs.FaultState.{no_fault};
+ghost use Rattle.store.specs.Leaves.{IsIdle};
 ghost use Rattle.store.specs.Views.{doubt_of, view_of};
-ghost use Rattle.story.specs.Story.{Now, begin, unpowered, cut_off, arming, May, Opens, Commands, Suspends, Loads, Resumes, Answers, Step, Tells};
-ghost use Rattle.story.specs.Told.{IsOn, IsOff, IsAt, IsCall, seen_of};
+ghost use Rattle.story.specs.Story.{Now, begin, Opens, Commands, Loads, Resumes, Step, Tells};
+ghost use Rattle.story.specs.Told.{IsOn, IsOff, IsAt, Rests, IsCall, Answers, unpowered, cut_off, arming, seen_of};
 
 use crate::asks::{Asked, Seen};
 use crate::power::{Power, Resting};
@@ -19,40 +18,87 @@ use disk::{ArmedFault, Disk};
 use ram::Ram;
 use simdisk::{Fill, SimDisk};
 use std::alloc::Global;
-use store::{Receipt, Resumption, Saving, Store, format, kept_disks, whole_images_load};
+use store::{
+    Receipt, Resumption, Saving, Store, blank_disks, format, kept_disks, one_standing,
+    whole_images_load,
+};
 use susp::wake_image;
 
-/// *The theorem, as a run.* Formats a disk, does what is asked, in its order, and answers what was seen of each, and the
-/// disk as it then is. What was seen is a story: the state that an open finds is what the acknowledged commands make of
-/// the formatted one, with at most the one in doubt; and no image goes on twice.
+/// *The theorem, as a run.* Formats a new disk in memory, does what is asked, in its order, and answers what was seen of
+/// each. What was seen is a story: the state that an open finds is what the acknowledged commands make of the formatted one,
+/// with at most the one in doubt; and no image goes on twice.
 ///
-/// Refused `Memory` where memory is refused, and as a format is: `AlreadyFormatted` for a disk with the mark, `BadShape`
-/// for one that is too small, and `Device` where it failed.
+/// Refused `Memory` where there is no room for the disk or for the answers, and `Device` where the disk failed by itself in
+/// the format. [`story_on`] says the same of any disk.
 pub fn story<C: Crew>(
     alloc: Global,
-    mut disk: SimDisk,
     shape: &Shape,
     crew: &C,
     asked: &[Asked],
-) -> Result<(Vec<Seen>, SimDisk), Refusal>
+) -> Result<Vec<Seen>, Refusal>
+    ensures told { IfOk result (λ seen. (w : Now) × Tells shape.now (begin no_fault) asked.now seen.items w) }
+    ensures refused { IfErr result (λ e. (e ≡ Refusal.Memory) ⊎ (e ≡ Refusal.Device)) }
+{
+    blank_disks::<SimDisk>();
+    let mut disk = SimDisk::blank(alloc, shape.sectors())?;
+    format(&mut disk, shape)?;
+    match story_on(alloc, disk, shape, crew, asked) {
+        Ok((seen, _disk)) => Ok(seen),
+        Err(_disk) => Err(Refusal::Memory),
+    }
+}
+
+/// The same of any disk in memory that stands for what an open may find, as a format leaves it, or another story; and so it
+/// stands again at the end, byte for byte, whatever power that fails then leaves of it. Without room for the answers nothing
+/// is asked of the disk.
+pub fn story_on<C: Crew>(
+    alloc: Global,
+    disk: SimDisk,
+    shape: &Shape,
+    crew: &C,
+    asked: &[Asked],
+) -> Result<(Vec<Seen>, SimDisk), SimDisk>
     requires { IsIdle (⟦<SimDisk as Disk>⟧.facts disk) }
     ensures told { IfOk result (λ run. (w : Now)
-        × Tells shape.now (begin (⟦<SimDisk as Disk>⟧.fault_state disk)) asked.now run.0.items w
-        × (⟦<SimDisk as Disk>⟧.fault_state run.1 ≡ w.faults)
-        × ((c : Content) → (⟦<SimDisk as Disk>⟧.facts run.1).may_leave c → (s : DurableState) × May w s × StandsFor c shape.now s)) }
-    ensures refused { IfErr result (λ e. (e ≡ Refusal.Memory) ⊎ (e ≡ Refusal.Device)
-        ⊎ ((e ≡ Refusal.AlreadyFormatted) × IsMarked (⟦<SimDisk as Disk>⟧.facts disk).content)
-        ⊎ ((e ≡ Refusal.BadShape) × (length (⟦<SimDisk as Disk>⟧.facts disk).content < sectors_of shape.now))) }
+        → Rests shape.now w (⟦<SimDisk as Disk>⟧.facts disk) (⟦<SimDisk as Disk>⟧.fault_state disk)
+        → (v : Now) × Tells shape.now (unpowered w) asked.now run.0.items v
+        × Rests shape.now v (⟦<SimDisk as Disk>⟧.facts run.1) (⟦<SimDisk as Disk>⟧.fault_state run.1)) }
+    ensures idle { IfOk result (λ run. IsIdle (⟦<SimDisk as Disk>⟧.facts run.1)) }
+    ensures refused { IfErr result (λ left. left ≡ disk) }
 {
-    format(&mut disk, shape)?;
-    let mut seen = Vec::with_capacity(alloc, asked.len())?;
+    one_standing();
+    let Ok(seen) = Vec::with_capacity(alloc, asked.len()) else {
+        return Err(disk);
+    };
+    Ok(all_seen(alloc, shape, crew, asked, disk, seen))
+}
+
+/// What is asked is done, in its order. What is seen goes into that list, which has room for it.
+fn all_seen<C: Crew>(
+    alloc: Global,
+    shape: &Shape,
+    crew: &C,
+    asked: &[Asked],
+    disk: SimDisk,
+    mut seen: Vec<Seen>,
+) -> (Vec<Seen>, SimDisk)
+    requires idle { IsIdle (⟦<SimDisk as Disk>⟧.facts disk) }
+    requires none { seen.items ≡ [] }
+    requires empty { vec_len seen ≡ 0 }
+    requires room { length asked.now ≤ vec_capacity seen }
+    ensures idle { IsIdle (⟦<SimDisk as Disk>⟧.facts result.1) }
+    ensures told { (w : Now)
+        → IsOff shape.now w (⟦<SimDisk as Disk>⟧.facts disk) (⟦<SimDisk as Disk>⟧.fault_state disk)
+        → (v : Now) × Tells shape.now w asked.now result.0.items v
+        × IsOff shape.now (unpowered v) (⟦<SimDisk as Disk>⟧.facts result.1) (⟦<SimDisk as Disk>⟧.fault_state result.1) }
+{
     let mut power = Power::Off(Resting { disk });
     for ask in asked {
         let (next, answer) = step(alloc, shape, crew, power, ask);
         power = next;
         seen.push_reserved(answer);
     }
-    Ok((seen, left(power)))
+    (seen, left(power))
 }
 
 /// What is asked is done.
@@ -197,7 +243,7 @@ fn suspension_seen<C: Crew>(
     at: Resumption,
 ) -> Seen
     ensures { (size : Size) (w : Now) → IsOn size w (view_of store.old)
-        → (v : Now) × Suspends size w (Suspend at.hart at.address at.opaque ram.now) result v
+        → (v : Now) × Commands size w (Suspend at.hart at.address at.opaque ram.now) result v
         × IsOn size v (view_of store.new) }
 {
     let answer = store.suspend(saving, ram, at);
@@ -209,9 +255,8 @@ fn load_seen(alloc: Global, shape: &Shape, store: &mut Store<SimDisk>) -> Seen
     ensures { (w : Now) → IsOn shape.now w (view_of store.old)
         → (v : Now) × Loads w result v × IsOn shape.now v (view_of store.new) }
 {
-    let mut ram = match Ram::new(alloc, *shape) {
-        Ok(ram) => ram,
-        Err(refusal) => return Seen::Denied(refusal),
+    let Ok(mut ram) = Ram::new(alloc, *shape) else {
+        return Seen::Denied(Refusal::Memory);
     };
     shape_in_range(shape);
     whole_images_load::<SimDisk>();
@@ -238,9 +283,8 @@ fn wake_seen(alloc: Global, shape: &Shape, store: &mut Store<SimDisk>) -> Seen
     ensures { (w : Now) → IsOn shape.now w (view_of store.old)
         → (v : Now) × Resumes shape.now w result v × IsOn shape.now v (view_of store.new) }
 {
-    let mut ram = match Ram::new(alloc, *shape) {
-        Ok(ram) => ram,
-        Err(refusal) => return Seen::Denied(refusal),
+    let Ok(mut ram) = Ram::new(alloc, *shape) else {
+        return Seen::Denied(Refusal::Memory);
     };
     shape_in_range(shape);
     whole_images_load::<SimDisk>();

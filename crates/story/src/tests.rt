@@ -5,7 +5,7 @@ use board_model::{Addr, Command, HartId, Shape};
 use crew::Sequential;
 use disk::ArmedFault;
 use ram::{Ram, Width};
-use simdisk::{Fill, SimDisk};
+use simdisk::Fill;
 use std::alloc::Global;
 use std::process::Abort;
 use std::thread::Threads;
@@ -126,10 +126,8 @@ fn list(rt: &impl Abort, alloc: Global, rows: &[Row]) -> Vec<Asked> {
 /// What is seen of a new disk.
 fn seen<R: Abort + Threads + Sync>(rt: &R, alloc: Global, asked: &[Asked]) -> Vec<Seen> {
     let shape = board(rt);
-    let disk = SimDisk::blank(alloc, shape.sectors()).expect(rt, "memory");
     let crew: Sequential<R> = Sequential::new([1, 0, 3, 2]).expect(rt, "an order");
-    let (seen, _disk) = story(alloc, disk, &shape, &crew, asked).expect(rt, "a story");
-    seen
+    story(alloc, &shape, &crew, asked).expect(rt, "a story")
 }
 
 /// Of a new disk just this is seen.

@@ -1,15 +1,12 @@
 //! The promises of a disk that is kept in a file.
-ghost use Rattle.std.specs.Prelude.{◌≡◌, ◌≤◌, ℕ, List, IfOk};
+ghost use Rattle.std.specs.Prelude.{◌≡◌, IfOk};
 ghost use Rattle.board_model.specs.Durable.{DurableState};
 ghost use Rattle.board_model.specs.Shapes.{Size};
 ghost use Rattle.board_model.specs.declared.durable.Command.{Command};
 ghost use Rattle.disk.specs.Facts.{IsFresh};
 ghost use Rattle.board_files.specs.Files.{IfKnown, IsDurable};
-ghost use Rattle.store.specs.Leaves.{IsIdle};
 ghost use Rattle.store.specs.Standing.{StandsFor};
-ghost use Rattle.store.specs.Views.{found_state};
 ghost use Rattle.theorem.specs.Files.{KeepsCommands};
-ghost use Rattle.theorem.specs.Prefixes.{after_first, IsAfterFirst};
 
 use crate::headline::commands_in_a_row;
 use board_files::{FileDisk, SectorFile};
@@ -45,19 +42,4 @@ pub fn commands_kept_in_a_file<F: SectorFile + Drop>(
     };
     let (acknowledged, refusal) = commands_in_a_row(&mut store, commands);
     Ok((acknowledged, refusal, store.into_disk().into_file()))
-}
-
-/// *So the next boot finds it.* Where the bytes of a disk, as a crash left them in the file, stand for what some first of
-/// these commands make of s, the next open that answers Ok finds that state.
-pub fn the_next_open_finds_them<D: Disk + Drop>(
-    alloc: Global,
-    left: D,
-) -> Result<Store<D>, (D, Refusal)>
-    requires { IsIdle (D.facts left) }
-    ensures { (size : Size) (s : DurableState) (commands : List Command) (least most : ℕ)
-        → IsAfterFirst size s commands least most (D.facts left).content
-        → IfOk result (λ next. (k : ℕ) × (least ≤ k) × (k ≤ most) × (found_state next ≡ after_first k s commands)) }
-{
-    one_standing();
-    Store::open(alloc, left)
 }

@@ -4,9 +4,8 @@
 //! makes of it (board_model). `StandsFor c size s`: these bytes, as the content of a disk, are the state s, with
 //! the memory of its image (store). Of the facts of a disk, `may_leave` has each content that may be there where
 //! power fails now, and `since` each that might have been there where it failed at a moment since (disk).
-ghost use Rattle.std.specs.Prelude.{◌+◌, ◌++◌, ◌<◌, ◌≤◌, ◌≡◌, ◌⊎◌, ◌∷◌, ◌↔◌, ℕ, Some, None, IfOk, IfErr, OnOk, MatchOption, MatchResult, length, map, take};
-ghost use Rattle.board_model.specs.Durable.{DurableState, Image, Change, Suspend, Consume, formatted, after, fold};
-ghost use Rattle.board_model.specs.Kept.{MayFind, found_of};
+ghost use Rattle.std.specs.Prelude.{◌+◌, ◌++◌, ◌<◌, ◌≤◌, ◌≡◌, ◌⊎◌, ◌↔◌, ℕ, Some, None, IfOk, IfErr, OnOk, MatchOption, MatchResult, length, map, take};
+ghost use Rattle.board_model.specs.Durable.{DurableState, Image, Change, Suspend, Consume, after};
 ghost use Rattle.board_model.specs.Shapes.{Size};
 ghost use Rattle.board_model.specs.Views.{change_of};
 ghost use Rattle.board_model.specs.declared.boot_mode.BootMode.{BootMode};
@@ -15,54 +14,23 @@ ghost use Rattle.board_model.specs.declared.refusal.Refusal.{Refusal};
 ghost use Rattle.board_model.specs.declared.refusal.Refusal.TheVariants.{Down};
 ghost use Rattle.disk.specs.Facts.{Content, LeavesSince};
 ghost use Rattle.store.specs.Asked.{Asked};
-ghost use Rattle.store.specs.Leaves.{IsIdle, Leaves, LeavesOnly, LeavesEither, StandsForEither};
+ghost use Rattle.store.specs.Leaves.{IsIdle, Leaves, LeavesOnly, StandsForEither};
 ghost use Rattle.store.specs.Lives.{Applied};
 ghost use Rattle.store.specs.Standing.{StandsFor};
-ghost use Rattle.store.specs.Views.{disk_of, fault_state_of, size_of_store, found_state, now_state, doubt_of, journal_of};
+ghost use Rattle.store.specs.Views.{disk_of, size_of_store, found_state, now_state, doubt_of, journal_of};
 ghost use Rattle.board.specs.Views.{store_of, machine_of};
 ghost use Rattle.machine.specs.Machine.{woken};
 ghost use Rattle.theorem.specs.Prefixes.{IsAfterFirst, in_doubt};
 
 use board::{Board, BoardParts, Payloads, Unpowered};
-use board_model::{BootMode, Command, Refusal, Shape};
+use board_model::{BootMode, Command, Refusal};
 use crew::Crew;
-use disk::{ArmedFault, Disk};
+use disk::Disk;
 use ram::Ram;
 use simdisk::{Fill, SimDisk};
 use std::alloc::Global;
-use store::{Receipt, Resumption, Saving, Store, format, one_standing};
+use store::{Receipt, Resumption, Saving, Store, one_standing};
 use susp::Bus;
-
-/// *Wherever power fails, a cold boot finds the durable state after a prefix of the commands that holds every
-/// acknowledged one.* Of one command, as a run of a disk in memory: a cut or a failure is armed for any call of the
-/// disk or of a lane, the command is made, power fails, and the next cold boot finds the state before the command or
-/// the one after it; the one after it, where it was acknowledged; and the one before it, where it was refused by a number but
-/// 6. Just that fault was armed since the disk was given (`armed`).
-pub fn power_lost_in_a_command(
-    alloc: Global,
-    mut store: Store<SimDisk>,
-    fault: ArmedFault,
-    command: Command,
-    fill: Fill,
-) -> (
-    Result<Receipt, Refusal>,
-    Result<Store<SimDisk>, (SimDisk, Refusal)>,
-)
-    requires up { doubt_of store ≡ None }
-    ensures finds { IfOk result.1 (λ next. (found_state next ≡ now_state store)
-        ⊎ (found_state next ≡ after (now_state store) (change_of command))) }
-    ensures acknowledged { OnOk result.0 (IfOk result.1 (λ next.
-        found_state next ≡ after (now_state store) (change_of command))) }
-    ensures refused { IfErr result.0 (λ e. (e ≡ Refusal.Down → ⊥)
-        → IfOk result.1 (λ next. found_state next ≡ now_state store)) }
-    ensures armed { IfOk result.1 (λ next. (fault_state_of next).armings ≡ fault ∷ (fault_state_of store).armings) }
-{
-    one_standing();
-    store.arm(fault);
-    let answer = store.apply(command);
-    let left = store.into_disk().after_cut(fill);
-    (answer, Store::open(alloc, left))
-}
 
 /// Issues a command.
 fn issue<D: Disk + Drop>(store: &mut Store<D>, command: &Command) -> Result<Receipt, Refusal>
@@ -101,22 +69,6 @@ pub fn commands_in_a_row<D: Disk + Drop>(
         }
     }
     (acknowledged, None)
-}
-
-/// *The durable state.* These bytes stand for one state of one board, or for none.
-pub fn crashes_leave_contents()
-    ensures { (c : Content) (y z : Size) (s t : DurableState) → StandsFor c y s → StandsFor c z t → (y ≡ z) × (s ≡ t) }
-{
-    one_standing();
-}
-
-/// *From the format on.* Once a format answered Ok, whenever power fails the state is the formatted one: slot 0,
-/// no reason, serial 0, no image.
-pub fn a_format<D: Disk>(disk: &mut D, shape: &Shape) -> Result<(), Refusal>
-    requires { IsIdle (D.facts disk.old) }
-    ensures { OnOk result (LeavesOnly (D.facts disk.new) shape.now formatted) }
-{
-    format(disk, shape)
 }
 
 /// *Of one command, at each moment.* On any disk: at each

@@ -18,10 +18,10 @@ mod sessions;
 pub use events::{
     commands_are_such_events, events_in_order, lives, opens_are_such_events, wakes_are_such_events,
 };
-pub use files::{commands_kept_in_a_file, the_next_open_finds_them};
+pub use files::commands_kept_in_a_file;
 pub use headline::{
-    a_board_is_resumed, a_cold_boot_finds_what_stands, a_command, a_format, a_suspension,
-    commands_in_a_row, crashes_leave_contents, never_resumed_again, power_lost_in_a_command,
+    a_board_is_resumed, a_cold_boot_finds_what_stands, a_command, a_suspension, commands_in_a_row,
+    never_resumed_again,
 };
 pub use models::{a_power_on_is_an_event, a_turn_is_an_event, a_wake_is_an_event};
 pub use resumes::resumed_byte_for_byte;

@@ -1,7 +1,7 @@
 use Rattle.std.proofs.Common.{sym, subst}
 use Rattle.store.specs.Views.{view_of}
-use Rattle.story.specs.Story.{Now, Answers}
-use Rattle.story.specs.Told.{IsOn}
+use Rattle.story.specs.Story.{Now}
+use Rattle.story.specs.Told.{IsOn, Answers}
 use Rattle.story.specs.declared.asks.Asked.{Asked}
 use Rattle.story.proofs.stories.answered.Goals as goal
 

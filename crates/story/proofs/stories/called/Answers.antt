@@ -1,19 +1,18 @@
-use Rattle.std.proofs.Common.{refl, subst}
+use Rattle.std.proofs.Common.{subst}
 use Rattle.story.specs.Told.{IsAt}
-use Rattle.story.specs.declared.asks.Seen.TheVariants.{NotOpen}
 use Rattle.story.specs.declared.power.Power.{Power}
-use Rattle.story.proofs.Steps.{as_call, as_step}
+use Rattle.story.proofs.Steps.{as_step, not_open}
 use Rattle.story.proofs.stories.called.Goals as goal
 
 pub returns-in-Off : goal.returns-in-Off
 returns-in-Off g c = λ w at.
     let P : Power → Type 0 = λ p. IsAt c.args.shape.now w p in
     let off = subst P c.in-Off.is at in
-    (w, as_step c.args.shape.now w w c.args.call.now NotOpen c.requires (off.on, refl), off)
+    (w, not_open c.args.shape.now w c.args.call.now c.requires off.on, off)
 
 pub returns-in-On : goal.returns-in-On
 returns-in-On g c = λ w at.
     let P : Power → Type 0 = λ p. IsAt c.args.shape.now w p in
     let on = subst P c.in-On.is at in
     let did = c.answered-seen.ensures w on in
-    (did.0, as_step c.args.shape.now w did.0 c.args.call.now c.answered-seen.result c.requires (as_call c.args.shape.now w did.0 c.args.call.now c.answered-seen.result on.on did.1), did.2)
+    (did.0, as_step c.args.shape.now w did.0 c.args.call.now c.answered-seen.result c.requires on.on did.1, did.2)

@@ -1,6 +1,6 @@
 use Rattle.std.proofs.Common.{refl, sym, subst}
-use Rattle.story.specs.Story.{Now, unpowered, arming, cut_off, Step}
-use Rattle.story.specs.Told.{IsAt}
+use Rattle.story.specs.Story.{Now, Step}
+use Rattle.story.specs.Told.{IsAt, unpowered, arming, cut_off}
 use Rattle.story.specs.declared.asks.Asked.{Asked}
 use Rattle.story.specs.declared.asks.Seen.TheVariants.{Done}
 use Rattle.story.proofs.Opens.{opens_from}

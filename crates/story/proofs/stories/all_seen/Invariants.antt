@@ -1,13 +1,14 @@
 use Rattle.std.proofs.Common.{◌≡◌, ◌≤◌, length, take, vec_len, vec_capacity}
 use Rattle.simdisk.specs.contracts.device.SimDiskDisk.TheImpl as sim_disk
-use Rattle.story.specs.Story.{Now, begin, Tells}
-use Rattle.story.specs.Told.{IsAt}
-use Rattle.story.proofs.stories.story.Given as goal
+use Rattle.story.specs.Story.{Now, Tells}
+use Rattle.story.specs.Told.{IsOff, IsAt}
+use Rattle.story.proofs.stories.all_seen.Given as goal
 
 -- what was seen so far is a story of what was asked so far
 abbrev pub invariant-loop-ask : goal.invariant-loop-ask
 invariant-loop-ask g l = record {
-  told : (w : Now) × Tells l.shape (begin (sim_disk.ghosts.fault_state l.fn.disk)) (take l.ask-index l.asked) l.seen.items w × IsAt l.shape w l.power;
+  told : (w : Now) → IsOff l.shape w (sim_disk.ghosts.facts l.fn.disk) (sim_disk.ghosts.fault_state l.fn.disk)
+      → (v : Now) × Tells l.shape w (take l.ask-index l.asked) l.seen.items v × IsAt l.shape v l.power;
   count : vec_len l.seen ≡ l.ask-index;
   room : length l.asked ≤ vec_capacity l.seen;
 }
