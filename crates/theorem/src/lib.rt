@@ -2,8 +2,9 @@
 //! disk and a board, `events.rt` over many lives, `scripts.rt` of scripts and their reports, `sessions.rt` of a board on threads,
 //! and `files.rt` of a disk that is kept in a file. `resumes.rt` has one promise more of scripts, over the bench's whole model.
 //! Each promise is a public function. A promise of a call makes the call, and its clause says what comes of it; a promise over
-//! all runs does nothing, or calls the law that carries it. So a body shows which contract below carries its promise. Nothing
-//! stands on this crate.
+//! all runs does nothing, or calls the law that carries it. So a body shows which contract below carries its promise. What a
+//! clause of a lower call says by itself does not stand here, and of one disk as a run the crate `story` has it. Nothing stands
+//! on this crate.
 #![tactic(auto)]
 
 mod events;
@@ -18,8 +19,7 @@ pub use events::{
 };
 pub use files::commands_kept_in_a_file;
 pub use headline::{
-    a_board_is_resumed, a_cold_boot_finds_what_stands, a_command, a_suspension, commands_in_a_row,
-    never_resumed_again,
+    a_board_is_resumed, a_cold_boot_finds_what_stands, commands_in_a_row, never_resumed_again,
 };
 pub use resumes::resumed_byte_for_byte;
 pub use scripts::{a_script, a_script_in_any_spelling};
