@@ -4,17 +4,17 @@
 //! makes of it (board_model). `StandsFor c size s`: these bytes, as the content of a disk, are the state s, with
 //! the memory of its image (store). Of the facts of a disk, `may_leave` has each content that may be there where
 //! power fails now, and `since` each that might have been there where it failed at a moment since (disk).
-ghost use Rattle.std.specs.Prelude.{◌+◌, ◌++◌, ◌<◌, ◌≤◌, ◌≡◌, ◌⊎◌, ◌↔◌, ℕ, Some, None, IfOk, IfErr, OnOk, MatchOption, MatchResult, length, map, take};
-ghost use Rattle.board_model.specs.Durable.{DurableState, Image, Change, Suspend, Consume, after};
+ghost use Rattle.std.specs.Prelude.{◌+◌, ◌++◌, ◌<◌, ◌≤◌, ◌≡◌, ◌⊎◌, ◌↔◌, ℕ, Some, None, IfOk, MatchOption, MatchResult, length, map, take};
+ghost use Rattle.board_model.specs.Durable.{DurableState, Image, Change, Consume, after};
 ghost use Rattle.board_model.specs.Shapes.{Size};
 ghost use Rattle.board_model.specs.Views.{change_of};
 ghost use Rattle.board_model.specs.declared.boot_mode.BootMode.{BootMode};
 ghost use Rattle.board_model.specs.declared.boot_mode.BootMode.TheVariants as modes;
 ghost use Rattle.board_model.specs.declared.refusal.Refusal.{Refusal};
 ghost use Rattle.board_model.specs.declared.refusal.Refusal.TheVariants.{Down};
-ghost use Rattle.disk.specs.Facts.{Content, LeavesSince};
+ghost use Rattle.disk.specs.Facts.{Content};
 ghost use Rattle.store.specs.Asked.{Asked};
-ghost use Rattle.store.specs.Leaves.{IsIdle, Leaves, LeavesOnly, StandsForEither};
+ghost use Rattle.store.specs.Leaves.{IsIdle, Leaves, LeavesOnly};
 ghost use Rattle.store.specs.Lives.{Applied};
 ghost use Rattle.store.specs.Standing.{StandsFor};
 ghost use Rattle.store.specs.Views.{disk_of, size_of_store, found_state, now_state, doubt_of, journal_of};
@@ -24,12 +24,11 @@ ghost use Rattle.theorem.specs.Prefixes.{IsAfterFirst, in_doubt};
 
 use board::{Board, BoardParts, Payloads, Unpowered};
 use board_model::{BootMode, Command, Refusal};
-use crew::Crew;
 use disk::Disk;
 use ram::Ram;
 use simdisk::{Fill, SimDisk};
 use std::alloc::Global;
-use store::{Receipt, Resumption, Saving, Store, one_standing};
+use store::{Receipt, Store, one_standing};
 use susp::Bus;
 
 /// Issues a command.
@@ -69,41 +68,6 @@ pub fn commands_in_a_row<D: Disk + Drop>(
         }
     }
     (acknowledged, None)
-}
-
-/// *Of one command, at each moment.* On any disk: at each
-/// moment since its start, within a call of the disk too, a crash leaves the state before it or the state after
-/// it; once it was acknowledged the one after it alone, and after a refusal that leaves no doubt (any but 6) the
-/// one before it alone.
-pub fn a_command<D: Disk + Drop>(store: &mut Store<D>, command: Command) -> Result<Receipt, Refusal>
-    requires up { doubt_of store.old ≡ None }
-    ensures wherever_power_fails { LeavesSince (disk_of store.old) (disk_of store.new)
-        (StandsForEither (size_of_store store.old) (now_state store.old) (after (now_state store.old) (change_of command))) }
-    ensures acknowledged { OnOk result (LeavesOnly (disk_of store.new) (size_of_store store.old)
-        (after (now_state store.old) (change_of command))) }
-    ensures refused { IfErr result (λ e. (e ≡ Refusal.Down → ⊥)
-        → LeavesOnly (disk_of store.new) (size_of_store store.old) (now_state store.old)) }
-{
-    store.apply(command)
-}
-
-/// *Of a suspension, at each moment.* What `a_command` says, of a suspension whose image has this memory, byte for byte, and this hart, address and opaque value.
-pub fn a_suspension<D: Disk + Drop, C: Crew>(
-    store: &mut Store<D>,
-    saving: Saving<'_, C>,
-    ram: &Ram,
-    at: Resumption,
-) -> Result<Receipt, Refusal>
-    requires up { doubt_of store.old ≡ None }
-    ensures wherever_power_fails { LeavesSince (disk_of store.old) (disk_of store.new)
-        (StandsForEither (size_of_store store.old) (now_state store.old)
-        (after (now_state store.old) (Suspend at.hart at.address at.opaque ram.now))) }
-    ensures acknowledged { OnOk result (LeavesOnly (disk_of store.new) (size_of_store store.old)
-        (after (now_state store.old) (Suspend at.hart at.address at.opaque ram.now))) }
-    ensures refused { IfErr result (λ e. (e ≡ Refusal.Down → ⊥)
-        → LeavesOnly (disk_of store.new) (size_of_store store.old) (now_state store.old)) }
-{
-    store.suspend(saving, ram, at)
 }
 
 /// *A cold boot finds.* An open that answers Ok finds the state that the bytes of the disk stand for, and one that

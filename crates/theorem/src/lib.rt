@@ -3,8 +3,9 @@
 //! and `files.rt` of a disk that is kept in a file. `models.rt` ties a board to the model board, of which every order is explored.
 //! `resumes.rt` has one promise more of scripts, over the bench's whole model.
 //! Each promise is a public function. A promise of a call makes the call, and its clause says what comes of it; a promise over
-//! all runs does nothing, or calls the law that carries it. So a body shows which contract below carries its promise. Nothing
-//! stands on this crate.
+//! all runs does nothing, or calls the law that carries it. So a body shows which contract below carries its promise. What a
+//! clause of a lower call says by itself does not stand here, and of one disk as a run the crate `story` has it. Nothing stands
+//! on this crate.
 #![tactic(auto)]
 
 mod events;
@@ -20,8 +21,7 @@ pub use events::{
 };
 pub use files::commands_kept_in_a_file;
 pub use headline::{
-    a_board_is_resumed, a_cold_boot_finds_what_stands, a_command, a_suspension, commands_in_a_row,
-    never_resumed_again,
+    a_board_is_resumed, a_cold_boot_finds_what_stands, commands_in_a_row, never_resumed_again,
 };
 pub use models::{a_power_on_is_an_event, a_turn_is_an_event, a_wake_is_an_event};
 pub use resumes::resumed_byte_for_byte;
