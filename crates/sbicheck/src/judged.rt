@@ -1,20 +1,20 @@
 //! What a search says of a kernel: its ends, and what is wrong.
 
-ghost use Rattle.std.specs.Prelude.{◌≡◌, true, IfOk};
+ghost use Rattle.std.specs.Prelude.{◌≡◌, IfOk, [], None};
 ghost use Rattle.board_model.specs.Shapes.{ram_bytes_of};
-ghost use Rattle.sbicheck.specs.Tells.{AreIn, IsTold};
+ghost use Rattle.sbicheck.specs.Shown.{AreIn};
+ghost use Rattle.sbicheck.specs.Tells.{HoldsAs};
 ghost use Rattle.sbicheck.specs.Verdicts.{verdict_of};
-ghost use Rattle.sbicheck.specs.declared.facts.EndKind.{EndKind};
-ghost use Rattle.sbicheck.specs.declared.facts.Verdict.TheVariants.{Holds};
 
 use crate::facts::{
     EndKind, EndShown, Failure, OwnEnd, OwnOrder, SearchFacts, SharedWord, Stop, Verdict,
 };
 use crate::given::FailureKind;
-use crate::looks::{Look, expects, is_expected};
+use crate::expected::is_as_expected;
+use crate::looks::Look;
 use crate::own::end_shown;
 use crate::places::data_text;
-use crate::told::is_told;
+use crate::told::holds;
 use crate::walks::{Setting, is_any_trapped, walk_to};
 use board_model::{RAM_BASE, Reason, Refusal};
 use board_space::Explored;
@@ -40,14 +40,6 @@ fn shows_same(one: &EndShown, other: &EndShown) -> bool {
     }
 }
 
-/// Whether what is shown is what is expected: a board that was shut down shows none of it.
-fn is_shown_expected(looks: &[Look], shown: &EndShown) -> bool {
-    match shown {
-        EndShown::On(bytes) => is_expected(looks, bytes.as_slice()),
-        EndShown::Shutdown(_) => !expects(looks),
-    }
-}
-
 /// Counts an end that shows this.
 fn add_kind(
     kinds: &mut Vec<EndKind>,
@@ -62,7 +54,7 @@ fn add_kind(
             return Ok(());
         }
     }
-    let is_expected = is_shown_expected(looks, &shown);
+    let is_expected = is_as_expected(looks, &shown);
     let is_own = match &own.end {
         OwnEnd::Ends(other) => shows_same(&shown, other),
         OwnEnd::Runs(_) => false,
@@ -107,7 +99,9 @@ fn ends_of(
     explored: &mut Explored,
     own: &OwnOrder,
     looks: &[Look],
-) -> Result<Ends, Refusal> {
+) -> Result<Ends, Refusal>
+    ensures { explored.new ≡ explored.old }
+{
     let Ok(rows) = explored.ends() else {
         return Err(Refusal::Memory);
     };
@@ -119,8 +113,8 @@ fn ends_of(
         count: rows.len(),
     };
     for row in rows.iter() {
-        if let Some(board) = explored.board(*row) {
-            add_end(setting, &mut ends, looks, own, board, *row)?;
+        if explored.show(*row) {
+            add_end(setting, &mut ends, looks, own, explored.current(), *row)?;
         }
     }
     Ok(ends)
@@ -128,7 +122,7 @@ fn ends_of(
 
 /// What all boards of a search tell.
 #[derive(Clone, Copy, Drop)]
-struct Scan {
+struct Scanned {
     /// The first board of which a hart is trapped.
     first_trap: Option<usize>,
     /// How many boards are off with an image.
@@ -136,15 +130,18 @@ struct Scan {
 }
 
 /// Goes over all boards of a search.
-fn scan(setting: Setting<'_>, explored: &mut Explored) -> Scan {
-    let mut scan = Scan {
+fn scan(setting: Setting<'_>, explored: &mut Explored) -> Scanned
+    ensures { explored.new ≡ explored.old }
+{
+    let mut scan = Scanned {
         first_trap: None,
         images: 0,
     };
     for row in 0..explored.count() {
-        let Some(board) = explored.board(row) else {
+        if !explored.show(row) {
             continue;
-        };
+        }
+        let board = explored.current();
         if scan.first_trap.is_none() && is_any_trapped(board, setting.shape) {
             scan.first_trap = Some(row);
         }
@@ -187,7 +184,7 @@ fn shared_words(setting: Setting<'_>, explored: &Explored) -> Result<Vec<SharedW
         let writers = map.writers(word);
         let touching = writers | map.readers(word);
         if writers != 0 && 2 <= touching.count_ones() {
-            let address = RAM_BASE + 8 * word;
+            let address = RAM_BASE.saturating_add(word.saturating_mul(8));
             shared.push(SharedWord {
                 address,
                 name: data_text(setting.alloc, setting.elf, address)?,
@@ -258,22 +255,6 @@ fn verdict_of(failures: usize, stop: Option<Stop>, shows: bool, told: bool) -> V
     }
 }
 
-/// Whether the search tells of every order what its ends show that were found.
-fn is_told_of_all(
-    explored: &mut Explored,
-    looks: &[Look],
-    kinds: &[EndKind],
-) -> Result<bool, Refusal>
-    requires { AreIn (ram_bytes_of explored.old.size) looks.now }
-    ensures told { IfOk result (λ told. told ≡ true → (kind : EndKind) × IsTold explored.old looks.now kind.shown) }
-    ensures same { IfOk result (λ _. explored.new ≡ explored.old) }
-{
-    match kinds {
-        [kind] => is_told(explored, looks, &kind.shown),
-        _ => Ok(false),
-    }
-}
-
 /// Judges a kernel by a search.
 pub fn judge(
     setting: Setting<'_>,
@@ -282,8 +263,11 @@ pub fn judge(
     looks: &[Look],
 ) -> Result<Judged, Refusal>
     requires { AreIn (ram_bytes_of explored.old.size) looks.now }
-    // Where nothing is wrong, every order ends with what is told.
-    ensures holds { IfOk result (λ judged. judged.verdict ≡ Holds → (kind : EndKind) × IsTold explored.old looks.now kind.shown) }
+    // Where nothing is wrong, every order ends with the one kind of ends that is told.
+    ensures holds { IfOk result (λ judged. judged.verdict ≡ Verdict.Holds → HoldsAs explored.old looks.now judged.kinds.items) }
+    // Then no failure is told, and the search was closed.
+    ensures clear { IfOk result (λ judged. judged.verdict ≡ Verdict.Holds → judged.failures.items ≡ []) }
+    ensures closed { IfOk result (λ judged. judged.verdict ≡ Verdict.Holds → judged.search.stop ≡ None) }
 {
     let ends = ends_of(setting, explored, own, looks)?;
     let scan = scan(setting, explored);
@@ -314,7 +298,7 @@ pub fn judge(
         failures.len(),
         stop,
         shows_all(ends.kinds.as_slice(), looks),
-        is_told_of_all(explored, looks, ends.kinds.as_slice())?,
+        holds(explored, looks, ends.kinds.as_slice())?,
     );
     Ok(Judged {
         search,

@@ -1,7 +1,12 @@
 //! The kernel's file: which board it needs, and what its memory holds at a boot.
 
-ghost use Rattle.std.specs.Prelude.{◌+◌, ◌≤◌, vec_len, IfOk, IfSome, OnOk};
+ghost use Rattle.std.specs.Prelude.{◌≡◌, ◌≤◌, vec_len, IfOk, IfSome, OnOk};
 ghost use Rattle.board_model.specs.Shapes.{ram_bytes_of};
+ghost use Rattle.elf_image.specs.Header.{IsElf};
+ghost use Rattle.elf_image.specs.Loading.{IsLoaded};
+ghost use Rattle.sbicheck.specs.Kernels.{IsKernelFile};
+ghost use Rattle.sbicheck.specs.Looks.{IsOwnLook};
+ghost use Rattle.sbicheck.specs.Shown.{IsIn};
 
 use crate::looks::{Look, own_look};
 use board_model::{MAX_PAGES, PAGE_BYTES, RAM_BASE, Shape};
@@ -62,7 +67,9 @@ fn pages_linked(elf: &Elf<'_>) -> u64 {
 }
 
 /// What a RAM of the fewest pages, but not fewer than that, holds of an ELF file, and how many these are.
-fn laid(alloc: Global, elf: &Elf<'_>, fewest: u64) -> Result<(Vec<u8>, u32), ElfFault> {
+fn laid(alloc: Global, elf: &Elf<'_>, fewest: u64) -> Result<(Vec<u8>, u32), ElfFault>
+    ensures { IfOk result (λ laid. IsLoaded elf.now.bytes.now laid.0.items) }
+{
     for pages in fewest..MAX_PAGES {
         let pages = pages as u32;
         match elf.load(alloc, pages * PAGE_BYTES as u32) {
@@ -77,7 +84,9 @@ fn laid(alloc: Global, elf: &Elf<'_>, fewest: u64) -> Result<(Vec<u8>, u32), Elf
 }
 
 /// The kernel of an ELF file.
-fn kernel_of_elf(alloc: Global, bytes: &[u8]) -> Result<Kernel<'_>, KernelFault> {
+fn kernel_of_elf(alloc: Global, bytes: &[u8]) -> Result<Kernel<'_>, KernelFault>
+    ensures { IfOk result (λ kernel. IsKernelFile bytes.now kernel.elf kernel.payload.items) }
+{
     let elf = parse(bytes)?;
     let fewest = pages_linked(&elf);
     let (payload, pages) = laid(alloc, &elf, fewest)?;
@@ -89,7 +98,9 @@ fn kernel_of_elf(alloc: Global, bytes: &[u8]) -> Result<Kernel<'_>, KernelFault>
 }
 
 /// The kernel of a file: that of an ELF file, or the bytes as they are.
-pub fn kernel_of(alloc: Global, bytes: &[u8]) -> Result<Kernel<'_>, KernelFault> {
+pub fn kernel_of(alloc: Global, bytes: &[u8]) -> Result<Kernel<'_>, KernelFault>
+    ensures { IfOk result (λ kernel. IsKernelFile bytes.now kernel.elf kernel.payload.items) }
+{
     if is_elf(bytes) {
         return kernel_of_elf(alloc, bytes);
     }
@@ -121,7 +132,8 @@ impl Kernel<'_> {
 
     /// The look where nothing is said.
     pub fn own_look(&self, alloc: Global, shape: &Shape) -> Result<Option<Look>, AllocError>
-        ensures { IfOk result (λ found. IfSome found (λ look. look.start + look.bytes ≤ ram_bytes_of shape.now)) }
+        ensures look { IfOk result (λ found. IfSome found (IsOwnLook self.now.elf)) }
+        ensures within { IfOk result (λ found. IfSome found (IsIn (ram_bytes_of shape.now))) }
     {
         own_look(alloc, self.elf.as_ref(), shape.ram_bytes())
     }

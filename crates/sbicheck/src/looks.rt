@@ -1,11 +1,15 @@
 //! Bytes of a kernel's memory that are looked at.
 
-ghost use Rattle.std.specs.Prelude.{◌+◌, ◌≤◌, IfOk, IfSome};
+ghost use Rattle.std.specs.Prelude.{◌≡◌, ◌+◌, ◌≤◌, IfOk, IfSome};
+ghost use Rattle.std.specs.Option.{option_map};
+ghost use Rattle.sbicheck.specs.Looks.{IsLookOf, IsOwnLook, IsPlace, HasSymbol, bytes_or};
+ghost use Rattle.sbicheck.specs.Shown.{IsIn, looked};
 
+use crate::expected::parted;
 use crate::given::LookWord;
 use crate::words::is_address;
 use board_model::RAM_BASE;
-use elf_image::Elf;
+use elf_image::{Elf, Symbol};
 use script_lang::number;
 use std::alloc::{AllocError, Global};
 
@@ -39,22 +43,35 @@ const SHOWN_BYTES: u64 = 64;
 /// The bytes of a look at a symbol that has no size.
 const WORD_BYTES: u64 = 8;
 
+/// The first symbol of that name.
+fn symbol_of(elf: Option<&Elf<'_>>, name: &str) -> Option<Symbol>
+    ensures { IfSome result (HasSymbol (option_map (λ e. e.now) elf.entry) name.now) }
+{
+    elf?.symbol(name.as_bytes())
+}
+
+/// The bytes of a symbol, and so many where it has no size.
+fn bytes_or(bytes: u64, symbol: Symbol) -> u64
+    ensures { result ≡ bytes_or bytes symbol }
+{
+    if symbol.size == 0 { bytes } else { symbol.size }
+}
+
 /// Where a name stands and how many bytes it has: those of its symbol, or a word's.
-fn place_of(elf: Option<&Elf<'_>>, name: &str) -> Option<(u64, u64)> {
+fn place_of(elf: Option<&Elf<'_>>, name: &str) -> Option<(u64, u64)>
+    ensures { IfSome result (λ place. IsPlace (option_map (λ e. e.now) elf.entry) name.now place.0 place.1) }
+{
     if is_address(name) {
         return Some((number(name.as_bytes())?, WORD_BYTES));
     }
-    let symbol = elf?.symbol(name.as_bytes())?;
-    if symbol.size == 0 {
-        Some((symbol.address, WORD_BYTES))
-    } else {
-        Some((symbol.address, symbol.size))
-    }
+    let symbol = symbol_of(elf, name)?;
+    Some((symbol.address, bytes_or(WORD_BYTES, symbol)))
 }
 
 /// The place of so many bytes from an address on, from the start of RAM on, where they all are in a RAM of that size.
 fn place_in(ram_bytes: usize, address: u64, bytes: u64) -> Option<usize>
-    ensures { IfSome result (λ start. start + bytes ≤ ram_bytes) }
+    ensures at { IfSome result (λ start. 0x80000000 + start ≡ address) }
+    ensures within { IfSome result (λ start. start + bytes ≤ ram_bytes) }
 {
     let start = address.checked_sub(RAM_BASE)?;
     let ram_bytes = ram_bytes as u64;
@@ -71,12 +88,16 @@ pub fn look_at(
     ram_bytes: usize,
     word: &LookWord,
 ) -> Result<Result<Look, LookFault>, AllocError>
-    ensures { IfOk result (λ found. IfOk found (λ look. look.start + look.bytes ≤ ram_bytes)) }
+    ensures look { IfOk result (λ found. IfOk found (IsLookOf (option_map (λ e. e.now) elf.entry) word.now)) }
+    ensures within { IfOk result (λ found. IfOk found (IsIn ram_bytes)) }
 {
-    let Some((address, size)) = place_of(elf, &word.name) else {
+    let Some((address, size)) = place_of(elf, word.name.as_str()) else {
         return Ok(Err(LookFault::NoSymbol));
     };
-    let bytes = word.bytes.map_or(size, |count| u64::from(count));
+    let bytes = match word.bytes {
+        None => size,
+        Some(count) => u64::from(count),
+    };
     let Some(start) = place_in(ram_bytes, address, bytes) else {
         return Ok(Err(LookFault::OutsideRam));
     };
@@ -98,16 +119,13 @@ pub fn own_look(
     elf: Option<&Elf<'_>>,
     ram_bytes: usize,
 ) -> Result<Option<Look>, AllocError>
-    ensures { IfOk result (λ found. IfSome found (λ look. look.start + look.bytes ≤ ram_bytes)) }
+    ensures look { IfOk result (λ found. IfSome found (IsOwnLook (option_map (λ e. e.now) elf.entry))) }
+    ensures within { IfOk result (λ found. IfSome found (IsIn ram_bytes)) }
 {
-    let Some(symbol) = elf.and_then(|elf| elf.symbol(SHOWN.as_bytes())) else {
+    let Some(symbol) = symbol_of(elf, SHOWN) else {
         return Ok(None);
     };
-    let bytes = if symbol.size == 0 {
-        SHOWN_BYTES
-    } else {
-        symbol.size
-    };
+    let bytes = bytes_or(SHOWN_BYTES, symbol);
     let Some(start) = place_in(ram_bytes, symbol.address, bytes) else {
         return Ok(None);
     };
@@ -120,32 +138,14 @@ pub fn own_look(
 }
 
 /// What a memory shows: the bytes of all looks, one look after the other.
-pub fn bytes_shown(alloc: Global, looks: &[Look], memory: &[u8]) -> Result<Vec<u8>, AllocError> {
+pub fn bytes_shown(alloc: Global, looks: &[Look], memory: &[u8]) -> Result<Vec<u8>, AllocError>
+    ensures { IfOk result (λ shown. shown.items ≡ looked looks.now memory.now) }
+{
     let mut shown = Vec::new(alloc);
     for look in looks {
-        let rest = memory.get(look.start..).unwrap_or(&[]);
-        let part = rest.get(..look.bytes).unwrap_or(&[]);
+        let (_, rest) = parted(memory, look.start);
+        let (part, _) = parted(rest, look.bytes);
         shown.extend_from_slice(part)?;
     }
     Ok(shown)
-}
-
-/// Whether what is shown is what is expected.
-pub fn is_expected(looks: &[Look], shown: &[u8]) -> bool {
-    let mut rest = shown;
-    for look in looks {
-        let part = rest.get(..look.bytes).unwrap_or(rest);
-        if let Some(expected) = &look.expected
-            && expected.as_slice() != part
-        {
-            return false;
-        }
-        rest = rest.get(look.bytes..).unwrap_or(&[]);
-    }
-    true
-}
-
-/// Whether something is expected of an end.
-pub fn expects(looks: &[Look]) -> bool {
-    looks.iter().any(|look| look.expected.is_some())
 }

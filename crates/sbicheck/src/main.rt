@@ -4,6 +4,7 @@
 #![tactic(auto)]
 
 mod checks;
+mod expected;
 mod facts;
 mod faults;
 mod given;

@@ -2,9 +2,11 @@
 
 ghost use Rattle.std.specs.Prelude.{◌≡◌, ◌<◌, ◌≤◌, length, IfOk};
 ghost use Rattle.board_model.specs.Shapes.{ram_bytes_of};
+ghost use Rattle.sbicheck.specs.Tells.{ShownBy};
 
 use crate::facts::{EndShown, OwnEnd, OwnOrder};
 use crate::looks::{Look, bytes_shown};
+use crate::walks::{Setting, harts_of};
 use board_model::HartId;
 use hart::Hart;
 use model_board::{Board, Power, Rest, Status};
@@ -18,6 +20,14 @@ const MOST_TURNS: u64 = 1_000_000;
 
 /// How often power comes on at most, which takes as long as many turns.
 const MOST_LIVES: u64 = 1000;
+
+/// What is counted of an order.
+#[derive(Drop)]
+struct Counts {
+    turns: u64,
+    sleeps: u64,
+    reboots: u64,
+}
 
 /// Where a board stands, but for its memory.
 #[derive(Drop)]
@@ -83,29 +93,29 @@ fn round(board: &mut Board) -> u64
 }
 
 /// A round of turns, and whether nothing changed in it.
-fn rests(alloc: Global, board: &mut Board, order: &mut OwnOrder) -> Result<bool, AllocError>
-    ensures size { IfOk result (λ _. board.new.size ≡ board.old.size) }
+fn rests(alloc: Global, board: &mut Board, counts: &mut Counts) -> Result<bool, AllocError>
+    ensures size { board.new.size ≡ board.old.size }
 {
     let stand = stand_of(alloc, board)?;
     let moved = round(board);
-    order.turns = order.turns.saturating_add(moved);
+    counts.turns = counts.turns.saturating_add(moved);
     Ok(stands_as(board, &stand))
 }
 
 /// Rounds of turns until the board is not on, or nothing changes any more. Whether it came so far.
-fn run_life(alloc: Global, board: &mut Board, order: &mut OwnOrder) -> Result<bool, AllocError>
-    ensures size { IfOk result (λ _. board.new.size ≡ board.old.size) }
+fn run_life(alloc: Global, board: &mut Board, counts: &mut Counts) -> Result<bool, AllocError>
+    ensures size { board.new.size ≡ board.old.size }
 {
     for _round in 0..MOST_ROUNDS {
         let moved = round(board);
-        order.turns = order.turns.saturating_add(moved);
+        counts.turns = counts.turns.saturating_add(moved);
         if board.status() != Status::On {
             return Ok(true);
         }
-        if moved == 0 && rests(alloc, board, order)? {
+        if moved == 0 && rests(alloc, board, counts)? {
             return Ok(true);
         }
-        if MOST_TURNS <= order.turns {
+        if MOST_TURNS <= counts.turns {
             return Ok(false);
         }
     }
@@ -113,25 +123,25 @@ fn run_life(alloc: Global, board: &mut Board, order: &mut OwnOrder) -> Result<bo
 }
 
 /// Goes on with a board that came to no end: powers it on, or wakes it. Whether there was anything to do.
-fn go_on(board: &mut Board, payload: &[u8], order: &mut OwnOrder) -> bool
+fn go_on(board: &mut Board, payload: &[u8], counts: &mut Counts) -> bool
     requires { length payload.now ≤ ram_bytes_of board.old.size }
     ensures size { board.new.size ≡ board.old.size }
 {
     match board.rest().power {
         Power::On => {
             if board.wake() {
-                order.sleeps = order.sleeps.saturating_add(1);
+                counts.sleeps = counts.sleeps.saturating_add(1);
                 true
             } else {
                 false
             }
         }
         Power::Off(Some(_)) => {
-            order.sleeps = order.sleeps.saturating_add(1);
+            counts.sleeps = counts.sleeps.saturating_add(1);
             board.power_on(payload)
         }
         Power::Off(None) => {
-            order.reboots = order.reboots.saturating_add(1);
+            counts.reboots = counts.reboots.saturating_add(1);
             board.power_on(payload)
         }
         Power::Ended => false,
@@ -139,7 +149,9 @@ fn go_on(board: &mut Board, payload: &[u8], order: &mut OwnOrder) -> bool
 }
 
 /// What a board at an end shows.
-pub fn end_shown(alloc: Global, looks: &[Look], board: &Board) -> Result<EndShown, AllocError> {
+pub fn end_shown(alloc: Global, looks: &[Look], board: &Board) -> Result<EndShown, AllocError>
+    ensures { IfOk result (ShownBy looks.now board.now.board) }
+{
     if board.status() == Status::Ended {
         return Ok(EndShown::Shutdown(board.rest().reason));
     }
@@ -147,31 +159,52 @@ pub fn end_shown(alloc: Global, looks: &[Look], board: &Board) -> Result<EndShow
     Ok(EndShown::On(bytes))
 }
 
+/// Lives until a board comes to an end, and what it shows there. None where it still runs after so many.
+fn run_lives(
+    alloc: Global,
+    board: &mut Board,
+    payload: &[u8],
+    looks: &[Look],
+    counts: &mut Counts,
+) -> Result<Option<EndShown>, AllocError>
+    requires { length payload.now ≤ ram_bytes_of board.old.size }
+    ensures size { board.new.size ≡ board.old.size }
+{
+    for _life in 0..MOST_LIVES {
+        if !run_life(alloc, board, counts)? {
+            return Ok(None);
+        }
+        if !go_on(board, payload, counts) {
+            return Ok(Some(end_shown(alloc, looks, board)?));
+        }
+    }
+    Ok(None)
+}
+
 /// The own order of a kernel on a board that was never on.
 pub fn own_order(
-    alloc: Global,
+    setting: Setting<'_>,
     board: &mut Board,
     payload: &[u8],
     looks: &[Look],
 ) -> Result<OwnOrder, AllocError>
     requires { length payload.now ≤ ram_bytes_of board.old.size }
-    ensures size { IfOk result (λ _. board.new.size ≡ board.old.size) }
 {
-    let mut order = OwnOrder {
+    let mut counts = Counts {
         turns: 0,
         sleeps: 0,
         reboots: 0,
-        end: OwnEnd::Runs(Vec::new(alloc)),
     };
     board.power_on(payload);
-    for _life in 0..MOST_LIVES {
-        if !run_life(alloc, board, &mut order)? {
-            return Ok(order);
-        }
-        if !go_on(board, payload, &mut order) {
-            order.end = OwnEnd::Ends(end_shown(alloc, looks, board)?);
-            return Ok(order);
-        }
-    }
-    Ok(order)
+    let shown = run_lives(setting.alloc, board, payload, looks, &mut counts)?;
+    let end = match shown {
+        Some(shown) => OwnEnd::Ends(shown),
+        None => OwnEnd::Runs(harts_of(setting, board)?),
+    };
+    Ok(OwnOrder {
+        turns: counts.turns,
+        sleeps: counts.sleeps,
+        reboots: counts.reboots,
+        end,
+    })
 }

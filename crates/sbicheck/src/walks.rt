@@ -191,13 +191,22 @@ fn trap_facts(setting: Setting<'_>, trap: Trap) -> Result<TrapFacts, AllocError>
     })
 }
 
+/// Where a hart of that state is about to start, if it is.
+fn start_of(state: &Standing) -> Option<u64> {
+    match state {
+        Standing::StartPending(address, _) => Some(address.value()),
+        _ => None,
+    }
+}
+
 /// Where a hart stands: one that is about to start at its start's address.
 fn stand_of(board: &Board, hart: HartId) -> u64
     requires { hart < board.now.size.harts }
 {
-    match board.rest().tables.states[hart.index()] {
-        Standing::StartPending(address, _) => address.value(),
-        _ => board.machine().hart(hart).pc(),
+    let state = board.rest().tables.states[hart.index()];
+    match start_of(&state) {
+        Some(address) => address,
+        None => board.machine().hart(hart).pc(),
     }
 }
 
@@ -270,7 +279,9 @@ fn add_settling(
     explored: &Explored,
     order: &mut Vec<OrderStep>,
     board: &mut Board,
-) -> Result<(), AllocError> {
+) -> Result<(), AllocError>
+    ensures { board.new.size ≡ board.old.size }
+{
     for number in 0..8u64 {
         let turns = explored.settle(board, number);
         if let Some(hart) = board.machine().shape().hart(number) {
@@ -287,16 +298,19 @@ fn add_event(
     order: &mut Vec<OrderStep>,
     board: &mut Board,
     event: u8,
-) -> Result<(), AllocError> {
+) -> Result<(), AllocError>
+    requires { board.old.size ≡ explored.now.size }
+    ensures { board.new.size ≡ board.old.size }
+{
     let Some(happening) = explored.happening(event) else {
         return Ok(());
     };
     add_happening(order, board, happening)?;
     explored.replay(board, event);
-    if let Happening::Turn(hart) = happening
+    if let Happening::Turn(hart) = &happening
         && hart.number() < board.machine().shape().harts()
     {
-        add_run(setting, order, board, hart, 1)?;
+        add_run(setting, order, board, *hart, 1)?;
     }
     add_settling(setting, explored, order, board)
 }

@@ -1,5 +1,9 @@
 //! The words of single options.
 
+ghost use Rattle.std.specs.Prelude.{◌≡◌, IfOk, IfSome};
+ghost use Rattle.sbicheck.specs.Looks.{IsExpectWord, IsLookWord, is_address};
+ghost use Rattle.sbicheck.specs.Sizes.{failure_named, size_of};
+
 use crate::given::{FailureKind, LookWord};
 use crate::help::{DIFFERS, FAILS, STUCK, TRAPS};
 use board_model::RAM_BASE;
@@ -10,10 +14,10 @@ use std::alloc::{AllocError, Global};
 pub const MOST_BYTES: u64 = 4096;
 
 /// Whether a word is an address: it begins with a digit, as no symbol does.
-pub fn is_address(name: &str) -> bool {
-    name.as_bytes()
-        .first()
-        .is_some_and(|byte| byte.is_ascii_digit())
+pub fn is_address(name: &str) -> bool
+    ensures { result ≡ is_address name.now }
+{
+    matches!(name.as_bytes(), [b'0'..=b'9', ..])
 }
 
 /// Whether a word may name bytes of memory: a symbol, or an address.
@@ -26,7 +30,9 @@ fn is_name(name: &str) -> bool {
 }
 
 /// `NAME`, `NAME:BYTES` or `ADDRESS:BYTES`. None where the word is neither.
-pub fn look_named(alloc: Global, word: &str) -> Result<Option<LookWord>, AllocError> {
+pub fn look_named(alloc: Global, word: &str) -> Result<Option<LookWord>, AllocError>
+    ensures { IfOk result (λ found. IfSome found (IsLookWord word.now)) }
+{
     let (name, bytes) = match word.split_once(':') {
         None => (word, None),
         Some((name, bytes)) => match number(bytes.as_bytes()) {
@@ -45,7 +51,9 @@ pub fn look_named(alloc: Global, word: &str) -> Result<Option<LookWord>, AllocEr
 }
 
 /// `NAME=HEX` or `ADDRESS=HEX`: 1 to 4,096 bytes in hexadecimal digits, the first byte first. None where the word is neither.
-pub fn expect_named(alloc: Global, word: &str) -> Result<Option<LookWord>, AllocError> {
+pub fn expect_named(alloc: Global, word: &str) -> Result<Option<LookWord>, AllocError>
+    ensures { IfOk result (λ found. IfSome found (IsExpectWord word.now)) }
+{
     let Some((name, digits)) = word.split_once('=') else {
         return Ok(None);
     };
@@ -68,7 +76,9 @@ pub fn expect_named(alloc: Global, word: &str) -> Result<Option<LookWord>, Alloc
 }
 
 /// A size in bytes: a number, with K, M or G after it for 2^10, 2^20 or 2^30.
-pub fn size_named(word: &str) -> Option<u64> {
+pub fn size_named(word: &str) -> Option<u64>
+    ensures { result ≡ size_of word.now }
+{
     let bytes = word.as_bytes();
     let (digits, unit) = match bytes {
         [digits @ .., b'K'] => (digits, 1 << 10),
@@ -80,7 +90,9 @@ pub fn size_named(word: &str) -> Option<u64> {
 }
 
 /// The failure of that name.
-pub fn failure_named(word: &str) -> Option<FailureKind> {
+pub fn failure_named(word: &str) -> Option<FailureKind>
+    ensures { result ≡ failure_named word.now }
+{
     match word {
         DIFFERS => Some(FailureKind::Differs),
         STUCK => Some(FailureKind::Stuck),
