@@ -1,5 +1,5 @@
 -- Local turns one after another, and what they leave of the memory.
-use Rattle.std.proofs.Common.{◌≡◌, ℕ, zero, suc, ◌+◌, ◌/◌, ◌<◌, List, IsTrue, length, slice_index, refl, sym, ◌∙◌, subst, ap}
+use Rattle.std.proofs.Common.{ℕ, zero, suc, ◌<◌, List, refl, ◌∙◌, subst}
 use Rattle.board_model.specs.Shapes.{Size}
 use Rattle.model_board.specs.Boards.{Board}
 use Rattle.model_board.specs.Maps.{Map, Local, SameOutside}

@@ -1,11 +1,14 @@
 -- Whether a board is at an end, by its power, its doze and the turns of its harts.
-use Rattle.std.proofs.Common.{◌≡◌, ◌∙◌, ℕ, ◌<◌, Bool, true, false, Option, Some, None, refl, sym, ap, subst}
+use Rattle.std.proofs.Common.{◌≡◌, ℕ, ◌<◌, Bool, true, false, Option, Some, None, refl, sym, ap, subst}
 use Rattle.std.specs.Option.{is_some}
 use Rattle.board_model.specs.Shapes.{Size}
-use Rattle.model_board.specs.Boards.{Board, Life, Standing, On, Off, Ended}
+use Rattle.board_model.specs.declared.durable.Reason.{Reason}
+use Rattle.machine.specs.Machine.{Machine}
+use Rattle.model_board.specs.Boards.{Board, Life, Standing, On, Off, Ended, standing_of}
 use Rattle.model_board.specs.Events.{TurnOn, IsEnd}
-use Rattle.model_board.specs.Plain.{status_of}
-use Rattle.model_board.specs.declared.powers.Status.{Status}
+use Rattle.model_board.specs.Plain.{status_of, board_shown}
+use Rattle.model_board.specs.declared.powers.Power.{Power}
+use Rattle.model_board.specs.declared.powers.Power.TheVariants as powers
 use Rattle.model_board.specs.declared.powers.Status.TheVariants as statuses
 
 pub ended_ends : (b : Board) → statuses.Ended ≡ status_of b → IsEnd b
@@ -44,3 +47,9 @@ pub standing_of_ended : (b : Board) → statuses.Ended ≡ status_of b → (s : 
 standing_of_ended (On l) is = absurd (cc)
 standing_of_ended (Off s) is = absurd (cc)
 standing_of_ended (Ended s) is = (s, refl)
+
+-- the reason of a board that ended
+pub ended_reason : (power : Power) (why : Reason) (down : Bool) (m : Machine) (s : Standing) → board_shown power why down m ≡ Ended s → s.reason ≡ why
+ended_reason powers.On why down m s e = absurd (cc)
+ended_reason (powers.Off at) why down m s e = absurd (cc)
+ended_reason powers.Ended why down m s e = sym (ap (λ (b : Board). (standing_of b).reason) e)

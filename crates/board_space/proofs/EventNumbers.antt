@@ -1,5 +1,5 @@
 -- Events on a board of at most eight harts have numbers of their own.
-use Rattle.std.proofs.Common.{◌≡◌, ℕ, ◌+◌, ◌<◌, ◌≤◌, Bool, true, false, refl, ap, arith}
+use Rattle.std.proofs.Common.{◌≡◌, ℕ, ◌<◌, ◌≤◌, true, false, refl, ap, arith}
 use Rattle.model_board.specs.Events.{Event, Turn, Refused, Wake, Cut, PowerOn}
 use Rattle.board_space.specs.Space.{Asked, IsOne, IsSmall, number_of}
 

@@ -1,8 +1,6 @@
 pub mod Differing
 pub mod Kept
 pub mod Numbers
-pub mod Memories
-pub mod Boards
 pub mod Telling
 pub mod Putting
 pub mod Reduced
@@ -14,3 +12,5 @@ pub mod EventNumbers
 pub mod Ends
 pub mod AllShown
 pub mod Tracking
+pub mod Stuck
+pub mod Answered

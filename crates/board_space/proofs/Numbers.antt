@@ -1,10 +1,12 @@
 -- Records by their numbers, and rows that grow.
-use Rattle.std.proofs.Common.{ℕ, List, [], ◌∷◌, ◌++◌, ◌≡◌, ◌+◌, ◌<◌, ◌≤◌, length, refl, sym, ap, subst, ◌∙◌, inl, inr, arith, length-append}
+use Rattle.std.proofs.Common.{ℕ, zero, suc, List, [], ◌∷◌, ◌++◌, ◌≡◌, ◌+◌, ◌<◌, length, refl, sym, ap, subst, ◌∙◌, inl, inr, arith, length-append}
 use Rattle.std.specs.Prelude.{get_or, slice_index}
 use Rattle.std.proofs.lemmas.Bool.{cases_lt}
-use Rattle.std.proofs.lemmas.List.{get_or_default, get_or_append_left}
+use Rattle.std.proofs.lemmas.List.{get_or_append_left}
 use Rattle.std.proofs.Math.Seq.{get_or-append_seam}
 use Rattle.hart.specs.State.{ArchState, never_started}
+use Rattle.machine.specs.Machine.{stopped_harts}
+use Rattle.machine.proofs.Opening.{long}
 use Rattle.state_space.specs.Numbered.{word_count, words_of}
 use Rattle.state_space.specs.Pools.{IsPut, Stay}
 use Rattle.state_space.specs.declared.interner.Interner.{Interner}
@@ -13,9 +15,6 @@ use Rattle.board_space.specs.Records.{IsAt, Stays}
 use Rattle.board_space.specs.Rows.{AreHarts, Extends, Grows, Hold}
 use Rattle.board_space.specs.Tracked.{segment}
 use Rattle.board_space.specs.declared.row_layout.Layout.{Layout}
-
-pub one_at : {T : Type 0} (xs : List T) (n : ℕ) (x y : T) → IsAt xs n x → IsAt xs n y → x ≡ y
-one_at xs n x y a b = a.1 ∙ (get_or_default xs n x y a.0 ∙ sym b.1)
 
 pub at_same : {T : Type 0} (xs : List T) (n : ℕ) (x y : T) → IsAt xs n x → x ≡ y → IsAt xs n y
 at_same {T} xs n x y a e = subst (λ (z : T). IsAt xs n z) e a
@@ -26,6 +25,18 @@ at_stays xs z = λ n x a.
 
 pub at_last : {T : Type 0} (xs : List T) (x : T) → IsAt (xs ++ x ∷ []) (length xs) x
 at_last xs x = (omega (arith, length-append xs (x ∷ [])), sym (get_or-append_seam xs x [] x))
+
+-- ---- harts that never ran
+pub stopped_at : (n h : ℕ) (d : ArchState) → h < n → get_or (stopped_harts n) h d ≡ never_started h
+stopped_at zero h d lt = absurd (omega arith)
+stopped_at (suc n) h d lt =
+    elim (cases_lt h n) [
+      | inl below ↦ get_or_append_left (stopped_harts n) (never_started n ∷ []) d h (omega (arith, below, long n)) ∙ stopped_at n h d below
+      | inr from ↦ (
+          let e : n ≡ h = omega arith in
+          let at : length (stopped_harts n) ≡ h = long n ∙ e in
+          ap (λ (k : ℕ). get_or (stopped_harts n ++ never_started n ∷ []) k d) (sym at) ∙ (get_or-append_seam (stopped_harts n) (never_started n) [] d ∙ ap never_started e))
+    ]
 
 -- ---- rows
 pub extends_none : (row : List ℕ) → Extends row row 0

@@ -1,5 +1,5 @@
 -- A board into which a row was put is the row's.
-use Rattle.std.proofs.Common.{ℕ, List, Bool, ◌≡◌, ◌≢◌, ◌+◌, ◌*◌, ◌/◌, ◌%◌, ◌^◌, ◌<◌, ◌≤◌, length, refl, sym, ap, subst, ◌∙◌, inl, inr, arith}
+use Rattle.std.proofs.Common.{ℕ, List, Bool, ◌≡◌, ◌+◌, ◌*◌, ◌/◌, ◌%◌, ◌^◌, ◌<◌, ◌≤◌, length, refl, sym, ap, subst, ◌∙◌, inl, inr, arith}
 use Rattle.std.specs.Prelude.{slice_index, slice_set, get_or}
 use Rattle.std.proofs.lemmas.Bool.{cases_lt, cases_eq}
 use Rattle.std.proofs.lemmas.List.{length-set, get_or-set_same, get_or-set_other}
@@ -9,22 +9,21 @@ use Rattle.hart.specs.State.{ArchState, never_started}
 use Rattle.machine.specs.Machine.{Machine, hart_at}
 use Rattle.model_board.specs.Boards.{Board}
 use Rattle.model_board.specs.Held.{with_hart}
-use Rattle.model_board.specs.Plain.{Sized, sized, with_machine, board_shown}
+use Rattle.model_board.specs.Plain.{Sized, sized, with_machine}
 use Rattle.model_board.specs.Rests.{Fits, with_rest, table_copied}
 use Rattle.model_board.specs.declared.powers.Power.{Power}
 use Rattle.model_board.specs.declared.rests.Rest.{Rest}
-use Rattle.ram.specs.Memory.{value, AreBytes, Stored}
+use Rattle.ram.specs.Memory.{value, Stored}
 use Rattle.ram.proofs.Keeping.{same_value}
 use Rattle.state_space.specs.Numbered.{words_of}
 use Rattle.state_space.specs.declared.interner.Interner.{Interner}
-use Rattle.board_space.specs.Layouts.{IsBased, IsOnBase, size_of, base_of, tracked_of}
+use Rattle.board_space.specs.Layouts.{IsBased, IsOnBase, size_of, tracked_of}
 use Rattle.board_space.specs.Tracked.{AreWithin, IsTracked, segment, segment_count}
 use Rattle.board_space.specs.Records.{IsAt}
-use Rattle.board_space.specs.Rows.{AreHarts, AreSegments, Hold, Stands}
+use Rattle.board_space.specs.Rows.{AreHarts, AreSegments, Hold, IsShownByParts, Stands}
 use Rattle.board_space.specs.declared.board_rows.BoardRows.{BoardRows}
 use Rattle.board_space.specs.declared.row_layout.Layout.{Layout}
-use Rattle.board_space.proofs.Boards.{one_board}
-use Rattle.board_space.proofs.Numbers.{one_at}
+use Rattle.board_space.specs.OneBoard.{one_at, one_board}
 
 -- the board is shown by these and its machine
 abbrev pub IsSized : Power → Reason → Bool → Sized → Type 0
@@ -36,12 +35,21 @@ sized_by power reason down m b e = e ∙ ap (λ (n : Machine). sized power reaso
 pub sized_on : (power : Power) (reason : Reason) (down : Bool) (m : Machine) (b c : Sized) → IsSized power reason down b → c ≡ with_machine m b → IsSized power reason down c
 sized_on power reason down m b c is e = sized_by power reason down m c (e ∙ ap (λ (s : Sized). sized s.power s.reason s.down m) is)
 
+pub shown_by : (power : Power) (reason : Reason) (down : Bool) (m : Machine) (b : Sized) → b ≡ sized power reason down m → IsShownByParts b
+shown_by power reason down m b e = subst (λ (s : Sized). IsShownByParts s) (sym e) refl
+
+pub framed_shown : (m : Machine) (old new : Sized) → new ≡ with_machine m old → IsShownByParts new
+framed_shown m old new e = shown_by old.power old.reason old.down m new e
+
 -- ---- harts
 -- the first harts are put
 pub record ArePut (records : List ArchState) (row : List ℕ) (old now : Sized) (count : ℕ) : Type 0 where
   pub harts : AreHarts records row 1 count now.machine.harts
   pub many : length now.machine.harts ≡ length old.machine.harts
   pub others : now ≡ with_machine (record old.machine { harts = now.machine.harts }) old
+
+pub harts_none : (records : List ArchState) (row : List ℕ) (old : Sized) → IsShownByParts old → ArePut records row old old 0
+harts_none records row old shown = record { harts = λ h below. absurd (omega arith); many = refl; others = shown }
 
 frame : (old now : Sized) (m : Machine) → now ≡ with_machine m old → now.machine ≡ m
 frame old now m e = ap (λ (s : Sized). s.machine) e
@@ -103,6 +111,15 @@ pub record AreValuesPut (words values : List ℕ) (old now : Sized) (count : ℕ
   pub room : length now.machine.memory ≡ length old.machine.memory
   pub others : now ≡ with_machine (record old.machine { memory = now.machine.memory }) old
 
+pub values_none : (words values : List ℕ) (old : Sized) → IsShownByParts old → AreValuesPut words values old old 0
+values_none words values old shown = record {
+  there = λ m hold j below. absurd (omega arith);
+  keeps = λ m u hold same. same;
+  outside = λ i none. refl;
+  room = refl;
+  others = shown;
+}
+
 memory_framed : (old now new : Sized) → now ≡ with_machine (record old.machine { memory = now.machine.memory }) old → new ≡ with_machine (record now.machine { memory = new.machine.memory }) now → new ≡ with_machine (record old.machine { memory = new.machine.memory }) old
 memory_framed old now new a b = b ∙ ap (λ (s : Sized). sized s.power s.reason s.down (record s.machine { memory = new.machine.memory })) a
 
@@ -137,6 +154,14 @@ pub record AreSegmentsPut (layout : Layout) (words : Interner) (from : ℕ) (row
   pub room : length now.machine.memory ≡ length old.machine.memory
   pub others : now ≡ with_machine (record old.machine { memory = now.machine.memory }) old
 
+pub segments_none : (layout : Layout) (words : Interner) (from : ℕ) (row : List ℕ) (old : Sized) → IsShownByParts old → AreSegmentsPut layout words from row old old 0
+segments_none layout words from row old shown = record {
+  there = λ m are s j below within. absurd (omega arith);
+  outside = λ i none. refl;
+  room = refl;
+  others = shown;
+}
+
 module _ (layout : Layout) (words : Interner) (from : ℕ) (row : List ℕ) (old now new : Sized) (count : ℕ)
     (put : AreSegmentsPut layout words from row old now count) (low : count < segment_count (tracked_of layout)) where
   pub segments_more : ((m : List ℕ) → Hold m (segment (tracked_of layout) count) (words_of words (slice_index row (from + count))) → Hold new.machine.memory (segment (tracked_of layout) count) (words_of words (slice_index row (from + count))))
@@ -160,6 +185,22 @@ module _ (layout : Layout) (words : Interner) (from : ℕ) (row : List ℕ) (old
     room = room ∙ put.room;
     others = memory_framed old now new put.others others;
   }
+
+  pub segments_by : (ws vs : List ℕ) → ws ≡ segment (tracked_of layout) count → vs ≡ words_of words (slice_index row (from + count))
+      → ((m : List ℕ) → Hold m ws vs → Hold new.machine.memory ws vs)
+      → ((m : List ℕ) (u : ℕ) → Hold m ws vs → value now.machine.memory (8 * u) 8 ≡ value m (8 * u) 8 → value new.machine.memory (8 * u) 8 ≡ value m (8 * u) 8)
+      → ((i : ℕ) → ((j : ℕ) → j < length ws → slice_index ws j ≡ i / 8 → ⊥) → slice_index new.machine.memory i ≡ slice_index now.machine.memory i)
+      → length new.machine.memory ≡ length now.machine.memory
+      → new ≡ with_machine (record now.machine { memory = new.machine.memory }) now
+      → AreSegmentsPut layout words from row old new (count + 1)
+  segments_by ws vs is are hold keeps outside room others =
+      segments_more
+      (subst (λ (v : List ℕ). (m : List ℕ) → Hold m (segment (tracked_of layout) count) v → Hold new.machine.memory (segment (tracked_of layout) count) v) are
+      (subst (λ (w : List ℕ). (m : List ℕ) → Hold m w vs → Hold new.machine.memory w vs) is hold))
+      (subst (λ (v : List ℕ). (m : List ℕ) (u : ℕ) → Hold m (segment (tracked_of layout) count) v → value now.machine.memory (8 * u) 8 ≡ value m (8 * u) 8 → value new.machine.memory (8 * u) 8 ≡ value m (8 * u) 8) are
+      (subst (λ (w : List ℕ). (m : List ℕ) (u : ℕ) → Hold m w vs → value now.machine.memory (8 * u) 8 ≡ value m (8 * u) 8 → value new.machine.memory (8 * u) 8 ≡ value m (8 * u) 8) is keeps))
+      (subst (λ (w : List ℕ). (i : ℕ) → ((j : ℕ) → j < length w → slice_index w j ≡ i / 8 → ⊥) → slice_index new.machine.memory i ≡ slice_index now.machine.memory i) is outside)
+      room others
 
 pub segments_hold : (layout : Layout) (words : Interner) (from : ℕ) (row : List ℕ) (old now : Sized) (count : ℕ) → AreSegmentsPut layout words from row old now count → segment_count (tracked_of layout) ≤ count → (m : List ℕ) → AreSegments layout words row from m → AreSegments layout words row from now.machine.memory
 segments_hold layout words from row old now count put all m are s low =

@@ -1,12 +1,12 @@
 -- A board stays one on which rows can be put.
-use Rattle.std.proofs.Common.{◌≡◌, ◌⊎◌, ⊎_elim, ℕ, ◌+◌, ◌-◌, ◌*◌, ◌/◌, ◌<◌, ◌++◌, List, IsTrue, length, slice_index, replicate, refl, sym, ◌∙◌, subst, ap, arith}
+use Rattle.std.proofs.Common.{◌≡◌, ◌≢◌, ◌⊎◌, ⊎_elim, ℕ, ◌*◌, ◌/◌, ◌<◌, List, length, slice_index, sym, ◌∙◌, subst, ap, arith}
 use Rattle.board_model.specs.Shapes.{Size}
 use Rattle.model_board.specs.Boards.{Board}
 use Rattle.model_board.specs.Events.{Event, Does}
 use Rattle.model_board.specs.Maps.{Map, Keeps, SameOutside}
 use Rattle.model_board.specs.Plain.{Sized}
 use Rattle.board_space.specs.Layouts.{IsOnBase, IsBased, size_of, tracked_of, base_of}
-use Rattle.board_space.specs.Ready.{Tracks, LeavesMemory, boot_memory}
+use Rattle.board_space.specs.Ready.{Tracks, LeavesMemory, MasksOf, boot_memory}
 use Rattle.board_space.specs.Tracked.{IsTracked}
 use Rattle.board_space.specs.declared.row_layout.Layout.{Layout}
 
@@ -53,3 +53,9 @@ based_outside layout map old new tracks based size outside = record {
 pub does_at : (p q : List ℕ) (s t : Size) (e : Event) (b c d : Board) → p ≡ q → s ≡ t → b ≡ c → Does p s e b d → Does q t e c d
 does_at p q s t e b c d pq st bc did =
     subst (λ (x : Board). Does q t e x d) bc (subst (λ (x : Size). Does q x e b d) st (subst (λ (x : List ℕ). Does x s e b d) pq did))
+
+-- rows tell the words of which the masks say that some hart may write them
+pub tracks_by : (layout made : Layout) (map : Map) (masks : List ℕ) (bytes : ℕ) → layout ≡ made → length (base_of layout) ≡ bytes → 8 * length masks ≡ bytes → MasksOf map masks → ((k : ℕ) → k < length masks → slice_index masks k ≢ 0 → IsTracked (tracked_of made) k) → Tracks layout map
+tracks_by layout made map masks bytes is long all masked covers h k low may none =
+    let inside : k < length masks = omega (arith, low, long, all) in
+    none (subst (λ (l : Layout). IsTracked (tracked_of l) k) (sym is) (covers k inside (masked h k inside may)))

@@ -1,11 +1,11 @@
 -- The turns of the harts of a board, as `state_space` asks for them.
-use Rattle.std.proofs.Common.{◌≡◌, ◌⊎◌, ⊎_elim, ℕ, List, inl, inr, ◌<◌}
+use Rattle.std.proofs.Common.{◌≡◌, ◌⊎◌, ⊎_elim, ℕ, List, inl, inr}
 use Rattle.board_model.specs.Shapes.{Size}
 use Rattle.model_board.specs.Boards.{Board}
 use Rattle.model_board.specs.Events.{Event, Turn, Does, IsEnd, IsOff}
 use Rattle.model_board.specs.Maps.{Map, Keeps, Local}
 use Rattle.state_space.specs.Orders.{Reduction}
-use Rattle.board_space.specs.Space.{Asked, IsOne, Happens, KeepsEach, IsLocalTurn}
+use Rattle.board_space.specs.Space.{Asked, Happens, KeepsEach, IsLocalTurn}
 
 -- what crate model_board proves of local turns
 pub record Moving : Type 0 where

@@ -1,12 +1,12 @@
 -- The successors of a board that are told so far.
-use Rattle.std.specs.Prelude.{◌≡◌, ◌⊎◌, ℕ, ◌<◌, ◌≤◌, List}
+use Rattle.std.specs.Prelude.{◌≡◌, ℕ, ◌<◌, ◌≤◌, List}
 use Rattle.model_board.specs.Boards.{Board}
 use Rattle.model_board.specs.Events.{Event}
 use Rattle.model_board.specs.Maps.{Map}
 use Rattle.state_space.specs.Successors.{found_count, found_event, found_row}
 use Rattle.state_space.specs.Systems.{Moves}
 use Rattle.state_space.specs.declared.found.Successors.{Successors}
-use Rattle.board_space.specs.Space.{Asked, IsOne, Happens, number_of, Settles, board_rules}
+use Rattle.board_space.specs.Space.{Asked, Happens, number_of, Settles, board_rules}
 
 -- what an event leads to from a board has settled to that of a successor
 abbrev pub IsTold : Asked → Map → (List ℕ → Board → Type 0) → Successors → Board → Event → Board → Type 0

@@ -1,7 +1,6 @@
 -- A search of a board's states.
-use Rattle.std.specs.Prelude.{◌≡◌}
 use Rattle.state_space.specs.declared.graph.Graph.{Graph}
-use Rattle.state_space.specs.Graphs.{IsSearched, count_of, expanded_of}
+use Rattle.state_space.specs.Graphs.{IsSearched}
 use Rattle.board_space.specs.Mapped.{map_in}
 use Rattle.board_space.specs.Rows.{Stands}
 use Rattle.board_space.specs.Settings.{asked_of}

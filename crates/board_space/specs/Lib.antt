@@ -2,6 +2,7 @@ pub mod Records
 pub mod Tracked
 pub mod Layouts
 pub mod Rows
+pub mod OneMemory
 pub mod OneBoard
 pub mod Space
 pub mod Happenings
@@ -10,4 +11,5 @@ pub mod Ready
 pub mod Expanding
 pub mod Settings
 pub mod Shown
+pub mod WaysOf
 pub mod Explorations

@@ -1,11 +1,10 @@
 -- Rows of numbers, and the boards for which they stand.
-use Rattle.std.specs.Prelude.{◌≡◌, ℕ, ◌+◌, ◌*◌, ◌<◌, List, length, slice_index, get_or, replicate, Bool, true, false, if◌then◌else◌, Option, Some, None}
-use Rattle.board_model.specs.Shapes.{Size}
+use Rattle.std.specs.Prelude.{◌≡◌, ℕ, ◌+◌, ◌*◌, ◌<◌, List, length, slice_index, get_or, replicate, Bool, true, false, if◌then◌else◌, Some, None}
 use Rattle.hart.specs.State.{ArchState, never_started}
 use Rattle.hsm.specs.declared.standings.Standing.TheVariants.{Stopped}
 use Rattle.machine.specs.Machine.{Machine, hart_at, stopped_harts}
 use Rattle.model_board.specs.Boards.{Board}
-use Rattle.model_board.specs.Plain.{Sized, board_shown}
+use Rattle.model_board.specs.Plain.{Sized, board_shown, with_machine}
 use Rattle.model_board.specs.Rests.{Fits, table_copied}
 use Rattle.model_board.specs.declared.powers.Power.{Power}
 use Rattle.model_board.specs.declared.powers.Power.TheVariants as powers
@@ -92,6 +91,10 @@ seen_by base rest m = record {
   harts = seen_harts rest.power m;
   table = table_copied m.size.harts (seen_rest rest).tables;
 }
+
+-- the board is what its parts show
+abbrev pub IsShownByParts : Sized → Type 0
+IsShownByParts b = b ≡ with_machine b.machine b
 
 -- ---- rows that grow
 -- so many numbers more

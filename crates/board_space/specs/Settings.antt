@@ -1,5 +1,5 @@
 -- What stays the same while a board is searched.
-use Rattle.std.specs.Prelude.{ℕ, List, ◌≡◌, ◌≢◌, ◌<◌, IsTrue, length, slice_index}
+use Rattle.std.specs.Prelude.{ℕ, List}
 use Rattle.model_board.specs.Boards.{Board}
 use Rattle.model_board.specs.Maps.{Map}
 use Rattle.board_space.specs.Layouts.{width_of}

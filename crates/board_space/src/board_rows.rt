@@ -4,17 +4,17 @@ ghost use Rattle.std.specs.Prelude.{◌≡◌, ◌<◌, ◌≤◌, ◌+◌, ◌*
 ghost use Rattle.hart.specs.State.{ArchState, never_started};
 ghost use Rattle.model_board.specs.Boards.{Board as AnyBoard};
 ghost use Rattle.model_board.specs.Plain.{with_machine};
-ghost use Rattle.model_board.specs.Rests.{IsRest};
+ghost use Rattle.model_board.specs.Rests.{Fits, IsRest};
 ghost use Rattle.ram.specs.Memory.{value};
 ghost use Rattle.state_space.specs.Numbered.{word_count, words_of};
 ghost use Rattle.board_space.specs.Layouts.{IsBased, size_of, tracked_of, base_of};
 ghost use Rattle.board_space.specs.Tracked.{IsTracked, AreWithin, segment_count};
 ghost use Rattle.board_space.specs.Records.{IsAt, Stays};
-ghost use Rattle.board_space.specs.Rows.{Hold, AreSegments, AreHarts, Stands, Extends, Grows, no_tables, seen_rest, seen_harts, seen_memory};
+ghost use Rattle.board_space.specs.Rows.{IsShownByParts, Hold, AreSegments, AreHarts, Stands, Extends, Grows, no_tables, seen_rest, seen_harts, seen_memory};
 
 use crate::differs::{hart_differs, state_differs};
-use crate::row_layout::Layout;
 use crate::records::Records;
+use crate::row_layout::Layout;
 use board_model::HartId;
 use hart::Hart;
 use hsm::Standing;
@@ -185,6 +185,7 @@ fn tell_segments(
 
 /// Puts the harts of a row into a board of so many.
 fn put_harts(harts: &Records<Hart>, count: usize, row: &[u32], board: &mut Board)
+    requires shown { IsShownByParts board.old }
     requires count { count ≡ board.old.machine.size.harts }
     requires long { 1 + count ≤ length row.now }
     requires many { length board.old.machine.harts ≡ count }
@@ -203,6 +204,7 @@ fn put_harts(harts: &Records<Hart>, count: usize, row: &[u32], board: &mut Board
 
 /// Puts values into words of a board's memory.
 fn put_values(words: &[u64], values: &[u64], board: &mut Board)
+    requires shown { IsShownByParts board.old }
     requires long { length values.now ≡ length words.now }
     requires within { (j : ℕ) → j < length words.now → 8 * slice_index words.now j + 8 ≤ length board.old.machine.memory }
     ensures hold { (m : List ℕ) → Hold m words.now values.now → Hold board.new.machine.memory words.now values.now }
@@ -222,6 +224,7 @@ fn put_values(words: &[u64], values: &[u64], board: &mut Board)
 
 /// Puts the values of a row into a board's memory, segment by segment: their numbers stand from that place on.
 fn put_segments(layout: &Layout, words: &Interner, from: usize, row: &[u32], board: &mut Board)
+    requires shown { IsShownByParts board.old }
     requires count { from + segment_count (tracked_of layout.now) ≤ length row.now }
     requires known { (m : List ℕ) × AreSegments layout.now words.now row.now from m }
     requires within { AreWithin (tracked_of layout.now) (length board.old.machine.memory) }
@@ -294,7 +297,8 @@ impl BoardRows {
             seen_memory(board, &self.layout, rest.power),
             &self.layout,
             row,
-        )
+        )?;
+        Ok(())
     }
 
     /// Puts the board of a row in the place of a board of that shape.
@@ -305,6 +309,7 @@ impl BoardRows {
         ensures based { IsBased self.now.layout board.new }
     {
         let harts = self.layout.harts();
+        let _plain = board.rest();
         board.put_rest(self.rests.get(row[0]));
         put_harts(&self.harts, harts, row, board);
         put_segments(&self.layout, &self.words, 1 + harts, row, board);
@@ -324,6 +329,7 @@ impl BoardRows {
         requires rested { IsAt self.now.rests.records.items (slice_index row.now 0) rest.now }
         requires on { rest.now.power ≡ Power.On }
         requires own { IsRest own.now board.now }
+        requires fits { Fits board.now.machine.size.harts own.now }
         requires size { board.now.machine.size ≡ size_of self.now.layout }
         requires within { hart < (size_of self.now.layout).harts }
         ensures { result ≡ true → Stands self.now row.now board.now.board → ⊥ }

@@ -1,11 +1,12 @@
 //! What a program asks of a kernel: all boards that its boot may lead to, and what they say of every order.
 
-ghost use Rattle.std.specs.Prelude.{◌≡◌, ◌≤◌, ◌<◌, ℕ, List, IfOk, IfSome, OnOk, Ok, Some, true, length};
+ghost use Rattle.std.specs.Prelude.{◌≡◌, ◌≤◌, ◌<◌, ℕ, List, IfOk, IfSome, IfNone, OnOk, Ok, Some, true, false, length};
 ghost use Rattle.board_model.specs.Shapes.{ram_bytes_of};
 ghost use Rattle.model_board.specs.Boards.{Board as AnyBoard};
 ghost use Rattle.model_board.specs.Events.{Event, GoesOn, IsEnd};
-ghost use Rattle.state_space.specs.Orders.{Runs, CanEnd};
-ghost use Rattle.board_space.specs.Space.{Asked, Happens, start_of};
+ghost use Rattle.state_space.specs.Orders.{Runs, Leads, CanEnd};
+ghost use Rattle.board_space.specs.Happenings.{event_of};
+ghost use Rattle.board_space.specs.Space.{Asked, Happens, IsOne, number_of, start_of};
 
 use crate::happenings::Happening;
 use crate::orders::{StandsFor, every_order};
@@ -110,6 +111,7 @@ pub fn explore_board(alloc: Global, question: &Question) -> Result<Explored, Ref
 
 impl Explored {
     ghost use Rattle.board_space.specs.Shown.{Shows};
+    ghost use Rattle.board_space.specs.WaysOf.{IsWayOf};
 
     /// What every order shows at its end: `Some` only where the search is closed, no board that was found is dead, and all ends that were
     /// found show the same in the bytes `from..to` of RAM. It speaks of all orders of the events that were asked for, of any length: each end
@@ -169,22 +171,34 @@ impl Explored {
         Ok(ends)
     }
 
-    /// The first row whose board comes to no end by events that are no failures, where the search is closed.
-    pub fn first_dead(&self) -> Result<Option<usize>, Refused> {
+    /// The first row whose board comes to no end by events that are no failures, where the search is closed. So some events lead to a
+    /// board from which no such events lead to an end.
+    pub fn first_dead(&self) -> Result<Option<usize>, Refused>
+        ensures { IfOk result (λ found. IfSome found (λ _. (b : AnyBoard) × Leads (Happens self.now) (start_of self.now) b
+            × (CanEnd (Happens self.now) GoesOn IsEnd b → ⊥))) }
+    {
+        every_order::<BoardSpace>();
+        let _few = self.space.harts();
         if self.graph.expanded() != self.graph.count() {
             return Ok(None);
         }
         first_dead(self.alloc, &self.space, &self.graph)
     }
 
-    /// The events, by their numbers, of a way from the start to a row, after each of which the board settles. `None` where there is no such
-    /// row.
-    pub fn way(&self, row: usize) -> Result<Option<Vec<u8>>, Refused> {
+    /// The events, by their numbers, of a way from the start to a row, before the first of which and after each the board settles. `None`
+    /// where there is no such row.
+    pub fn way(&self, row: usize) -> Result<Option<Vec<u8>>, Refused>
+        ensures { IfOk result (λ found. IfSome found (λ way. IsWayOf self.now way.items)) }
+    {
+        every_order::<BoardSpace>();
         way_to(self.alloc, &self.graph, row)
     }
 
-    /// The board of a row.
-    pub fn board(&mut self, row: usize) -> Option<&Board> {
+    /// The board of a row: some events lead to it.
+    pub fn board(&mut self, row: usize) -> Option<&Board>
+        ensures { IfSome result (λ board. Leads (Happens self.old) (start_of self.old) board.now.board) }
+    {
+        every_order::<BoardSpace>();
         if self.graph.count() <= row {
             return None;
         }
@@ -193,25 +207,39 @@ impl Explored {
     }
 
     /// The board with which the search began.
-    pub fn first_board(&self) -> Result<Board, Refused> {
+    pub fn first_board(&self) -> Result<Board, Refused>
+        ensures board { IfOk result (λ b. b.board ≡ start_of self.now) }
+        ensures size { IfOk result (λ b. b.size ≡ self.now.size) }
+    {
         self.space.first_board()
     }
 
     /// The happening of that number, where it was asked for.
-    pub fn happening(&self, number: u8) -> Option<Happening> {
+    pub fn happening(&self, number: u8) -> Option<Happening>
+        ensures some { IfSome result (λ h. IsOne self.now (event_of h) × (number_of (event_of h) ≡ number)) }
+        ensures none { IfNone result ((e : Event) → IsOne self.now e → number_of e ≡ number → ⊥) }
+    {
         self.space.happening(number)
     }
 
     /// Makes a happening happen to a board, and answers whether it could. The board has not settled then.
     pub fn replay(&self, board: &mut Board, number: u8) -> bool
         requires { board.old.size ≡ self.now.size }
+        ensures happens { result ≡ true → (e : Event) × (number_of e ≡ number) × Happens self.now e board.old.board board.new.board }
+        ensures never { result ≡ false → (e : Event) (c : AnyBoard) → number_of e ≡ number
+            → Happens self.now e board.old.board c → ⊥ }
+        ensures size { board.new.size ≡ board.old.size }
     {
         self.space.replay(board, number)
     }
 
     /// Makes the local turns of a hart by which a board settles, and answers how many. A board settles by those of hart 0 first, then by those
     /// of the next, up to the last.
-    pub fn settle(&self, board: &mut Board, number: u64) -> u32 {
+    pub fn settle(&self, board: &mut Board, number: u64) -> u32
+        ensures turns { board.old.size ≡ self.now.size → Leads (Happens self.now) board.old.board board.new.board }
+        ensures size { board.new.size ≡ board.old.size }
+    {
+        every_order::<BoardSpace>();
         match board.machine().shape().hart(number) {
             Some(hart) => settle_one(board, self.space.map(), hart),
             None => 0,

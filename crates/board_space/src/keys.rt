@@ -1,6 +1,6 @@
 //! The keys of harts, and of what is a board beside its harts and its memory.
 
-ghost use Rattle.std.specs.Prelude.{◌<◌};
+ghost use Rattle.std.specs.Prelude.{◌≡◌, ◌<◌, true};
 
 use crate::records::Recorded;
 use hart::Hart;
@@ -54,6 +54,10 @@ impl Recorded for Hart {
     fn copy(&self) -> Hart {
         self.copy()
     }
+
+    fn size() -> usize {
+        size_of::<Hart>()
+    }
 }
 
 fn resumption_key(key: u64, at: Resumption) -> u64 {
@@ -96,6 +100,31 @@ fn tables_key(key: u64, tables: &TableCopy) -> u64 {
     key
 }
 
+/// Whether the states are the same, place by place.
+fn are_same_states(states: &[Standing; 8], others: &[Standing; 8]) -> bool
+    ensures { result ≡ true → others.now ≡ states.now }
+{
+    for place in 0..8usize {
+        if states[place] != others[place] {
+            return false;
+        }
+    }
+    true
+}
+
+fn are_same_pending(pending: &[u8; 8], others: &[u8; 8]) -> bool
+    ensures { result ≡ true → others.now ≡ pending.now }
+{
+    *pending == *others
+}
+
+fn are_same_tables(tables: &TableCopy, others: &TableCopy) -> bool
+    ensures { result ≡ true → others.now ≡ tables.now }
+{
+    are_same_pending(&tables.pending, &others.pending)
+        && are_same_states(&tables.states, &others.states)
+}
+
 impl Recorded for Rest {
     fn key(&self) -> u64 {
         let key = mixed(power_key(self.power), u64::from(self.reason.number()));
@@ -106,10 +135,18 @@ impl Recorded for Rest {
     }
 
     fn is_as(&self, other: &Rest) -> bool {
-        *self == *other
+        self.power == other.power
+            && self.reason == other.reason
+            && self.down == other.down
+            && self.doze == other.doze
+            && are_same_tables(&self.tables, &other.tables)
     }
 
     fn copy(&self) -> Rest {
         *self
+    }
+
+    fn size() -> usize {
+        size_of::<Rest>()
     }
 }

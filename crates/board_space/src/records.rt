@@ -23,6 +23,9 @@ pub trait Recorded: Drop {
     /// The same record.
     fn copy(&self) -> Self
         ensures { result ≡ self.now };
+
+    /// How many bytes a record takes.
+    fn size() -> usize;
 }
 
 /// Records to numbers and back, numbered as they came. An equal one is found by its key and compared whole.
@@ -73,7 +76,7 @@ impl<T: Recorded> Records<T> {
 
     /// How much memory they take, in bytes.
     pub fn bytes(&self) -> u64 {
-        let records = (self.records.capacity() as u64).saturating_mul(size_of::<T>() as u64);
+        let records = (self.records.capacity() as u64).saturating_mul(T::size() as u64);
         self.keys.bytes().saturating_add(records)
     }
 

@@ -1,16 +1,26 @@
 //! What all ends of a search show.
 
-ghost use Rattle.std.specs.Prelude.{◌≡◌, ◌≤◌, IfOk, IfSome, Some};
+ghost use Rattle.std.specs.Prelude.{◌≡◌, ◌≤◌, IfOk, IfSome, Some, true};
 ghost use Rattle.board_model.specs.Shapes.{ram_bytes_of};
 ghost use Rattle.state_space.specs.Graphs.{expanded_of};
 ghost use Rattle.board_space.specs.Explorations.{IsSearchOf};
 ghost use Rattle.board_space.specs.Rows.{Stands};
 ghost use Rattle.board_space.specs.Settings.{setting_of};
-ghost use Rattle.board_space.specs.Shown.{AllShow};
+ghost use Rattle.board_space.specs.Shown.{AllShow, IsSame};
 
 use crate::outcomes::Outcome;
 use crate::space::BoardSpace;
 use state_space::{Graph, Refused};
+
+/// Whether what was shown first, where something was, is shown to be the same.
+fn agrees(first: &Option<Outcome>, outcome: &Outcome) -> bool
+    ensures { result ≡ true → IfSome first.now (λ f. IsSame f outcome.now) }
+{
+    match first {
+        Some(first) => outcome.is_as(first),
+        None => true,
+    }
+}
 
 /// What all ends among the rows of a search show, where there is one and they show the same.
 pub(crate) fn shown_by_all(
@@ -33,13 +43,10 @@ pub(crate) fn shown_by_all(
             let Some(outcome) = space.shown(graph.row(row), from, to)? else {
                 return Ok(None);
             };
-            if let Some(first) = &all {
-                if !first.is_as(&outcome) {
-                    return Ok(None);
-                }
-            } else {
-                all = Some(outcome);
+            if !agrees(&all, &outcome) {
+                return Ok(None);
             }
+            all = Some(outcome);
         }
     }
     Ok(all)

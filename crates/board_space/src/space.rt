@@ -9,14 +9,14 @@ ghost use Rattle.model_board.specs.Plain.{standing};
 ghost use Rattle.state_space.specs.Successors.{found_count, found_width};
 ghost use Rattle.board_space.specs.Layouts.{size_of, base_of, width_of, IsBased};
 ghost use Rattle.board_space.specs.Ready.{Tracks, boot_memory, MasksOf};
-ghost use Rattle.board_space.specs.Space.{IsOne, KeepsEach, number_of};
+ghost use Rattle.board_space.specs.Space.{Happens, IsOne, KeepsEach, number_of};
 ghost use Rattle.board_space.specs.Happenings.{event_of};
 ghost use Rattle.board_space.specs.Mapped.{map_in};
 
 use crate::board_rows::BoardRows;
 use crate::happenings::{HAPPENINGS, Happening};
-use crate::row_layout::Layout;
 use crate::outcomes::Outcome;
+use crate::row_layout::Layout;
 use crate::settling::settle;
 use board_model::{HartId, Reason, Shape};
 use model_board::{Board, Break, Status, TouchMap};
@@ -65,6 +65,7 @@ fn fresh_board(
     requires { length payload.now ≤ ram_bytes_of shape.now }
     ensures board { IfOk result (λ b. b.board ≡ Off (standing reason None)) }
     ensures size { IfOk result (λ b. b.size ≡ shape.now) }
+    ensures raw { IfOk result (λ b. b.machine.size ≡ shape.now) }
     ensures memory { IfOk result (λ b. b.machine.memory ≡ boot_memory shape.now payload.now) }
 {
     let Ok(mut board) = Board::new(alloc, shape, reason) else {
@@ -132,6 +133,14 @@ impl BoardSpace {
         self.broke
     }
 
+    /// How many harts the board has.
+    pub fn harts(&self) -> u32
+        ensures count { result ≡ self.now.shape.harts }
+        ensures few { result ≤ 8 }
+    {
+        self.shape.harts()
+    }
+
     /// The map.
     pub fn map(&self) -> &TouchMap
         ensures { map_in result.now ≡ (setting_of self.now).map }
@@ -147,7 +156,10 @@ impl BoardSpace {
 
     /// The board with which the search begins: it is off, and no image stands.
     pub fn first_board(&self) -> Result<Board, Refused>
-        ensures { IfOk result (λ b. b.board ≡ Off (standing self.now.reason None)) }
+        ensures board { IfOk result (λ b. b.board ≡ Off (standing self.now.reason None)) }
+        ensures size { IfOk result (λ b. b.size ≡ self.now.shape) }
+        ensures raw { IfOk result (λ b. b.machine.size ≡ self.now.shape) }
+        ensures memory { IfOk result (λ b. b.machine.memory ≡ boot_memory self.now.shape self.now.payload.items) }
     {
         fresh_board(self.alloc, &self.shape, &self.payload, self.reason)
     }
@@ -155,6 +167,11 @@ impl BoardSpace {
     /// Makes the happening of that number happen to a board of this shape, and answers whether it could.
     pub fn replay(&self, board: &mut Board, number: u8) -> bool
         requires { board.old.size ≡ self.now.shape }
+        ensures happens { result ≡ true → (e : Event) × (number_of e ≡ number)
+            × Happens (asked_of self.now) e board.old.board board.new.board }
+        ensures never { result ≡ false → (e : Event) (c : AnyBoard) → number_of e ≡ number
+            → Happens (asked_of self.now) e board.old.board c → ⊥ }
+        ensures size { board.new.size ≡ board.old.size }
     {
         match self.happening(number) {
             Some(happening) => happening.happen(board, &self.payload),
@@ -437,9 +454,8 @@ impl System for BoardSpace {
 
     fn start(&mut self) -> Result<Vec<u32>, Refused> {
         let board = self.first_board()?;
-        self.board = board;
-        self.rows.row_of(&self.board, &mut self.row)?;
-        Ok(self.row.clone()?)
+        self.rows.row_of(&board, &mut self.row)?;
+        Ok(self.row.as_slice().to_vec(self.alloc)?)
     }
 
     fn expand(&mut self, row: &[u32], found: &mut Successors) -> Result<Expansion, Refused> {

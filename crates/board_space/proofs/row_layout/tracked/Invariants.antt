@@ -1,4 +1,4 @@
-use Rattle.std.proofs.Common.{ℕ, List, [], ◌≡◌, ◌<◌, length, get_or}
+use Rattle.std.proofs.Common.{ℕ, [], ◌≡◌, ◌<◌, length, get_or}
 use Rattle.board_space.specs.Tracked.{IsTracked}
 use Rattle.board_space.proofs.row_layout.tracked.Given as goal
 

@@ -1,4 +1,4 @@
-use Rattle.std.proofs.Common.{◌≡◌, ℕ, length}
+use Rattle.std.proofs.Common.{◌≡◌, length}
 use Rattle.board_space.specs.Mapped.{map_in}
 use Rattle.board_space.specs.Ready.{MasksOf}
 use Rattle.board_space.proofs.space.writers.Given as goal

@@ -1,6 +1,5 @@
-use Rattle.std.proofs.Common.{◌≡◌, ◌⊎◌, ⊎_elim, inl, inr, subst, sym}
-use Rattle.model_board.specs.Events.{Event}
-use Rattle.model_board.specs.Maps.{Map, Keeps, SameOutside}
+use Rattle.std.proofs.Common.{⊎_elim, inl, inr, subst}
+use Rattle.model_board.specs.Maps.{Keeps}
 use Rattle.board_space.specs.Happenings.{event_of}
 use Rattle.board_space.specs.declared.happenings.Happening.{Happening}
 use Rattle.board_space.proofs.Ready.{same_memory}
@@ -21,3 +20,18 @@ returns-in-PowerOn-clause-memory c map keeps =
     (λ same. inl (same_memory map c.args.board.now.machine.memory c.power_on.new.self.machine.memory same))
     (λ boots. inr boots)
     c.power_on.ensures.memory
+
+pub returns-in-Refused-clause-happens : goal.returns-in-Refused-clause-happens
+returns-in-Refused-clause-happens c is = rw c.in-Refused.is (c.refused.ensures.refused is c.args.payload.now)
+
+pub returns-in-Refused-clause-never : goal.returns-in-Refused-clause-never
+returns-in-Refused-clause-never c is = rw c.in-Refused.is (c.refused.ensures.never is c.args.payload.now)
+
+pub returns-in-Wake-clause-happens : goal.returns-in-Wake-clause-happens
+returns-in-Wake-clause-happens c is = rw c.in-Wake.is (c.wake.ensures.wakes is c.args.payload.now)
+
+pub returns-in-Wake-clause-never : goal.returns-in-Wake-clause-never
+returns-in-Wake-clause-never c is = rw c.in-Wake.is (c.wake.ensures.never is c.args.payload.now)
+
+pub returns-in-Cut-clause-happens : goal.returns-in-Cut-clause-happens
+returns-in-Cut-clause-happens c is = rw c.in-Cut.is (c.cut.ensures.cuts c.args.payload.now)

@@ -1,12 +1,12 @@
 use Rattle.std.proofs.Common.{◌≡◌, ◌∙◌, ℕ, sym, subst, arith}
 use Rattle.model_board.specs.Boards.{Board}
-use Rattle.model_board.specs.Events.{Event}
 use Rattle.board_space.specs.Expanding.{IsTeller, AreTold}
 use Rattle.board_space.specs.Happenings.{event_of}
 use Rattle.board_space.specs.Mapped.{map_in}
+use Rattle.board_space.specs.OneBoard.{one_board}
 use Rattle.board_space.specs.Rows.{Stands}
-use Rattle.board_space.specs.Settings.{Setting, asked_of, setting_of}
-use Rattle.board_space.specs.Space.{IsOne, number_of}
+use Rattle.board_space.specs.Settings.{Setting, asked_of}
+use Rattle.board_space.specs.Space.{IsOne, KeepsEach}
 use Rattle.board_space.proofs.Moves.{told_more, told_other}
 use Rattle.board_space.proofs.space.BoardSpace.add_all.Goals as goal
 use Rattle.board_space.proofs.space.BoardSpace.add_all.Goals.{in-Some+in_ok-add, in_default}
@@ -37,6 +37,14 @@ loop-number-preserved c =
                 (until.told b stands);
           })
     ]
+
+pub add-requires-clause-keeps : goal.add-requires-clause-keeps
+add-requires-clause-keeps c b stands e =
+    let until = c.loop-number.invariant in
+    let known = c.requires.known in
+    let is : known.0 ≡ b = one_board c.loop-number.self.rows c.args.row.now known.0 b (until.stay c.args.row.now known.0 known.1) stands in
+    subst (λ (t : Setting). KeepsEach t.asked t.map e b) (sym until.setting)
+    (subst (λ (d : Board). KeepsEach (asked_of c.args.self.now) (map_in c.args.self.now.map) e d) is (c.requires.keeps known.0 known.1 e))
 
 pub returns-clause-told : goal.returns-clause-told
 returns-clause-told c b stands =

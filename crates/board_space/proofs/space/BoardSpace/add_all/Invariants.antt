@@ -1,4 +1,4 @@
-use Rattle.std.proofs.Common.{◌≡◌, ◌<◌, ℕ}
+use Rattle.std.proofs.Common.{◌≡◌}
 use Rattle.model_board.specs.Boards.{Board}
 use Rattle.state_space.specs.Successors.{found_width}
 use Rattle.board_space.specs.Expanding.{AreTold}

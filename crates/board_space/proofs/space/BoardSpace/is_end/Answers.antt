@@ -1,6 +1,8 @@
 use Rattle.std.proofs.Common.{◌≡◌, ◌∙◌, sym, subst, ap}
 use Rattle.std.specs.Option.{is_some}
+use Rattle.machine.specs.Machine.{Machine}
 use Rattle.model_board.specs.Boards.{Board, Life, On}
+use Rattle.model_board.specs.Plain.{Sized}
 use Rattle.model_board.specs.Events.{IsEnd}
 use Rattle.board_space.specs.Rows.{Stands}
 use Rattle.board_space.proofs.Ends.{ended_ends, off_goes, life_of_on, doze_goes, rest_ends, move_goes}
@@ -18,7 +20,7 @@ returns-then-is_some-clause-goes c is b stands end =
     let l : Life = life.0 in
     let on : c.machine-sized.result.now ≡ l.machine = c.machine-sized.ensures.on l life.1 in
     let here : b ≡ On l = sym (c.put.ensures.stands b stands) ∙ life.1 in
-    let dozes : c.rest.result.doze ≡ l.machine.doze = cc in
+    let dozes : c.rest.result.doze ≡ l.machine.doze = sym (ap (λ (s : Sized). s.machine.doze) c.rest.ensures.rest) ∙ ap (λ (m : Machine). m.doze) (sym c.machine-sized.ensures.machine ∙ on) in
     doze_goes l (c.if-is_some.ensures ∙ ap (λ (o : _). is_some o) dozes) (subst (λ (d : Board). IsEnd d) here end)
 
 pub returns-else-is_some-clause-ends : goal.returns-else-is_some-clause-ends
@@ -27,8 +29,8 @@ returns-else-is_some-clause-ends c is b stands =
     let l : Life = life.0 in
     let on : c.machine-sized.result.now ≡ l.machine = c.machine-sized.ensures.on l life.1 in
     let here : b ≡ On l = sym (c.put.ensures.stands b stands) ∙ life.1 in
-    let dozes : c.rest.result.doze ≡ l.machine.doze = cc in
-    let size : l.machine.size ≡ c.args.self.now.shape = cc in
+    let dozes : c.rest.result.doze ≡ l.machine.doze = sym (ap (λ (s : Sized). s.machine.doze) c.rest.ensures.rest) ∙ ap (λ (m : Machine). m.doze) (sym c.machine-sized.ensures.machine ∙ on) in
+    let size : l.machine.size ≡ c.args.self.now.shape = ap (λ (m : Machine). m.size) (sym on ∙ c.machine-sized.ensures.machine) ∙ (c.put.ensures.based.size ∙ c.args.self.now.size) in
     let at : Stands c.args.self.now.rows c.args.row.now (On l) = subst (λ (d : Board). Stands c.args.self.now.rows c.args.row.now d) here stands in
     subst (λ (d : Board). IsEnd d) (sym here) (rest_ends l c.args.self.now.shape (c.if-is_some.ensures ∙ ap (λ (o : _). is_some o) dozes) size (c.rests.ensures.rests is (On l) at))
 
@@ -38,7 +40,7 @@ returns-else-is_some-clause-goes c is b stands end =
     let l : Life = life.0 in
     let on : c.machine-sized.result.now ≡ l.machine = c.machine-sized.ensures.on l life.1 in
     let here : b ≡ On l = sym (c.put.ensures.stands b stands) ∙ life.1 in
-    let dozes : c.rest.result.doze ≡ l.machine.doze = cc in
-    let size : l.machine.size ≡ c.args.self.now.shape = cc in
+    let dozes : c.rest.result.doze ≡ l.machine.doze = sym (ap (λ (s : Sized). s.machine.doze) c.rest.ensures.rest) ∙ ap (λ (m : Machine). m.doze) (sym c.machine-sized.ensures.machine ∙ on) in
+    let size : l.machine.size ≡ c.args.self.now.shape = ap (λ (m : Machine). m.size) (sym on ∙ c.machine-sized.ensures.machine) ∙ (c.put.ensures.based.size ∙ c.args.self.now.size) in
     let at : Stands c.args.self.now.rows c.args.row.now (On l) = subst (λ (d : Board). Stands c.args.self.now.rows c.args.row.now d) here stands in
     move_goes l c.args.self.now.shape size (c.rests.ensures.moves is (On l) at) (subst (λ (d : Board). IsEnd d) here end)

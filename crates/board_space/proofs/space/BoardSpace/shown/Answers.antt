@@ -1,9 +1,11 @@
 use Rattle.std.proofs.Common.{◌≡◌, ◌∙◌, List, ℕ, sym, subst, ap}
 use Rattle.std.specs.Prelude.{slice_range}
-use Rattle.model_board.specs.Boards.{Board, Life, Standing, On, Ended}
+use Rattle.model_board.specs.Boards.{Board, Life, On, Ended}
+use Rattle.model_board.specs.Plain.{Sized}
+use Rattle.model_board.specs.Rests.{with_rest}
 use Rattle.board_space.specs.Shown.{Shows}
 use Rattle.board_space.specs.declared.outcomes.Outcome.TheVariants.{Rests, Ends}
-use Rattle.board_space.proofs.Ends.{life_of_on, standing_of_ended}
+use Rattle.board_space.proofs.Ends.{life_of_on, standing_of_ended, ended_reason}
 use Rattle.board_space.proofs.space.BoardSpace.shown.Goals as goal
 
 pub returns-in_ok-bytes-in-On-clause-shows : goal.returns-in_ok-bytes-in-On-clause-shows
@@ -21,4 +23,5 @@ pub returns-in-Ended-clause-shows : goal.returns-in-Ended-clause-shows
 returns-in-Ended-clause-shows c b stands =
     let ended = standing_of_ended c.put.new.board.board c.in-Ended.ensures in
     let here : b ≡ Ended ended.0 = sym (c.put.ensures.stands b stands) ∙ ended.1 in
-    subst (λ (d : Board). Shows c.args.from c.args.to (Ends c.rest-rest.result.reason) d) (sym here) (c.rest-rest.ensures.reason ended.0 ended.1)
+    subst (λ (d : Board). Shows c.args.from c.args.to (Ends c.rest-rest.result.reason) d) (sym here) (ended_reason c.rest-rest.result.power c.rest-rest.result.reason c.rest-rest.result.down (with_rest c.rest-rest.result c.put.new.board.machine) ended.0
+    (sym (ap (λ (s : Sized). s.board) c.rest-rest.ensures.rest) ∙ ended.1))

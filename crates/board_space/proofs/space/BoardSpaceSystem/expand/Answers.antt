@@ -8,7 +8,7 @@ use Rattle.board_space.specs.Expanding.{AreTold}
 use Rattle.board_space.specs.Mapped.{map_in}
 use Rattle.board_space.specs.OneBoard.{one_board}
 use Rattle.board_space.specs.Rows.{Stands}
-use Rattle.board_space.specs.Settings.{Setting, asked_of, setting_of}
+use Rattle.board_space.specs.Settings.{Setting, asked_of}
 use Rattle.board_space.specs.Space.{KeepsEach, board_rules}
 use Rattle.board_space.proofs.EventNumbers.{small, below}
 use Rattle.board_space.proofs.Moves.{told_all, told_stays, keeps_each}

@@ -1,10 +1,9 @@
 -- A row's segments stand for one memory.
-use Rattle.std.proofs.Common.{ℕ, zero, suc, List, ◌≡◌, ◌+◌, ◌*◌, ◌/◌, ◌<◌, ◌≤◌, length, sym, ap, subst, ◌∙◌, inl, inr, arith}
+use Rattle.std.proofs.Common.{ℕ, zero, suc, List, ◌≡◌, ◌+◌, ◌*◌, ◌/◌, ◌<◌, ◌≤◌, length, sym, ap, ◌∙◌, inl, inr, arith}
 use Rattle.std.specs.Prelude.{slice_index}
 use Rattle.std.proofs.lemmas.Bool.{cases_lt, cases_eq}
 use Rattle.std.proofs.lemmas.List.{ext_get_or}
 use Rattle.ram.specs.Memory.{value, AreBytes}
-use Rattle.state_space.specs.Numbered.{words_of}
 use Rattle.state_space.specs.declared.interner.Interner.{Interner}
 use Rattle.board_space.specs.Layouts.{tracked_of}
 use Rattle.board_space.specs.Tracked.{IsTracked, segment}
