@@ -30,7 +30,7 @@ end. A board that was shut down keeps no memory: its end shows the reset reason.
 A kernel that never rests is stuck for this program.";
 
 const STATUS: &str = "\
-Failures, of each kind the one that comes after the fewest events:
+Failures, of each kind the first that is found:
   differs  two ends show different things, or one shows what is not expected
   stuck    from some board no order leads to an end
   traps    a hart stands after a trap that has no handler; an EBREAK is one

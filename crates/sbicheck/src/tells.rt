@@ -1,13 +1,15 @@
 //! What is told of a kernel, in words or as lines of JSON.
 
-use crate::facts::OwnOrder;
+use crate::facts::{OwnOrder, Verdict};
 use crate::given::{CheckOptions, FailureKind};
 use crate::json::{end_value, failure_value, kernel_value, own_value, search_value, verdict_value};
 use crate::judged::Judged;
 use crate::kernel::Kernel;
 use crate::looks::Look;
 use crate::script::script_of;
-use crate::texts::{write_failure, write_kernel, write_own, write_search, write_verdict};
+use crate::texts::{
+    write_failure, write_kernel, write_own, write_search, write_unseen, write_verdict,
+};
 use board_model::{Refusal, Shape, unwritten};
 use script_lang::write_script;
 use serde_json::Value;
@@ -82,6 +84,9 @@ fn tell_words<W: Write>(
     for failure in &judged.failures {
         let kinds = judged.kinds.as_slice();
         write_failure(out, failure, kinds, looks).map_err(|error| unwritten(error))?;
+    }
+    if judged.verdict == Verdict::Holds {
+        write_unseen(out, judged.kinds.as_slice(), looks).map_err(|error| unwritten(error))?;
     }
     let stop = judged.search.stop;
     write_verdict(out, judged.verdict, stop, options.asked).map_err(|error| unwritten(error))

@@ -214,6 +214,16 @@ fn write_ends<W: Write>(out: &mut W, kinds: &[EndKind], looks: &[Look]) -> io::R
     Ok(())
 }
 
+/// Writes what ends show where the kernel's own order came to none of them.
+pub fn write_unseen<W: Write>(out: &mut W, kinds: &[EndKind], looks: &[Look]) -> io::Result<()> {
+    for kind in kinds {
+        if kind.is_own {
+            return Ok(());
+        }
+    }
+    write_ends(out, kinds, looks)
+}
+
 /// A step of an order.
 #[derive(Drop)]
 struct StepText<'a>(&'a OrderStep);
