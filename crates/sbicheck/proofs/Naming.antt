@@ -48,8 +48,9 @@ pub forms_on : (Is : List ℕ → LookWord → Type 0) (words : List (Bor (List 
 forms_on Is words i d old before after look h (more, e, are) pushed is =
     let text = λ (w : Bor (List ℕ)). w.now in
     let eq : map text (take (i + 1) words) ≡ map text (take i words) ++ ((get_or words i d).now ∷ []) =
-        ap (map text) (take_more words i d h) ∙ map-append text (take i words) (get_or words i d ∷ []) in
-    (more ++ (look ∷ []),
-    pushed ∙ ap (λ (b : List LookWord). b ++ (look ∷ [])) e ∙ append_assoc old more (look ∷ []),
-    subst (λ (ws : List (List ℕ)). AreForms Is ws (more ++ (look ∷ []))) (sym eq)
-    (form_more Is (map text (take i words)) more (get_or words i d).now look are is))
+    ap (map text) (take_more words i d h) ∙ map-append text (take i words) (get_or words i d ∷ []) in (
+      more ++ (look ∷ []),
+      pushed ∙ ap (λ (b : List LookWord). b ++ (look ∷ [])) e ∙ append_assoc old more (look ∷ []),
+      subst (λ (ws : List (List ℕ)). AreForms Is ws (more ++ (look ∷ []))) (sym eq)
+          (form_more Is (map text (take i words)) more (get_or words i d).now look are is),
+    )

@@ -28,8 +28,8 @@ pub record IsBoard (options : CheckOptions) (size : Size) : Type 0 where
   pub lanes : size.lanes ≡ options.lanes
   pub sized : IsSize size
 
--- The kernel of a file is right by what is asked: on a board as it is asked for, each list of the events that are asked for that comes to an
--- end shows one and the same in what is looked at, as it is expected; and none comes to a board from which no end is reached.
+-- The kernel of a file is right by what is asked: on a board as it is asked for, each list of the events that are asked for that comes to
+-- an end shows one and the same in what is looked at, as it is expected; and none comes to a board from which no end is reached.
 pub record IsRight (options : CheckOptions) (bytes : List ℕ) : Type 0 where
   pub elf : Option Elf
   pub payload : List ℕ

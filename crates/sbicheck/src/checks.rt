@@ -215,9 +215,9 @@ fn tell_all<W: Write>(
 
 /// Checks a kernel whose file has those bytes, and writes what is told of it. Answers the verdict.
 ///
-/// It is `Holds` only where the kernel is right by what is asked: whatever the turns of its harts, the refusals, wakes, power cuts and power-ons
-/// that are asked for, and in whatever order and number they come, each end shows one and the same in what is looked at, as it is expected; and
-/// from each board that they lead to, an end is reached. The bytes and the options are those that were given.
+/// It is `Holds` only where the kernel is right by what is asked: whatever turns of its harts, refusals, wakes, power cuts and power-ons
+/// come, of those that are asked for, in whatever order and number, each end shows one and the same in what is looked at, as it is
+/// expected; and from each board that they lead to, an end is reached.
 pub fn check_bytes<W: Write>(
     alloc: Global,
     options: &CheckOptions,

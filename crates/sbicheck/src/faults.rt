@@ -1,5 +1,9 @@
 //! Why a program ends without a verdict.
 
+ghost use Rattle.std.specs.Prelude.{◌≡◌, Err};
+ghost use Rattle.command_line.specs.Faults.{status_after as status_of_fault};
+ghost use Rattle.sbicheck.specs.Verdicts.{status_without};
+
 use crate::given::FailureKind;
 use crate::kernel::KernelFault;
 use crate::looks::LookFault;
@@ -52,7 +56,9 @@ impl From<KernelFault> for CheckFault {
 }
 
 /// Tells a fault of a file or a refusal, and on a terminal what a refusal's number means. Answers the status.
-fn tell_told<F: Write + IsTerminal>(faults: &mut F, fault: &FileFault) -> u8 {
+fn tell_told<F: Write + IsTerminal>(faults: &mut F, fault: &FileFault) -> u8
+    ensures { result ≡ status_of_fault {A = Unit {0}} (Err fault.now.fault) }
+{
     tell_fault(faults, "sbicheck", fault);
     if faults.is_terminal() {
         explain_fault(faults, "sbicheck", fault);
@@ -83,7 +89,9 @@ fn tell_look<F: Write>(faults: &mut F, name: &str, why: LookFault) {
 }
 
 /// Tells why there is no verdict. Answers the status.
-pub fn tell<F: Write + IsTerminal>(faults: &mut F, fault: &CheckFault) -> u8 {
+pub fn tell<F: Write + IsTerminal>(faults: &mut F, fault: &CheckFault) -> u8
+    ensures { result ≡ status_without fault.now }
+{
     match fault {
         CheckFault::Usage => 2,
         CheckFault::Told(fault) => tell_told(faults, fault),

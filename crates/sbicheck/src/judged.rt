@@ -6,11 +6,11 @@ ghost use Rattle.sbicheck.specs.Shown.{AreIn};
 ghost use Rattle.sbicheck.specs.Tells.{HoldsAs};
 ghost use Rattle.sbicheck.specs.Verdicts.{verdict_of};
 
+use crate::expected::is_as_expected;
 use crate::facts::{
     EndKind, EndShown, Failure, OwnEnd, OwnOrder, SearchFacts, SharedWord, Stop, Verdict,
 };
 use crate::given::FailureKind;
-use crate::expected::is_as_expected;
 use crate::looks::Look;
 use crate::own::end_shown;
 use crate::places::data_text;

@@ -8,6 +8,6 @@ use Rattle.sbicheck.proofs.checks.judged.Goals as goal
 pub returns : goal.returns
 returns c = record {
   holds =
-    subst (λ (a : Asked). IfOk c.judge.result (λ (j : Judged). j.verdict ≡ Holds → HoldsAs a c.args.looks.now j.kinds.items))
-    c.in-Ok.ensures c.judge.ensures.holds;
+      subst (λ (a : Asked). IfOk c.judge.result (λ (j : Judged). j.verdict ≡ Holds → HoldsAs a c.args.looks.now j.kinds.items))
+      c.in-Ok.ensures c.judge.ensures.holds;
 }

@@ -12,7 +12,7 @@ loop-word-preserved c =
     let words = c.args.words.now in
     let item = c.word-item.result in
     let e : take (c.loop-word.word-index + 1) words ≡ take c.loop-word.word-index words ++ (item ∷ []) =
-        take_more words c.loop-word.word-index item (omega arith) ∙ ap (λ (w : LookWord). take c.loop-word.word-index words ++ (w ∷ [])) (sym c.word-item.is) in
+    take_more words c.loop-word.word-index item (omega arith) ∙ ap (λ (w : LookWord). take c.loop-word.word-index words ++ (w ∷ [])) (sym c.word-item.is) in
     let more = one_more c.args.kernel.now.elf _ _ item c.in_ok-look_of.field-0 c.loop-word.invariant.looks c.in_ok-look_of.ensures.look in
     record {
       looks = rw e (rw c.in_ok-push.ensures.items more);

@@ -24,11 +24,11 @@ loop-look-preserved c =
     let here = λ (memory : List ℕ). slice_range memory item.start to ≡ part in
     let after = λ (memory : List ℕ). looked (take (i + 1) looks) memory ++ others ≡ c.args.bytes.now in
     let step : (memory : List ℕ) → before memory → here memory → after memory = λ memory b h.
-        told_more looks memory i item (omega arith) c.look-item.is rest part others c.args.bytes.now parts b
-        (ap (slice_range memory item.start) (sym ends) ∙ h) in
+    told_more looks memory i item (omega arith) c.look-item.is rest part others c.args.bytes.now parts b
+    (ap (slice_range memory item.start) (sym ends) ∙ h) in
     let told = c.in_ok-is_rest-2.ensures.told c.if-not-branch-2.false in
     record {
       same = c.is_rest-in-loop-look.ensures.same ∙ c.loop-look.invariant.same;
       every = subst (λ (e : Asked). EveryOrder e (IsOnWith after)) (sym c.is_rest-in-loop-look.ensures.same)
-        (both_told c.loop-look.explored before here after step c.loop-look.invariant.every told);
+          (both_told c.loop-look.explored before here after step c.loop-look.invariant.every told);
     }
