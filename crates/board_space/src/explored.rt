@@ -206,6 +206,22 @@ impl Explored {
         Some(self.space.current())
     }
 
+    /// Puts the board of a row, to be looked at by `current`: the search stays as it is. Whether there is such a row.
+    pub fn show(&mut self, row: usize) -> bool
+        ensures { self.new ≡ self.old }
+    {
+        if self.graph.count() <= row {
+            return false;
+        }
+        self.space.show(self.graph.row(row));
+        true
+    }
+
+    /// The board that was put last.
+    pub fn current(&self) -> &Board {
+        self.space.current()
+    }
+
     /// The board with which the search began.
     pub fn first_board(&self) -> Result<Board, Refused>
         ensures board { IfOk result (λ b. b.board ≡ start_of self.now) }

@@ -1,0 +1,4 @@
+mod Simple
+pub mod Looking
+pub mod Telling
+pub mod Naming

@@ -1,0 +1,44 @@
+-- What a command line asks of a kernel, and what the verdict that nothing is wrong says of it. Source: docs/CHECKING.md.
+use Rattle.std.specs.Prelude.{◌≡◌, ◌≤◌, ℕ, List, Option, IfSome, length}
+use Rattle.board_model.specs.Shapes.{Size, IsSize, ram_bytes_of}
+use Rattle.board_space.specs.Space.{Asked}
+use Rattle.elf_image.specs.declared.kernel_file.Elf.{Elf}
+use Rattle.sbicheck.specs.Kernels.{IsKernelFile}
+use Rattle.sbicheck.specs.Looks.{AreLooks}
+use Rattle.sbicheck.specs.Shown.{AreIn}
+use Rattle.sbicheck.specs.Tells.{Holds}
+use Rattle.sbicheck.specs.declared.facts.EndShown.{EndShown}
+use Rattle.sbicheck.specs.declared.given.CheckOptions.{CheckOptions}
+use Rattle.sbicheck.specs.declared.looks.Look.{Look}
+
+-- on a board of that size, whose boot slot holds the payload
+abbrev pub asked_in : CheckOptions → Size → List ℕ → Asked
+asked_in options size payload = record {
+  size = size;
+  payload = payload;
+  reason = options.asked.reason;
+  cuts = options.asked.cuts;
+  refusals = options.asked.refusals;
+}
+
+-- the board that is asked for
+pub record IsBoard (options : CheckOptions) (size : Size) : Type 0 where
+  pub harts : size.harts ≡ options.harts
+  pub pages : IfSome options.pages (λ pages. size.pages ≡ pages)
+  pub lanes : size.lanes ≡ options.lanes
+  pub sized : IsSize size
+
+-- The kernel of a file is right by what is asked: on a board as it is asked for, each list of the events that are asked for that comes to
+-- an end shows one and the same in what is looked at, as it is expected; and none comes to a board from which no end is reached.
+pub record IsRight (options : CheckOptions) (bytes : List ℕ) : Type 0 where
+  pub elf : Option Elf
+  pub payload : List ℕ
+  pub size : Size
+  pub looks : List Look
+  pub end : EndShown
+  pub kernel : IsKernelFile bytes elf payload
+  pub board : IsBoard options size
+  pub fits : length payload ≤ ram_bytes_of size
+  pub looked : AreLooks elf options.looks.items looks
+  pub within : AreIn (ram_bytes_of size) looks
+  pub holds : Holds (asked_in options size payload) looks end

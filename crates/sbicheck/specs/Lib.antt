@@ -1,0 +1,9 @@
+pub mod Asks
+pub mod Kernels
+pub mod Looks
+pub mod Options
+pub mod Shown
+pub mod Sizes
+pub mod Tells
+pub mod Usage
+pub mod Verdicts

@@ -1,0 +1,53 @@
+-- What is told of every order. Source: docs/CHECKING.md, "What the verdict says, and what not".
+use Rattle.std.specs.Prelude.{◌≡◌, ℕ, List, [], ◌∷◌}
+use Rattle.board_model.specs.declared.durable.Reason.{Reason}
+use Rattle.model_board.specs.Boards.{Board, On, Off, Ended}
+use Rattle.model_board.specs.Events.{Event, GoesOn, IsEnd}
+use Rattle.state_space.specs.Orders.{Runs, CanEnd}
+use Rattle.board_space.specs.Space.{Asked, Happens, start_of}
+use Rattle.sbicheck.specs.Shown.{IsAsExpected, ShowsSome, looked}
+use Rattle.sbicheck.specs.declared.facts.EndKind.{EndKind}
+use Rattle.sbicheck.specs.declared.facts.EndShown.{EndShown}
+use Rattle.sbicheck.specs.declared.facts.EndShown.TheVariants as shown
+use Rattle.sbicheck.specs.declared.looks.Look.{Look}
+
+-- a board that is on, and whose memory that is so
+abbrev pub IsOnWith : (List ℕ → Type 0) → Board → Type 0
+IsOnWith Is (On l) = Is l.machine.memory
+IsOnWith Is (Off s) = ⊥
+IsOnWith Is (Ended s) = ⊥
+
+-- a board that was shut down for that reason
+abbrev pub EndsBy : Reason → Board → Type 0
+EndsBy why (On l) = ⊥
+EndsBy why (Off s) = ⊥
+EndsBy why (Ended s) = s.reason ≡ why
+
+-- its looks show these bytes, or it was shut down for that reason
+abbrev pub Shows : List Look → EndShown → Board → Type 0
+Shows looks (shown.On bytes) = IsOnWith (λ memory. looked looks memory ≡ bytes.items)
+Shows looks (shown.Shutdown why) = EndsBy why
+
+-- that is what a board shows, unless it is off
+abbrev pub ShownBy : List Look → Board → EndShown → Type 0
+ShownBy looks (On l) end = Shows looks end (On l)
+ShownBy looks (Off s) end = Unit {0}
+ShownBy looks (Ended s) end = Shows looks end (Ended s)
+
+-- Take any list of the events that are asked for. If they lead to an end, it shows this; and from the board that they lead to, some events
+-- that are no failures lead to an end.
+pub record EveryOrder (asked : Asked) (Shown : Board → Type 0) : Type 0 where
+  pub ends : (events : List Event) (last : Board) → Runs (Happens asked) events (start_of asked) last → IsEnd last → Shown last
+  pub no_dead_end : (events : List Event) (last : Board) → Runs (Happens asked) events (start_of asked) last
+      → CanEnd (Happens asked) GoesOn IsEnd last
+
+-- ---- the verdict that nothing is wrong
+-- every order ends, all ends show the same, that is what is expected, and it is something
+pub record Holds (asked : Asked) (looks : List Look) (end : EndShown) : Type 0 where
+  pub every : EveryOrder asked (Shows looks end)
+  pub expected : IsAsExpected looks end
+  pub some : ShowsSome looks end
+
+-- and no other kind of ends is told
+abbrev pub HoldsAs : Asked → List Look → List EndKind → Type 0
+HoldsAs asked looks kinds = (kind : EndKind) × (kinds ≡ kind ∷ []) × Holds asked looks kind.shown
