@@ -10,3 +10,4 @@ pub mod Dead
 pub mod Walked
 pub mod Stairs
 pub mod Bounded
+pub mod Priced

@@ -17,16 +17,22 @@ Turns {State} does turn p (suc n) from to = (mid : State) × does (turn p) from 
 abbrev pub Waits : {State Event : Type 0} → (Event → State → State → Type 0) → (ℕ → Event) → ℕ → ℕ → State → Type 0
 Waits does turn most p state = (n : ℕ) × (n < most) × Turns does turn p (suc n) state state
 
--- After the turn of that process, if there was one, a turn of p costs no switch.
+-- After the turn of that process, if there was one, a turn of p costs no switch. `waits g state`: g waits there.
+abbrev pub IsFreeBy : {State : Type 0} → (ℕ → State → Type 0) → Option ℕ → ℕ → State → Type 0
+IsFreeBy waits None p state = Unit {0}
+IsFreeBy waits (Some g) p state = (g ≡ p) ⊎ waits g state
+
 abbrev pub IsFree : {State Event : Type 0} → (Event → State → State → Type 0) → (ℕ → Event) → ℕ → Option ℕ → ℕ → State → Type 0
-IsFree does turn most None p state = Unit {0}
-IsFree does turn most (Some g) p state = (g ≡ p) ⊎ Waits does turn most g state
+IsFree does turn most = IsFreeBy (Waits does turn most)
 
 -- What is left after an event that is a turn of that process, or of none. An event of none is free, and so is what follows it.
+abbrev pub PaysBy : {State : Type 0} → (ℕ → State → Type 0) → Option ℕ → State → Budget → Budget → Type 0
+PaysBy waits None state w v = v ≡ record { last = None; left = w.left }
+PaysBy waits (Some p) state w v =
+    (v.last ≡ Some p) × ((IsFreeBy waits w.last p state × (v.left ≡ w.left)) ⊎ (w.left ≡ suc v.left))
+
 abbrev pub Pays : {State Event : Type 0} → (Event → State → State → Type 0) → (ℕ → Event) → ℕ → Option ℕ → State → Budget → Budget → Type 0
-Pays does turn most None state w v = v ≡ record { last = None; left = w.left }
-Pays does turn most (Some p) state w v =
-    (v.last ≡ Some p) × ((IsFree does turn most w.last p state × (v.left ≡ w.left)) ⊎ (w.left ≡ suc v.left))
+Pays does turn most = PaysBy (Waits does turn most)
 
 -- A list of events leads from one state to another, and pays what it costs. `by event` is the process whose turn it is.
 abbrev pub Within : {State Event : Type 0} → (Event → State → State → Type 0) → (ℕ → Event) → (Event → Option ℕ) → ℕ → List Event → State → Budget → State → Budget → Type 0

@@ -30,6 +30,14 @@ impl Successors {
         }
     }
 
+    /// How many numbers each row has.
+    #[inline]
+    pub fn width(&self) -> usize
+        ensures { result ≡ found_width self.now }
+    {
+        self.rows.width()
+    }
+
     /// Forgets all, and keeps the memory.
     #[inline]
     pub fn clear(&mut self)

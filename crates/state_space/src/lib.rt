@@ -18,6 +18,7 @@ mod probes;
 mod refusal;
 mod row_pool;
 mod rows;
+mod switched;
 mod systems;
 #[cfg(test)]
 mod tests;
@@ -39,6 +40,7 @@ pub use probes::Probed;
 pub use refusal::Refused;
 pub use row_pool::RowPool;
 pub use rows::Rows;
+pub use switched::{Preempted, Switching};
 pub use systems::{Expansion, System};
 pub use told::search_tells;
 pub use ways::way_to;

@@ -31,6 +31,14 @@ impl RowPool {
         }
     }
 
+    /// How many numbers each row has.
+    #[inline]
+    pub(crate) fn width(&self) -> usize
+        ensures { result ≡ self.now.width }
+    {
+        self.width
+    }
+
     /// Forgets all rows, and keeps the memory.
     #[inline]
     pub(crate) fn clear(&mut self)

@@ -1,0 +1,176 @@
+-- What a successor costs, and rows with what is left.
+use Rattle.std.proofs.Common.{◌≡◌, ◌⊎◌, ⊎_elim, inl, inr, ℕ, zero, suc, ◌+◌, ◌<◌, ◌≤◌, Bool, true, false, List, ◌∷◌, Option, Some, None, refl, sym, ap, ◌∙◌, subst, arith}
+use Rattle.std.specs.Prelude.{◌-◌, drop, take, length}
+use Rattle.std.proofs.lemmas.List.{take_all}
+use Rattle.std.proofs.lemmas.Bool.{cases_eq, cases_lt}
+use Rattle.state_space.specs.Bounded.{Budget, IsFreeBy, PaysBy, Richer}
+use Rattle.state_space.specs.Successors.{found_count, found_event, found_row}
+use Rattle.state_space.specs.OneWithin.{last_one, same_budget}
+use Rattle.state_space.specs.Switched.{Switched, within_rules, last_number, row_within, StandsWithin, IsPriced, IsSaid, IsListed, AreListed, IsTold}
+use Rattle.state_space.specs.Systems.{Rules, IsExpanded, Moves, UnlessHalts}
+use Rattle.state_space.specs.declared.systems.Expansion.{Expansion}
+use Rattle.state_space.specs.declared.systems.Expansion.TheVariants.{Goes, Ends, Halts}
+use Rattle.state_space.specs.declared.found.Successors.{Successors}
+
+true_false : (x : Bool) → x ≡ true → x ≡ false → ⊥
+true_false x is was = let e : true ≡ false = sym is ∙ was in cc
+
+own_free : {State : Type 0} (waits : ℕ → State → Type 0) (o : Option ℕ) (p : ℕ) (b : State) → o ≡ Some p → IsFreeBy waits o p b
+own_free waits o p b is = subst (λ (x : Option ℕ). IsFreeBy waits x p b) (sym is) (inl refl)
+
+pub priced_pays : {State : Type 0} (waits : ℕ → State → Type 0) (free : Bool) (w : Budget) (b : State) (who : Option ℕ) (u : Budget) → IsSaid waits free w b → IsPriced free w who u → PaysBy waits who b w u
+priced_pays waits free w b None u said priced = priced
+priced_pays waits free w b (Some p) u said priced = (
+  priced.0,
+  ⊎_elim
+      (λ x. inl (⊎_elim (λ is. said.all is p) (λ own. own_free waits w.last p b own) x.0, x.1))
+      (λ x. inr x.2)
+      priced.1,
+)
+
+pub can_pay : {State : Type 0} (waits : ℕ → State → Type 0) (free : Bool) (w : Budget) (b : State) (who : Option ℕ) (v : Budget) → IsSaid waits free w b → PaysBy waits who b w v → (u : Budget) × IsPriced free w who u × Richer u v
+can_pay waits free w b None v said pays = (v, pays, (refl, omega arith))
+can_pay waits free w b (Some p) v said pays = by free refl
+  where
+    stays : Budget
+    stays = record { last = Some p; left = w.left }
+
+    low : v.left ≤ w.left
+    low = ⊎_elim (λ x. omega (arith, x.1)) (λ x. omega (arith, x)) pays.1
+
+    by : (f : Bool) → free ≡ f → (u : Budget) × IsPriced free w (Some p) u × Richer u v
+    by true is = (record { last = Some p; left = w.left }, (refl, inl (inl is, refl)), (sym pays.0, low))
+    by false is =
+        let g = said.some is in
+        elim (cases_eq g.0 p) [
+          | inl e ↦ (record { last = Some p; left = w.left }, (refl, inl (inr (g.1 ∙ ap (λ (n : ℕ). Some n) e), refl)), (sym pays.0, low))
+          | inr other ↦ ⊎_elim
+              (λ x.
+              let free_by : IsFreeBy waits (Some g.0) p b = subst (λ (o : Option ℕ). IsFreeBy waits o p b) g.1 x.0 in
+              absurd (⊎_elim other g.2 free_by))
+              (λ x. (v, (pays.0, inr (is, (λ own. let e : Some g.0 ≡ Some p = sym g.1 ∙ own in let k : g.0 ≡ p = cc in other k), x)), (refl, omega arith)))
+              pays.1
+        ]
+
+-- ---- one budget at most is the price
+pub one_price : (free : Bool) (w : Budget) (who : Option ℕ) (u v : Budget) → IsPriced free w who u → IsPriced free w who v → v ≡ u
+one_price free w None u v a b = b ∙ sym a
+one_price free w (Some p) u v a b = same_budget v u (b.0 ∙ sym a.0) (⊎_elim
+    (λ x. ⊎_elim (λ y. y.1 ∙ sym x.1) (λ y. absurd (clash x.0 y.0 y.1)) b.1)
+    (λ x. ⊎_elim (λ y. absurd (clash y.0 x.0 x.1)) (λ y. omega (arith, x.2, y.2)) b.1)
+    a.1)
+  where
+    clash : (free ≡ true) ⊎ (w.last ≡ Some p) → free ≡ false → (w.last ≡ Some p → ⊥) → ⊥
+    clash so was other = ⊎_elim (λ is. true_false free is was) other so
+
+-- ---- successors one by one
+module _ (by : ℕ → Option ℕ) (free : Bool) (w : Budget) (inner : Successors) where
+  pub listed_none : (found : Successors) → found_count found ≡ 0 → AreListed by free w inner found 0
+  listed_none found none = record {
+    complete = λ i u lt priced. absurd (omega arith);
+    sound = λ k lt. absurd (omega (arith, none));
+  }
+
+  kept : (old new : Successors) (i k : ℕ) (u : Budget) → found_count old ≤ found_count new → ((j : ℕ) → j < found_count old → (found_event new j ≡ found_event old j) × (found_row new j ≡ found_row old j)) → IsListed inner old i u k → IsListed inner new i u k
+  kept old new i k u le grown is = record {
+    within = omega (arith, le, is.within);
+    event = (grown k is.within).0 ∙ is.event;
+    row = (grown k is.within).1 ∙ is.row;
+  }
+
+  pub listed_more : (old new : Successors) (n : ℕ) → AreListed by free w inner old n → IsTold by free w inner old new n → AreListed by free w inner new (n + 1)
+  listed_more old new n listed step = ⊎_elim one_more none_more step.told
+    where
+      one_more : (u : Budget) × IsPriced free w (by (found_event inner n)) u × ((v : Budget) → IsPriced free w (by (found_event inner n)) v → v ≡ u) × (found_count new ≡ found_count old + 1) × IsListed inner new n u (found_count old) → AreListed by free w inner new (n + 1)
+      one_more x = record {
+        complete = λ i v lt priced. ⊎_elim
+            (λ below. let was = listed.complete i v below priced in (was.0, kept old new i was.0 v (omega (arith, x.3)) step.grown was.1))
+            (λ last.
+            let is : i ≡ n = omega (arith, last, lt) in
+            let same : v ≡ x.0 = x.2 v (subst (λ (m : ℕ). IsPriced free w (by (found_event inner m)) v) is priced) in
+            (found_count old, subst (λ (m : ℕ). IsListed inner new m v (found_count old)) (sym is) (subst (λ (b : Budget). IsListed inner new n b (found_count old)) (sym same) x.4)))
+            (cases_lt i n);
+        sound = λ k lt. ⊎_elim
+            (λ below. let was = listed.sound k below in (was.0, was.1, omega (arith, was.2), was.3, kept old new was.0 k was.1 (omega (arith, x.3)) step.grown was.4))
+            (λ last.
+            let is : k ≡ found_count old = omega (arith, last, lt, x.3) in
+            (n, x.0, omega arith, x.1, subst (λ (m : ℕ). IsListed inner new n x.0 m) (sym is) x.4))
+            (cases_lt k (found_count old));
+      }
+
+      none_more : (found_count new ≡ found_count old) × ((v : Budget) → IsPriced free w (by (found_event inner n)) v → ⊥) → AreListed by free w inner new (n + 1)
+      none_more x = record {
+        complete = λ i v lt priced. ⊎_elim
+            (λ below. let was = listed.complete i v below priced in (was.0, kept old new i was.0 v (omega (arith, x.0)) step.grown was.1))
+            (λ last.
+            let is : i ≡ n = omega (arith, last, lt) in
+            absurd (x.1 v (subst (λ (m : ℕ). IsPriced free w (by (found_event inner m)) v) is priced)))
+            (cases_lt i n);
+        sound = λ k lt.
+            let was = listed.sound k (omega (arith, x.0, lt)) in
+            (was.0, was.1, omega (arith, was.2), was.3, kept old new was.0 k was.1 (omega (arith, x.0)) step.grown was.4);
+      }
+
+-- ---- all of them
+pub expanded_within : {State : Type 0} (rules : Rules State) (by : ℕ → Option ℕ) (waits : ℕ → State → Type 0) (switches : ℕ) (stands : List ℕ → State → Type 0) (free : Bool) (w : Budget) (b : State) (inner found : Successors)
+    → IsSaid waits free w b → IsExpanded rules stands (found_count inner) (found_event inner) (found_row inner) b → AreListed by free w inner found (found_count inner)
+    → IsExpanded (within_rules rules by waits switches) (StandsWithin stands) (found_count found) (found_event found) (found_row found) (record { state = b; budget = w })
+expanded_within rules by waits switches stands free w b inner found said expanded listed = record {
+  keeps = expanded.keeps;
+  complete = λ e mid step.
+      let was = expanded.complete e mid.state step.0 in
+      let pay = can_pay waits free w b (by e) mid.budget said step.1 in
+      let priced : IsPriced free w (by (found_event inner was.0)) pay.0 = subst (λ (n : ℕ). IsPriced free w (by n) pay.0) (sym was.3) pay.1 in
+      let k = listed.complete was.0 pay.0 was.2 priced in
+      (k.0, record { state = was.1; budget = pay.0 }, k.1.within, k.1.event ∙ was.3, (was.4, pay.2), (found_row inner was.0, k.1.row, was.5));
+  sound = λ k lt.
+      let i = listed.sound k lt in
+      let to = expanded.sound i.0 i.2 in (
+        record { state = to.0; budget = i.1 },
+        (
+          record { state = to.1.0; budget = i.1 },
+          (subst (λ (n : ℕ). rules.steps n b to.1.0) (sym i.4.event) to.1.1, subst (λ (n : ℕ). PaysBy waits (by n) b w i.1) (sym i.4.event) (priced_pays waits free w b (by (found_event inner i.0)) i.1 said i.3)),
+          (to.1.2, (refl, omega arith)),
+        ),
+        (found_row inner i.0, i.4.row, to.2),
+      );
+}
+
+-- ---- the price as two numbers
+abbrev pub IsPaid : Bool → ℕ → ℕ → Option ℕ → ℕ → ℕ → Type 0
+IsPaid free last left who a b =
+    (w : Budget) → last ≡ last_number w.last → left ≡ w.left → (u : Budget) × (a ≡ last_number u.last) × (b ≡ u.left) × IsPriced free w who u
+
+pub none_paid : (free : Bool) (last left : ℕ) → IsPaid free last left None 0 left
+none_paid free last left w is has = (record { last = None; left = w.left }, refl, has, refl)
+
+pub own_paid : (free : Bool) (last left p : ℕ) → (free ≡ true) ⊎ (last ≡ p + 1) → IsPaid free last left (Some p) (p + 1) left
+own_paid free last left p so w is has = (
+  record { last = Some p; left = w.left },
+  omega arith,
+  has,
+  (refl, inl (⊎_elim (λ x. inl x) (λ x. inr (last_one w.last (Some p) (sym is ∙ (x ∙ omega arith)))) so, refl)),
+)
+
+pub other_paid : (free : Bool) (last left p rest : ℕ) → free ≡ false → (last ≡ p + 1 → ⊥) → left ≡ rest + 1 → IsPaid free last left (Some p) (p + 1) rest
+other_paid free last left p rest not other one w is has = (
+  record { last = Some p; left = rest },
+  omega arith,
+  refl,
+  (refl, inr (not, (λ own. other (is ∙ (ap last_number own ∙ omega arith))), (sym has ∙ (one ∙ omega arith)))),
+)
+
+pub none_left : (free : Bool) (last left p : ℕ) → free ≡ false → (last ≡ p + 1 → ⊥) → left ≡ 0 → (w u : Budget) → last ≡ last_number w.last → left ≡ w.left → IsPriced free w (Some p) u → ⊥
+none_left free last left p not other none w u is has priced = ⊎_elim
+    (λ x. ⊎_elim (λ so. true_false free so not) (λ own. other (is ∙ (ap last_number own ∙ omega arith))) x.0)
+    (λ x. omega (arith, none, has, x.2))
+    priced.1
+
+-- ---- a row without its first two numbers
+pub after_two : (row : List ℕ) (w : Budget) (inner : List ℕ) → row ≡ row_within w inner → take (length row - 2) (drop 2 row) ≡ inner
+after_two row w inner is = ap (λ (r : List ℕ). take (length r - 2) (drop 2 r)) is ∙ take_all (length (row_within w inner) - 2) inner (omega arith)
+
+pub lifted : (said : Expansion) (P Q : Type 0) → (P → Q) → UnlessHalts said P → UnlessHalts said Q
+lifted Goes P Q so is = so is
+lifted Ends P Q so is = so is
+lifted Halts P Q so is = is
