@@ -14,3 +14,5 @@ pub mod AllShown
 pub mod Tracking
 pub mod Stuck
 pub mod Answered
+pub mod Few
+pub mod Waiting

@@ -13,3 +13,5 @@ pub mod Settings
 pub mod Shown
 pub mod WaysOf
 pub mod Explorations
+pub mod Few
+pub mod FewSearched

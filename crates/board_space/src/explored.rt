@@ -37,7 +37,7 @@ pub struct Question<'a> {
 }
 
 /// How often a search starts over with a wider map before it is given up.
-const MOST_MAPS: u32 = 10_000;
+pub(crate) const MOST_MAPS: u32 = 10_000;
 
 /// The boards that some events lead to from one that was never on, as far as the search went.
 #[derive(Drop)]

@@ -5,10 +5,12 @@
 mod board_rows;
 mod differs;
 mod explored;
+mod explored_few;
 mod happenings;
 mod keys;
 mod orders;
 mod outcomes;
+mod preempted;
 mod records;
 mod row_layout;
 mod seeds;
@@ -20,8 +22,9 @@ mod tests;
 
 pub use board_rows::BoardRows;
 pub use explored::{Explored, Question, explore_board};
+pub use explored_few::{ExploredFew, explore_few};
 pub use happenings::Happening;
-pub use orders::{StandsFor, every_order};
+pub use orders::{StandsFor, every_order, few_switches};
 pub use outcomes::Outcome;
 pub use records::{Recorded, Records};
 pub use row_layout::Layout;

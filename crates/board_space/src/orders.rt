@@ -10,6 +10,8 @@ ghost use Rattle.state_space.specs.Deads.{ReachesEnd};
 ghost use Rattle.state_space.specs.Systems.{Moves};
 ghost use Rattle.state_space.specs.Ways.{IsWay};
 ghost use Rattle.state_space.specs.declared.graph.Graph.{Graph};
+ghost use Rattle.state_space.specs.Switched.{StandsWithin};
+ghost use Rattle.board_space.specs.Few.{few_rules, RunsFew, StandsFew};
 ghost use Rattle.board_space.specs.Space.{Asked, Happens, Settles, start_of, board_rules, GoesBy};
 
 /// What rows of numbers stand for. It stands in contracts alone.
@@ -54,6 +56,26 @@ pub fn every_order<S: StandsFor>()
         → ((r : List ℕ) (b c : Board) → S.stands tables r b → S.stands tables r c → b ≡ c)
         → IsSearched (board_rules asked map) (S.stands tables) graph
         → (b : Board) → IsFound (S.stands tables) graph b → Leads (Happens asked) (start_of asked) b }
+{
+    model_board::one_hart_moves();
+}
+
+/// The same of the orders in which few harts are preempted, where the search of the boards with what is left of the switches is closed.
+///
+/// - `ends`: an end that such an order leads to is the board of a row of the graph.
+/// - `no_dead_end`: where each row reaches an end by events that are no failures, some such events lead from such a board to an end.
+pub fn few_switches<S: StandsFor>()
+    ensures ends { (asked : Asked) (map : Map) (switches : ℕ) (tables : S.Tables) (graph : Graph)
+        → ((r : List ℕ) (b c : Board) → S.stands tables r b → S.stands tables r c → b ≡ c)
+        → IsSearched (few_rules asked map switches) (StandsWithin (S.stands tables)) graph → expanded_of graph ≡ count_of graph
+        → asked.size.harts ≤ 8 → (events : List Event) (last : Board) → RunsFew asked switches events last
+        → IsEnd last → IsFound (StandsFew (S.stands tables)) graph last }
+    ensures no_dead_end { (asked : Asked) (map : Map) (switches : ℕ) (tables : S.Tables) (graph : Graph)
+        → ((r : List ℕ) (b c : Board) → S.stands tables r b → S.stands tables r c → b ≡ c)
+        → IsSearched (few_rules asked map switches) (StandsWithin (S.stands tables)) graph → expanded_of graph ≡ count_of graph
+        → asked.size.harts ≤ 8 → ((k : ℕ) → k < count_of graph → ReachesEnd (GoesBy asked) graph k)
+        → (events : List Event) (last : Board) → RunsFew asked switches events last
+        → CanEnd (Happens asked) GoesOn IsEnd last }
 {
     model_board::one_hart_moves();
 }

@@ -1,6 +1,6 @@
 //! What a search tells of two kernels of one hart.
 
-ghost use Rattle.std.specs.Prelude.{◌≤◌, IfOk, length};
+ghost use Rattle.std.specs.Prelude.{◌≡◌, ◌≤◌, IfOk, length};
 ghost use Rattle.board_model.specs.Shapes.{ram_bytes_of};
 
 use super::*;
@@ -15,30 +15,51 @@ const RESTS: [u8; 4] = [0x6f, 0, 0, 0];
 /// `nop` and `j -4`: the hart goes round for ever.
 const GOES_ROUND: [u8; 8] = [0x13, 0, 0, 0, 0x6f, 0xf0, 0xdf, 0xff];
 
-/// A kernel in every order of its harts, wherever power fails and whatever the store refuses.
-fn explored(alloc: Global, payload: &[u8]) -> Result<Explored, Fail>
-    ensures { IfOk result (λ e. 4 ≤ ram_bytes_of e.size) }
+/// A board of two harts with a page of RAM.
+fn small_board() -> Result<Shape, Fail>
+    ensures { IfOk result (λ shape. 8 ≤ ram_bytes_of shape) }
 {
     let shape = Shape::new(2, 1, 1)?;
-    if shape.ram_bytes() < 4 || shape.ram_bytes() < payload.len() {
+    if shape.ram_bytes() < 8 {
         return Err("no room".into());
     }
-    Ok(explore_board(
-        alloc,
-        &Question {
-            shape,
-            payload,
-            reason: Reason::NoReason,
-            failures: Failures {
-                cuts: true,
-                refusals: true,
-            },
-            limits: Limits {
-                rows: 100,
-                bytes: 10_000_000,
-            },
+    Ok(shape)
+}
+
+/// A kernel wherever power fails and whatever the store refuses.
+fn asked<'a>(shape: Shape, payload: &'a [u8]) -> Question<'a>
+    ensures shape { result.shape ≡ shape }
+    ensures payload { result.payload.now ≡ payload.now }
+{
+    Question {
+        shape,
+        payload,
+        reason: Reason::NoReason,
+        failures: Failures {
+            cuts: true,
+            refusals: true,
         },
-    )?)
+        limits: Limits {
+            rows: 100,
+            bytes: 10_000_000,
+        },
+    }
+}
+
+/// Every order of a kernel.
+fn explored(alloc: Global, payload: &[u8]) -> Result<Explored, Fail>
+    requires { length payload.now ≤ 8 }
+    ensures { IfOk result (λ e. 4 ≤ ram_bytes_of e.size) }
+{
+    Ok(explore_board(alloc, &asked(small_board()?, payload))?)
+}
+
+/// The orders in which one hart at most is preempted.
+fn explored_few(alloc: Global, payload: &[u8]) -> Result<ExploredFew, Fail>
+    requires { length payload.now ≤ 8 }
+    ensures { IfOk result (λ e. 4 ≤ ram_bytes_of e.asked.size) }
+{
+    Ok(explore_few(alloc, &asked(small_board()?, payload), 1)?)
 }
 
 #[test]
@@ -64,4 +85,18 @@ fn a_kernel_that_goes_round_comes_to_no_end(rt: HostRuntime) -> Result<(), Fail>
         return Err("an outcome".into());
     }
     Ok(())
+}
+
+#[test]
+fn few_orders_of_a_kernel_that_rests_show_its_memory(rt: HostRuntime) -> Result<(), Fail> {
+    let mut explored = explored_few(rt.alloc(), &RESTS)?;
+    assert_eq!(rt; explored.verdict(), Verdict::Closed);
+    assert_eq!(rt; explored.first_dead()?, None);
+    match explored.outcome(0, 4)? {
+        Some(Outcome::Rests(bytes)) => {
+            assert_eq!(rt; bytes.as_slice(), RESTS.as_slice());
+            Ok(())
+        }
+        _ => Err("no outcome".into()),
+    }
 }

@@ -110,6 +110,14 @@ impl<S: Preempted> Switching<S> {
         }
     }
 
+    /// The system, once it is searched or its search was refused.
+    pub fn into_system(self) -> S
+        ensures { result ≡ self.system }
+    {
+        let Switching { system, .. } = self;
+        system
+    }
+
     /// Whether no process made the last turn, or one that waits.
     fn is_free(&mut self, row: &[u32], last: u32) -> Result<bool, Refused>
         requires known { (b : S.State) × S.stands self.old.system row.now b }

@@ -1,0 +1,49 @@
+use Rattle.std.proofs.Common.{ℕ, List, ◌≡◌, ◌∙◌, ◌<◌, ◌≤◌, IfOk, IfSome, Some, sym, subst, arith}
+use Rattle.model_board.specs.Boards.{Board}
+use Rattle.model_board.specs.Events.{Event, GoesOn, IsEnd}
+use Rattle.state_space.specs.Deads.{ReachesEnd}
+use Rattle.state_space.specs.Graphs.{count_of, expanded_of}
+use Rattle.state_space.specs.Orders.{CanEnd}
+use Rattle.board_space.specs.Few.{AskedFew, RunsFew, StandsFew}
+use Rattle.board_space.specs.Mapped.{map_in}
+use Rattle.board_space.specs.OneBoard.{one_board}
+use Rattle.board_space.specs.Rows.{Stands}
+use Rattle.board_space.specs.Settings.{asked_of}
+use Rattle.board_space.specs.Shown.{AllShow, Shows}
+use Rattle.board_space.specs.Space.{GoesBy, Happens}
+use Rattle.board_space.proofs.Answered.{ok_some, at_none}
+use Rattle.board_space.proofs.explored_few.ExploredFew.outcome.Goals as goal
+
+pub returns-clause-ends : goal.returns-clause-ends
+returns-clause-ends c =
+    let space = c.self.inside.space in
+    let graph = c.self.inside.graph in
+    let asked = asked_of space in
+    let switches = c.self.inside.switches in
+    let small : asked.size.harts ≤ 8 = omega (arith, c.harts-few.ensures.count, c.harts-few.ensures.few) in
+    let from = c.args.from in
+    let to = c.args.to in
+    let all : expanded_of graph ≡ count_of graph = sym c.expanded.ensures ∙ (c.if-expanded-count.false ∙ c.count.ensures) in
+    subst (λ (a : AskedFew). IfOk c.shown_by_few.result (λ found. IfSome found (λ outcome. (events : List Event) (last : Board) → RunsFew a.asked a.switches events last → IsEnd last → Shows from to outcome last))) c.self.view_is
+    (ok_some c.shown_by_few.result (λ outcome. AllShow from to (StandsFew (Stands space.rows)) graph (expanded_of graph) (Some outcome)) (λ outcome. (events : List Event) (last : Board) → RunsFew asked switches events last → IsEnd last → Shows from to outcome last)
+    (λ outcome shown events last run end.
+    let found = c.few_switches.ensures.ends asked (map_in space.map) switches space graph (λ r b d x y. one_board space.rows r b d x y) c.self.invariant all small events last run end in
+    let low : found.0 < expanded_of graph = omega (arith, all, found.1) in
+    shown found.0 last low ((c.self.invariant.ends found.0 (record { state = last; budget = found.2.0 }) low found.2.1).1 end) found.2)
+    c.shown_by_few.ensures.all)
+
+pub returns-clause-no_dead_end : goal.returns-clause-no_dead_end
+returns-clause-no_dead_end c =
+    let space = c.self.inside.space in
+    let graph = c.self.inside.graph in
+    let asked = asked_of space in
+    let switches = c.self.inside.switches in
+    let small : asked.size.harts ≤ 8 = omega (arith, c.harts-few.ensures.count, c.harts-few.ensures.few) in
+    let from = c.args.from in
+    let to = c.args.to in
+    let all : expanded_of graph ≡ count_of graph = sym c.expanded.ensures ∙ (c.if-expanded-count.false ∙ c.count.ensures) in
+    let each : (k : ℕ) → k < count_of graph → ReachesEnd (GoesBy asked) graph k = at_none c.in_ok-first_dead.field-0 ((k : ℕ) → k < count_of graph → ReachesEnd (GoesBy asked) graph k) (sym c.if-is_some.false ∙ c.is_some.ensures) c.in_ok-first_dead.ensures.none in
+    subst (λ (a : AskedFew). IfOk c.shown_by_few.result (λ found. IfSome found (λ outcome. (events : List Event) (last : Board) → RunsFew a.asked a.switches events last → CanEnd (Happens a.asked) GoesOn IsEnd last))) c.self.view_is
+    (ok_some c.shown_by_few.result (λ outcome. AllShow from to (StandsFew (Stands space.rows)) graph (expanded_of graph) (Some outcome)) (λ outcome. (events : List Event) (last : Board) → RunsFew asked switches events last → CanEnd (Happens asked) GoesOn IsEnd last)
+    (λ outcome shown events last run. c.few_switches.ensures.no_dead_end asked (map_in space.map) switches space graph (λ r b d x y. one_board space.rows r b d x y) c.self.invariant all small each events last run)
+    c.shown_by_few.ensures.all)

@@ -1,0 +1,42 @@
+use Rattle.std.proofs.Common.{ℕ, List, true, false, ◌≡◌, ◌∙◌, ◌<◌, Option, IfSome, sym, subst, arith}
+use Rattle.model_board.specs.Boards.{Board}
+use Rattle.state_space.specs.Graphs.{count_of, expanded_of, row_at}
+use Rattle.board_space.specs.Few.{StandsFew}
+use Rattle.board_space.specs.Rows.{Stands}
+use Rattle.board_space.specs.Shown.{Shows}
+use Rattle.board_space.specs.declared.outcomes.Outcome.{Outcome}
+use Rattle.board_space.specs.declared.board_rows.BoardRows.{BoardRows}
+use Rattle.board_space.proofs.AllShown.{show_other, show_next, show_all}
+use Rattle.board_space.proofs.showing.shown_by_few.Goals as goal
+use Rattle.board_space.proofs.showing.shown_by_few.Goals.{then-is_end+in_ok-outcome+in-Some+else-not-agrees, else-is_end}
+
+pub shown_few-requires-clause-known : goal.shown_few-requires-clause-known
+shown_few-requires-clause-known c =
+    let low : c.loop-row.row < count_of c.args.graph.now = omega (arith, c.loop-row-test.true, c.expanded-row-end.ensures, c.requires.searched.most) in
+    let known = c.requires.searched.known c.loop-row.row low in
+    let few : StandsFew (Stands c.args.space.now.rows) (row_at c.args.graph.now c.loop-row.row) known.0.state = (known.0.budget, known.1) in
+    (known.0.state, subst (λ (r : BoardRows). StandsFew (Stands r) c.row.result.now known.0.state) (sym c.loop-row.invariant.rows) (subst (λ (l : List ℕ). StandsFew (Stands c.args.space.now.rows) l known.0.state) (sym c.row.ensures.row) few))
+
+pub loop-row-preserved : goal.loop-row-preserved
+loop-row-preserved c =
+    let until = c.loop-row.invariant in
+    elim c.if-is_end.branch [
+      | then-is_end+in_ok-outcome+in-Some+else-not-agrees w ↦
+          rw (w.space-is, w.all-is) (record {
+            rows = w.in_ok-outcome.ensures.rows ∙ until.rows;
+            setting = w.in_ok-outcome.ensures.setting ∙ until.setting;
+            all = show_next c.args.from c.args.to (StandsFew (Stands c.args.space.now.rows)) c.args.graph.now c.loop-row.row c.loop-row.all w.in-Some.outcome (w.agrees.ensures w.if-not-agrees.false)
+                (λ b stands. (subst (λ (o : Option Outcome). IfSome o (λ outcome. (b : Board) → StandsFew (Stands c.loop-row.space.rows) w.row.result.now b → Shows c.args.from c.args.to outcome b)) w.in-Some.is w.in_ok-outcome.ensures.shows) b (subst (λ (r : BoardRows). StandsFew (Stands r) w.row.result.now b) (sym until.rows) (subst (λ (l : List ℕ). StandsFew (Stands c.args.space.now.rows) l b) (sym w.row.ensures.row) stands)))
+                until.all;
+          })
+      | else-is_end w ↦
+          rw (w.space-is, w.all-is) (record {
+            rows = until.rows;
+            setting = until.setting;
+            all = show_other c.args.from c.args.to (StandsFew (Stands c.args.space.now.rows)) c.args.graph.now c.loop-row.row c.loop-row.all (λ end. let e : true ≡ false = sym end.1 ∙ (sym c.is_end.ensures ∙ w.if-is_end.false) in cc) until.all;
+          })
+    ]
+
+pub returns-clause-all : goal.returns-clause-all
+returns-clause-all c =
+    show_all c.args.from c.args.to (StandsFew (Stands c.args.space.now.rows)) c.args.graph.now c.loop-row.row (expanded_of c.args.graph.now) c.loop-row.all (omega (arith, c.loop-row-test.false, c.loop-row.auto.row-end, c.expanded-row-end.ensures)) c.loop-row.invariant.all

@@ -1,0 +1,13 @@
+use Rattle.std.proofs.Common.{◌≡◌}
+use Rattle.board_space.specs.Few.{StandsFew}
+use Rattle.board_space.specs.Rows.{Stands}
+use Rattle.board_space.specs.Settings.{setting_of}
+use Rattle.board_space.specs.Shown.{AllShow}
+use Rattle.board_space.proofs.showing.shown_by_few.Given as goal
+
+abbrev pub invariant-loop-row : goal.invariant-loop-row
+invariant-loop-row l = record {
+  rows : l.space.rows ≡ l.fn.space.rows;
+  setting : setting_of l.space ≡ setting_of l.fn.space;
+  all : AllShow l.from l.to (StandsFew (Stands l.fn.space.rows)) l.graph l.row l.all;
+}
