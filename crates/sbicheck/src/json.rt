@@ -1,4 +1,4 @@
-//! The verdict as lines of JSON, an object each (docs/CHECKING.md, "Lines of JSON").
+//! The verdict as lines of JSON, an object each (docs/CHECKING.md, "Statuses, and lines of JSON").
 
 use crate::facts::{
     EndKind, EndShown, Failure, HartFacts, OrderStep, OwnEnd, OwnOrder, RunEnd, SearchFacts, Stop,
