@@ -19,8 +19,6 @@ mod places;
 mod program;
 mod script;
 mod tells;
-#[cfg(test)]
-mod tests;
 mod texts;
 mod told;
 mod walks;
