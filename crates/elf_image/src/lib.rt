@@ -19,6 +19,3 @@ pub use fault::ElfFault;
 pub use header::is_elf;
 pub use kernel_file::{Elf, parse};
 pub use symbols::Symbol;
-
-#[cfg(test)]
-mod tests;

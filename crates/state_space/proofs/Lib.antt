@@ -8,6 +8,5 @@ pub mod Tells
 pub mod Growth
 pub mod Dead
 pub mod Walked
-pub mod Stairs
 pub mod Bounded
 pub mod Priced

@@ -1,8 +1,6 @@
 //! The search of any system of states and events.
 #![tactic(auto)]
 
-#[cfg(test)]
-mod climbs;
 mod distinct;
 mod ends;
 mod explores;
@@ -20,8 +18,6 @@ mod row_pool;
 mod rows;
 mod switched;
 mod systems;
-#[cfg(test)]
-mod tests;
 mod told;
 mod ways;
 mod word_pool;

@@ -9,6 +9,3 @@ mod stories;
 pub use asks::{Asked, Seen};
 pub use laws::images_go_on_once;
 pub use stories::{story, story_on};
-
-#[cfg(test)]
-mod tests;

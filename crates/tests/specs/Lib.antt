@@ -1,3 +1,4 @@
 pub mod Begun
 pub mod Crowd
 pub mod Race
+pub mod Stairs

@@ -12,6 +12,8 @@ mod boards;
 #[cfg(test)]
 mod caches;
 #[cfg(test)]
+mod climbs;
+#[cfg(test)]
 mod commands;
 #[cfg(test)]
 mod crews;
@@ -19,6 +21,8 @@ mod crews;
 mod crowd;
 #[cfg(test)]
 mod decoder;
+#[cfg(test)]
+mod disk_stories;
 #[cfg(test)]
 mod dozing;
 #[cfg(test)]
@@ -40,9 +44,13 @@ mod guest;
 #[cfg(test)]
 mod inputs;
 #[cfg(test)]
+mod interned;
+#[cfg(test)]
 mod kept;
 #[cfg(test)]
 mod kept_back;
+#[cfg(test)]
+mod kernel_files;
 #[cfg(test)]
 mod last_bytes;
 #[cfg(test)]

@@ -1,6 +1,5 @@
 //! A handful of stories, each as docs/DURABLE.md and docs/STORE.md have it.
 
-use crate::{Asked, Seen, story};
 use board_model::{Addr, Command, HartId, Shape};
 use crew::Sequential;
 use disk::ArmedFault;
@@ -10,6 +9,7 @@ use std::alloc::Global;
 use std::process::Abort;
 use std::thread::Threads;
 use store::Resumption;
+use story::{Asked, Seen, story};
 
 /// What is asked. A memory that is suspended begins and ends with these doubles.
 #[derive(Clone, Copy)]

@@ -4,7 +4,7 @@ use Rattle.std.proofs.lemmas.Bool.{cases_lt}
 use Rattle.state_space.specs.declared.found.Successors.{Successors}
 use Rattle.state_space.specs.Successors.{found_count, found_event, found_row}
 use Rattle.state_space.specs.Systems.{IsExpanded}
-use Rattle.state_space.specs.Stairs.{climbing}
+use Rattle.tests.specs.Stairs.{climbing}
 
 -- below the top there are two
 pub expanded_below : (b count : ℕ) (event : ℕ → ℕ) (row : ℕ → List ℕ) → b < 5 → count ≡ 2 → event 0 ≡ 0 → event 1 ≡ 1 → row 0 ≡ (b + 1) ∷ [] → row 1 ≡ 0 ∷ [] → IsExpanded climbing (λ r c. r ≡ c ∷ []) count event row b

@@ -1,7 +1,9 @@
 //! What a search tells of a toy: somebody goes up five stairs one by one, and from each but the last he may fall to the ground. The third
 //! is his goal. There is no way down but a fall, which is a failure: so who is past the third comes to no end.
 
-use super::*;
+use state_space::{
+    Expansion, Limits, Refused, Successors, System, Verdict, explore, first_dead, way_to,
+};
 use std::alloc::Global;
 use std::test::Fail;
 
@@ -17,7 +19,7 @@ struct Climb {
 
 impl System for Climb {
     ghost use Rattle.std.specs.Prelude.{◌≡◌, ℕ, [], ◌∷◌, slice_index};
-    ghost use Rattle.state_space.specs.Stairs.{climbing};
+    ghost use Rattle.tests.specs.Stairs.{climbing};
     ghost use Rattle.std.proofs.Common.{sym, ap, ◌∙◌};
 
     ghost State = { ℕ };

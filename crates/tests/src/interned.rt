@@ -1,6 +1,6 @@
-//! What no clause says: that memory which is there suffices, and each store once on its way.
+//! Stores of a search: that memory which is there suffices, and each store once on its way.
 
-use super::*;
+use state_space::{Interner, Rows};
 use std::test::Fail;
 
 #[test]

@@ -1,6 +1,6 @@
 use Rattle.std.proofs.Common.{◌≡◌, ◌+◌, [], ◌∷◌, slice_index, ap, ◌∙◌, arith}
-use Rattle.state_space.proofs.Stairs.{expanded_pushed}
-use Rattle.state_space.proofs.climbs.ClimbSystem.expand.Goals as goal
+use Rattle.tests.proofs.Stairs.{expanded_pushed}
+use Rattle.tests.proofs.climbs.ClimbSystem.expand.Goals as goal
 
 pub returns-then-stair-eq3-clause-successors : goal.returns-then-stair-eq3-clause-successors
 returns-then-stair-eq3-clause-successors c b has =

@@ -2,7 +2,7 @@
 
 mod trapped;
 
-use crate::{Elf, ElfFault, is_elf, parse};
+use elf_image::{Elf, ElfFault, is_elf, parse};
 use std::alloc::Global;
 use std::process::Abort;
 use trapped::{FILE, MEMORY};
