@@ -20,7 +20,7 @@ static long sleep(void)
 
 static void add(u64 number)
 {
-    u64 sum = shown[SHOWN_SUM] + number * number;
+    u64 sum __attribute__((unused)) = shown[SHOWN_SUM] + number * number;
 #if MISTAKE == 0
     /* The sum and how far it goes change together: each image has both, or none of both. The answer of the sleep is not needed. */
     shown[SHOWN_SUM] = sum;
@@ -33,10 +33,13 @@ static void add(u64 number)
     if (sleep() == SBI_SUCCESS)
         shown[SHOWN_SUM] = sum;
 #elif MISTAKE == 2
-    /* It counts before it sleeps, and notes that only after the resume: after a refused sleep the same square is added twice. */
-    shown[SHOWN_SUM] = sum;
-    if (sleep() == SBI_SUCCESS)
-        shown[SHOWN_DONE] = number;
+    /* Where its sleep is refused it begins anew with the addition, and not with the sleep: the same square is added twice. */
+    for (int tries = 0; tries < 2; tries++) {
+        shown[SHOWN_SUM] = shown[SHOWN_SUM] + number * number;
+        if (sleep() == SBI_SUCCESS)
+            break;
+    }
+    shown[SHOWN_DONE] = number;
 #elif MISTAKE == 3
     /* The square is marked as done before its sleep was acknowledged, and added after it: a refused sleep leaves it out. */
     shown[SHOWN_DONE] = number;
