@@ -1,7 +1,7 @@
 /* Four harts add to one sum under a lock. Each adds 1 so many rounds, by a load, an addition and a store: without the lock, additions are
    lost. It shows the sum, which is the harts times the rounds in each order of their turns, and how many harts are done.
 
-   CFLAGS=-DUNLOCKED leaves the lock out. CFLAGS=-DROUNDS=1 makes it small enough for sbicheck (docs/CHECKING.md). */
+   CFLAGS=-DUNLOCKED leaves the lock out. */
 #include "assert.h"
 #include "guest.h"
 #include "lock.h"
@@ -11,10 +11,7 @@
 #define lock_leave(lock, hart) ((void)(lock), (void)(hart))
 #endif
 
-#ifndef ROUNDS
-#define ROUNDS 16
-#endif
-
+enum { ROUNDS = 16 };
 enum { SHOWN_SUM, SHOWN_DONE };
 
 static struct lock lock;
