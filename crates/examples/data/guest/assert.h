@@ -7,6 +7,14 @@
 
 #define assert(holds) ((holds) ? (void)0 : assert_failed(__LINE__))
 
+/* The same by a trap: EBREAK, after which a hart that has no handler does nothing any more. sbicheck tells it as `traps`, with its line. */
+#define must(holds) ((holds) ? (void)0 : must_trap())
+
+static inline void must_trap(void)
+{
+    asm volatile("ebreak");
+}
+
 static volatile u64 failed_line __attribute__((unused));
 
 static _Noreturn void __attribute__((noinline, unused)) assert_failed(u64 line)

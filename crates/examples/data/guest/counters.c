@@ -3,7 +3,9 @@
    of hart 0 and hart 1, and how often the board was suspended. sbiboard runs it (docs/CONSOLE.md). */
 #include "guest.h"
 
+#ifndef ROUNDS
 #define ROUNDS 100
+#endif
 
 enum { SHOWN_FIRST_COUNT, SHOWN_SECOND_COUNT, SHOWN_SUSPENSIONS };
 

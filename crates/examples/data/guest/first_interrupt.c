@@ -2,7 +2,9 @@
    and stops. The board is then shut down; where an interrupt was lost, for a failure of the system. sbiboard runs it (docs/CONSOLE.md). */
 #include "guest.h"
 
+#ifndef ROUNDS
 #define ROUNDS 1000000
+#endif
 
 /* The last round whose interrupt was sent. */
 static volatile u64 sent;

@@ -12,6 +12,10 @@
 #define HARTS MOST_HARTS
 #endif
 
+#ifndef LOCK_DRAWS
+#define LOCK_DRAWS 1 /* 0 makes a lock with a race: no hart sees that another one is drawing */
+#endif
+
 struct lock {
     volatile u64 draws[HARTS];  /* 1 while the hart draws its ticket */
     volatile u64 ticket[HARTS]; /* 0 of a hart that neither waits for the lock nor holds it */
@@ -26,7 +30,7 @@ static inline void lock_fence(void)
 static inline void lock_draw(struct lock *lock, u64 hart)
 {
     u64 most = 0;
-    lock->draws[hart] = 1;
+    lock->draws[hart] = LOCK_DRAWS;
     lock_fence(); /* whoever does not see the ticket below sees that it is being drawn */
     for (u64 other = 0; other < HARTS; other++) {
         u64 ticket = lock->ticket[other];

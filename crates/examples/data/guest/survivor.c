@@ -1,6 +1,6 @@
 /* A sum that survives power cuts (docs/KERNEL.md, "A kernel that survives power cuts"). The kernel adds up the squares of 1 to 6, and puts
-   the board to sleep on the disk behind each. It shows the sum and how many squares are in it, which are the same at the end wherever power
-   failed; and how many sleeps were refused and how many it woke from, which are not.
+   the board to sleep on the disk after each. It shows the sum and how many squares are in it, which are the same at the end wherever power
+   failed, and whichever sleep was refused.
 
    CFLAGS=-DMISTAKE=1, 2 or 3 makes one of three mistakes, each of which only a refused sleep shows. */
 #include "guest.h"
@@ -10,38 +10,38 @@
 #endif
 
 enum { SQUARES = 6 };
-enum { SHOWN_SUM, SHOWN_DONE, SHOWN_REFUSED, SHOWN_WOKEN };
+enum { SHOWN_SUM, SHOWN_DONE };
 
-/* Behind a resume all is as it was. Behind a refusal too, and the board never slept; but the image may stand all the same. */
+/* After a resume all is as it was. After a refusal too, and the board never slept; but the image may stand all the same. */
 static long sleep(void)
 {
-    long answer = board_suspend(SBI_TO_DISK, shown[SHOWN_DONE]);
-    u64 counted = answer == SBI_SUCCESS ? SHOWN_WOKEN : SHOWN_REFUSED;
-    shown[counted] = shown[counted] + 1;
-    return answer;
+    return board_suspend(SBI_TO_DISK, shown[SHOWN_DONE]);
 }
 
 static void add(u64 number)
 {
-    u64 sum = shown[SHOWN_SUM] + number * number;
+    u64 sum __attribute__((unused)) = shown[SHOWN_SUM] + number * number;
 #if MISTAKE == 0
     /* The sum and how far it goes change together: each image has both, or none of both. The answer of the sleep is not needed. */
     shown[SHOWN_SUM] = sum;
     shown[SHOWN_DONE] = number;
     sleep();
 #elif MISTAKE == 1
-    /* The sum is put aside for the sleep, and taken back only behind a resume: a refused sleep loses it. */
+    /* The sum is put aside for the sleep, and taken back only after a resume: a refused sleep loses it. */
     shown[SHOWN_SUM] = 0;
     shown[SHOWN_DONE] = number;
     if (sleep() == SBI_SUCCESS)
         shown[SHOWN_SUM] = sum;
 #elif MISTAKE == 2
-    /* It counts before it sleeps, and notes that only behind the resume: behind a refused sleep the same square is added twice. */
-    shown[SHOWN_SUM] = sum;
-    if (sleep() == SBI_SUCCESS)
-        shown[SHOWN_DONE] = number;
+    /* Where its sleep is refused it begins anew with the addition, and not with the sleep: the same square is added twice. */
+    for (int tries = 0; tries < 2; tries++) {
+        shown[SHOWN_SUM] = shown[SHOWN_SUM] + number * number;
+        if (sleep() == SBI_SUCCESS)
+            break;
+    }
+    shown[SHOWN_DONE] = number;
 #elif MISTAKE == 3
-    /* The square is marked as done before its sleep was acknowledged, and added behind it: a refused sleep leaves it out. */
+    /* The square is marked as done before its sleep was acknowledged, and added after it: a refused sleep leaves it out. */
     shown[SHOWN_DONE] = number;
     if (sleep() == SBI_SUCCESS)
         shown[SHOWN_SUM] = sum;
@@ -53,7 +53,6 @@ void kernel(u64 hart, u64 reason)
 {
     while (shown[SHOWN_DONE] < SQUARES)
         add(shown[SHOWN_DONE] + 1);
-    /* A resume uses its image up, so the result too is put to sleep again. */
     for (;;)
-        sleep();
+        ;
 }
