@@ -2,7 +2,8 @@
 
 #include <string.h>
 
-static uint8_t now[SECTORS][512], durable[SECTORS][512];
+/* What a read gives, what a cut leaves, and what was written last: of a write that failed a read gives the bytes before. */
+static uint8_t now[SECTORS][512], durable[SECTORS][512], last[SECTORS][512];
 static int dirty[SECTORS], dead;
 static long cut = -1, fail = -1, calls;
 static uint64_t seed = 1;
@@ -16,6 +17,7 @@ uint32_t draw(uint32_t n)
 void device_settle(void)
 {
     memcpy(durable, now, sizeof now);
+    memcpy(last, now, sizeof now);
     memset(dirty, 0, sizeof dirty);
 }
 
@@ -37,6 +39,11 @@ void device_fail_at(long call)
 {
     fail = call;
     calls = 0;
+}
+
+int device_is_dead(void)
+{
+    return dead;
 }
 
 long device_calls(void)
@@ -74,7 +81,9 @@ static uint32_t write_some(uint64_t first, unsigned count, const uint8_t *bytes)
         return 1;
     for (unsigned i = 0; i < count; i++)
         dirty[first + i] = 1;
-    memcpy(now[first], bytes, 512 * count);
+    memcpy(last[first], bytes, 512 * count);
+    if (!failed)
+        memcpy(now[first], bytes, 512 * count);
     return failed;
 }
 
@@ -102,10 +111,7 @@ uint32_t device_sync(void)
 {
     if (fails())
         return 1;
-    for (unsigned n = 0; n < SECTORS; n++)
-        if (dirty[n])
-            memcpy(durable[n], now[n], 512);
-    memset(dirty, 0, sizeof dirty);
+    device_settle();
     return 0;
 }
 
@@ -115,9 +121,9 @@ static void tear(unsigned n, enum fill fill)
     switch (fill) {
     case ZEROS: memset(bytes, 0, 512); break;
     case ONES: memset(bytes, 0xff, 512); break;
-    case HALF: memcpy(bytes, now[n], 256); break;
+    case HALF: memcpy(bytes, last[n], 256); break;
     case OLD: break;
-    case NEW: memcpy(bytes, now[n], 512); break;
+    case NEW: memcpy(bytes, last[n], 512); break;
     default:
         for (unsigned i = 0; i < 512; i++)
             bytes[i] = (uint8_t)draw(256);
@@ -129,10 +135,8 @@ void device_crash(enum fill fill)
     for (unsigned n = 0; n < SECTORS; n++)
         if (dirty[n])
             tear(n, fill);
-    for (unsigned n = 0; n < SECTORS; n++)
-        if (dirty[n])
-            memcpy(now[n], durable[n], 512);
-    memset(dirty, 0, sizeof dirty);
+    memcpy(now, durable, sizeof now);
+    device_settle();
     dead = 0;
     cut = fail = -1;
 }

@@ -23,6 +23,9 @@ void device_fail_at(long call);
 /* Power is gone, and back. */
 void device_crash(enum fill fill);
 
+/* Whether power was cut. */
+int device_is_dead(void);
+
 /* How many calls were made since the cut was set. */
 long device_calls(void);
 

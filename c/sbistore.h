@@ -23,14 +23,22 @@
  *             }
  *     }
  *
- * The last two are asked for by sbistore_load and sbistore_suspend alone, over the 4,096-byte pages of your memory.
+ * The last two are asked for by sbistore_load and sbistore_suspend alone, over the 4,096-byte pages of your memory: who calls neither
+ * leaves them out. The next call is given the SECTOR that was read, and may be given any bytes after a write and a sync. A call that went
+ * wrong is told as any other number than 0, and is not made again by you: the loop ends with the code.
  *
  * What it promises holds for a caller that makes each call once, in the order that it is asked for, tells how it ended, and lets
  * nothing else write the device; and for a device that does what docs/DISK.md says: until a sync has gone well a crash may leave any
  * bytes in the sectors that were written since the last one, and nowhere else. docs/STORE.md has the form of the disk.
  *
  * At power-on: sbistore_open, run. For each command: sbistore_command, run. A new device once: sbistore_format, run. One state is used by
- * one thread at a time. All numbers are in the byte order of the machine.
+ * one thread at a time. All numbers are in the byte order of the machine, and on the device little-endian.
+ *
+ * A bootloader with boots on trial: open; look; where on_trial is 1 the command SBISTORE_ATTEMPT, and look again; boot the slot. The
+ * updater: open, SBISTORE_TRIES. The system that came up well: open, SBISTORE_GOOD. c/slot.c does all that.
+ *
+ * Where the device writes blocks that are larger than a sector, and a cut may tear one, give each sector a block of its own: my_write fills
+ * block store->number whole, and my_read reads it (docs/PORTING.md, "From C").
  */
 #ifndef SBISTORE_H
 #define SBISTORE_H
@@ -45,11 +53,12 @@ extern "C" {
 #define SBISTORE_SECTOR 512
 
 /* The codes. After 0 a crash leaves the durable state after the command. After 6 it leaves that one or the one before it, which the next
- * open finds out. After each other code it leaves the one before. */
+ * open finds out. After each other code it leaves the one before. After 5, and after a refusal of the table (8, 9, 19, 20), a command may
+ * be given at once, the same one too. After 6, 7, 10 and 102 open again. */
 enum {
     SBISTORE_OK = 0,
     SBISTORE_NOT_FORMATTED = 1,  /* open: the device does not begin with the mark */
-    SBISTORE_ALREADY = 2,        /* format: the device begins with the mark, and is left as it was */
+    SBISTORE_ALREADY = 2,        /* format: the device begins with the mark, and is left as it was: write zeros into sector 0 first */
     SBISTORE_BAD_SHAPE = 3,      /* a number of the board is out of its range, or the device is too small or of no board */
     SBISTORE_BAD_RECORD = 4,     /* open: the selected record is not in its form */
     SBISTORE_DEVICE = 5,         /* a call of the device failed; the state is as it was. Of a format see docs/STORE.md */
@@ -78,7 +87,8 @@ enum {
     SBISTORE_RESET = 2,   /* one: the reason, 0 none, else a system failure. It ends the life */
     SBISTORE_CONSUME = 3, /* the image is dropped, since its hart is resumed */
     SBISTORE_DISCARD = 4, /* the image is dropped unused */
-    SBISTORE_TRIES = 5,   /* one: the boot slot, 0 to 3; other: for so many boots, 1 to 7, after which it falls back */
+    SBISTORE_TRIES = 5,   /* one: the boot slot, 0 to 3; other: for so many boots, 1 to 7. It falls back to the slot that stood before, and
+                           * where a trial runs already, to that one's fallback */
     SBISTORE_GOOD = 6,    /* the slot on trial is kept */
     SBISTORE_ATTEMPT = 7  /* a boot uses up one of the trial's, or falls back where none is left: before each boot, where a trial stands */
 };
@@ -99,7 +109,7 @@ struct sbistore_state {
     uint32_t reason;        /* of the last reset: 0 none, 1 system failure */
     uint32_t on_trial;      /* 1 where the slot is on trial, and then */
     uint32_t fallback;      /*   the slot to fall back to, 0 to 3, and */
-    uint32_t left;          /*   how many boots are left, 0 to 7 */
+    uint32_t left;          /*   how many boots are left, 0 to 7: with 0 the next SBISTORE_ATTEMPT falls back */
     uint32_t has_image;     /* 1 where an image stands, and then its */
     uint64_t image_serial;  /*   serial, */
     uint64_t image_address; /*   the address at which it is resumed, */
@@ -109,12 +119,13 @@ struct sbistore_state {
 };
 
 /* Begins a format of a device of so many SECTORS, for a board of 1 to 8 HARTS, 1 to 256 PAGES of 4,096 bytes and 1 to 4 LANES (1, 1, 1
- * where no memory is suspended: 26 sectors). Codes 0, 2, 3, 5. After 0 the slot is 0, with no reason, no trial and no image. Nothing is
- * then open. */
+ * where no memory is suspended: 26 sectors; else docs/STORE.md, "The disk", has the number). What the device holds does not matter, but for
+ * the mark of a board in its first 8 bytes. Codes 0, 2, 3, 5. After 0 the slot is 0, with no reason, no trial and no image. After 5, or a
+ * cut, format it again; where that answers 2 and an open 3, write zeros into sector 0 before. Nothing is then open. */
 void sbistore_format(struct sbistore *store, size_t sectors, uint64_t harts, uint64_t pages, uint64_t lanes);
 
-/* Begins an open of a device of so many SECTORS. Codes 0, 1, 3, 4, 5. It settles what the last life left in doubt, and of a device
- * that an older firmware wrote it writes the record anew. */
+/* Begins an open of a device of so many SECTORS, which may be more than the format was told, and the board needs. Codes 0, 1, 3, 4, 5. It
+ * settles what the last life left in doubt, and of a device that an older firmware wrote it writes the record anew. */
 void sbistore_open(struct sbistore *store, size_t sectors);
 
 /* Begins the command of that KIND. Codes 0, 5 to 10, 19, 20, 100, 101: 6, 7, 10, 9, 19, 8 and 20 before any call of the device. */

@@ -1,6 +1,7 @@
-/* A boot slot on a plain file or a block device, which holds 26 sectors or more. All of it is there to be copied.
+/* A boot slot on a plain file or a block device, which holds 26 sectors or more. All of it is there to be copied. With -DBLOCK=4096 each
+ * sector lies in a block of that size of its own (docs/DISK.md, "Larger blocks").
  *
- *     ./slot FILE format       once, over zeros
+ *     ./slot FILE format       once
  *     ./slot FILE boot         at each power-on: tells the slot to boot
  *     ./slot FILE try 2 3      the updater: slot 2 for 3 boots, and back to this one if none of them does `good`
  *     ./slot FILE good         the system came up well: the slot is kept
@@ -15,18 +16,44 @@
 #include <string.h>
 #include <unistd.h>
 
-enum { SECTORS = 26 };
+#ifndef BLOCK
+#define BLOCK 512
+#endif
+
+/* Where the mark of a larger block 0 stands, which has its size. */
+enum { SECTORS = 26, MARK = 20 };
 
 static int device;
 
+/* How many bytes of the sector stand before a mark: all where its block has none. */
+static size_t before_mark(uint64_t number)
+{
+    return BLOCK > SBISTORE_SECTOR && number == 0 ? MARK : SBISTORE_SECTOR;
+}
+
 static uint32_t read_sector(uint64_t number, uint8_t *sector)
 {
-    return pread(device, sector, SBISTORE_SECTOR, (off_t)(number * SBISTORE_SECTOR)) != SBISTORE_SECTOR;
+    uint8_t block[BLOCK];
+    size_t head = before_mark(number);
+    if (pread(device, block, BLOCK, (off_t)(number * BLOCK)) != BLOCK)
+        return 1;
+    memcpy(sector, block, head);
+    if (head < SBISTORE_SECTOR)
+        memcpy(sector + head, block + head + 4, SBISTORE_SECTOR - head);
+    return 0;
 }
 
 static uint32_t write_sector(uint64_t number, const uint8_t *sector)
 {
-    return pwrite(device, sector, SBISTORE_SECTOR, (off_t)(number * SBISTORE_SECTOR)) != SBISTORE_SECTOR;
+    uint8_t block[BLOCK] = {0};
+    size_t head = before_mark(number);
+    memcpy(block, sector, head);
+    if (head < SBISTORE_SECTOR) {
+        for (int i = 0; i < 4; i++)
+            block[head + i] = (uint8_t)(BLOCK >> 8 * i);
+        memcpy(block + head + 4, sector + head, SBISTORE_SECTOR - head);
+    }
+    return pwrite(device, block, BLOCK, (off_t)(number * BLOCK)) != BLOCK;
 }
 
 static uint32_t run(struct sbistore *store)

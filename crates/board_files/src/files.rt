@@ -19,8 +19,12 @@ pub trait DiskFile {
 
     /// How many bytes the block of each sector has; 512 where the sectors lie one after the other, as in each file whose bytes are
     /// known.
+    ghost block: { Self → ℕ };
+
+    /// How many bytes the block of each sector has.
     fn block_size(&self) -> BlockSize
-        ensures { IfSome (bytes self.now) (λ all. result.bytes ≡ 512) };
+        ensures told { result.bytes ≡ block self.now }
+        ensures known { IfSome (bytes self.now) (λ all. result.bytes ≡ 512) };
 
     /// How many bytes its sectors have.
     fn length(&self) -> Result<u64, FileFault>
@@ -37,7 +41,7 @@ pub trait DiskFile {
 
 /// The file of a disk that a session has taken. No other session can take it meanwhile.
 pub trait HeldFile: DiskFile {
-    ghost use Rattle.std.specs.Prelude.{IfErr, IfSome, OnErr, OnOk};
+    ghost use Rattle.std.specs.Prelude.{◌≡◌, IfErr, IfSome, OnErr, OnOk};
     ghost use Rattle.board_files.specs.Disks.{HoldsDisk, KeepsOrHolds};
     ghost use Rattle.board_files.specs.Faults.{IsFileFault};
 
@@ -49,12 +53,13 @@ pub trait HeldFile: DiskFile {
             (HoldsDisk is_new sectors.now (Self.bytes self.old))) }
         ensures kept { OnErr result (IfSome (Self.bytes self.new)
             (KeepsOrHolds is_new sectors.now (Self.bytes self.old))) }
+        ensures formed { Self.block self.new ≡ Self.block self.old }
         ensures failed { IfErr result (λ e. IsFileFault e.fault) };
 }
 
 /// Where the files of disks are.
 pub trait BoardFiles {
-    ghost use Rattle.std.specs.Prelude.{◌≡◌, ℕ, List, Option, IfOk, IfErr};
+    ghost use Rattle.std.specs.Prelude.{◌≡◌, ℕ, List, Option, IfOk, IfErr, true};
     ghost use Rattle.board_files.specs.Files.{IfKnown, IsDurable};
     ghost use Rattle.board_files.specs.Faults.{IsFileFault};
 
@@ -68,7 +73,7 @@ pub trait BoardFiles {
     ghost disk_at: { Self → List ℕ → Option (List ℕ) };
 
     /// Takes the file at that path for a session. Its disk is a new one or the file's. It is kept in the file all along, or
-    /// written at the end. For a new disk the file is made if there is none, and its sectors are to lie in blocks of that size.
+    /// written at the end. For a new disk the file is made if there is none, and its sectors lie in blocks of that size.
     fn hold(
         &self,
         path: &str,
@@ -77,6 +82,7 @@ pub trait BoardFiles {
         block: BlockSize,
     ) -> Result<Self::Held, FileFault>
         ensures held { IfOk result (λ held. Self.Held.bytes held ≡ disk_at self.now path.now) }
+        ensures formed { is_new ≡ true → IfOk result (λ held. Self.Held.block held ≡ block.bytes) }
         ensures failed { IfErr result (λ e. IsFileFault e.fault) };
 
     /// The file as one that holds these sectors, all of them durable. Of a new disk they are zeros, and they replace what the

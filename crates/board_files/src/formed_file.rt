@@ -88,6 +88,8 @@ impl<F: ByteFile + Drop> DiskFile for FormedFile<F> {
     /// Of a file of blocks no bytes are known.
     ghost bytes = { λ f. if f.block.bytes == 512 then F.held f.file else None };
 
+    ghost block = { λ f. f.block.bytes };
+
     fn block_size(&self) -> BlockSize {
         self.block
     }

@@ -59,6 +59,8 @@ pub struct SystemDisk<'a> {
 impl<'a> DiskFile for SystemDisk<'a> {
     ghost bytes = { λ disk. None };
 
+    ghost block = { λ disk. disk.formed.block.bytes };
+
     fn block_size(&self) -> BlockSize {
         self.formed.block
     }

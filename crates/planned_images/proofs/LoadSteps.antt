@@ -231,9 +231,6 @@ module _ {D : Type 0} (f : D → Facts) (m : D → FaultState) (bounded : (d : D
       same_content : (f b).content ≡ (f a).content
       same_content = at.called.content ∙ at.before.read.content
 
-      place_is : place_sector p + 1 ≡ area_start size p.saved.area + place_now p + 1
-      place_is = refl
-
       taken_then : IsTaken size serial here (take (p.done + 1) (all_places p)) (flags (set p.came page 1)) new
       taken_then =
           let s = sector here (place_now p) in

@@ -7,7 +7,7 @@ use Rattle.board_model.specs.declared.refusal.Refusal.{Refusal}
 use Rattle.planned_images.specs.Loads.{load_asks, LoadGoes, loaded_by, PlansLoad, NoLoad}
 use Rattle.planned_images.specs.declared.loads.Loading.{Loading}
 use Rattle.planned_images.specs.declared.loads.LoadStep.{LoadStep}
-use Rattle.planned_images.specs.declared.loads.LoadStep.TheVariants.{ReadHead, ReadPage, Loaded, Spoilt, Failed}
+use Rattle.planned_images.specs.declared.loads.LoadStep.TheVariants.{ReadHead, ReadPage}
 use Rattle.planned_images.specs.declared.requests.ImageRequest.{ImageRequest}
 use Rattle.planned_images.specs.declared.requests.ImageRequest.TheVariants as requests
 use Rattle.planned_images.specs.Saves.{save_asks, SavePuts, SaveGoes, commit_of, PlansSave, NoSave}

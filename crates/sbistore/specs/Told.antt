@@ -1,5 +1,5 @@
 -- What C is told of a durable state: each number, and zeros where no trial or no image stands.
-use Rattle.std.specs.Prelude.{ℕ, Option, Some, None}
+use Rattle.std.specs.Prelude.{Option, Some, None}
 use Rattle.board_model.specs.Views.{reason_number}
 use Rattle.board_model.specs.declared.durable.Durable.{Durable as State}
 use Rattle.board_model.specs.declared.durable.ImageHead.{ImageHead}

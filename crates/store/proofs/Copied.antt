@@ -1,6 +1,5 @@
 -- A store over a disk of the same content, with the same journal.
-use Rattle.std.proofs.Common.{◌≡◌, ◌∙◌, ◌+◌, ◌<◌, ℕ, Bool, List, [], ◌∷◌, ◌++◌, length, get_or, take, Option, None, Some, is_some, map, true, false, option_map, refl, ap, subst, sym}
-use Rattle.std.proofs.lemmas.List.{take_more}
+use Rattle.std.proofs.Common.{◌≡◌, Bool, List, Option, None, Some, is_some, map, true, false, option_map, refl, subst, sym}
 use Rattle.board_model.specs.Durable.{after, fold, refusal_of}
 use Rattle.board_model.specs.Shapes.{Size}
 use Rattle.board_model.specs.Views.{change_in}
@@ -50,11 +49,6 @@ module _ (size : Size) (opened current : Record) (c d : Content) (same : d ≡ c
       → refusal_of (state_of size current d) (change_in x.entry (memory_in size x.next d)) ≡ None
   still_allowed x allowed =
       subst (λ (m : Content). refusal_of (state_of size current m) (change_in x.entry (memory_in size x.next m)) ≡ None) (sym same) allowed
-
--- one entry more is copied
-pub copied_more : {X : Type 0} (entries copies new : List X) (i : ℕ) (x : X) → i < length entries → x ≡ get_or entries i x → copies ≡ take i entries → new ≡ copies ++ x ∷ [] → new ≡ take (i + 1) entries
-copied_more {X} entries copies new i x lt is so_far made =
-    made ∙ (ap (λ (l : List X). l ++ x ∷ []) so_far ∙ (ap (λ (y : X). take i entries ++ y ∷ []) is ∙ sym (take_more entries i x lt)))
 
 pub none_of : {X : Type 0} (o : Option X) → false ≡ is_some o → o ≡ None
 none_of None is = refl

@@ -15,6 +15,7 @@ pub mod Reading
 pub mod Renewing
 pub mod Bridges
 pub mod Armed
+pub mod Entering
 pub mod Copied
 pub mod Same
 pub mod Kept

@@ -1,7 +1,6 @@
 -- What the derived comparisons find equal is the same.
-use Rattle.std.proofs.Common.{◌≡◌, ◌∷◌, [], List, Option, Some, None, true, false, refl, rules}
+use Rattle.std.proofs.Common.{◌≡◌, Option, Some, None, true, false, refl, rules}
 use Rattle.std.specs.Option.{option_eq}
-use Rattle.std.specs.Cmp.Lexicographic.{pointwise}
 use Rattle.board_model.specs.declared.durable.Entry.{Entry}
 use Rattle.board_model.specs.contracts.durable.EntryPartialEq.TheImpl as entry
 use Rattle.layout.specs.declared.records.Record.{Record}
@@ -20,11 +19,6 @@ record_same a b same =
     let image : b.image ≡ a.image = search (rules, same) in
     let trial : b.trial ≡ a.trial = search (rules, same) in
     search (rules, same, image, trial)
-
-pub entries_same : (xs ys : List Entry) → pointwise entry.ghosts.eq xs ys ≡ true → ys ≡ xs
-entries_same [] [] same = refl
-entries_same (x ∷ xs) (y ∷ ys) same = search (rules, same, entry_same x y, entries_same xs ys)
-entries_same xs ys same = never same
 
 pub doubts_same : (a b : Option Doubt) → option_eq doubt.ghosts.eq a b ≡ true → b ≡ a
 doubts_same None None same = refl

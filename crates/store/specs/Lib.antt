@@ -1,6 +1,7 @@
 pub mod Entries
 pub mod Taken
 pub mod Standing
+pub mod Journals
 pub mod Leaves
 pub mod Commits
 pub mod Opens

@@ -36,7 +36,7 @@ module _ {D L : Type 0} {g : Ghosts D L} {l : Lanes L} where
   life_of store = record {
     found = state_of store.shape store.opened (g.facts store.disk).content;
     journal =
-        map (λ e. change_in e (memory_in store.shape store.current (g.facts store.disk).content)) store.journal.items;
+        map (λ e. change_in e (memory_in store.shape store.current (g.facts store.disk).content)) store.journal;
     doubt = option_map (λ x. change_in x.entry (memory_in store.shape x.next (g.facts store.disk).content)) store.doubt;
     over = store.over;
   }

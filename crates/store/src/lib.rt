@@ -5,6 +5,7 @@ mod commits;
 mod doubts;
 mod formats;
 mod inspects;
+mod journals;
 mod laws;
 mod opens;
 mod receipts;

@@ -1,5 +1,5 @@
 //! The store: one life of the durable state.
-ghost use Rattle.std.specs.Prelude.{◌≡◌, ◌≤◌, ◌<◌, ◌+◌, ◌-◌, ◌*◌, ◌^◌, ◌⊎◌, ◌↔◌, IsTrue, ℕ, List, get_or, false, true, length, map, vec_len, vec_capacity, Some, None, Err, IfSome, IfOk, IfErr, OnOk, IsErrOf, MatchResult, MatchOption};
+ghost use Rattle.std.specs.Prelude.{◌≡◌, ◌≤◌, ◌<◌, ◌+◌, ◌-◌, ◌*◌, ◌^◌, ◌⊎◌, ◌↔◌, IsTrue, ℕ, List, get_or, false, true, length, map, Some, None, Err, IfSome, IfOk, IfErr, OnOk, IsErrOf, MatchResult, MatchOption};
 ghost use Rattle.board_model.specs.Durable.{DurableState, Change, Suspend, after, fold, ends_life, refusal_of};
 ghost use Rattle.board_model.specs.Views.{change_of, change_in, number_of_refusal};
 ghost use Rattle.board_model.specs.Shapes.{Size, ram_bytes_of};
@@ -17,6 +17,7 @@ mod copies;
 
 use crate::commits::{Uncommitted, commit};
 use crate::doubts::Doubt;
+use crate::journals::Journal;
 use crate::opens::find;
 use crate::receipts::Receipt;
 use crate::renews::migrated;
@@ -38,27 +39,26 @@ pub struct Store<D: Disk + Drop> {
     side: Side,
     opened: Record,
     current: Record,
-    journal: Vec<Entry>,
+    journal: Journal,
     doubt: Option<Doubt>,
     over: bool,
     failures_at_open: u64,
     refused_memory: bool,
     ghost kept: { Keeps (D.facts disk) shape side current doubt },
     ghost folded: { fold (state_of shape opened (D.facts disk).content)
-        (map (λ e. change_in e (memory_in shape current (D.facts disk).content)) journal.items)
+        (map (λ e. change_in e (memory_in shape current (D.facts disk).content)) journal)
         ≡ state_of shape current (D.facts disk).content },
     ghost doubted: { (x : Doubt) → doubt ≡ Some x
         → state_of shape x.next (D.facts disk).content
         ≡ after (state_of shape current (D.facts disk).content)
         (change_in x.entry (memory_in shape x.next (D.facts disk).content)) },
-    ghost plain: { over ≡ false → are_plain journal.items ≡ true },
-    ghost same_image: { over ≡ false → drop_image journal.items ≡ false → current.image ≡ opened.image },
-    ghost room: { vec_capacity journal ≡ 4096 },
-    ghost few: { vec_len journal ≤ 4096 },
+    ghost plain: { over ≡ false → are_plain journal ≡ true },
+    ghost same_image: { over ≡ false → drop_image journal ≡ false → current.image ≡ opened.image },
+    ghost few: { length journal ≤ 4096 },
     ghost failed: { (x : Doubt) → doubt ≡ Some x → Failed failures_at_open (D.facts disk).failures },
     ghost counted: { failures_at_open ≤ (D.facts disk).failures },
     ghost legal: { are_taken (state_of shape opened (D.facts disk).content)
-        (map (λ e. change_in e (memory_in shape current (D.facts disk).content)) journal.items) ≡ true },
+        (map (λ e. change_in e (memory_in shape current (D.facts disk).content)) journal) ≡ true },
     ghost allowed: { (x : Doubt) → doubt ≡ Some x
         → refusal_of (state_of shape current (D.facts disk).content)
         (change_in x.entry (memory_in shape x.next (D.facts disk).content)) ≡ None },
@@ -118,7 +118,7 @@ impl<D: Disk + Drop> Store<D> {
             Ok(found) => found,
             Err(refusal) => return Err((disk, refusal)),
         };
-        let Ok(journal) = Vec::with_capacity(alloc, MAX_COMMANDS) else {
+        let Ok(journal) = Journal::new(alloc) else {
             return Err((disk, Refusal::Memory));
         };
         let kept = match migrated(&mut disk, found) {
@@ -183,7 +183,7 @@ impl<D: Disk + Drop> Store<D> {
         if (self.journal.len() as u64) < number {
             return None;
         }
-        Some(self.journal[number as usize - 1])
+        Some(self.journal.entry(number as usize - 1))
     }
 
     /// Issues a command: its record is made durable, and then the gate that selects it. The receipt is its
@@ -336,7 +336,7 @@ impl<D: Disk + Drop> Store<D> {
                 self.side = self.side.other();
                 self.current = next;
                 self.over = ends;
-                self.journal.push_reserved(entry);
+                self.journal.push(entry);
                 Ok(Receipt::new(self.journal.len() as u32))
             }
             Err(Uncommitted::Unchanged) => Err(Refusal::Device),

@@ -58,6 +58,8 @@ impl MemoryDisk {
 impl DiskFile for MemoryDisk {
     ghost bytes = { λ disk. Some disk.bytes.items };
 
+    ghost block = { λ disk. 512 };
+
     fn block_size(&self) -> BlockSize {
         BlockSize::sector()
     }

@@ -133,10 +133,17 @@ impl BoardFiles for MemoryFiles {
     fn hold(
         &self,
         path: &str,
-        _is_new: bool,
+        is_new: bool,
         _is_synced: bool,
-        _block: BlockSize,
+        block: BlockSize,
     ) -> Result<MemoryDisk, FileFault> {
+        if is_new && block.bytes != 512 {
+            return Err(unreached(
+                self.alloc,
+                path,
+                io::Error::other("its sectors lie one after the other"),
+            ));
+        }
         self.disk_file(path)
     }
 

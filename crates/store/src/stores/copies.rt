@@ -1,24 +1,11 @@
 //! A store is copied, with its disk, and compared.
-ghost use Rattle.std.specs.Prelude.{◌≡◌, ◌≤◌, ◌↔◌, length, vec_capacity, true, Err, IfOk, OnErr};
+ghost use Rattle.std.specs.Prelude.{◌≡◌, ◌↔◌, true, Err, IfOk, OnErr};
 ghost use Rattle.disk.specs.declared.device.ArmedFault.{ArmedFault};
 
 use super::Store;
-use board_model::{Entry, MAX_COMMANDS, Refusal};
+use board_model::Refusal;
 use disk::CopyDisk;
-use std::alloc::{AllocError, Global};
-
-/// A copy of these entries, with room for as many as a journal may have.
-fn copy_entries(alloc: Global, entries: &[Entry]) -> Result<Vec<Entry>, AllocError>
-    requires { length entries.now ≤ 4096 }
-    ensures items { IfOk result (λ copies. copies.items ≡ entries.now) }
-    ensures room { IfOk result (λ copies. vec_capacity copies ≡ 4096) }
-{
-    let mut copies = Vec::with_capacity(alloc, MAX_COMMANDS)?;
-    for entry in entries {
-        copies.push_reserved(*entry);
-    }
-    Ok(copies)
-}
+use std::alloc::Global;
 
 impl<D: CopyDisk + Drop> Store<D> {
     ghost use Rattle.disk.specs.Alike.{FailsAlike, StandsAs};
@@ -41,7 +28,7 @@ impl<D: CopyDisk + Drop> Store<D> {
         ensures refused { OnErr result (result ≡ Err Refusal.Memory) }
     {
         let disk = self.disk.copy()?;
-        let journal = copy_entries(alloc, &self.journal)?;
+        let journal = self.journal.copy(alloc)?;
         Ok(Store {
             disk,
             shape: self.shape,
@@ -76,7 +63,7 @@ impl<D: CopyDisk + Drop> Store<D> {
             && self.doubt == other.doubt
             && self.current == other.current
             && self.opened == other.opened
-            && self.journal.as_slice() == other.journal.as_slice()
+            && self.journal.is_same(&other.journal)
             && self.disk.is_as(&other.disk)
     }
 

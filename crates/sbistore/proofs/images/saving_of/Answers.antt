@@ -1,4 +1,4 @@
-use Rattle.std.proofs.Common.{◌≡◌, ℕ, ◌<◌, sym, subst, arith}
+use Rattle.std.proofs.Common.{ℕ, ◌<◌, sym, subst, arith}
 use Rattle.board_model.specs.Shapes.{IsValidAddress}
 use Rattle.planned_store.specs.declared.commits.Selected.{Selected}
 use Rattle.sbistore.proofs.Packed.{some_is}

@@ -15,14 +15,13 @@ invariant_of-self g c =
     let same = c.arm.ensures.facts in
     record {
       kept = still_keeps a b same s.shape s.side s.current s.doubt s.kept;
-      folded = subst (λ (d : Content). fold (state_of s.shape s.opened d) (map (λ e. change_in e (memory_in s.shape s.current d)) s.journal.items) ≡ state_of s.shape s.current d) (sym same.content) s.folded;
+      folded = subst (λ (d : Content). fold (state_of s.shape s.opened d) (map (λ e. change_in e (memory_in s.shape s.current d)) s.journal) ≡ state_of s.shape s.current d) (sym same.content) s.folded;
       doubted = λ x is. subst (λ (d : Content). state_of s.shape x.next d ≡ after (state_of s.shape s.current d) (change_in x.entry (memory_in s.shape x.next d))) (sym same.content) (s.doubted x is);
       plain = s.plain;
       same_image = s.same_image;
-      room = s.room;
       few = s.few;
       failed = λ x is. still_failed s.failures_at_open a.failures b.failures same.failures (s.failed x is);
       counted = subst (λ (n : ℕ). s.failures_at_open ≤ n) (sym same.failures) s.counted;
-      legal = subst (λ (d : Content). are_taken (state_of s.shape s.opened d) (map (λ e. change_in e (memory_in s.shape s.current d)) s.journal.items) ≡ true) (sym same.content) s.legal;
+      legal = subst (λ (d : Content). are_taken (state_of s.shape s.opened d) (map (λ e. change_in e (memory_in s.shape s.current d)) s.journal) ≡ true) (sym same.content) s.legal;
       allowed = λ x is. subst (λ (d : Content). refusal_of (state_of s.shape s.current d) (change_in x.entry (memory_in s.shape x.next d)) ≡ None) (sym same.content) (s.allowed x is);
     }

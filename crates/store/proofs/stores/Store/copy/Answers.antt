@@ -14,9 +14,9 @@ invariant_of-result g c =
     let b = g.D.Disk.facts c.in_ok-disk.disk in
     let same = c.in_ok-disk.ensures.facts in
     let content = same.content in
-    let entries = s.journal.items in
-    let copies = c.in_ok-journal.journal.items in
-    let items : copies ≡ entries = c.in_ok-journal.ensures.items ∙ c.deref.ensures.value in
+    let entries = s.journal in
+    let copies = c.in_ok-journal.journal in
+    let items : copies ≡ entries = c.in_ok-journal.ensures in
     let long = ap (λ (es : List Entry). length es) items in
     record {
       kept = still_keeps a b same s.shape s.side s.current s.doubt s.kept;
@@ -24,7 +24,6 @@ invariant_of-result g c =
       doubted = λ x is. still_doubted s.shape s.opened s.current a.content b.content content entries copies items x (s.doubted x is);
       plain = λ up. subst (λ (es : List Entry). are_plain es ≡ true) (sym items) (s.plain up);
       same_image = λ up none. s.same_image up (subst (λ (es : List Entry). drop_image es ≡ false) items none);
-      room = c.in_ok-journal.ensures.room;
       few = omega (arith, long, s.few);
       failed = λ x is. still_failed s.failures_at_open a.failures b.failures same.failures (s.failed x is);
       counted = subst (λ (n : ℕ). s.failures_at_open ≤ n) (sym same.failures) s.counted;
@@ -95,8 +94,8 @@ returns-clause-life g c =
     let s = c.args.self.now in
     let a = g.D.Disk.facts s.disk in
     let b = g.D.Disk.facts c.in_ok-disk.disk in
-    same_life s.shape s.shape s.opened s.opened s.current s.current s.doubt s.doubt s.over s.over a.content b.content s.journal.items c.in_ok-journal.journal.items refl refl refl refl refl c.in_ok-disk.ensures.facts.content
-    (c.in_ok-journal.ensures.items ∙ c.deref.ensures.value)
+    same_life s.shape s.shape s.opened s.opened s.current s.current s.doubt s.doubt s.over s.over a.content b.content s.journal c.in_ok-journal.journal refl refl refl refl refl c.in_ok-disk.ensures.facts.content
+    (c.in_ok-journal.ensures)
 
 pub returns-clause-facts : goal.returns-clause-facts
 returns-clause-facts g c = c.in_ok-disk.ensures.facts
@@ -121,9 +120,3 @@ returns-clause-memory g c = refl
 
 pub returns-clause-refused : goal.returns-clause-refused
 returns-clause-refused g c = tt
-
-pub copy_entries-requires : goal.copy_entries-requires
-copy_entries-requires g c =
-    let s = c.args.self.now in
-    let long = ap (λ (es : List Entry). length es) c.deref.ensures.value in
-    omega (arith, long, s.journal.ok.0, s.few)

@@ -11,19 +11,20 @@ use Rattle.store.specs.declared.doubts.Doubt.{Doubt}
 use Rattle.store.proofs.Found.{keeps_up, keeps_doubt, of_no_doubt, of_one_doubt}
 use Rattle.store.proofs.Applies.{Issues, told, none_maps, life_is, issues}
 use Rattle.store.proofs.Answering.{wrote, goes_to, refused_so}
+use Rattle.store.proofs.Entering.{one_longer}
 use Rattle.store.proofs.Going.{going_plain, going_image}
 use Rattle.store.proofs.stores.Store.issue.Given.{Over}
 use Rattle.store.proofs.stores.Store.issue.Goals.{After-commit}
 use Rattle.store.proofs.stores.Store.issue.Goals as goal
 
 issued : (g : Over) (c : After-commit g)
-    → Issues (g.D.Disk.facts c.args.self.now.disk) (g.D.Disk.facts c.commit.new.disk) c.args.self.now.shape c.args.self.now.side c.args.self.now.opened c.args.self.now.current c.args.next c.args.self.now.journal.items c.args.entry
+    → Issues (g.D.Disk.facts c.args.self.now.disk) (g.D.Disk.facts c.commit.new.disk) c.args.self.now.shape c.args.self.now.side c.args.self.now.opened c.args.self.now.current c.args.next c.args.self.now.journal c.args.entry
 issued g c =
     let s = c.args.self.now in
     let next = c.args.next in
     let up = s.kept.up c.requires.up in
     let range = c.requires.follows.in_range (up _ (g.met.D.Disk.may_keep _)).selects.is.0 in
-    issues (g.D.Disk.facts s.disk) (g.D.Disk.facts c.commit.new.disk) s.shape s.side s.opened s.current next s.journal.items c.args.entry c.requires.follows c.commit.ensures.called.content s.folded
+    issues (g.D.Disk.facts s.disk) (g.D.Disk.facts c.commit.new.disk) s.shape s.side s.opened s.current next s.journal c.args.entry c.requires.follows c.commit.ensures.called.content s.folded
     up range (c.commit.ensures.commits.any_moment s.shape s.current up range)
 
 -- ---- committed
@@ -37,14 +38,13 @@ invariant_of-self g c =
     record {
       kept = keeps_up b s.shape c.other-self.result c.args.next s.doubt (ap (λ (l : Lent). l.lanes) c.commit.ensures.called.lent ∙ s.kept.none_out) c.other-self.ensures.range none
           (subst (λ (k : ℕ). IsUp b s.shape k c.args.next) (sym c.other-self.ensures.value) (c.in-Ok.ensures.commits.done s.shape s.current did.up did.range));
-      folded = rw c.push_reserved.ensures.items (did.folded_with plain);
+      folded = rw c.push.ensures (did.folded_with plain);
       doubted = of_no_doubt _ s.doubt none;
-      plain = λ goes. rw c.push_reserved.ensures.items (going_plain s.journal.items c.args.entry plain (sym (c.ends_life-ends.ensures []) ∙ goes));
-      same_image = λ goes keeps. going_image s.shape s.current s.opened c.args.next s.journal.items c.args.entry c.requires.follows (s.same_image c.requires.reaches.0) (subst (λ (es : List Entry). drop_image es ≡ false) c.push_reserved.ensures.items keeps);
-      room = c.push_reserved.ensures.capacity ∙ s.room;
-      few = search rules;
+      plain = λ goes. rw c.push.ensures (going_plain s.journal c.args.entry plain (sym (c.ends_life-ends.ensures []) ∙ goes));
+      same_image = λ goes keeps. going_image s.shape s.current s.opened c.args.next s.journal c.args.entry c.requires.follows (s.same_image c.requires.reaches.0) (subst (λ (es : List Entry). drop_image es ≡ false) c.push.ensures keeps);
+      few = (let same = length-map s.journal (λ e. change_in e (memory_in s.shape s.current (g.D.Disk.facts s.disk).content)) in let long = one_longer s.journal c.args.entry c.push.new.self c.push.ensures in omega (arith, same, long, c.requires.reaches.1));
       failed = of_no_doubt _ s.doubt none;
-      legal = rw c.push_reserved.ensures.items (did.legal_with plain s.legal c.requires.reaches.2);
+      legal = rw c.push.ensures (did.legal_with plain s.legal c.requires.reaches.2);
       allowed = of_no_doubt _ s.doubt none;
       counted = omega (arith, s.counted, c.commit.ensures.no_fewer);
     }
@@ -56,9 +56,9 @@ returns-in-Ok-clause-answered g c =
     let a = g.D.Disk.facts s.disk in
     let b = g.D.Disk.facts c.commit.new.disk in
     let next = c.args.next in
-    let journal : told (memory_in s.shape next b.content) c.push_reserved.new.self.items ≡ told (memory_in s.shape s.current a.content) s.journal.items ++ change_in c.args.entry (memory_in s.shape next a.content) ∷ [] =
-    ap (told (memory_in s.shape next b.content)) c.push_reserved.ensures.items ∙ did.journal_with (s.plain c.requires.reaches.0) in
-    let place : c.new.result ≡ length (told (memory_in s.shape s.current a.content) s.journal.items) + 1 = (let same = length-map s.journal.items (λ e. change_in e (memory_in s.shape s.current a.content)) in search rules) in
+    let journal : told (memory_in s.shape next b.content) c.push.new.self ≡ told (memory_in s.shape s.current a.content) s.journal ++ change_in c.args.entry (memory_in s.shape next a.content) ∷ [] =
+    ap (told (memory_in s.shape next b.content)) c.push.ensures ∙ did.journal_with (s.plain c.requires.reaches.0) in
+    let place : c.new.result ≡ length (told (memory_in s.shape s.current a.content) s.journal) + 1 = (let same = length-map s.journal (λ e. change_in e (memory_in s.shape s.current a.content)) in let long = one_longer s.journal c.args.entry c.push.new.self c.push.ensures in search rules) in
     record {
       life = (c.requires.reaches, place, life_is _ _ _ _ _ _ _ _ did.found journal (none_maps Doubt _ _ s.doubt c.requires.up) (c.ends_life-ends.ensures _));
       leaves = goes_to _ _ _ _ _ _ did.any_moment (did.done (c.in-Ok.ensures.commits.done s.shape s.current did.up did.range));
@@ -158,9 +158,6 @@ invariant_of-self-in-Err-Unchanged-clause-plain g c = c.args.self.now.plain
 pub invariant_of-self-in-Err-Unchanged-clause-same_image : goal.invariant_of-self-in-Err-Unchanged-clause-same_image
 invariant_of-self-in-Err-Unchanged-clause-same_image g c = c.args.self.now.same_image
 
-pub invariant_of-self-in-Err-Unchanged-clause-room : goal.invariant_of-self-in-Err-Unchanged-clause-room
-invariant_of-self-in-Err-Unchanged-clause-room g c = c.args.self.now.room
-
 pub invariant_of-self-in-Err-Unchanged-clause-few : goal.invariant_of-self-in-Err-Unchanged-clause-few
 invariant_of-self-in-Err-Unchanged-clause-few g c = c.args.self.now.few
 
@@ -172,9 +169,6 @@ invariant_of-self-in-Err-InDoubt-clause-plain g c = c.args.self.now.plain
 
 pub invariant_of-self-in-Err-InDoubt-clause-same_image : goal.invariant_of-self-in-Err-InDoubt-clause-same_image
 invariant_of-self-in-Err-InDoubt-clause-same_image g c = c.args.self.now.same_image
-
-pub invariant_of-self-in-Err-InDoubt-clause-room : goal.invariant_of-self-in-Err-InDoubt-clause-room
-invariant_of-self-in-Err-InDoubt-clause-room g c = c.args.self.now.room
 
 pub invariant_of-self-in-Err-InDoubt-clause-few : goal.invariant_of-self-in-Err-InDoubt-clause-few
 invariant_of-self-in-Err-InDoubt-clause-few g c = c.args.self.now.few

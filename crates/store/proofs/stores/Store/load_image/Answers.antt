@@ -30,15 +30,14 @@ invariant_of-self g c =
     let more : a.failures ≤ b.failures = c.read_area.ensures.read.no_fewer in
     record {
       kept = stays_keeps a b c.read_area.ensures.read.crash same c.read_area.ensures.read.none_out s.shape s.side s.current s.doubt s.kept;
-      folded = subst (λ (d : Content). fold (state_of s.shape s.opened d) (map (λ e. change_in e (memory_in s.shape s.current d)) s.journal.items) ≡ state_of s.shape s.current d) (sym same) s.folded;
+      folded = subst (λ (d : Content). fold (state_of s.shape s.opened d) (map (λ e. change_in e (memory_in s.shape s.current d)) s.journal) ≡ state_of s.shape s.current d) (sym same) s.folded;
       doubted = λ x is. subst (λ (d : Content). state_of s.shape x.next d ≡ after (state_of s.shape s.current d) (change_in x.entry (memory_in s.shape x.next d))) (sym same) (s.doubted x is);
       plain = s.plain;
       same_image = s.same_image;
-      room = s.room;
       few = s.few;
       failed = λ x is. (let was = s.failed x is in omega (arith, was, more));
       counted = omega (arith, s.counted, more);
-      legal = subst (λ (d : Content). are_taken (state_of s.shape s.opened d) (map (λ e. change_in e (memory_in s.shape s.current d)) s.journal.items) ≡ true) (sym same) s.legal;
+      legal = subst (λ (d : Content). are_taken (state_of s.shape s.opened d) (map (λ e. change_in e (memory_in s.shape s.current d)) s.journal) ≡ true) (sym same) s.legal;
       allowed = λ x is. subst (λ (d : Content). refusal_of (state_of s.shape s.current d) (change_in x.entry (memory_in s.shape x.next d)) ≡ None) (sym same) (s.allowed x is);
     }
 

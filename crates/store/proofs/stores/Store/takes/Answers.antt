@@ -10,11 +10,11 @@ pub returns-clause-ok : goal.returns-clause-ok
 returns-clause-ok g c =
     let s = c.args.self.now in
     let memory : List ℕ = memory_in s.shape s.current (g.D.Disk.facts s.disk).content in
-    let long : length (map (λ (e : Entry). change_in e memory) s.journal.items) ≡ length s.journal.items = length-map s.journal.items (λ (e : Entry). change_in e memory) in
-    (none_of s.doubt (sym c.if-is_some.false ∙ c.is_some.ensures), c.if-self.false, omega (arith, long, s.journal.ok.0, s.few, c.len.ensures, c.if-len-eq-MAX_COMMANDS.false))
+    let long : length (map (λ (e : Entry). change_in e memory) s.journal) ≡ length s.journal = length-map s.journal (λ (e : Entry). change_in e memory) in
+    (none_of s.doubt (sym c.if-is_some.false ∙ c.is_some.ensures), c.if-self.false, omega (arith, long, s.few, c.len.ensures, c.if-len-eq-MAX_COMMANDS.false))
 
 pub returns-then-len-eq-MAX_COMMANDS-clause-refused : goal.returns-then-len-eq-MAX_COMMANDS-clause-refused
 returns-then-len-eq-MAX_COMMANDS-clause-refused g c = λ none.
     let s = c.args.self.now in
     let memory : List ℕ = memory_in s.shape s.current (g.D.Disk.facts s.disk).content in
-    inr (refl, c.if-self.false, length-map s.journal.items (λ (e : Entry). change_in e memory) ∙ (sym s.journal.ok.0 ∙ (sym c.len.ensures ∙ c.if-len-eq-MAX_COMMANDS.true)))
+    inr (refl, c.if-self.false, length-map s.journal (λ (e : Entry). change_in e memory) ∙ (sym c.len.ensures ∙ c.if-len-eq-MAX_COMMANDS.true))
