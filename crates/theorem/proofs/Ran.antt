@@ -19,7 +19,7 @@ use Rattle.board_session.specs.Dialogues.{DialogueEnds, dialogue_ends}
 use Rattle.board_session.specs.declared.talks.Left.{Left}
 use Rattle.board_session.specs.Sessions.{Begins, IsOfLife, TalksIf, AreByLast, AreDriven, LeftBefore, RanOver, said_since}
 use Rattle.hart_threads.specs.Ends.{Ending}
-use Rattle.theorem.specs.Sessions.{FindsSession}
+use Rattle.theorem.specs.Sessions.{FindsSession, IsCarried, KeepsJournal}
 use Rattle.theorem.proofs.PowerLost.{OneStanding}
 
 -- of a life that began in s, with that board: its disk, and what was read and answered
@@ -49,6 +49,32 @@ module _ (one : OneStanding) (new : Bool) (shape : Size) (mode : BootMode) (payl
       → IsDriven size s mode payloads turns old disk moments left a input output heard ends
   begun R S (inl refused) some size s is stands = absurd (some refused.1)
   begun R S (inr ran) some size s is stands = over ran.0 size s is stands
+
+-- what it keeps, what was read and answered, and what its harts did
+abbrev pub IsWhole : Size → DurableState → BootMode → List (List ℕ) → ℕ → Facts → Facts → List ℕ → Option Left → DialogueEnds → Option (List ℕ) → Option (List ℕ) → Hearing → List Ending → Type 0
+IsWhole size s mode payloads turns old disk moments left a input output heard ends =
+    (machine : Machine) × IsBegun mode size payloads s machine × (kept : KeepsJournal size s (commands_by mode s) old disk moments heard)
+    × TalksIf s (commands_by mode s) left a (dialogue_ends input output (party kept.console heard))
+    × IsCarried machine.memory kept.journal kept.doubt × AreDriven size.harts machine turns s left ends × AreByLast kept.journal ends
+
+pub whole : (size : Size) (s : DurableState) (mode : BootMode) (payloads : List (List ℕ)) (turns : ℕ) (old disk : Facts) (moments : List ℕ) (left : Option Left) (a : DialogueEnds) (input output : Option (List ℕ)) (heard : Hearing) (ends : List Ending)
+    → IsDriven size s mode payloads turns old disk moments left a input output heard ends → IsWhole size s mode payloads turns old disk moments left a input output heard ends
+whole size s mode payloads turns old disk moments left a input output heard ends (session, driven, ended) =
+    let life = session.3 in
+    let kept : KeepsJournal size s (commands_by mode s) old disk moments heard = record {
+      journal = life.journal;
+      console = session.2;
+      acknowledged = life.acknowledged;
+      begun = life.begun;
+      taken = life.taken;
+      doubt = life.doubt;
+      doubted = λ c is. (life.allowed c is, life.failed c is);
+      asked = life.asked;
+      leaves = life.leaves;
+      reads = life.reads;
+      kept = life.kept;
+    } in
+    (session.0, session.1, kept, session.4, (life.carried, life.doubted), driven, ended)
 
 -- what a crash left of that disk stands for
 read_after : (doubt : Option Change) (disk given : Facts) (size z : Size) (t found : DurableState) → LeavesLife doubt disk size t → IsLeft disk given → StandsFor given.content z found

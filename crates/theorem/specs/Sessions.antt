@@ -1,11 +1,13 @@
 -- A session over a disk, in the words of the headline. Source: docs/CONSOLE.md.
-use Rattle.std.specs.Prelude.{◌≡◌, ◌⊎◌, ℕ, ◌+◌, ◌≤◌, ◌<◌, true, List, Option, None, Some, length, slice_index}
+use Rattle.std.specs.Prelude.{◌≡◌, ◌⊎◌, ℕ, ◌+◌, ◌≤◌, ◌<◌, ◌++◌, true, false, List, Option, None, Some, length, slice_index}
 use Rattle.board_model.specs.Durable.{DurableState, Change, after, fold, refusal_of}
 use Rattle.board_model.specs.Shapes.{Size}
 use Rattle.board_model.specs.declared.durable.Entry.{Entry}
+use Rattle.store.specs.Standing.{StandsFor}
 use Rattle.store.specs.Taken.{are_taken}
 use Rattle.board.specs.Begins.{IsBegun}
 use Rattle.board.specs.Moments.{commands_by}
+use Rattle.board.specs.Unbooted.{LeavesLife}
 use Rattle.board_model.specs.declared.boot_mode.BootMode.{BootMode}
 use Rattle.disk.specs.Facts.{Content, Facts, Failed}
 use Rattle.board_files.specs.Files.{FileFacts, sync_of}
@@ -13,11 +15,35 @@ use Rattle.machine.specs.Machine.{Machine}
 use Rattle.hart_threads.specs.Doubts.{IsDoubtOf}
 use Rattle.hart_threads.specs.Heard.{Hearing}
 use Rattle.hart_threads.specs.Runs.{CarriesSteps, AllCarrySteps}
-use Rattle.hart_threads.specs.Since.{IsOfFirst, KeptSince, sent}
+use Rattle.hart_threads.specs.Since.{AreKept, IsOfFirst, KeptSince, sent}
 use Rattle.board_session.specs.Commands.{party}
 use Rattle.board_session.specs.Dialogues.{DialogueEnds, dialogue_ends}
 use Rattle.board_session.specs.declared.talks.Left.{Left}
-use Rattle.board_session.specs.Sessions.{IsAcknowledged, TalksIf}
+use Rattle.board_session.specs.Sessions.{IsAcknowledged, LeftBefore, TalksIf}
+
+-- What a session keeps whose disk old stood for the state s. It has one journal, which begins with what its boot issued. It is of just
+-- those commands that were acknowledged, to the boot, to the console by these receipts and to the harts, each at the place of its receipt;
+-- and the table takes them, one after another. A command is in doubt only where the disk failed in the session, and the table would take
+-- it. It is the console's, which was answered 6; or, where the console has none, a durable call of a hart asks for it. What a crash leaves
+-- now stands for what the journal makes of s, or with a command in doubt for that or the state after it; and so does what a read gives.
+-- From the moment of each receipt on, within a command and within a call of the disk too, a crash has left what some first commands make,
+-- those up to that one among them, or these and the one in doubt.
+pub record KeepsJournal (size : Size) (s : DurableState) (issued : List Change) (old disk : Facts) (moments : List ℕ) (heard : Hearing) : Type 0 where
+  pub journal : List Change
+  pub console : List (ℕ × Entry)
+  pub acknowledged : IsAcknowledged size issued journal console
+  pub begun : (later : List Change) × (journal ≡ issued ++ later)
+  pub taken : are_taken s journal ≡ true
+  pub doubt : Option Change
+  pub doubted : (c : Change) → doubt ≡ Some c → (refusal_of (fold s journal) c ≡ None) × Failed old.failures disk.failures
+  pub asked : IsDoubtOf size doubt heard.doubt
+  pub leaves : LeavesLife doubt disk size (fold s journal)
+  pub reads : (found : DurableState) × StandsFor disk.content size found
+  pub kept : AreKept size s (LeftBefore false old size s issued) old.moment (length issued) journal doubt disk moments
+
+-- each suspension of a journal, and one that is in doubt, carries a memory that steps of harts made of this one
+abbrev pub IsCarried : List ℕ → List Change → Option Change → Type 0
+IsCarried begun journal doubt = AllCarrySteps begun journal × ((c : Change) → doubt ≡ Some c → CarriesSteps begun c)
 
 -- What an open finds after a session that began in the state s by that mode: what the commands of a journal make of s,
 -- just those that were acknowledged to the boot, the console and the harts; or these and the one in doubt. There is one

@@ -26,4 +26,6 @@ pub use headline::{
 pub use models::{a_power_on_is_an_event, a_turn_is_an_event, a_wake_is_an_event};
 pub use resumes::resumed_byte_for_byte;
 pub use scripts::{a_script, a_script_in_any_spelling};
-pub use sessions::{SessionSaid, a_session, power_lost_between_sessions};
+pub use sessions::{
+    SessionSaid, a_session, a_session_answers, a_session_keeps, power_lost_between_sessions,
+};

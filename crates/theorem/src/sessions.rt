@@ -2,12 +2,11 @@
 ghost use Rattle.std.specs.Prelude.{◌≡◌, ◌≤◌, ℕ, List, false, None, IfOk, [], length, take};
 ghost use Rattle.board_model.specs.Durable.{Change, DurableState, fold};
 ghost use Rattle.board_model.specs.Shapes.{Size};
-ghost use Rattle.board_model.specs.declared.durable.Entry.{Entry};
 ghost use Rattle.board.specs.Begins.{IsBegun};
 ghost use Rattle.board.specs.Moments.{commands_by};
 ghost use Rattle.board_session.specs.Commands.{party};
 ghost use Rattle.board_session.specs.Dialogues.{dialogue_ends};
-ghost use Rattle.board_session.specs.Sessions.{IsOfLife, TalksIf, AreByLast, AreDriven, LeftBefore};
+ghost use Rattle.board_session.specs.Sessions.{TalksIf, AreByLast, AreDriven};
 ghost use Rattle.machine.specs.Machine.{Machine};
 ghost use Rattle.hart_threads.specs.Heard.{heard_nothing};
 ghost use Rattle.hart_threads.specs.Since.{IsOfFirst, sent};
@@ -16,7 +15,7 @@ ghost use Rattle.disk.specs.Facts.{Content};
 ghost use Rattle.store.specs.Leaves.{IsIdle, LeavesOnly};
 ghost use Rattle.store.specs.Standing.{StandsFor};
 ghost use Rattle.store.specs.Views.{disk_of, found_state};
-ghost use Rattle.theorem.specs.Sessions.{FindsSession, IsCutAnywhere, KeepsSession};
+ghost use Rattle.theorem.specs.Sessions.{FindsSession, IsCarried, IsCutAnywhere, KeepsJournal, KeepsSession};
 
 use board::Payloads;
 use board_files::{FileDisk, Filed, SectorFile};
@@ -31,20 +30,66 @@ use std::sync::Wait;
 use std::thread::Threads;
 use store::{Store, one_standing};
 
-/// *Whatever order harts, console and savers run in.* A session whose console was begun, over a disk whose bytes stand
-/// for the state s. It has one journal, whatever the order was: what its boot issued, and then the commands that were
-/// acknowledged to the console and to harts, each at the place of its receipt, and no other. A crash leaves what they make
-/// of s, or with a command in doubt that or the state after it (`IsOfLife`); and at each moment of the session, within a command and
-/// within a call of the disk too, what some first of them make, with all that had been acknowledged by then (`AreKept`). A command is in
-/// doubt only where the disk failed in the session. It is the one that the console has in doubt, which was answered 6; or, where the
-/// console has none, a reset or a suspension that a call of a hart asks for (`IsDoubtOf`). The session's suspension, if it has one,
-/// carries a memory that steps of harts made of that of the board which its power-on made (`IsBegun`). What was read and answered is of
-/// that journal (`TalksIf`). Each hart is one of that board, and went by its own turns, one after another, from where the power-on
-/// left it to where its end says that it stands; it made all turns that it was given, or a hart ended the life by a command
-/// that was acknowledged, or the console halted the harts when it left (`AreDriven`). Where another hart ended the life, its
-/// command is the last of that journal (`AreByLast`). So a session by `resume` begins with the
-/// image's memory and one hart that is STARTED, at the image's address, with its number and opaque value; every other hart is
-/// STOPPED and never ran (`woken`).
+/// *Is kept what was acknowledged?* Of a session whose console was begun, over a disk whose bytes stand for the state s, whatever order
+/// harts, console and savers run in. It has one journal: what its boot issued, and then the commands that were acknowledged to the console
+/// and to harts, each at the place of its receipt, and no other. A crash leaves what they make of s, or with a command in doubt that or
+/// the state after it; and at each moment of the session, within a command and within a call of the disk too, what some first of them
+/// make, with all that had been acknowledged by then. A command is in doubt only where the disk failed in the session. It is the one that
+/// the console has in doubt, which was answered 6; or, where the console has none, a reset or a suspension that a call of a hart asks for.
+pub fn a_session_keeps<
+    R: Threads + Wait + Sync,
+    D: Disk + Drop + Send,
+    I: Read + Drop,
+    W: Write + Drop,
+>(
+    rt: &R,
+    alloc: Global,
+    options: &Options,
+    disk: D,
+    payloads: &Payloads,
+    streams: Streams<I, W>,
+) -> SessionEnd<D, I, W>
+    requires { IsIdle (D.facts disk) }
+    ensures { (size : Size) (s : DurableState) → options.now.new ≡ false → StandsFor (D.facts disk).content size s
+        → (result.console_left ≡ None → ⊥) → KeepsJournal size s (commands_by options.now.mode s) (D.facts disk)
+        (D.facts result.disk) result.moments.at result.heard }
+{
+    a_session(rt, alloc, options, disk, payloads, streams)
+}
+
+/// *What does the console answer?* The same, and what was read and answered is of that journal: each line has its answer, in order, and
+/// each `ok N` has its command at the place N (`TalksIf`).
+pub fn a_session_answers<
+    R: Threads + Wait + Sync,
+    D: Disk + Drop + Send,
+    I: Read + Drop,
+    W: Write + Drop,
+>(
+    rt: &R,
+    alloc: Global,
+    options: &Options,
+    disk: D,
+    payloads: &Payloads,
+    streams: Streams<I, W>,
+) -> SessionEnd<D, I, W>
+    requires { IsIdle (D.facts disk) }
+    ensures { (size : Size) (s : DurableState) → options.now.new ≡ false → StandsFor (D.facts disk).content size s
+        → (result.console_left ≡ None → ⊥) → (kept : KeepsJournal size s (commands_by options.now.mode s) (D.facts disk)
+        (D.facts result.disk) result.moments.at result.heard)
+        × TalksIf s (commands_by options.now.mode s) result.console_left
+        (dialogue_ends (I.remaining streams.input) (W.contents streams.out) (party [] heard_nothing))
+        (dialogue_ends (I.remaining result.streams.input) (W.contents result.streams.out)
+        (party kept.console result.heard)) }
+{
+    a_session(rt, alloc, options, disk, payloads, streams)
+}
+
+/// *What did the harts do?* The same, and of the board which its power-on made (`IsBegun`). The session's suspension, if it has one, also
+/// one in doubt, carries a memory that steps of harts made of the board's. Each hart is one of that board, and went by its own turns, one
+/// after another, from where the power-on left it to where its end says that it stands; it made all turns that it was given, or a hart
+/// ended the life by a command that was acknowledged, or the console halted the harts when it left (`AreDriven`). Where another hart ended
+/// the life, its command is the last of that journal (`AreByLast`). So a session by `resume` begins with the image's memory and one hart
+/// that is STARTED, at the image's address, with its number and opaque value; every other hart is STOPPED and never ran (`woken`).
 pub fn a_session<R: Threads + Wait + Sync, D: Disk + Drop + Send, I: Read + Drop, W: Write + Drop>(
     rt: &R,
     alloc: Global,
@@ -56,15 +101,15 @@ pub fn a_session<R: Threads + Wait + Sync, D: Disk + Drop + Send, I: Read + Drop
     requires { IsIdle (D.facts disk) }
     ensures { (size : Size) (s : DurableState) → options.now.new ≡ false → StandsFor (D.facts disk).content size s
         → (result.console_left ≡ None → ⊥) → (machine : Machine) × IsBegun options.now.mode size payloads.now s machine
-        × (console : List (ℕ × Entry))
-        × (life : IsOfLife size s (commands_by options.now.mode s) machine.memory (D.facts disk).failures
-        (LeftBefore false (D.facts disk) size s (commands_by options.now.mode s)) (D.facts disk).moment
-        result.moments.at console result.heard.doubt (D.facts result.disk))
+        × (kept : KeepsJournal size s (commands_by options.now.mode s) (D.facts disk) (D.facts result.disk)
+        result.moments.at result.heard)
         × TalksIf s (commands_by options.now.mode s) result.console_left
         (dialogue_ends (I.remaining streams.input) (W.contents streams.out) (party [] heard_nothing))
-        (dialogue_ends (I.remaining result.streams.input) (W.contents result.streams.out) (party console result.heard))
+        (dialogue_ends (I.remaining result.streams.input) (W.contents result.streams.out)
+        (party kept.console result.heard))
+        × IsCarried machine.memory kept.journal kept.doubt
         × AreDriven size.harts machine options.now.turns s result.console_left result.harts.items
-        × AreByLast life.journal result.harts.items }
+        × AreByLast kept.journal result.harts.items }
 {
     one_standing();
     session(rt, alloc, options, disk, payloads, streams)
