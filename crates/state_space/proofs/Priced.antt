@@ -1,13 +1,13 @@
 -- What a successor costs, and rows with what is left.
-use Rattle.std.proofs.Common.{◌≡◌, ◌⊎◌, ⊎_elim, inl, inr, ℕ, zero, suc, ◌+◌, ◌<◌, ◌≤◌, Bool, true, false, List, ◌∷◌, Option, Some, None, refl, sym, ap, ◌∙◌, subst, arith}
+use Rattle.std.proofs.Common.{◌≡◌, ◌⊎◌, ⊎_elim, inl, inr, ℕ, ◌+◌, ◌<◌, ◌≤◌, Bool, true, false, List, Option, Some, None, refl, sym, ap, ◌∙◌, subst, arith}
 use Rattle.std.specs.Prelude.{◌-◌, drop, take, length}
 use Rattle.std.proofs.lemmas.List.{take_all}
 use Rattle.std.proofs.lemmas.Bool.{cases_eq, cases_lt}
 use Rattle.state_space.specs.Bounded.{Budget, IsFreeBy, PaysBy, Richer}
 use Rattle.state_space.specs.Successors.{found_count, found_event, found_row}
 use Rattle.state_space.specs.OneWithin.{last_one, same_budget}
-use Rattle.state_space.specs.Switched.{Switched, within_rules, last_number, row_within, StandsWithin, IsPriced, IsSaid, IsListed, AreListed, IsTold}
-use Rattle.state_space.specs.Systems.{Rules, IsExpanded, Moves, UnlessHalts}
+use Rattle.state_space.specs.Switched.{within_rules, last_number, row_within, StandsWithin, IsPriced, IsSaid, IsListed, AreListed, IsTold}
+use Rattle.state_space.specs.Systems.{Rules, IsExpanded, UnlessHalts}
 use Rattle.state_space.specs.declared.systems.Expansion.{Expansion}
 use Rattle.state_space.specs.declared.systems.Expansion.TheVariants.{Goes, Ends, Halts}
 use Rattle.state_space.specs.declared.found.Successors.{Successors}

@@ -1,5 +1,5 @@
 -- A row of a system within a number of switches stands for one state.
-use Rattle.std.proofs.Common.{◌≡◌, ℕ, suc, List, Option, Some, None, refl, sym, ap, ◌∙◌, subst, arith}
+use Rattle.std.proofs.Common.{◌≡◌, ℕ, List, Option, Some, None, refl, sym, ap, ◌∙◌, subst, arith}
 use Rattle.std.specs.Prelude.{slice_index, drop}
 use Rattle.state_space.specs.Bounded.{Budget}
 use Rattle.state_space.specs.Switched.{Switched, last_number, row_within, StandsWithin}

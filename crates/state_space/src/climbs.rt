@@ -70,7 +70,8 @@ fn a_climb_past_its_goal_is_dead(rt: HostRuntime) -> Result<(), Fail> {
     if verdict != Verdict::Closed {
         return Err("open".into());
     }
-    assert_eq!(rt; first_dead(rt.alloc(), &climb, &graph)?, Some(4));
+    let goals = at_end(rt.alloc(), &graph)?;
+    assert_eq!(rt; first_dead(rt.alloc(), &climb, &graph, &goals)?, Some(4));
     let way = way_to(rt.alloc(), &graph, 4)?.ok_or("no way")?;
     assert_eq!(rt; way.as_slice(), [0, 0, 0, 0].as_slice());
     Ok(())
