@@ -11,7 +11,8 @@ use Rattle.state_space.specs.Deads.{ReachesEnd}
 use Rattle.state_space.proofs.AllOrders.{leads_by, leads_lifted, all_orders, can_end}
 use Rattle.state_space.proofs.Tells.{found_covered, end_reached, closed_by_cover}
 use Rattle.board_space.specs.Space.{Asked, Happens, number_of, KeepsEach, IsLocalTurn, GoesBy, board_rules, start_of}
-use Rattle.board_space.proofs.Reduced.{Moving, reduced}
+use Rattle.board_space.specs.Moving.{Moving}
+use Rattle.board_space.proofs.Reduced.{reduced}
 
 -- local turns are turns, by which a board goes on
 pub chain_goes : Moving → (asked : Asked) (map : Map) (n : ℕ) (b c : Board) → Chain (IsLocalTurn asked.size map) n b c → Leads (Only GoesOn (Happens asked)) b c

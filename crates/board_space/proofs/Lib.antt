@@ -12,7 +12,9 @@ pub mod EventNumbers
 pub mod Ends
 pub mod AllShown
 pub mod Tracking
+pub mod Searching
 pub mod Stuck
+pub mod ByOrders
 pub mod Answered
 pub mod Few
 pub mod Waiting

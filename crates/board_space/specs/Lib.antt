@@ -12,6 +12,6 @@ pub mod Expanding
 pub mod Settings
 pub mod Shown
 pub mod WaysOf
-pub mod Explorations
+pub mod Moving
 pub mod Few
-pub mod FewSearched
+pub mod Searches

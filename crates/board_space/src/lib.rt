@@ -5,7 +5,7 @@
 mod board_rows;
 mod differs;
 mod explored;
-mod explored_few;
+mod followed;
 mod happenings;
 mod keys;
 mod orders;
@@ -22,9 +22,8 @@ mod tests;
 
 pub use board_rows::BoardRows;
 pub use explored::{Explored, Question, explore_board};
-pub use explored_few::{ExploredFew, explore_few};
 pub use happenings::Happening;
-pub use orders::{StandsFor, every_order, few_switches};
+pub use orders::{StandsFor, every_order};
 pub use outcomes::Outcome;
 pub use records::{Recorded, Records};
 pub use row_layout::Layout;

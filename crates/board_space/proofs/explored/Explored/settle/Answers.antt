@@ -6,5 +6,5 @@ use Rattle.board_space.proofs.explored.Explored.settle.Goals as goal
 
 pub returns-in-Some-clause-turns : goal.returns-in-Some-clause-turns
 returns-in-Some-clause-turns c same =
-    c.every_order.ensures.settles c.args.self.now (map_in c.map.result.now) c.args.board.now.board c.settle_one.new.board.board
+    c.every_order.ensures.settles c.args.self.now.asked (map_in c.map.result.now) c.args.board.now.board c.settle_one.new.board.board
     (subst (λ (s : Size). Settles s (map_in c.map.result.now) c.args.board.now.board c.settle_one.new.board.board) same c.settle_one.ensures.settles)
