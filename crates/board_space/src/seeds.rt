@@ -4,6 +4,7 @@ ghost use Rattle.std.specs.Prelude.{◌≡◌, ◌<◌, ◌≤◌, length};
 ghost use Rattle.board_model.specs.Shapes.{ram_bytes_of};
 
 use crate::explored::Question;
+use crate::space::Failures;
 use board_model::HartId;
 use model_board::{Board, Break, Status, TouchMap};
 use state_space::Refused;
@@ -11,6 +12,13 @@ use std::alloc::Global;
 
 /// How many turns a run has.
 const TURNS: u64 = 50_000;
+
+/// In how many turns power fails once, one is made that the store refuses if it is asked, and one of a store that is down from then on.
+const CUT_IN: u64 = 8191;
+
+const REFUSED_IN: u64 = 3;
+
+const DOWN_IN: u64 = 12;
 
 /// The next number of a sequence that looks random (Marsaglia, Xorshift RNGs, 2003).
 fn draw(state: &mut u64) -> u64 {
@@ -57,6 +65,20 @@ fn bring_on(board: &mut Board, payload: &[u8]) -> bool
     }
 }
 
+/// A turn of a hart, of which the store may refuse what it asks, or before which power may fail, where that is asked for.
+fn make_turn(board: &mut Board, failures: Failures, hart: HartId, drawn: u64)
+    requires { hart < board.old.size.harts }
+    ensures { board.new.size ≡ board.old.size }
+{
+    if failures.cuts && drawn % CUT_IN == 0 {
+        board.cut();
+    } else if failures.refusals && drawn % REFUSED_IN == 0 {
+        let _refused = board.refused(hart, drawn % DOWN_IN == 0);
+    } else {
+        board.turn(hart);
+    }
+}
+
 /// A run of turns of harts that are drawn, each for a number of turns that is drawn below `longest`.
 fn run(board: &mut Board, question: &Question, map: &mut TouchMap, longest: u64, state: &mut u64)
     requires fits { length question.now.payload.now ≤ ram_bytes_of question.now.shape }
@@ -77,7 +99,7 @@ fn run(board: &mut Board, question: &Question, map: &mut TouchMap, longest: u64,
         left -= 1;
         if let Some(hart) = turning {
             widen(board, map, hart);
-            board.turn(hart);
+            make_turn(board, question.failures, hart, draw(state));
         }
     }
 }

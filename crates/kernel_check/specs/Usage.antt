@@ -39,7 +39,7 @@ with_bounds app =
 
 -- those that say how the verdict is written
 abbrev pub with_writing : App → App
-with_writing app = with_rule (with_rule app (flag_rule (codes "json"))) (option_rule (codes "show"))
+with_writing app = with_rule (with_rule (with_rule app (flag_rule (codes "json"))) (flag_rule (codes "tap"))) (option_rule (codes "show"))
 
 abbrev pub sbicheck : App
 sbicheck = with_writing (with_bounds (with_looks (with_board (with_rule (named_app (codes "sbicheck")) kernel_rule))))

@@ -199,7 +199,7 @@ fn followed<W: Write>(
         (asked_in task.options.now task.shape.now task.kernel.now.payload.items) task.looks.now judged.kinds.items) }
 {
     let judged = judged(task, own, switches)?;
-    if task.options.show.is_none() {
+    if task.options.tells_all() {
         tell_search(task.alloc, out, task.options, &judged.search)?;
         out.flush().map_err(|error| unwritten(error))?;
     }
@@ -258,7 +258,7 @@ fn tell_all<W: Write>(task: Task<'_>, out: &mut W) -> Result<Verdict, CheckFault
         task.looks.now) }
 {
     let own = own_of(task)?;
-    if task.options.show.is_none() {
+    if task.options.tells_all() {
         tell_kernel(
             task.alloc,
             out,

@@ -175,7 +175,7 @@ pub enum OrderStep {
 pub struct Failure {
     /// What it is.
     pub kind: FailureKind,
-    /// How many ends show it; none for what is no end.
+    /// How many ends show it.
     pub ends: usize,
     /// The board where it shows first.
     pub row: usize,

@@ -18,7 +18,7 @@ pub struct LookWord {
 pub enum FailureKind {
     /// Two ends show different things, or one shows what is not expected.
     Differs,
-    /// From some board no order leads to an end.
+    /// From some board no order leads to an end; or at an end harts wait for an interrupt that no hart sends.
     Stuck,
     /// A hart stands after a trap that has no handler.
     Traps,
@@ -60,6 +60,15 @@ pub struct CheckOptions {
     pub memory: u64,
     /// Whether the verdict is written as lines of JSON.
     pub json: bool,
+    /// Whether it is written as tests, in the Test Anything Protocol.
+    pub tap: bool,
     /// The failure whose order is written as a script, in the place of the verdict.
     pub show: Option<FailureKind>,
+}
+
+impl CheckOptions {
+    /// Whether all is told, in words or as JSON: no script and no tests are asked for.
+    pub fn tells_all(&self) -> bool {
+        self.show.is_none() && !self.tap
+    }
 }

@@ -32,7 +32,8 @@ A kernel that never rests is stuck for this program.";
 const STATUS: &str = "\
 Failures, of each kind the first that is found:
   differs  two ends show different things, or one shows what is not expected
-  stuck    from some board no order leads to an end
+  stuck    from some board no order leads to an end; or harts are suspended, none
+           is started, and no interrupt is pending
   traps    a hart stands after a trap that has no handler; an EBREAK is one
   fails    the kernel shuts down with reason 1, system failure
 
@@ -95,6 +96,9 @@ pub const MEMORY: &str = "memory";
 
 /// The flag for lines of JSON.
 pub const JSON: &str = "json";
+
+/// The flag for tests.
+pub const TAP: &str = "tap";
 
 /// The failure that is shown.
 pub const SHOW: &str = "show";
@@ -226,10 +230,12 @@ fn with_writing<'a>(alloc: Global, command: Command<'a>) -> Result<Command<'a>, 
     ensures { IfOk result (λ c. app_of c ≡ with_writing (app_of command.entry)) }
 {
     let json = "Writes the verdict as lines of JSON";
+    let tap = "Writes the verdict in the Test Anything Protocol";
     let show =
         "Writes its order as a script that sbibench runs [possible values: differs, stuck, traps, fails]";
     command
         .arg(flag(alloc, JSON, json))?
+        .arg(flag(alloc, TAP, tap))?
         .arg(option(alloc, SHOW, "FAILURE", show))
 }
 

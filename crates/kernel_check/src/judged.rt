@@ -15,7 +15,7 @@ use crate::looks::Look;
 use crate::own::end_shown;
 use crate::places::data_text;
 use crate::told::holds;
-use crate::walks::{Setting, is_any_trapped, walk_to};
+use crate::walks::{Setting, is_any_trapped, is_waited_for_ever, walk_to};
 use board_model::{RAM_BASE, Reason, Refusal};
 use board_space::Explored;
 use model_board::{Board, Power};
@@ -26,9 +26,34 @@ use std::alloc::{AllocError, Global};
 struct Ends {
     kinds: Vec<EndKind>,
     traps: usize,
-    fails: usize,
-    first_fail: Option<usize>,
+    fails: Found,
+    waits: Found,
     count: usize,
+}
+
+/// How many there are of a kind, and the first one.
+#[derive(Clone, Copy, Drop)]
+struct Found {
+    count: usize,
+    first: Option<usize>,
+}
+
+impl Found {
+    /// None.
+    fn none() -> Found {
+        Found {
+            count: 0,
+            first: None,
+        }
+    }
+
+    /// Counts one more.
+    fn add(&mut self, row: usize) {
+        self.count = self.count.saturating_add(1);
+        if self.first.is_none() {
+            self.first = Some(row);
+        }
+    }
 }
 
 /// Whether two ends show the same.
@@ -82,12 +107,13 @@ fn add_end(
         ends.traps = ends.traps.saturating_add(1);
         return Ok(());
     }
+    if is_waited_for_ever(board) {
+        ends.waits.add(row);
+        return Ok(());
+    }
     let shown = end_shown(setting.alloc, looks, board)?;
     if let EndShown::Shutdown(Reason::SystemFailure) = shown {
-        ends.fails = ends.fails.saturating_add(1);
-        if ends.first_fail.is_none() {
-            ends.first_fail = Some(row);
-        }
+        ends.fails.add(row);
         return Ok(());
     }
     add_kind(&mut ends.kinds, looks, own, shown, row)
@@ -108,8 +134,8 @@ fn ends_of(
     let mut ends = Ends {
         kinds: Vec::new(setting.alloc),
         traps: 0,
-        fails: 0,
-        first_fail: None,
+        fails: Found::none(),
+        waits: Found::none(),
         count: rows.len(),
     };
     for row in rows.iter() {
@@ -166,6 +192,28 @@ fn first_difference(kinds: &[EndKind]) -> Option<usize> {
     }
 }
 
+/// How many ends differ so: those that show what is not expected, else those that show other things than the kernel's own order.
+fn differing(kinds: &[EndKind]) -> usize {
+    let any = kinds.iter().any(|kind| !kind.is_expected);
+    let mut count = 0usize;
+    for kind in kinds {
+        let differs = if any { !kind.is_expected } else { !kind.is_own };
+        if differs {
+            count = count.saturating_add(kind.count);
+        }
+    }
+    count
+}
+
+/// The first row of two, where there is one.
+fn first_of(one: Option<usize>, other: Option<usize>) -> Option<usize> {
+    match (one, other) {
+        (Some(row), Some(than)) if than < row => Some(than),
+        (Some(row), _) => Some(row),
+        (None, other) => other,
+    }
+}
+
 /// Why a search was not closed.
 fn stop_of(explored: &Explored) -> Option<Stop> {
     match explored.verdict() {
@@ -213,12 +261,14 @@ fn failing_rows(
     let Ok(dead) = explored.first_dead() else {
         return Err(Refusal::Memory);
     };
-    let differs = first_difference(ends.kinds.as_slice());
+    let kinds = ends.kinds.as_slice();
+    let differs = first_difference(kinds);
+    let stuck = first_of(ends.waits.first, dead);
     Ok([
         (FailureKind::Traps, ends.traps, first_trap),
-        (FailureKind::Fails, ends.fails, ends.first_fail),
-        (FailureKind::Differs, 0, differs),
-        (FailureKind::Stuck, 0, dead),
+        (FailureKind::Fails, ends.fails.count, ends.fails.first),
+        (FailureKind::Differs, differing(kinds), differs),
+        (FailureKind::Stuck, ends.waits.count, stuck),
     ])
 }
 

@@ -17,6 +17,7 @@ mod parsed;
 mod places;
 mod program;
 mod script;
+mod taps;
 mod tells;
 mod texts;
 mod told;

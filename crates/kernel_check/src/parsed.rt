@@ -11,8 +11,8 @@ ghost use Rattle.kernel_check.specs.declared.given.LookWord.{LookWord};
 use crate::given::{Asked, CheckOptions, FailureKind, LookWord};
 use crate::help::{
     BOARDS, CUTS, EXPECT, HARTS, JSON, KERNEL, LANES, LOOK, MEMORY, MOST_BOARDS, MOST_HARTS,
-    MOST_LANES, MOST_PAGES, MOST_PREEMPTIONS, PAGES, PREEMPTIONS, REASON, REFUSALS, SHOW, WITHOUT,
-    command,
+    MOST_LANES, MOST_PAGES, MOST_PREEMPTIONS, PAGES, PREEMPTIONS, REASON, REFUSALS, SHOW, TAP,
+    WITHOUT, command,
 };
 use crate::words::{expect_named, failure_named, look_named, size_named};
 use board_model::Reason;
@@ -200,6 +200,7 @@ fn options_in(alloc: Global, matches: &ArgMatches<'_>) -> Result<Option<CheckOpt
         boards,
         memory,
         json: matches.get_flag(JSON),
+        tap: matches.get_flag(TAP),
         show,
     }))
 }

@@ -7,6 +7,7 @@ use crate::judged::Judged;
 use crate::kernel::Kernel;
 use crate::looks::Look;
 use crate::script::script_of;
+use crate::taps::write_tap;
 use crate::texts::{write_failure, write_kernel, write_own, write_search, write_unseen};
 use crate::verdict_texts::{write_stop, write_verdict};
 use board_model::{Refusal, Shape, unwritten};
@@ -75,7 +76,7 @@ pub fn tell_stop<W: Write>(
     search: &SearchFacts,
 ) -> Result<(), Refusal> {
     match search.stop {
-        Some(stop) if !options.json && options.show.is_none() => {
+        Some(stop) if !options.json && options.tells_all() => {
             write_stop(out, stop).map_err(|error| unwritten(error))
         }
         _ => Ok(()),
@@ -128,7 +129,9 @@ pub fn tell_judged<W: Write>(
     looks: &[Look],
     judged: &Judged,
 ) -> Result<(), Refusal> {
-    if options.json {
+    if options.tap {
+        write_tap(out, judged).map_err(|error| unwritten(error))
+    } else if options.json {
         tell_values(alloc, out, looks, judged)
     } else {
         tell_words(out, options, looks, judged)

@@ -342,7 +342,8 @@ fn write_harts<W: Write>(out: &mut W, harts: &[HartFacts]) -> io::Result<()> {
 fn failure_words(kind: FailureKind) -> &'static str {
     match kind {
         FailureKind::Differs => "two ends show different things, or one shows what is not expected",
-        FailureKind::Stuck => "no order leads from here to an end",
+        FailureKind::Stuck =>
+            "no order leads from here to an end, or harts wait for an interrupt that no hart sends",
         FailureKind::Traps => "a hart stands after a trap that has no handler",
         FailureKind::Fails => "the kernel shuts down with reason 1, system failure",
     }
@@ -358,7 +359,7 @@ pub fn write_failure<W: Write>(
     let word = failure_word(failure.kind);
     let words = failure_words(failure.kind);
     write!(out, "{word}: {words}")?;
-    if 0 < failure.ends {
+    if 0 < failure.ends && failure.kind != FailureKind::Differs {
         let ends = Count(failure.ends as u64, "end");
         write!(out, " ({ends})")?;
     }

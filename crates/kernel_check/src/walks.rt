@@ -82,6 +82,21 @@ pub fn is_any_trapped(board: &Board, shape: &Shape) -> bool {
     false
 }
 
+/// Whether harts wait for an interrupt that no hart will send: one is suspended, and none is started or about to start.
+pub fn is_waited_for_ever(board: &Board) -> bool {
+    let mut waits = false;
+    for number in 0..8u64 {
+        if let Some(hart) = board.machine().shape().hart(number) {
+            match state_of(board, hart) {
+                HartState::Suspended => waits = true,
+                HartState::Started | HartState::StartPending => return false,
+                HartState::Stopped => {}
+            }
+        }
+    }
+    waits && board.status() == Status::On
+}
+
 /// What a hart at a call asks of the store: its extension stands in a7.
 fn call_of(board: &Board, hart: HartId) -> StoreCall
     requires { hart < board.now.size.harts }
@@ -162,6 +177,23 @@ fn add_happening(
     Ok(())
 }
 
+/// The trap of a hart that stands outside of RAM: the one that led it there. Where it jumped there, the one that follows.
+fn trap_of(stands: &Hart, shape: &Shape) -> Trap {
+    let from = csr(stands, SEPC);
+    if is_in_ram(shape, from) {
+        return Trap {
+            cause: csr(stands, SCAUSE),
+            from,
+            value: csr(stands, STVAL),
+        };
+    }
+    Trap {
+        cause: 1,
+        from: stands.pc(),
+        value: stands.pc(),
+    }
+}
+
 /// Notes the traps after which harts stand newly, and forgets those of harts that do not.
 fn note_traps(traps: &mut [Option<Trap>; 8], board: &Board, shape: &Shape) {
     for number in 0..8u64 {
@@ -172,12 +204,7 @@ fn note_traps(traps: &mut [Option<Trap>; 8], board: &Board, shape: &Shape) {
         if !is_trapped(board, shape, hart) {
             traps[place] = None;
         } else if traps[place].is_none() {
-            let stands = board.machine().hart(hart);
-            traps[place] = Some(Trap {
-                cause: csr(stands, SCAUSE),
-                from: csr(stands, SEPC),
-                value: csr(stands, STVAL),
-            });
+            traps[place] = Some(trap_of(board.machine().hart(hart), shape));
         }
     }
 }
