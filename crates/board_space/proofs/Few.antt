@@ -9,7 +9,6 @@ use Rattle.state_space.specs.declared.graph.Graph.{Graph}
 use Rattle.state_space.specs.Bounded.{Budget, Turns, Waits, IsFreeBy, PaysBy, Within, Switching, IsClosedWithin, MeetsWithin}
 use Rattle.state_space.specs.Deads.{ReachesEnd}
 use Rattle.state_space.specs.Graphs.{count_of, expanded_of, IsSearched, IsFound, IsCovered}
-use Rattle.state_space.specs.OneWithin.{one_within}
 use Rattle.state_space.specs.Orders.{Only, Runs, CanEnd}
 use Rattle.state_space.specs.Switched.{Switched, StandsWithin}
 use Rattle.state_space.specs.Systems.{Moves}
@@ -93,13 +92,13 @@ module _ (asked : Asked) (few : asked.size.harts ≤ 8) where
   pays_by None b w v pays = pays
   pays_by (Some p) b w v pays = (pays.0, ⊎_elim (λ free. inl (free_by w.last p b free.0, free.1)) (λ cost. inr cost) pays.1)
 
-module _ (moving : Moving) (asked : Asked) (map : Map) (switches : ℕ) (stands : List ℕ → Board → Type 0) (one : (r : List ℕ) (b c : Board) → stands r b → stands r c → b ≡ c) (graph : Graph)
+module _ (moving : Moving) (asked : Asked) (map : Map) (switches : ℕ) (stands : List ℕ → Board → Type 0) (graph : Graph)
     (searched : IsSearched (few_rules asked map switches) (StandsWithin stands) graph) (all : expanded_of graph ≡ count_of graph) (few : asked.size.harts ≤ 8) where
   abbrev pub Seen : Board → Budget → Type 0
   Seen b w = IsFound (StandsWithin stands) graph (record { state = b; budget = w })
 
   cover : IsCovered (few_rules asked map switches) (IsFound (StandsWithin stands) graph)
-  cover = found_covered (few_rules asked map switches) (StandsWithin stands) (one_within stands one) graph searched all
+  cover = found_covered (few_rules asked map switches) (StandsWithin stands) graph searched all
 
   closed : IsClosedWithin (Happens asked) Turn hart_of MOST_WAITED (KeepsEach asked map) (IsLocalTurn asked.size map) Seen
   closed b w has e v pays =
@@ -131,7 +130,7 @@ module _ (moving : Moving) (asked : Asked) (map : Map) (switches : ℕ) (stands 
   seen_end : ((k : ℕ) → k < count_of graph → ReachesEnd (GoesBy asked) graph k) → (x : Board) (u : Budget) → Seen x u → CanEnd (Happens asked) GoesOn IsEnd x
   seen_end reach x u seen =
       let s : Switched Board = record { state = x; budget = u } in
-      let can = end_reached (few_rules asked map switches) (StandsWithin stands) (one_within stands one) graph searched seen.0 s (reach seen.0 seen.1) seen.2 in
+      let can = end_reached (few_rules asked map switches) (StandsWithin stands) graph searched seen.0 s (reach seen.0 seen.1) seen.2 in
       rules_end moving asked map x (can.0.state, (can.1.0, moves_on can.1.0 s can.0 can.1.1), can.2)
 
   pub few_no_dead_end : ((k : ℕ) → k < count_of graph → ReachesEnd (GoesBy asked) graph k) → (events : List Event) (last : Board) → RunsFew asked switches events last → CanEnd (Happens asked) GoesOn IsEnd last

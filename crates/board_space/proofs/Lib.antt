@@ -6,6 +6,8 @@ pub mod Putting
 pub mod Reduced
 pub mod Every
 pub mod Chains
+pub mod Covered
+pub mod LeftHarts
 pub mod Ready
 pub mod Moves
 pub mod EventNumbers

@@ -8,6 +8,9 @@ pub mod Space
 pub mod Happenings
 pub mod Mapped
 pub mod Ready
+pub mod Covering
+pub mod Leaving
+pub mod Standing
 pub mod Expanding
 pub mod Settings
 pub mod Shown

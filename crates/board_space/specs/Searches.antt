@@ -9,7 +9,7 @@ use Rattle.state_space.specs.Bounded.{Budget}
 use Rattle.state_space.specs.Switched.{StandsWithin}
 use Rattle.board_space.specs.Few.{few_rules}
 use Rattle.board_space.specs.Mapped.{map_in}
-use Rattle.board_space.specs.Rows.{Stands}
+use Rattle.board_space.specs.Covering.{StandsAll}
 use Rattle.board_space.specs.Settings.{asked_of}
 use Rattle.board_space.specs.Space.{Asked, board_rules}
 use Rattle.board_space.specs.declared.space.BoardSpace.{BoardSpace}
@@ -40,7 +40,7 @@ pub record IsSearch (asked : Asked) (map : Map) (switches : Option ℕ) (stands 
   pub ends : (k : ℕ) (b : Board) → k < expanded_of graph → StandsBy switches stands (row_at graph k) b → EndsAt graph k ↔ IsEnd b
 
 abbrev pub IsSearchOf : BoardSpace → Option ℕ → Graph → Type 0
-IsSearchOf space switches graph = IsSearch (asked_of space) (map_in space.map) switches (Stands space.rows) graph
+IsSearchOf space switches graph = IsSearch (asked_of space) (map_in space.map) switches (StandsAll space.leaves space.rows) graph
 
 -- ---- what is known of all that follows a board
 -- a turn of that hart is among the row's steps

@@ -12,10 +12,11 @@ ghost use Rattle.board_space.specs.Settings.{asked_of};
 ghost use Rattle.board_space.specs.Space.{Happens, IsOne, number_of, start_of};
 
 use crate::followed::open_rows;
+use crate::guesses::Guess;
 use crate::happenings::Happening;
 use crate::orders::{StandsFor, every_order};
 use crate::outcomes::Outcome;
-use crate::seeds::{allow, seed};
+use crate::seeds::seed;
 use crate::settling::settle_one;
 use crate::showing::{board_part, shown_by_all};
 use crate::space::{BoardSpace, Failures};
@@ -71,12 +72,12 @@ impl Model for Explored {
 }
 
 impl StandsFor for BoardSpace {
-    ghost use Rattle.board_space.specs.Rows.{Stands};
+    ghost use Rattle.board_space.specs.Covering.{StandsAll};
     ghost use Rattle.board_space.specs.declared.space.BoardSpace.{BoardSpace as Space};
 
     ghost Tables = { Space };
 
-    ghost stands = { λ s. Stands s.rows };
+    ghost stands = { λ s. StandsAll s.leaves s.rows };
 }
 
 /// A search of a board's states, with the board's space after it.
@@ -134,10 +135,8 @@ pub fn explore_board(alloc: Global, question: &Question) -> Result<Explored, Ref
       switches = question.now.switches;
     }) }
 {
-    let Ok(mut map) = TouchMap::new(alloc, &question.shape) else {
-        return Err(Refused::Memory);
-    };
-    seed(alloc, question, &mut map)?;
+    let mut guess = Guess::new(alloc, &question.shape)?;
+    seed(alloc, question, &mut guess)?;
     for _round in 0..MOST_MAPS {
         let space = BoardSpace::new(
             alloc,
@@ -145,10 +144,11 @@ pub fn explore_board(alloc: Global, question: &Question) -> Result<Explored, Ref
             question.payload,
             question.reason,
             question.failures,
-            map,
+            guess,
+            question.switches.is_none(),
         )?;
         let Searched { space, found } = search(alloc, space, question.switches, question.limits);
-        let Some((hart, broke)) = space.broke() else {
+        let Some(broke) = space.broke() else {
             let (graph, verdict) = found?;
             return Ok(Explored {
                 alloc,
@@ -158,8 +158,8 @@ pub fn explore_board(alloc: Global, question: &Question) -> Result<Explored, Ref
                 verdict,
             });
         };
-        map = space.into_map();
-        allow(&mut map, hart, broke);
+        guess = space.into_guess();
+        guess.widen(broke);
     }
     Err(Refused::Numbers)
 }
@@ -250,20 +250,8 @@ impl Explored {
         way_to(self.alloc, &self.graph, row)
     }
 
-    /// The board of a row: some events lead to it.
-    pub fn board(&mut self, row: usize) -> Option<&Board>
-        ensures { IfSome result (λ board. Leads (Happens self.old.asked) (start_of self.old.asked) board.now.board) }
-    {
-        every_order::<BoardSpace>();
-        if self.graph.count() <= row {
-            return None;
-        }
-        self.space
-            .show(board_part(self.graph.row(row), self.switches));
-        Some(self.space.current())
-    }
-
-    /// Puts the board of a row, to be looked at by `current`: the search stays as it is. Whether there is such a row.
+    /// Puts the board of a row, to be looked at by `current`: the search stays as it is. Whether there is such a row. Registers of it may be left
+    /// out, which hold `LEFT_OUT` then: a way to the row, replayed, leads to a board of it.
     pub fn show(&mut self, row: usize) -> bool
         ensures { self.new ≡ self.old }
     {
@@ -315,7 +303,7 @@ impl Explored {
     {
         every_order::<BoardSpace>();
         match board.machine().shape().hart(number) {
-            Some(hart) => settle_one(board, self.space.map(), hart),
+            Some(hart) => settle_one(board, self.space.map(), false, hart),
             None => 0,
         }
     }

@@ -19,7 +19,7 @@ ghost use Rattle.board_space.specs.Space.{Asked, Happens, Settles, start_of, boa
 pub trait StandsFor {
     ghost Tables: { Type 0 };
 
-    /// The board for which a row stands, by some tables.
+    /// The boards for which a row stands, by some tables.
     ghost stands: { Tables → List ℕ → Board → Type 0 };
 }
 
@@ -33,42 +33,37 @@ fn board_moves()
 /// A search speaks of the boards that the orders that are asked for lead to, from a board that was never on: every order, or those in which
 /// at most so many harts are preempted.
 ///
-/// - `ends`: where the search is closed, such a board is that of a row of the graph if it is at an end.
+/// - `ends`: where the search is closed, a row of the graph stands for such a board if it is at an end.
 /// - `no_dead_end`: where besides each row reaches an end by events that are no failures, some such events lead from such a board to an
 ///   end.
-/// - `stuck`: from the board of a row no such events lead to an end, where none of the rows that they lead to is a goal: those are at no
+/// - `stuck`: from a board of a row no such events lead to an end, where none of the rows that they lead to is a goal: those are at no
 ///   end, and all that follows them is known.
 /// - `settles`: local turns are events.
-/// - `ways`: the events of a way lead from the board to which the first one settles to that of its row, where the board settles after each.
-/// - `reached`: some events lead to the board of each row, whether or not the search is closed.
+/// - `ways`: the events of a way lead from the board to which the first one settles to one of its row, where the board settles after each.
+/// - `reached`: some events lead to a board of each row, whether or not the search is closed.
 pub fn every_order<S: StandsFor>()
     ensures ends { (asked : Asked) (map : Map) (switches : Option ℕ) (tables : S.Tables) (graph : Graph)
-        → ((r : List ℕ) (b c : Board) → S.stands tables r b → S.stands tables r c → b ≡ c)
         → IsSearchBy asked map switches (S.stands tables) graph → expanded_of graph ≡ count_of graph → asked.size.harts ≤ 8
         → (events : List Event) (last : Board) → RunsBy asked switches events last
         → IsEnd last → IsFound (StandsBy switches (S.stands tables)) graph last }
     ensures no_dead_end { (asked : Asked) (map : Map) (switches : Option ℕ) (tables : S.Tables) (graph : Graph)
-        → ((r : List ℕ) (b c : Board) → S.stands tables r b → S.stands tables r c → b ≡ c)
         → IsSearchBy asked map switches (S.stands tables) graph → expanded_of graph ≡ count_of graph → asked.size.harts ≤ 8
         → ((k : ℕ) → k < count_of graph → ReachesEnd (GoesBy asked) graph k)
         → (events : List Event) (last : Board) → RunsBy asked switches events last
         → CanEnd (Happens asked) GoesOn IsEnd last }
     ensures stuck { (asked : Asked) (map : Map) (switches : Option ℕ) (tables : S.Tables) (graph : Graph) (goals : List Bool)
-        → ((r : List ℕ) (b c : Board) → S.stands tables r b → S.stands tables r c → b ≡ c)
         → IsSearchBy asked map switches (S.stands tables) graph → asked.size.harts ≤ 8
         → ((k : ℕ) → k < count_of graph → (IsMarked goals k → ⊥) → IsFollowed asked.size.harts graph k)
         → (k : ℕ) (b : Board) → k < count_of graph → (Reaches (GoesBy asked) graph goals k → ⊥)
         → StandsBy switches (S.stands tables) (row_at graph k) b → CanEnd (Happens asked) GoesOn IsEnd b → ⊥ }
     ensures settles { (asked : Asked) (map : Map) (b c : Board) → Settles asked.size map b c → Leads (Happens asked) b c }
     ensures ways { (asked : Asked) (map : Map) (switches : Option ℕ) (tables : S.Tables) (graph : Graph)
-        → ((r : List ℕ) (b c : Board) → S.stands tables r b → S.stands tables r c → b ≡ c)
         → IsSearchBy asked map switches (S.stands tables) graph → (way : List ℕ) (row : ℕ) → IsWay graph way row
         → (first : Board) × (b : Board) × Settles asked.size map (start_of asked) first
         × Runs (Moves (board_rules asked map)) way first b × StandsBy switches (S.stands tables) (row_at graph row) b }
     ensures reached { (asked : Asked) (map : Map) (switches : Option ℕ) (tables : S.Tables) (graph : Graph)
-        → ((r : List ℕ) (b c : Board) → S.stands tables r b → S.stands tables r c → b ≡ c)
-        → IsSearchBy asked map switches (S.stands tables) graph
-        → (b : Board) → IsFound (StandsBy switches (S.stands tables)) graph b → Leads (Happens asked) (start_of asked) b }
+        → IsSearchBy asked map switches (S.stands tables) graph → (k : ℕ) → k < count_of graph
+        → (b : Board) × StandsBy switches (S.stands tables) (row_at graph k) b × Leads (Happens asked) (start_of asked) b }
 {
     board_moves();
 }

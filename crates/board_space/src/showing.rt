@@ -4,7 +4,7 @@ ghost use Rattle.std.specs.Prelude.{◌≡◌, ◌≤◌, List, ℕ, IfOk, IfSom
 ghost use Rattle.board_model.specs.Shapes.{ram_bytes_of};
 ghost use Rattle.state_space.specs.Graphs.{expanded_of};
 ghost use Rattle.model_board.specs.Boards.{Board as AnyBoard};
-ghost use Rattle.board_space.specs.Rows.{Stands};
+ghost use Rattle.board_space.specs.Covering.{StandsAll};
 ghost use Rattle.board_space.specs.Searches.{IsSearchOf, StandsBy, board_part};
 ghost use Rattle.board_space.specs.Settings.{setting_of};
 ghost use Rattle.board_space.specs.Shown.{AllShow, IsSame, Shows};
@@ -45,10 +45,10 @@ fn shown_at(
     from: usize,
     to: usize,
 ) -> Result<Option<Outcome>, Refused>
-    requires known { (b : AnyBoard) × StandsBy switches (Stands space.old.rows) row.now b }
+    requires known { (b : AnyBoard) × StandsBy switches (StandsAll space.old.leaves space.old.rows) row.now b }
     requires order { from ≤ to }
     requires within { to ≤ ram_bytes_of space.old.shape }
-    ensures shows { IfOk result (λ found. IfSome found (λ outcome. (b : AnyBoard) → StandsBy switches (Stands space.old.rows) row.now b
+    ensures shows { IfOk result (λ found. IfSome found (λ outcome. (b : AnyBoard) → StandsBy switches (StandsAll space.old.leaves space.old.rows) row.now b
         → Shows from to outcome b)) }
     ensures rows { space.new.rows ≡ space.old.rows }
     ensures setting { setting_of space.new ≡ setting_of space.old }
@@ -67,7 +67,7 @@ pub(crate) fn shown_by_all(
     requires searched { IsSearchOf space.old switches graph.now }
     requires order { from ≤ to }
     requires within { to ≤ ram_bytes_of space.old.shape }
-    ensures all { IfOk result (λ found. IfSome found (λ outcome. AllShow from to (StandsBy switches (Stands space.old.rows)) graph.now
+    ensures all { IfOk result (λ found. IfSome found (λ outcome. AllShow from to (StandsBy switches (StandsAll space.old.leaves space.old.rows)) graph.now
         (expanded_of graph.now) (Some outcome))) }
     ensures rows { space.new.rows ≡ space.old.rows }
     ensures setting { setting_of space.new ≡ setting_of space.old }

@@ -9,7 +9,7 @@ use Rattle.state_space.specs.Deads.{ReachesEnd}
 use Rattle.state_space.specs.Ways.{IsWay}
 use Rattle.state_space.proofs.AllOrders.{leads_on, leads_by}
 
-module _ {State : Type 0} (rules : Rules State) (stands : List ℕ → State → Type 0) (one : (r : List ℕ) (b c : State) → stands r b → stands r c → b ≡ c) (graph : Graph) (searched : IsSearched rules stands graph) where
+module _ {State : Type 0} (rules : Rules State) (stands : List ℕ → State → Type 0) (graph : Graph) (searched : IsSearched rules stands graph) where
   -- a step of the graph is a move of the state
   pub stepped : (i j k : ℕ) (b : State) → StepOf graph i j k → stands (row_at graph j) b → (to : State) × Moves rules (event_of graph i) b to × stands (row_at graph k) to
   stepped i j k b step has =
@@ -43,25 +43,29 @@ module _ {State : Type 0} (rules : Rules State) (stands : List ℕ → State →
       let within : i < end_step graph k = omega (arith, was.2) in
       (i, target_of graph i, was.1, (expanded, omega arith, within, refl), was.3, searched.whole.lead i (omega (arith, searched.whole.within k expanded)), was.4, was.5)
 
-  reach_below : (n k : ℕ) (b : State) → k < n → k < count_of graph → stands (row_at graph k) b → Leads (Moves rules) searched.start.0 b
-  reach_below zero k b lt within has = absurd (omega arith)
-  reach_below (suc n) k b lt within has =
+  abbrev IsReached : ℕ → Type 0
+  IsReached k = (b : State) × stands (row_at graph k) b × Leads (Moves rules) searched.start.0 b
+
+  reach_below : (n k : ℕ) → k < n → k < count_of graph → IsReached k
+  reach_below zero k lt within = absurd (omega arith)
+  reach_below (suc n) k lt within =
       ⊎_elim
       (λ some.
       let from = searched.reached k within some in
-      let c = searched.known from.0 (omega (arith, from.1)) in
-      let to = stepped from.2.0 from.0 k c.0 from.2.1 c.1 in
-      leads_on (Moves rules) searched.start.0 c.0 b
-      (reach_below n from.0 c.0 (omega (arith, from.1)) (omega (arith, from.1)) c.1)
-      (event_of graph from.2.0 ∷ [], (to.0, to.1, one (row_at graph k) b to.0 has to.2)))
+      let before = reach_below n from.0 (omega (arith, from.1)) (omega (arith, from.1)) in
+      let to = stepped from.2.0 from.0 k before.0 from.2.1 before.1 in (
+        to.0,
+        to.2,
+        leads_on (Moves rules) searched.start.0 before.0 to.0 before.2 (event_of graph from.2.0 ∷ [], (to.0, to.1, refl)),
+      ))
       (λ none.
       let is : k ≡ 0 = omega arith in
-      ([], one (row_at graph 0) b searched.start.0 (subst (λ m. stands (row_at graph m) b) is has) searched.start.2))
+      subst IsReached (sym is) (searched.start.0, searched.start.2, ([], refl)))
       (cases_lt 0 k)
 
-  -- each state found is reached from the start
-  pub found_reached : (b : State) → IsFound stands graph b → Leads (Moves rules) searched.start.0 b
-  found_reached b found = reach_below (suc found.0) found.0 b (omega arith) found.1 found.2
+  -- some state of each row is reached from the start
+  pub row_reached : (k : ℕ) → k < count_of graph → IsReached k
+  row_reached k within = reach_below (suc k) k (omega arith) within
 
   -- where a row reaches an end, so does its state
   pub end_reached : (k : ℕ) (b : State) → ReachesEnd rules.goes graph k → stands (row_at graph k) b → CanEnd (Moves rules) rules.goes rules.is_end b

@@ -16,9 +16,8 @@ struct Climb {
 }
 
 impl System for Climb {
-    ghost use Rattle.std.specs.Prelude.{◌≡◌, ℕ, [], ◌∷◌, slice_index};
+    ghost use Rattle.std.specs.Prelude.{◌≡◌, ℕ, [], ◌∷◌};
     ghost use Rattle.state_space.specs.Stairs.{climbing};
-    ghost use Rattle.std.proofs.Common.{sym, ap, ◌∙◌};
 
     ghost State = { ℕ };
 
@@ -31,8 +30,6 @@ impl System for Climb {
     ghost width = { λ _. 1 };
 
     ghost stands = { λ _ row b. row ≡ b ∷ [] };
-
-    ghost one = { λ system r b c hb hc. ap (λ l. slice_index l 0) (sym hb ∙ hc) };
 
     fn start(&mut self) -> Result<Vec<u32>, Refused> {
         Ok(vec![in self.alloc; 0]?)

@@ -6,7 +6,6 @@ use Rattle.state_space.specs.Graphs.{count_of}
 use Rattle.state_space.specs.Orders.{Leads, CanEnd}
 use Rattle.board_space.specs.Few.{AskedOrders}
 use Rattle.board_space.specs.Mapped.{map_in}
-use Rattle.board_space.specs.OneBoard.{one_board}
 use Rattle.board_space.specs.Searches.{IsFollowed}
 use Rattle.board_space.specs.Settings.{asked_of}
 use Rattle.board_space.specs.Space.{GoesBy, Happens, start_of}
@@ -25,9 +24,9 @@ returns c =
     subst (λ (a : AskedOrders). IfOk c.first_dead.result (λ found. IfSome found (λ _. (b : Board) × Leads (Happens a.asked) (start_of a.asked) b × (CanEnd (Happens a.asked) GoesOn IsEnd b → ⊥)))) c.self.view_is
     (both_some c.first_dead.result (λ row. row < count_of graph) (λ row. Reaches (GoesBy asked) graph goals row → ⊥) (λ _. (b : Board) × Leads (Happens asked) (start_of asked) b × (CanEnd (Happens asked) GoesOn IsEnd b → ⊥))
     (λ row within dead.
-    let known = c.self.invariant.known row within in (
-      known.0,
-      c.every_order.ensures.reached asked (map_in space.map) switches space graph (λ r b d x y. one_board space.rows r b d x y) c.self.invariant.by known.0 (row, within, known.1),
-      λ can. c.every_order.ensures.stuck asked (map_in space.map) switches space graph goals (λ r b d x y. one_board space.rows r b d x y) c.self.invariant.by few followed row known.0 within dead known.1 can,
+    let led = c.every_order.ensures.reached asked (map_in space.map) switches space graph c.self.invariant.by row within in (
+      led.0,
+      led.2,
+      λ can. c.every_order.ensures.stuck asked (map_in space.map) switches space graph goals c.self.invariant.by few followed row led.0 within dead led.1 can,
     ))
     c.first_dead.ensures.within c.first_dead.ensures.dead)

@@ -9,5 +9,5 @@ abbrev pub invariant-loop-number : goal.invariant-loop-number
 invariant-loop-number l = record {
   stay : RowsStay l.fn.self l.self;
   setting : setting_of l.self ≡ setting_of l.fn.self;
-  rests : (h : ℕ) → h < l.number → (b c : Board) → Stands l.fn.self.rows l.row b → h < l.fn.self.shape.harts → TurnOn h b c → c ≡ b;
+  rests : (h : ℕ) → h < l.number → (b : Board) → Stands l.fn.self.rows l.row b → h < l.fn.self.shape.harts → TurnOn h b b;
 }

@@ -15,7 +15,7 @@ differs-requires-clause-based c =
     let was = c.in_default.ensures in
     let at : c.from.result ≡ c.args.hart = c.from.ensures ∙ c.number.ensures.value in
     let own = was.keeps (subst (λ (n : ℕ). n < c.args.self.now.shape.harts) (sym at) c.requires.hart) in
-    let one : TurnKeeps (map_in c.args.self.now.map) c.args.hart c.args.self.now.board.board = subst (λ (n : ℕ). TurnKeeps (map_in c.args.self.now.map) n c.args.self.now.board.board) at own in
+    let one : TurnKeeps (map_in c.args.self.now.map) c.args.hart c.args.self.now.board.board = subst (λ (n : ℕ). TurnKeeps (map_in c.args.self.now.map) n c.args.self.now.board.board) at own.0 in
     let two : TurnKeeps (map_in c.args.self.now.map) c.args.hart c.break_of.new.self.board.board = subst (λ (s : Sized). TurnKeeps (map_in c.args.self.now.map) c.args.hart s.board) (sym was.board) one in
     let keeps : TurnKeeps (map_in c.break_of.new.self.map) c.args.hart c.break_of.new.self.board.board = subst (λ (t : Setting). TurnKeeps t.map c.args.hart c.break_of.new.self.board.board) (sym was.setting) two in
     based_outside c.break_of.new.self.rows.layout (map_in c.break_of.new.self.map) c.break_of.new.self.board c.turn.new.self c.break_of.new.self.tracks c.break_of.new.self.based c.turn.ensures.raw (c.turn.ensures.outside (map_in c.break_of.new.self.map) keeps)
@@ -25,7 +25,7 @@ invariant_of-self-then-differs c =
     let was = c.in_default.ensures in
     let at : c.from.result ≡ c.args.hart = c.from.ensures ∙ c.number.ensures.value in
     let own = was.keeps (subst (λ (n : ℕ). n < c.args.self.now.shape.harts) (sym at) c.requires.hart) in
-    let one : TurnKeeps (map_in c.args.self.now.map) c.args.hart c.args.self.now.board.board = subst (λ (n : ℕ). TurnKeeps (map_in c.args.self.now.map) n c.args.self.now.board.board) at own in
+    let one : TurnKeeps (map_in c.args.self.now.map) c.args.hart c.args.self.now.board.board = subst (λ (n : ℕ). TurnKeeps (map_in c.args.self.now.map) n c.args.self.now.board.board) at own.0 in
     let two : TurnKeeps (map_in c.args.self.now.map) c.args.hart c.break_of.new.self.board.board = subst (λ (s : Sized). TurnKeeps (map_in c.args.self.now.map) c.args.hart s.board) (sym was.board) one in
     let keeps : TurnKeeps (map_in c.break_of.new.self.map) c.args.hart c.break_of.new.self.board.board = subst (λ (t : Setting). TurnKeeps t.map c.args.hart c.break_of.new.self.board.board) (sym was.setting) two in
     record {
@@ -41,7 +41,7 @@ row_of-requires c =
     let was = c.in_default.ensures in
     let at : c.from.result ≡ c.args.hart = c.from.ensures ∙ c.number.ensures.value in
     let own = was.keeps (subst (λ (n : ℕ). n < c.args.self.now.shape.harts) (sym at) c.requires.hart) in
-    let one : TurnKeeps (map_in c.args.self.now.map) c.args.hart c.args.self.now.board.board = subst (λ (n : ℕ). TurnKeeps (map_in c.args.self.now.map) n c.args.self.now.board.board) at own in
+    let one : TurnKeeps (map_in c.args.self.now.map) c.args.hart c.args.self.now.board.board = subst (λ (n : ℕ). TurnKeeps (map_in c.args.self.now.map) n c.args.self.now.board.board) at own.0 in
     let two : TurnKeeps (map_in c.args.self.now.map) c.args.hart c.break_of.new.self.board.board = subst (λ (s : Sized). TurnKeeps (map_in c.args.self.now.map) c.args.hart s.board) (sym was.board) one in
     let keeps : TurnKeeps (map_in c.break_of.new.self.map) c.args.hart c.break_of.new.self.board.board = subst (λ (t : Setting). TurnKeeps t.map c.args.hart c.break_of.new.self.board.board) (sym was.setting) two in
     based_outside c.break_of.new.self.rows.layout (map_in c.break_of.new.self.map) c.break_of.new.self.board c.turn.new.self c.break_of.new.self.tracks c.break_of.new.self.based c.turn.ensures.raw (c.turn.ensures.outside (map_in c.break_of.new.self.map) keeps)
@@ -51,7 +51,7 @@ invariant_of-self-2 c =
     let was = c.in_default.ensures in
     let at : c.from.result ≡ c.args.hart = c.from.ensures ∙ c.number.ensures.value in
     let own = was.keeps (subst (λ (n : ℕ). n < c.args.self.now.shape.harts) (sym at) c.requires.hart) in
-    let one : TurnKeeps (map_in c.args.self.now.map) c.args.hart c.args.self.now.board.board = subst (λ (n : ℕ). TurnKeeps (map_in c.args.self.now.map) n c.args.self.now.board.board) at own in
+    let one : TurnKeeps (map_in c.args.self.now.map) c.args.hart c.args.self.now.board.board = subst (λ (n : ℕ). TurnKeeps (map_in c.args.self.now.map) n c.args.self.now.board.board) at own.0 in
     let two : TurnKeeps (map_in c.args.self.now.map) c.args.hart c.break_of.new.self.board.board = subst (λ (s : Sized). TurnKeeps (map_in c.args.self.now.map) c.args.hart s.board) (sym was.board) one in
     let keeps : TurnKeeps (map_in c.break_of.new.self.map) c.args.hart c.break_of.new.self.board.board = subst (λ (t : Setting). TurnKeeps t.map c.args.hart c.break_of.new.self.board.board) (sym was.setting) two in
     rw c.row_of.ensures.layout (record {
