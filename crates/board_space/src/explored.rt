@@ -121,7 +121,7 @@ fn search(alloc: Global, space: BoardSpace, switches: Option<u32>, limits: Limit
     }
 }
 
-/// Explores a kernel. Refused where there is no room, and where more than 10,000 maps were tried.
+/// Explores a kernel. Refused where there is no room, and where more than 10,000 guesses were tried.
 pub fn explore_board(alloc: Global, question: &Question) -> Result<Explored, Refused>
     requires { length question.now.payload.now ≤ ram_bytes_of question.now.shape }
     ensures { IfOk result (λ e. e ≡ record {

@@ -1,5 +1,5 @@
-//! The states of a model board, explored: boards as rows of numbers and back, exactly; all boards that some orders of events lead to; and what
-//! they say of every order.
+//! The states of a model board, explored: boards as rows of numbers and back; all boards that some orders of events lead to, but for
+//! registers that are not read again; and what they say of every order.
 #![tactic(auto)]
 
 mod board_rows;

@@ -1,7 +1,8 @@
-use Rattle.std.proofs.Common.{rules, ℕ, List, [], ◌≡◌, ◌∙◌, ◌<◌, sym, subst}
+use Rattle.std.proofs.Common.{rules, ℕ, List, [], ◌≡◌, ◌∙◌, ◌<◌, refl, sym, subst}
 use Rattle.model_board.specs.Events.{TurnOn}
 use Rattle.model_board.specs.Maps.{TurnKeeps}
 use Rattle.model_board.specs.Plain.{Sized}
+use Rattle.model_board.proofs.Filling.{stands_one}
 use Rattle.board_space.specs.Mapped.{map_in}
 use Rattle.board_space.specs.OneBoard.{one_board}
 use Rattle.board_space.specs.Rows.{Stands}
@@ -74,3 +75,8 @@ returns-then-eq-clause-back c is b stands =
     let there : Stands c.row_of.new.self c.args.row.now c.turn.new.self.board = subst (λ (r : List ℕ). Stands c.row_of.new.self r c.turn.new.self.board) row c.in_ok-row_of.ensures.stands in
     let own : Stands c.break_of.new.self.rows c.args.row.now b = subst (λ (r : BoardRows). Stands r c.args.row.now b) (sym c.in_default.ensures.rows) stands in
     one_board c.row_of.new.self c.args.row.now c.turn.new.self.board b there (c.in_ok-row_of.ensures.stay c.args.row.now b own)
+
+pub returns-then-differs-clause-away : goal.returns-then-differs-clause-away
+returns-then-differs-clause-away c is b stands same =
+    let own : Stands c.break_of.new.self.rows c.args.row.now b = subst (λ (r : BoardRows). Stands r c.args.row.now b) (sym c.in_default.ensures.rows) stands in
+    c.differs.ensures c.if-differs.true b b own (stands_one b b refl) (stands_one c.turn.new.self.board b same)
