@@ -15,6 +15,8 @@ mod orders;
 mod outcomes;
 mod preempted;
 mod records;
+mod resting;
+mod returning;
 mod row_layout;
 mod seeds;
 mod settling;

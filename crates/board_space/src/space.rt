@@ -3,24 +3,21 @@
 ghost use Rattle.std.specs.Prelude.{◌≡◌, ◌<◌, ◌≤◌, ◌*◌, ℕ, List, IfOk, IfSome, IfNone, Some, None, Ok, true, false, length};
 ghost use Rattle.board_model.specs.Shapes.{Size, ram_bytes_of};
 ghost use Rattle.model_board.specs.Boards.{Board as AnyBoard, Off};
-ghost use Rattle.model_board.specs.Events.{Event, Turn, TurnOn, IsEnd};
-ghost use Rattle.model_board.specs.LeftOut.{IsLeftOut, IsProbed, AreProbed};
-ghost use Rattle.model_board.specs.Maps.{Map, TurnKeeps};
-ghost use Rattle.model_board.specs.LeftOut.{ReadsNone, StandsFor};
+ghost use Rattle.model_board.specs.Events.{Event};
+ghost use Rattle.model_board.specs.Maps.{Map};
 ghost use Rattle.model_board.specs.Plain.{standing};
 ghost use Rattle.state_space.specs.Successors.{found_count, found_width};
 ghost use Rattle.board_space.specs.Layouts.{size_of, base_of, width_of, IsBased};
 ghost use Rattle.board_space.specs.Ready.{Tracks, boot_memory, MasksOf};
 ghost use Rattle.board_space.specs.Covering.{StandsAll};
-ghost use Rattle.board_space.specs.Space.{Happens, IsFor, IsOne, KeepsEach, KeepsSure, ReadsKept, number_of};
+ghost use Rattle.board_space.specs.Space.{Happens, IsOne, KeepsEach, KeepsSure, number_of};
 ghost use Rattle.board_space.specs.Happenings.{event_of};
-ghost use Rattle.board_space.specs.Few.{WaitsAt};
 ghost use Rattle.board_space.specs.Mapped.{map_in};
 
 use crate::board_rows::BoardRows;
 use crate::guesses::{Broke, Guess};
 use crate::happenings::{HAPPENINGS, Happening};
-use crate::leaving::{boards_stand, holds_probe, leave_all, put_probe, reads_kept};
+use crate::leaving::{boards_stand, leave_all, reads_kept};
 use crate::lives::Lives;
 use crate::outcomes::Outcome;
 use crate::row_layout::Layout;
@@ -29,9 +26,6 @@ use board_model::{HartId, Reason, Shape};
 use model_board::{Board, Status, TouchMap};
 use state_space::{Expansion, Refused, Successors, System};
 use std::alloc::Global;
-
-/// A hart waits where at most so many turns of its own lead back to the same board.
-const MOST_WAITED: u32 = 100;
 
 /// Which failures may come, beside the turns of the harts and what the operator does.
 #[derive(Clone, Copy, PartialEq, Eq, Drop)]
@@ -45,24 +39,24 @@ pub struct Failures {
 /// The boards that some events lead to from one that was never on, as rows.
 #[derive(Drop)]
 pub struct BoardSpace {
-    alloc: Global,
-    shape: Shape,
-    payload: Vec<u8>,
-    reason: Reason,
-    failures: Failures,
-    map: TouchMap,
+    pub(crate) alloc: Global,
+    pub(crate) shape: Shape,
+    pub(crate) payload: Vec<u8>,
+    pub(crate) reason: Reason,
+    pub(crate) failures: Failures,
+    pub(crate) map: TouchMap,
     /// Which registers are read again: the others are left out of rows, if any are.
-    lives: Lives,
-    leaves: bool,
-    rows: BoardRows,
+    pub(crate) lives: Lives,
+    pub(crate) leaves: bool,
+    pub(crate) rows: BoardRows,
     /// The board on which rows are put.
-    board: Board,
+    pub(crate) board: Board,
     /// The row that was told last.
-    row: Vec<u32>,
+    pub(crate) row: Vec<u32>,
     /// Where the harts of the row stood that is being expanded.
-    stood: [u64; 8],
+    pub(crate) stood: [u64; 8],
     /// What was guessed wrong.
-    broke: Option<Broke>,
+    pub(crate) broke: Option<Broke>,
     ghost fits: { length payload.items ≤ ram_bytes_of shape },
     ghost size: { size_of rows.layout ≡ shape },
     ghost base: { base_of rows.layout ≡ boot_memory shape payload.items },
@@ -250,19 +244,6 @@ impl BoardSpace {
         }
     }
 
-    /// Notes where the harts of the board stand.
-    fn stand(&mut self)
-        ensures rows { self.new.rows ≡ self.old.rows }
-        ensures setting { setting_of self.new ≡ setting_of self.old }
-    {
-        let _sized = self.board.machine();
-        for number in 0..8u64 {
-            if let Some(hart) = self.shape.hart(number) {
-                self.stood[hart.index()] = self.board.machine().hart(hart).pc();
-            }
-        }
-    }
-
     /// Whether a happening is asked for.
     fn wants(&self, happening: &Happening) -> bool
         ensures wants { result ≡ true → IsOne (asked_of self.now) (event_of happening.now) }
@@ -301,7 +282,7 @@ impl BoardSpace {
 
     /// What the next turn of a hart of that number touches first that the map does not let it, or which register that is left out it reads,
     /// where it does.
-    fn break_of(&mut self, number: u64) -> Option<Broke>
+    pub(crate) fn break_of(&mut self, number: u64) -> Option<Broke>
         ensures board { self.new.board ≡ self.old.board }
         ensures rows { self.new.rows ≡ self.old.rows }
         ensures setting { setting_of self.new ≡ setting_of self.old }
@@ -397,233 +378,6 @@ impl BoardSpace {
             }
         }
         Ok(())
-    }
-
-    /// Whether a turn of a hart changes the board of a row, which is on.
-    fn changes(&mut self, row: &[u32], hart: HartId) -> Result<bool, Refused>
-        requires known { (b : AnyBoard) × Stands self.old.rows row.now b }
-        requires keeps { (b : AnyBoard) → Stands self.old.rows row.now b → KeepsSure (map_in self.old.map) self.old.leaves hart b }
-        requires hart { hart < self.old.shape.harts }
-        ensures stays { result ≡ Ok false → (b : AnyBoard) → Stands self.old.rows row.now b → TurnOn hart b b }
-        ensures changes { result ≡ Ok true → (b d : AnyBoard) → Stands self.old.rows row.now b → IsFor self.old.leaves b d
-            → ((c : AnyBoard) → TurnOn hart d c → c ≡ d) → ⊥ }
-        ensures stay { RowsStay self.old self.new }
-        ensures setting { setting_of self.new ≡ setting_of self.old }
-    {
-        boards_stand();
-        self.rows.put(row, &mut self.board);
-        let _sized = self.board.machine();
-        self.board.turn(hart);
-        if self.rows.differs(row, &self.board) {
-            return Ok(true);
-        }
-        self.rows.row_of(&self.board, &mut self.row)?;
-        if self.row.as_slice() == row {
-            return Ok(false);
-        }
-        self.broke = Some(Broke::Reads(self.stood[hart.index()], u32::MAX));
-        Err(Refused::Numbers)
-    }
-
-    /// Whether a turn of the hart of that number, where there is one, changes the board of a row, which is on.
-    fn changes_by(&mut self, row: &[u32], number: u64) -> Result<bool, Refused>
-        requires known { (b : AnyBoard) × Stands self.old.rows row.now b }
-        requires keeps { (b : AnyBoard) → Stands self.old.rows row.now b → (h : ℕ) → h < self.old.shape.harts
-            → KeepsSure (map_in self.old.map) self.old.leaves h b }
-        ensures stays { result ≡ Ok false → (b : AnyBoard) → Stands self.old.rows row.now b → number < self.old.shape.harts
-            → TurnOn number b b }
-        ensures changes { result ≡ Ok true → (b d : AnyBoard) → Stands self.old.rows row.now b → IsFor self.old.leaves b d
-            → ((h : ℕ) (c : AnyBoard) → h < self.old.shape.harts → TurnOn h d c → c ≡ d) → ⊥ }
-        ensures stay { RowsStay self.old self.new }
-        ensures setting { setting_of self.new ≡ setting_of self.old }
-    {
-        match self.shape.hart(number) {
-            Some(hart) => self.changes(row, hart),
-            None => Ok(false),
-        }
-    }
-
-    /// Whether a turn of a hart leaves a probe in its register of that number, where it is left out of the row.
-    fn is_probed(&mut self, row: &[u32], hart: HartId, number: u8) -> bool
-        requires known { (b : AnyBoard) × Stands self.old.rows row.now b }
-        requires keeps { (b : AnyBoard) → Stands self.old.rows row.now b → KeepsSure (map_in self.old.map) true hart b }
-        requires hart { hart < self.old.shape.harts }
-        requires number { number < 32 }
-        ensures probed { result ≡ true → (b : AnyBoard) → Stands self.old.rows row.now b → IsLeftOut hart number b
-            → IsProbed hart number b }
-        ensures rows { self.new.rows ≡ self.old.rows }
-        ensures setting { setting_of self.new ≡ setting_of self.old }
-    {
-        boards_stand();
-        self.rows.put(row, &mut self.board);
-        let _sized = self.board.machine();
-        if !put_probe(&mut self.board, hart, number) {
-            return true;
-        }
-        self.board.turn(hart);
-        holds_probe(&self.board, hart, number)
-    }
-
-    /// Refused where a turn of a hart writes a register that is left out of the row, which no turn changes.
-    fn are_probed(&mut self, row: &[u32], hart: HartId) -> Result<(), Refused>
-        requires known { (b : AnyBoard) × Stands self.old.rows row.now b }
-        requires keeps { (b : AnyBoard) → Stands self.old.rows row.now b → KeepsSure (map_in self.old.map) true hart b }
-        requires hart { hart < self.old.shape.harts }
-        ensures probed { IfOk result (λ _. (b : AnyBoard) → Stands self.old.rows row.now b → AreProbed hart b) }
-        ensures rows { self.new.rows ≡ self.old.rows }
-        ensures setting { setting_of self.new ≡ setting_of self.old }
-    {
-        for register in 0..32u8 {
-            if !self.is_probed(row, hart, register) {
-                self.broke = Some(Broke::Reads(self.stood[hart.index()], 1 << register));
-                return Err(Refused::Numbers);
-            }
-        }
-        Ok(())
-    }
-
-    /// The same of the hart of that number, where there is one.
-    fn are_probed_by(&mut self, row: &[u32], number: u64) -> Result<(), Refused>
-        requires known { (b : AnyBoard) × Stands self.old.rows row.now b }
-        requires keeps { (b : AnyBoard) → Stands self.old.rows row.now b → (h : ℕ) → h < self.old.shape.harts
-            → KeepsSure (map_in self.old.map) true h b }
-        ensures probed { IfOk result (λ _. number < self.old.shape.harts → (b : AnyBoard) → Stands self.old.rows row.now b
-            → AreProbed number b) }
-        ensures rows { self.new.rows ≡ self.old.rows }
-        ensures setting { setting_of self.new ≡ setting_of self.old }
-    {
-        match self.shape.hart(number) {
-            Some(hart) => self.are_probed(row, hart),
-            None => Ok(()),
-        }
-    }
-
-    /// The same of each hart, where registers are left out.
-    fn all_probed(&mut self, row: &[u32]) -> Result<(), Refused>
-        requires known { (b : AnyBoard) × Stands self.old.rows row.now b }
-        requires keeps { (b : AnyBoard) → Stands self.old.rows row.now b → (h : ℕ) → h < self.old.shape.harts
-            → KeepsSure (map_in self.old.map) self.old.leaves h b }
-        ensures probed { IfOk result (λ _. self.old.leaves ≡ true → (b : AnyBoard) → Stands self.old.rows row.now b
-            → (h : ℕ) → h < self.old.shape.harts → AreProbed h b) }
-        ensures rows { self.new.rows ≡ self.old.rows }
-        ensures setting { setting_of self.new ≡ setting_of self.old }
-    {
-        if !self.leaves {
-            return Ok(());
-        }
-        let _harts = self.shape.harts();
-        for number in 0..8u64 {
-            self.are_probed_by(row, number)?;
-        }
-        Ok(())
-    }
-
-    /// Whether no turn of a hart changes the board of a row, which is on.
-    fn rests(&mut self, row: &[u32]) -> Result<bool, Refused>
-        requires known { (b : AnyBoard) × Stands self.old.rows row.now b }
-        requires keeps { (b : AnyBoard) → Stands self.old.rows row.now b → (h : ℕ) → h < self.old.shape.harts
-            → KeepsSure (map_in self.old.map) self.old.leaves h b }
-        ensures rests { result ≡ Ok true → (b d : AnyBoard) → Stands self.old.rows row.now b → IsFor self.old.leaves b d
-            → (h : ℕ) (c : AnyBoard) → h < self.old.shape.harts → TurnOn h d c → c ≡ d }
-        ensures moves { result ≡ Ok false → (b d : AnyBoard) → Stands self.old.rows row.now b → IsFor self.old.leaves b d
-            → ((h : ℕ) (c : AnyBoard) → h < self.old.shape.harts → TurnOn h d c → c ≡ d) → ⊥ }
-        ensures stay { RowsStay self.old self.new }
-        ensures setting { setting_of self.new ≡ setting_of self.old }
-    {
-        boards_stand();
-        model_board::one_event();
-        let _harts = self.shape.harts();
-        for number in 0..8u64 {
-            if self.changes_by(row, number)? {
-                return Ok(false);
-            }
-        }
-        self.all_probed(row)?;
-        Ok(true)
-    }
-
-    /// Whether the board of a row is at an end.
-    fn is_end(&mut self, row: &[u32]) -> Result<bool, Refused>
-        requires known { (b : AnyBoard) × Stands self.old.rows row.now b }
-        requires keeps { (b : AnyBoard) → Stands self.old.rows row.now b → (h : ℕ) → h < self.old.shape.harts
-            → KeepsSure (map_in self.old.map) self.old.leaves h b }
-        ensures ends { result ≡ Ok true → (b : AnyBoard) → StandsAll self.old.leaves self.old.rows row.now b → IsEnd b }
-        ensures goes { result ≡ Ok false → (b : AnyBoard) → StandsAll self.old.leaves self.old.rows row.now b → IsEnd b → ⊥ }
-        ensures stay { RowsStay self.old self.new }
-        ensures setting { setting_of self.new ≡ setting_of self.old }
-    {
-        self.rows.put(row, &mut self.board);
-        let _sized = self.board.machine();
-        match self.board.status() {
-            Status::Ended => Ok(true),
-            Status::Off => Ok(false),
-            Status::On => {
-                if self.board.rest().doze.is_some() {
-                    Ok(false)
-                } else {
-                    self.rests(row)
-                }
-            }
-        }
-    }
-}
-
-impl BoardSpace {
-    ghost use Rattle.board_space.specs.Rows.{Stands};
-    ghost use Rattle.board_space.specs.Settings.{setting_of, asked_of, RowsStay};
-
-    /// Makes a turn of a hart of the board, and answers whether it is that of the row then. Refused where the map does not let the turn.
-    fn turns_back(&mut self, row: &[u32], hart: HartId) -> Result<bool, Refused>
-        requires known { (b : AnyBoard) × Stands self.old.rows row.now b }
-        requires hart { hart < self.old.shape.harts }
-        ensures turns { IfOk result (λ _. TurnOn hart self.old.board.board self.new.board.board) }
-        ensures back { result ≡ Ok true → (b : AnyBoard) → Stands self.old.rows row.now b → self.new.board.board ≡ b }
-        ensures away { result ≡ Ok false → (b : AnyBoard) → Stands self.old.rows row.now b → self.new.board.board ≡ b → ⊥ }
-        ensures stay { RowsStay self.old self.new }
-        ensures setting { setting_of self.new ≡ setting_of self.old }
-    {
-        if let Some(broke) = self.break_of(u64::from(hart.number())) {
-            self.broke = Some(broke);
-            return Err(Refused::Numbers);
-        }
-        let _sized = self.board.machine();
-        self.board.turn(hart);
-        if self.rows.differs(row, &self.board) {
-            return Ok(false);
-        }
-        self.rows.row_of(&self.board, &mut self.row)?;
-        if self.row.as_slice() == row {
-            return Ok(true);
-        }
-        Err(Refused::Numbers)
-    }
-
-    /// Whether a hart waits at the board of a row: some turns of its own, at most 100, lead back to it.
-    pub(crate) fn waits_at(&mut self, row: &[u32], hart: HartId) -> Result<bool, Refused>
-        requires known { (b : AnyBoard) × Stands self.old.rows row.now b }
-        requires hart { hart < self.old.shape.harts }
-        ensures waits { result ≡ Ok true → (b : AnyBoard) → Stands self.old.rows row.now b → WaitsAt (asked_of self.old) hart b }
-        ensures goes { result ≡ Ok false → (b : AnyBoard) → Stands self.old.rows row.now b → WaitsAt (asked_of self.old) hart b → ⊥ }
-        ensures stay { RowsStay self.old self.new }
-        ensures setting { setting_of self.new ≡ setting_of self.old }
-    {
-        model_board::one_event();
-        let _harts = self.shape.harts();
-        self.rows.put(row, &mut self.board);
-        for turn in 0..MOST_WAITED {
-            if self.turns_back(row, hart)? {
-                return Ok(true);
-            }
-        }
-        Ok(false)
-    }
-
-    /// The hart of that number, where the board has it.
-    pub(crate) fn hart(&self, number: u8) -> Option<HartId>
-        ensures some { IfSome result (λ h. (h ≡ number) × (h < self.now.shape.harts)) }
-        ensures none { IfNone result (self.now.shape.harts ≤ number) }
-    {
-        self.shape.hart(u64::from(number))
     }
 }
 
