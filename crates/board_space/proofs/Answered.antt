@@ -3,6 +3,10 @@ use Rattle.std.proofs.Common.{◌≡◌, false, IfOk, IfSome, Ok, Err, Option, S
 use Rattle.std.specs.Prelude.{Result, IfNone}
 use Rattle.std.specs.Option.{is_some}
 
+pub ok_on : {A E : Type 0} (r : Result A E) (P Q : A → Type 0) → ((x : A) → P x → Q x) → IfOk r P → IfOk r Q
+ok_on (Ok x) P Q f p = f x p
+ok_on (Err e) P Q f p = tt
+
 pub ok_some : {A E : Type 0} (r : Result (Option A) E) (P Q : A → Type 0) → ((x : A) → P x → Q x) → IfOk r (λ o. IfSome o P) → IfOk r (λ o. IfSome o Q)
 ok_some (Ok (Some x)) P Q f p = f x p
 ok_some (Ok None) P Q f p = tt

@@ -1,17 +1,23 @@
 -- A board that a row stands for has what the row has.
-use Rattle.std.proofs.Common.{ℕ, List, Bool, ◌≡◌, ◌+◌, ◌*◌, ◌<◌, ◌≤◌, length, refl, sym, ap, subst, ◌∙◌, arith}
+use Rattle.std.proofs.Common.{ℕ, List, [], Bool, true, false, Option, Some, None, ⊎_elim, ◌≡◌, ◌+◌, ◌*◌, ◌<◌, ◌≤◌, length, refl, sym, ap, subst, ◌∙◌, arith}
 use Rattle.std.specs.Prelude.{get_or, slice_index, take}
 use Rattle.std.proofs.lemmas.List.{get_or-map, get_or-take, get_or_read, length-take, length-take-le}
 use Rattle.board_model.specs.Shapes.{Size}
 use Rattle.board_model.specs.declared.durable.Reason.{Reason}
-use Rattle.hart.specs.State.{ArchState}
+use Rattle.hart.specs.State.{ArchState, reg}
+use Rattle.hart.specs.Csrs.{csr_number, csr_read}
+use Rattle.hart.specs.declared.csr.Csr.{Csr}
+use Rattle.hart.specs.declared.csr.Csr.TheVariants.{Sstatus, Sie, Stvec, Sscratch, Sepc, Scause, Stval, Sip, Satp}
+use Rattle.hart.proofs.Decided.{either, listed}
 use Rattle.hsm.specs.Copies.{state_told}
 use Rattle.hsm.specs.States.{stopped}
 use Rattle.hsm.specs.declared.standings.Standing.{Standing}
 use Rattle.hsm.specs.declared.standings.Standing.TheVariants as told
 use Rattle.machine.specs.Machine.{Machine, hart_at}
-use Rattle.model_board.specs.Boards.{Board, On, Off, Ended}
-use Rattle.model_board.specs.Plain.{Sized, board_shown}
+use Rattle.model_board.specs.Boards.{Board, Life, On, Off, Ended}
+use Rattle.model_board.specs.LeftOut.{LEFT_OUT, StandsFor, Filled, HartFor, LifeFor}
+use Rattle.model_board.specs.Plain.{Sized, board_shown, standing}
+use Rattle.model_board.proofs.Filling.{life_for, off_filled, ended_filled}
 use Rattle.model_board.specs.Rests.{Fits, IsCopy, IsRest, with_rest, table_copied}
 use Rattle.model_board.specs.declared.powers.Power.{Power}
 use Rattle.model_board.specs.declared.powers.Power.TheVariants as powers
@@ -26,17 +32,6 @@ use Rattle.board_space.specs.Rows.{Stands}
 use Rattle.board_space.specs.Tracked.{segment, segment_count}
 use Rattle.board_space.specs.declared.board_rows.BoardRows.{BoardRows}
 use Rattle.board_space.specs.OneBoard.{one_at}
-
-machine_on : Board → Machine → Machine
-machine_on (On l) m = l.machine
-machine_on (Off s) m = m
-machine_on (Ended s) m = m
-
-on_by : (power : Power) (why other : Reason) (down fell : Bool) (m n : Machine) → board_shown power why down m ≡ board_shown powers.On other fell n → (power ≡ powers.On) × (m ≡ n)
-unfolding machine_on
-on_by powers.On why other down fell m n e = (refl, ap (λ (b : Board). machine_on b m) e)
-on_by (powers.Off at) why other down fell m n e = absurd (cc)
-on_by powers.Ended why other down fell m n e = absurd (cc)
 
 -- ---- states
 told_one : (a b : Standing) → state_told a ≡ state_told b → a ≡ b
@@ -69,34 +64,71 @@ one_state n h d a b low enough here e =
     told_one (get_or a.states h d) (get_or b.states h d)
     (sym (told_at n h d a low enough) ∙ (ap (λ (t : TableState). get_or t.states h stopped) e ∙ told_at n h d b low here))
 
+life_in : Board → Life → Life
+life_in (On l) m = l
+life_in (Off s) m = m
+life_in (Ended s) m = m
+
+one_life : (k m : Life) → On k ≡ On m → k ≡ m
+unfolding life_in
+one_life k m e = ap (λ (b : Board). life_in b k) e
+
+-- a board that stands for one that is on is on
+on_shown : (power : Power) (why : Reason) (down : Bool) (m : Machine) (k : Life) → StandsFor (board_shown power why down m) (On k) → (power ≡ powers.On) × LifeFor (record { machine = m; stands = standing why None; down = down }) k
+on_shown powers.On why down m k stands =
+    let l : Life = record { machine = m; stands = standing why None; down = down } in
+    let met = life_for stands.0 l (On k) stands.1 in
+    (refl, subst (λ (x : Life). LifeFor l x) (sym (one_life k met.0 met.1)) met.2)
+on_shown (powers.Off at) why down m k stands = let e = off_filled stands.0 _ (On k) stands.1 in absurd (cc)
+on_shown powers.Ended why down m k stands = let e = ended_filled stands.0 _ (On k) stands.1 in absurd (cc)
+
 module _ (rows : BoardRows) (row : List ℕ) (b : Sized) (rest own : Rest) (rested : IsAt rows.rests.records.items (slice_index row 0) rest) (on : rest.power ≡ powers.On)
-    (x : Stands rows row b.board) where
+    (n d : Board) (x : Stands rows row n) (first : StandsFor n d) (second : StandsFor b.board d) where
   same_rest : x.rest ≡ rest
   same_rest = one_at rows.rests.records.items (slice_index row 0) x.rest rest x.rested rested
 
-  shown : b.board ≡ board_shown powers.On rest.reason rest.down x.machine
+  shown : n ≡ On (record { machine = x.machine; stands = standing rest.reason None; down = rest.down })
   shown =
       x.shown
       ∙ (ap (λ (r : Rest). board_shown r.power r.reason r.down x.machine) same_rest
       ∙ ap (λ (p : Power). board_shown p rest.reason rest.down x.machine) on)
 
+  met : (k : Life) × (d ≡ On k) × LifeFor (record { machine = x.machine; stands = standing rest.reason None; down = rest.down }) k
+  met =
+      life_for first.0 (record { machine = x.machine; stands = standing rest.reason None; down = rest.down }) d (subst (λ (a : Board). Filled first.0 a d) shown first.1)
+
   module _ (is : IsRest own b) where
-    both : (own.power ≡ powers.On) × (with_rest own b.machine ≡ x.machine)
-    both = on_by own.power own.reason rest.reason own.down rest.down (with_rest own b.machine) x.machine (sym (ap (λ (s : Sized). s.board) is) ∙ shown)
+    both : (own.power ≡ powers.On) × LifeFor (record { machine = with_rest own b.machine; stands = standing own.reason None; down = own.down }) met.0
+    both =
+        on_shown own.power own.reason own.down (with_rest own b.machine) met.0
+        (subst (λ (a : Board). StandsFor a (On met.0)) (ap (λ (s : Sized). s.board) is) (subst (λ (a : Board). StandsFor b.board a) met.1 second))
 
     pub both_on : own.power ≡ powers.On
     both_on = both.0
 
-    pub machines : b.machine ≡ x.machine
-    machines = ap (λ (s : Sized). s.machine) is ∙ both.1
+    raw : b.machine ≡ with_rest own b.machine
+    raw = ap (λ (s : Sized). s.machine) is
+
+    -- they are one but for their harts
+    like : record (with_rest own b.machine) { harts = [] } ≡ record x.machine { harts = [] }
+    like =
+        sym (ap (λ (k : Life). record k.machine { harts = [] }) both.1.same)
+        ∙ ap (λ (k : Life). record k.machine { harts = [] }) met.2.same
+
+    machines : record b.machine { harts = [] } ≡ record x.machine { harts = [] }
+    machines = ap (λ (m : Machine). record m { harts = [] }) raw ∙ like
 
     pub same_doze : own.doze ≡ rest.doze
-    same_doze = ap (λ (m : Machine). m.doze) both.1 ∙ (x.is.doze ∙ ap (λ (r : Rest). r.doze) same_rest)
+    same_doze = ap (λ (m : Machine). m.doze) like ∙ (x.is.doze ∙ ap (λ (r : Rest). r.doze) same_rest)
 
-    pub same_hart : (h : ℕ) (r : ArchState) → h < (size_of rows.layout).harts → IsAt rows.harts.records.items (slice_index row (1 + h)) r → r ≡ hart_at b.machine h
+    -- some hart is one with both but for registers that are left out of them
+    pub same_hart : (h : ℕ) (r : ArchState) → h < (size_of rows.layout).harts → IsAt rows.harts.records.items (slice_index row (1 + h)) r → (s : ArchState) × HartFor r s × HartFor (hart_at b.machine h) s
     same_hart h r low at =
-        one_at rows.harts.records.items (slice_index row (1 + h)) r (hart_at x.machine h) at (x.is.harts h low)
-        ∙ ap (λ (m : Machine). hart_at m h) (sym machines)
+        let same : r ≡ hart_at x.machine h = one_at rows.harts.records.items (slice_index row (1 + h)) r (hart_at x.machine h) at (x.is.harts h low) in (
+          hart_at met.0.machine h,
+          subst (λ (s : ArchState). HartFor s (hart_at met.0.machine h)) (sym same) (met.2.harts h),
+          subst (λ (m : Machine). HartFor (hart_at m h) (hart_at met.0.machine h)) (sym raw) (both.1.harts h),
+        )
 
     pub same_word : (s j : ℕ) → s < segment_count (tracked_of rows.layout) → j < length (segment (tracked_of rows.layout) s)
         → slice_index (words_of rows.words (slice_index row (1 + (size_of rows.layout).harts + s))) j ≡ value b.machine.memory (8 * slice_index (segment (tracked_of rows.layout) s) j) 8
@@ -106,7 +138,7 @@ module _ (rows : BoardRows) (row : List ℕ) (b : Sized) (rest own : Rest) (rest
 
     tables : table_copied b.machine.size.harts own.tables ≡ table_copied b.machine.size.harts rest.tables
     tables =
-        ap (λ (m : Machine). m.table) both.1
+        ap (λ (m : Machine). m.table) like
         ∙ (x.is.table
         ∙ (ap (λ (r : Rest). table_copied x.machine.size.harts r.tables) same_rest
         ∙ ap (λ (m : Machine). table_copied m.size.harts rest.tables) (sym machines)))
@@ -129,3 +161,37 @@ module _ (rows : BoardRows) (row : List ℕ) (b : Sized) (rest own : Rest) (rest
         ∙ (same_state h told.Stopped low fits size
         ∙ (ap (λ (k : ℕ). get_or own.tables.states k told.Stopped) (sym at)
         ∙ sym (get_or_read own.tables.states place s (omega (arith, there, right)) other told.Stopped))))
+
+-- ---- harts that can't stand for one hart
+pc_for : (s t u : ArchState) → HartFor s u → HartFor t u → s.pc ≡ t.pc
+pc_for s t u first second = sym (ap (λ (a : ArchState). a.pc) first.same) ∙ ap (λ (a : ArchState). a.pc) second.same
+
+pub pc_differs : (s t : ArchState) → (s.pc ≡ t.pc → ⊥) → (u : ArchState) → HartFor s u → HartFor t u → ⊥
+pc_differs s t other u first second = other (pc_for s t u first second)
+
+pub reg_differs : (k : ℕ) (s t : ArchState) → (reg s k ≡ reg t k → ⊥) → (reg s k ≡ LEFT_OUT → ⊥) → (reg t k ≡ LEFT_OUT → ⊥) → (u : ArchState) → HartFor s u → HartFor t u → ⊥
+reg_differs k s t other own another u first second =
+    ⊎_elim own (λ same. ⊎_elim another (λ too. other (sym same ∙ too)) (second.regs k)) (first.regs k)
+
+csr_same : (c : Csr) (s : ArchState) (regs : List ℕ) → csr_read c (record s { regs = regs }) false ≡ csr_read c s false
+csr_same Sstatus s regs = refl
+csr_same Sie s regs = refl
+csr_same Stvec s regs = refl
+csr_same Sscratch s regs = refl
+csr_same Sepc s regs = refl
+csr_same Scause s regs = refl
+csr_same Stval s regs = refl
+csr_same Sip s regs = refl
+csr_same Satp s regs = refl
+
+csr_for : (c : Csr) (s t u : ArchState) → HartFor s u → HartFor t u → csr_read c s false ≡ csr_read c t false
+csr_for c s t u first second =
+    sym (csr_same c s u.regs)
+    ∙ (sym (ap (λ (a : ArchState). csr_read c a false) first.same)
+    ∙ (ap (λ (a : ArchState). csr_read c a false) second.same ∙ csr_same c t u.regs))
+
+pub csr_differs : (number : ℕ) (s t : ArchState) (x y : Option ℕ) → ((c : Csr) → csr_number c ≡ number → x ≡ Some (csr_read c s false)) → (((c : Csr) → csr_number c ≡ number → ⊥) → x ≡ None) → ((c : Csr) → csr_number c ≡ number → y ≡ Some (csr_read c t false)) → (((c : Csr) → csr_number c ≡ number → ⊥) → y ≡ None) → (x ≡ y → ⊥) → (u : ArchState) → HartFor s u → HartFor t u → ⊥
+csr_differs number s t x y found none other_found other_none other u first second =
+    either (listed number)
+    (λ at. other (found at.0 at.1 ∙ (ap (λ (v : ℕ). Some v) (csr_for at.0 s t u first second) ∙ sym (other_found at.0 at.1))))
+    (λ not. other (none (λ c is. not (c, is)) ∙ sym (other_none (λ c is. not (c, is)))))

@@ -11,7 +11,8 @@ use Rattle.state_space.specs.Deads.{ReachesEnd}
 use Rattle.state_space.proofs.AllOrders.{leads_by, leads_lifted, all_orders, can_end}
 use Rattle.state_space.proofs.Tells.{found_covered, end_reached, closed_by_cover}
 use Rattle.board_space.specs.Space.{Asked, Happens, number_of, KeepsEach, IsLocalTurn, GoesBy, board_rules, start_of}
-use Rattle.board_space.proofs.Reduced.{Moving, reduced}
+use Rattle.board_space.specs.Moving.{Moving}
+use Rattle.board_space.proofs.Reduced.{reduced}
 
 -- local turns are turns, by which a board goes on
 pub chain_goes : Moving → (asked : Asked) (map : Map) (n : ℕ) (b c : Board) → Chain (IsLocalTurn asked.size map) n b c → Leads (Only GoesOn (Happens asked)) b c
@@ -36,14 +37,14 @@ rules_end moving asked map b can = (
   can.2,
 )
 
-module _ (moving : Moving) (asked : Asked) (map : Map) (stands : List ℕ → Board → Type 0) (one : (r : List ℕ) (b c : Board) → stands r b → stands r c → b ≡ c) (graph : Graph) (searched : IsSearched (board_rules asked map) stands graph) (all : expanded_of graph ≡ count_of graph) where
+module _ (moving : Moving) (asked : Asked) (map : Map) (stands : List ℕ → Board → Type 0) (graph : Graph) (searched : IsSearched (board_rules asked map) stands graph) (all : expanded_of graph ≡ count_of graph) where
   closed : IsClosed (Happens asked) (KeepsEach asked map) (IsLocalTurn asked.size map) (IsFound stands graph)
   closed =
       closed_by_cover (Happens asked) (KeepsEach asked map) (IsLocalTurn asked.size map) (board_rules asked map) number_of (IsFound stands graph)
       (λ e b c did. (e, refl, did))
       (λ b keeps. keeps)
       (λ b c settles. settles)
-      (found_covered (board_rules asked map) stands one graph searched all)
+      (found_covered (board_rules asked map) stands graph searched all)
 
   pub meets : (events : List Event) (last : Board) → Runs (Happens asked) events (start_of asked) last → Meets (Happens asked) GoesOn IsEnd (KeepsEach asked map) (IsFound stands graph) last
   meets events last run =
@@ -54,5 +55,5 @@ module _ (moving : Moving) (asked : Asked) (map : Map) (stands : List ℕ → Bo
   pub no_dead_end : ((k : ℕ) → k < count_of graph → ReachesEnd (GoesBy asked) graph k) → (events : List Event) (last : Board) → Runs (Happens asked) events (start_of asked) last → CanEnd (Happens asked) GoesOn IsEnd last
   no_dead_end reach events last run =
       can_end (Happens asked) GoesOn IsEnd (KeepsEach asked map) (IsFound stands graph)
-      (λ b found. rules_end moving asked map b (end_reached (board_rules asked map) stands one graph searched found.0 b (reach found.0 found.1) found.2))
+      (λ b found. rules_end moving asked map b (end_reached (board_rules asked map) stands graph searched found.0 b (reach found.0 found.1) found.2))
       last (meets events last run)

@@ -9,18 +9,19 @@ use Rattle.state_space.specs.declared.graph.Graph.{Graph}
 use Rattle.state_space.specs.Bounded.{Budget, Turns, Waits, IsFreeBy, PaysBy, Within, Switching, IsClosedWithin, MeetsWithin}
 use Rattle.state_space.specs.Deads.{ReachesEnd}
 use Rattle.state_space.specs.Graphs.{count_of, expanded_of, IsSearched, IsFound, IsCovered}
-use Rattle.state_space.specs.OneWithin.{one_within}
-use Rattle.state_space.specs.Orders.{Leads, Only, Runs, CanEnd}
+use Rattle.state_space.specs.Orders.{Only, Runs, CanEnd}
 use Rattle.state_space.specs.Switched.{Switched, StandsWithin}
 use Rattle.state_space.specs.Systems.{Moves}
-use Rattle.state_space.proofs.AllOrders.{leads_on, leads_by}
 use Rattle.state_space.proofs.Bounded.{bounded_orders, can_end_within}
 use Rattle.state_space.proofs.Tells.{found_covered, end_reached}
-use Rattle.board_space.specs.Few.{hart_of, hart_of_number, turn_number, MOST_WAITED, WaitsAt, few_rules, begins_with, RunsFew, StandsFew}
-use Rattle.board_space.specs.Space.{Asked, IsSmall, Happens, Steps, number_of, KeepsEach, IsLocalTurn, GoesBy, start_of}
+use Rattle.board_space.specs.Few.{hart_of, hart_of_number, turn_number, MOST_WAITED, WaitsAt, few_rules, begins_with, RunsFew}
+use Rattle.board_space.specs.Searches.{StandsFew}
+use Rattle.board_space.specs.Space.{Asked, IsSmall, Happens, Steps, number_of, KeepsEach, IsLocalTurn, GoesBy, board_rules, start_of}
 use Rattle.board_space.proofs.EventNumbers.{small}
-use Rattle.board_space.proofs.Every.{chain_goes}
-use Rattle.board_space.proofs.Reduced.{Moving, reduced}
+use Rattle.board_space.proofs.Every.{rules_end}
+use Rattle.board_space.specs.Moving.{Moving}
+use Rattle.board_space.proofs.Reduced.{reduced}
+use Rattle.board_space.proofs.Searching.{inner_move}
 
 chosen : {A : Type 0} (t : Bool) (a b : A) → t ≡ true → (if t then a else b) ≡ a
 chosen t a b is = ap (λ (x : Bool). if x then a else b) is
@@ -91,13 +92,13 @@ module _ (asked : Asked) (few : asked.size.harts ≤ 8) where
   pays_by None b w v pays = pays
   pays_by (Some p) b w v pays = (pays.0, ⊎_elim (λ free. inl (free_by w.last p b free.0, free.1)) (λ cost. inr cost) pays.1)
 
-module _ (moving : Moving) (asked : Asked) (map : Map) (switches : ℕ) (stands : List ℕ → Board → Type 0) (one : (r : List ℕ) (b c : Board) → stands r b → stands r c → b ≡ c) (graph : Graph)
+module _ (moving : Moving) (asked : Asked) (map : Map) (switches : ℕ) (stands : List ℕ → Board → Type 0) (graph : Graph)
     (searched : IsSearched (few_rules asked map switches) (StandsWithin stands) graph) (all : expanded_of graph ≡ count_of graph) (few : asked.size.harts ≤ 8) where
   abbrev pub Seen : Board → Budget → Type 0
   Seen b w = IsFound (StandsWithin stands) graph (record { state = b; budget = w })
 
   cover : IsCovered (few_rules asked map switches) (IsFound (StandsWithin stands) graph)
-  cover = found_covered (few_rules asked map switches) (StandsWithin stands) (one_within stands one) graph searched all
+  cover = found_covered (few_rules asked map switches) (StandsWithin stands) graph searched all
 
   closed : IsClosedWithin (Happens asked) Turn hart_of MOST_WAITED (KeepsEach asked map) (IsLocalTurn asked.size map) Seen
   closed b w has e v pays =
@@ -121,23 +122,16 @@ module _ (moving : Moving) (asked : Asked) (map : Map) (switches : ℕ) (stands 
       let seen = (met events last run.0 run.1).ended end in
       (seen.1.0, seen.1.1, (seen.0, seen.1.2))
 
-  -- a move of the search is some events
-  few_goes : (n : ℕ) (b c : Switched Board) → Only (GoesBy asked) (Moves (few_rules asked map switches)) n b c → Leads (Only GoesOn (Happens asked)) b.state c.state
-  few_goes n b c move =
-      let step = move.1.1.0 in
-      leads_by (Only GoesOn (Happens asked)) step.0 b.state move.1.0.state c.state
-      (move.0 step.0 step.2.0 step.1, step.2)
-      (chain_goes moving asked map move.1.2.0.0 move.1.0.state c.state move.1.2.0.1)
-
-  moves_go : (w : List ℕ) (b c : Switched Board) → Runs (Only (GoesBy asked) (Moves (few_rules asked map switches))) w b c → Leads (Only GoesOn (Happens asked)) b.state c.state
-  moves_go [] b c run = ([], ap (λ (s : Switched Board). s.state) run)
-  moves_go (n ∷ w) b c run =
-      leads_on (Only GoesOn (Happens asked)) b.state run.0.state c.state (few_goes n b run.0 run.1) (moves_go w run.0 c run.2)
+  -- a move of the search is one of the boards
+  moves_on : (w : List ℕ) (b c : Switched Board) → Runs (Only (GoesBy asked) (Moves (few_rules asked map switches))) w b c → Runs (Only (GoesBy asked) (Moves (board_rules asked map))) w b.state c.state
+  moves_on [] b c is = ap (λ (s : Switched Board). s.state) is
+  moves_on (n ∷ w) b c run = (run.0.state, (run.1.0, inner_move asked map switches n b run.0 run.1.1), moves_on w run.0 c run.2)
 
   seen_end : ((k : ℕ) → k < count_of graph → ReachesEnd (GoesBy asked) graph k) → (x : Board) (u : Budget) → Seen x u → CanEnd (Happens asked) GoesOn IsEnd x
   seen_end reach x u seen =
-      let can = end_reached (few_rules asked map switches) (StandsWithin stands) (one_within stands one) graph searched seen.0 (record { state = x; budget = u }) (reach seen.0 seen.1) seen.2 in
-      (can.0.state, moves_go can.1.0 (record { state = x; budget = u }) can.0 can.1.1, can.2)
+      let s : Switched Board = record { state = x; budget = u } in
+      let can = end_reached (few_rules asked map switches) (StandsWithin stands) graph searched seen.0 s (reach seen.0 seen.1) seen.2 in
+      rules_end moving asked map x (can.0.state, (can.1.0, moves_on can.1.0 s can.0 can.1.1), can.2)
 
   pub few_no_dead_end : ((k : ℕ) → k < count_of graph → ReachesEnd (GoesBy asked) graph k) → (events : List Event) (last : Board) → RunsFew asked switches events last → CanEnd (Happens asked) GoesOn IsEnd last
   few_no_dead_end reach events last run =

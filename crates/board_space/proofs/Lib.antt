@@ -6,13 +6,17 @@ pub mod Putting
 pub mod Reduced
 pub mod Every
 pub mod Chains
+pub mod Covered
+pub mod LeftHarts
 pub mod Ready
 pub mod Moves
 pub mod EventNumbers
 pub mod Ends
 pub mod AllShown
 pub mod Tracking
+pub mod Searching
 pub mod Stuck
+pub mod ByOrders
 pub mod Answered
 pub mod Few
 pub mod Waiting

@@ -1,17 +1,17 @@
 -- The successors of a board, event by event.
-use Rattle.std.proofs.Common.{◌≡◌, ⊎_elim, ℕ, ◌+◌, ◌<◌, ◌≤◌, List, refl, sym, ◌∙◌, subst, arith}
+use Rattle.std.proofs.Common.{◌≡◌, ⊎_elim, ℕ, Bool, true, false, ◌+◌, ◌<◌, ◌≤◌, List, refl, sym, ◌∙◌, subst, arith}
 use Rattle.std.proofs.lemmas.Bool.{cases_lt}
 use Rattle.model_board.specs.Boards.{Board}
 use Rattle.model_board.specs.Events.{Event, Turn, Refused, Wake, Cut, PowerOn}
-use Rattle.model_board.specs.Maps.{Map, TurnKeeps}
+use Rattle.model_board.specs.Maps.{Map, Keeps, TurnKeeps}
 use Rattle.state_space.specs.Successors.{found_count, found_event, found_row}
 use Rattle.state_space.specs.Systems.{Moves, IsExpanded}
 use Rattle.state_space.specs.declared.found.Successors.{Successors}
-use Rattle.board_space.specs.Space.{Asked, IsOne, Happens, KeepsEach, number_of, Settles, board_rules}
+use Rattle.board_space.specs.Space.{Asked, IsOne, Happens, KeepsEach, KeepsSure, ReadsKept, number_of, SettlesSure, sure_rules}
 use Rattle.board_space.specs.Expanding.{IsTold, IsMove, AreTold, IsTeller}
 
-module _ (asked : Asked) (map : Map) where
-  told_lifted : (old new : List ℕ → Board → Type 0) (found grown : Successors) (b : Board) (e : Event) (mid : Board) → ((r : List ℕ) (c : Board) → old r c → new r c) → found_count found ≤ found_count grown → ((k : ℕ) → k < found_count found → found_event grown k ≡ found_event found k) → ((k : ℕ) → k < found_count found → found_row grown k ≡ found_row found k) → IsTold asked map old found b e mid → IsTold asked map new grown b e mid
+module _ (asked : Asked) (map : Map) (leaves : Bool) where
+  told_lifted : (old new : List ℕ → Board → Type 0) (found grown : Successors) (b : Board) (e : Event) (mid : Board) → ((r : List ℕ) (c : Board) → old r c → new r c) → found_count found ≤ found_count grown → ((k : ℕ) → k < found_count found → found_event grown k ≡ found_event found k) → ((k : ℕ) → k < found_count found → found_row grown k ≡ found_row found k) → IsTold asked map leaves old found b e mid → IsTold asked map leaves new grown b e mid
   told_lifted old new found grown b e mid stays more events rows told = (
     told.0,
     told.1,
@@ -21,28 +21,28 @@ module _ (asked : Asked) (map : Map) where
     subst (λ (r : List ℕ). new r told.1) (sym (rows told.0 told.2)) (stays (found_row found told.0) told.1 told.5),
   )
 
-  move_lifted : (old new : List ℕ → Board → Type 0) (found grown : Successors) (b : Board) (i : ℕ) → ((r : List ℕ) (c : Board) → old r c → new r c) → found_event grown i ≡ found_event found i → found_row grown i ≡ found_row found i → IsMove asked map old found b i → IsMove asked map new grown b i
+  move_lifted : (old new : List ℕ → Board → Type 0) (found grown : Successors) (b : Board) (i : ℕ) → ((r : List ℕ) (c : Board) → old r c → new r c) → found_event grown i ≡ found_event found i → found_row grown i ≡ found_row found i → IsMove asked map leaves old found b i → IsMove asked map leaves new grown b i
   move_lifted old new found grown b i stays event row move = (
     move.0,
-    subst (λ (n : ℕ). Moves (board_rules asked map) n b move.0) (sym event) move.1,
+    subst (λ (n : ℕ). Moves (sure_rules asked map leaves) n b move.0) (sym event) move.1,
     subst (λ (r : List ℕ). new r move.0) (sym row) (stays (found_row found i) move.0 move.2),
   )
 
-  pub told_none : (stands : List ℕ → Board → Type 0) (found : Successors) (b : Board) → found_count found ≡ 0 → AreTold asked map stands found b 0
+  pub told_none : (stands : List ℕ → Board → Type 0) (found : Successors) (b : Board) → found_count found ≡ 0 → AreTold asked map leaves stands found b 0
   told_none stands found b none = record {
     complete = λ e mid lt did. absurd (omega arith);
     sound = λ i lt. absurd (omega arith);
   }
 
   -- an event of the next number
-  pub told_more : (old new : List ℕ → Board → Type 0) (found grown : Successors) (b : Board) (n : ℕ) (e : Event) → ((r : List ℕ) (c : Board) → old r c → new r c) → ((f : Event) → IsOne asked f → number_of f ≡ n → f ≡ e) → AreTold asked map old found b n → IsTeller asked map new found grown b e → AreTold asked map new grown b (n + 1)
+  pub told_more : (old new : List ℕ → Board → Type 0) (found grown : Successors) (b : Board) (n : ℕ) (e : Event) → ((r : List ℕ) (c : Board) → old r c → new r c) → ((f : Event) → IsOne asked f → number_of f ≡ n → f ≡ e) → AreTold asked map leaves old found b n → IsTeller asked map leaves new found grown b e → AreTold asked map leaves new grown b (n + 1)
   told_more old new found grown b n e stays only told teller = record {
     complete = λ f mid lt did.
         ⊎_elim
         (λ below. told_lifted old new found grown b f mid stays teller.grown teller.events teller.rows (told.complete f mid below did))
         (λ last.
         let is : f ≡ e = only f did.0 (omega arith) in
-        subst (λ (g : Event). IsTold asked map new grown b g mid) (sym is) (teller.told mid (subst (λ (g : Event). Happens asked g b mid) is did)))
+        subst (λ (g : Event). IsTold asked map leaves new grown b g mid) (sym is) (teller.told mid (subst (λ (g : Event). Happens asked g b mid) is did)))
         (cases_lt (number_of f) n);
     sound = λ i lt.
         ⊎_elim
@@ -52,7 +52,7 @@ module _ (asked : Asked) (map : Map) where
   }
 
   -- no event has the next number
-  pub told_other : (old new : List ℕ → Board → Type 0) (found : Successors) (b : Board) (n : ℕ) → ((r : List ℕ) (c : Board) → old r c → new r c) → ((f : Event) → IsOne asked f → number_of f ≡ n → ⊥) → AreTold asked map old found b n → AreTold asked map new found b (n + 1)
+  pub told_other : (old new : List ℕ → Board → Type 0) (found : Successors) (b : Board) (n : ℕ) → ((r : List ℕ) (c : Board) → old r c → new r c) → ((f : Event) → IsOne asked f → number_of f ≡ n → ⊥) → AreTold asked map leaves old found b n → AreTold asked map leaves new found b (n + 1)
   told_other old new found b n stays none told = record {
     complete = λ f mid lt did.
         ⊎_elim
@@ -62,14 +62,14 @@ module _ (asked : Asked) (map : Map) where
     sound = λ i lt. move_lifted old new found found b i stays refl refl (told.sound i lt);
   }
 
-  pub told_stays : (old new : List ℕ → Board → Type 0) (found : Successors) (b : Board) (n : ℕ) → ((r : List ℕ) (c : Board) → old r c → new r c) → AreTold asked map old found b n → AreTold asked map new found b n
+  pub told_stays : (old new : List ℕ → Board → Type 0) (found : Successors) (b : Board) (n : ℕ) → ((r : List ℕ) (c : Board) → old r c → new r c) → AreTold asked map leaves old found b n → AreTold asked map leaves new found b n
   told_stays old new found b n stays told = record {
     complete = λ f mid lt did. told_lifted old new found found b f mid stays (omega arith) (λ k lt. refl) (λ k lt. refl) (told.complete f mid lt did);
     sound = λ i lt. move_lifted old new found found b i stays refl refl (told.sound i lt);
   }
 
   -- all of them
-  pub told_all : (stands : List ℕ → Board → Type 0) (found : Successors) (b : Board) (n : ℕ) → ((f : Event) → IsOne asked f → number_of f < n) → ((e : Event) → KeepsEach asked map e b) → AreTold asked map stands found b n → IsExpanded (board_rules asked map) stands (found_count found) (found_event found) (found_row found) b
+  pub told_all : (stands : List ℕ → Board → Type 0) (found : Successors) (b : Board) (n : ℕ) → ((f : Event) → IsOne asked f → number_of f < n) → ((e : Event) → IsOne asked e → Keeps map e b × ReadsKept leaves e b) → AreTold asked map leaves stands found b n → IsExpanded (sure_rules asked map leaves) stands (found_count found) (found_event found) (found_row found) b
   told_all stands found b n below keeps told = record {
     keeps = keeps;
     complete = λ e mid step.
@@ -79,21 +79,21 @@ module _ (asked : Asked) (map : Map) where
   }
 
   -- its event was told
-  pub teller_pushed : (stands : List ℕ → Board → Type 0) (old new : Successors) (b mid to : Board) (e : Event) (row : List ℕ) → found_count new ≡ found_count old + 1 → found_event new (found_count old) ≡ number_of e → found_row new (found_count old) ≡ row → ((k : ℕ) → k < found_count old → found_event new k ≡ found_event old k) → ((k : ℕ) → k < found_count old → found_row new k ≡ found_row old k) → Happens asked e b mid → ((c : Board) → Happens asked e b c → c ≡ mid) → Settles asked.size map mid to → stands row to → IsTeller asked map stands old new b e
+  pub teller_pushed : (stands : List ℕ → Board → Type 0) (old new : Successors) (b mid to : Board) (e : Event) (row : List ℕ) → found_count new ≡ found_count old + 1 → found_event new (found_count old) ≡ number_of e → found_row new (found_count old) ≡ row → ((k : ℕ) → k < found_count old → found_event new k ≡ found_event old k) → ((k : ℕ) → k < found_count old → found_row new k ≡ found_row old k) → Happens asked e b mid → ((c : Board) → Happens asked e b c → c ≡ mid) → SettlesSure asked.size map leaves mid to → stands row to → IsTeller asked map leaves stands old new b e
   teller_pushed stands old new b mid to e row counted event is events rows did only settles has =
       let has_new : stands (found_row new (found_count old)) to = subst (λ (r : List ℕ). stands r to) (sym is) has in
       record {
         grown = omega arith;
         events = events;
         rows = rows;
-        told = λ c happens. (found_count old, to, omega arith, event, subst (λ (d : Board). Settles asked.size map d to) (sym (only c happens)) settles, has_new);
+        told = λ c happens. (found_count old, to, omega arith, event, subst (λ (d : Board). SettlesSure asked.size map leaves d to) (sym (only c happens)) settles, has_new);
         sound = λ i from lt.
             let at : found_count old ≡ i = omega arith in
-            subst (λ (n : ℕ). IsMove asked map stands new b n) at (to, (mid, (e, sym event, did), settles), has_new);
+            subst (λ (n : ℕ). IsMove asked map leaves stands new b n) at (to, (mid, (e, sym event, did), settles), has_new);
       }
 
   -- its event could not happen
-  pub teller_none : (stands : List ℕ → Board → Type 0) (found : Successors) (b : Board) (e : Event) → ((c : Board) → Happens asked e b c → ⊥) → IsTeller asked map stands found found b e
+  pub teller_none : (stands : List ℕ → Board → Type 0) (found : Successors) (b : Board) (e : Event) → ((c : Board) → Happens asked e b c → ⊥) → IsTeller asked map leaves stands found found b e
   teller_none stands found b e never = record {
     grown = omega arith;
     events = λ k lt. refl;
@@ -109,3 +109,27 @@ keeps_each asked map b keeps (Refused h down) one = keeps h one.0
 keeps_each asked map b keeps Wake one = tt
 keeps_each asked map b keeps Cut one = tt
 keeps_each asked map b keeps PowerOn one = tt
+
+-- nor does one read a register that is left out
+reads_refused : (leaves : Bool) (h : ℕ) (down : Bool) (b : Board) → ReadsKept leaves (Turn h) b → ReadsKept leaves (Refused h down) b
+reads_refused true h down b none = none
+reads_refused false h down b none = tt
+
+reads_wake : (leaves : Bool) (b : Board) → ReadsKept leaves Wake b
+reads_wake true b = λ h k left. tt
+reads_wake false b = tt
+
+reads_cut : (leaves : Bool) (b : Board) → ReadsKept leaves Cut b
+reads_cut true b = λ h k left. tt
+reads_cut false b = tt
+
+reads_power_on : (leaves : Bool) (b : Board) → ReadsKept leaves PowerOn b
+reads_power_on true b = λ h k left. tt
+reads_power_on false b = tt
+
+pub keeps_sure : (asked : Asked) (map : Map) (leaves : Bool) (b : Board) → ((h : ℕ) → h < asked.size.harts → KeepsSure map leaves h b) → (e : Event) → IsOne asked e → Keeps map e b × ReadsKept leaves e b
+keeps_sure asked map leaves b keeps (Turn h) one = keeps h one.0
+keeps_sure asked map leaves b keeps (Refused h down) one = ((keeps h one.0).0, reads_refused leaves h down b (keeps h one.0).1)
+keeps_sure asked map leaves b keeps Wake one = (tt, reads_wake leaves b)
+keeps_sure asked map leaves b keeps Cut one = (tt, reads_cut leaves b)
+keeps_sure asked map leaves b keeps PowerOn one = (tt, reads_power_on leaves b)

@@ -50,6 +50,13 @@ based_outside layout map old new tracks based size outside = record {
   memory = on_base layout map old.machine.memory new.machine.memory tracks outside based.memory;
 }
 
+-- where the memory is as it was
+pub based_same : (layout : Layout) (old new : Sized) → IsBased layout old → new.machine.size ≡ old.machine.size → new.machine.memory ≡ old.machine.memory → IsBased layout new
+based_same layout old new based size memory = record {
+  size = size ∙ based.size;
+  memory = subst (λ (m : List ℕ). IsOnBase layout m) (sym memory) based.memory;
+}
+
 pub does_at : (p q : List ℕ) (s t : Size) (e : Event) (b c d : Board) → p ≡ q → s ≡ t → b ≡ c → Does p s e b d → Does q t e c d
 does_at p q s t e b c d pq st bc did =
     subst (λ (x : Board). Does q t e x d) bc (subst (λ (x : Size). Does q x e b d) st (subst (λ (x : List ℕ). Does x s e b d) pq did))

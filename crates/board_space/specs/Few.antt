@@ -1,10 +1,11 @@
--- Orders in which few harts are preempted: whose turn an event is, and which orders are asked for.
+-- Every order, or those in which few harts are preempted: whose turn an event is, and which orders are asked for.
 use Rattle.std.specs.Prelude.{ℕ, ◌-◌, nat_lt, List, Option, Some, None, if◌then◌else◌}
 use Rattle.model_board.specs.Boards.{Board}
 use Rattle.model_board.specs.Events.{Event, Turn, Refused, Wake, Cut, PowerOn}
 use Rattle.model_board.specs.Maps.{Map}
 use Rattle.state_space.specs.Bounded.{Budget, Waits, Within}
-use Rattle.state_space.specs.Switched.{Switched, within_rules, StandsWithin}
+use Rattle.state_space.specs.Orders.{Runs}
+use Rattle.state_space.specs.Switched.{Switched, within_rules}
 use Rattle.state_space.specs.Systems.{Rules}
 use Rattle.board_space.specs.Space.{Asked, Happens, Steps, board_rules, start_of}
 
@@ -45,11 +46,16 @@ abbrev pub RunsFew : Asked → ℕ → List Event → Board → Type 0
 RunsFew asked switches events last =
     (left : Budget) × Within (Happens asked) Turn hart_of MOST_WAITED events (start_of asked) (begins_with switches) last left
 
--- a row stands for the board, whatever is left there
-abbrev pub StandsFew : (List ℕ → Board → Type 0) → List ℕ → Board → Type 0
-StandsFew stands row b = (w : Budget) × StandsWithin stands row (record { state = b; budget = w })
+-- the same of every order, where no bound is said
+abbrev pub RunsBy : Asked → Option ℕ → List Event → Board → Type 0
+RunsBy asked None events last = Runs (Happens asked) events (start_of asked) last
+RunsBy asked (Some switches) events last = RunsFew asked switches events last
 
--- what is asked, and how many harts may be preempted
-pub record AskedFew : Type 0 where
+-- what is asked, and how many harts may be preempted, if it is bounded
+pub record AskedOrders : Type 0 where
   pub asked : Asked
-  pub switches : ℕ
+  pub switches : Option ℕ
+
+-- events lead to a board from one that was never on, in an order that is asked for
+abbrev pub RunsAsked : AskedOrders → List Event → Board → Type 0
+RunsAsked orders = RunsBy orders.asked orders.switches

@@ -8,10 +8,13 @@ pub mod Space
 pub mod Happenings
 pub mod Mapped
 pub mod Ready
+pub mod Covering
+pub mod Leaving
+pub mod Standing
 pub mod Expanding
 pub mod Settings
 pub mod Shown
 pub mod WaysOf
-pub mod Explorations
+pub mod Moving
 pub mod Few
-pub mod FewSearched
+pub mod Searches

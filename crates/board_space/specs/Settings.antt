@@ -1,5 +1,5 @@
 -- What stays the same while a board is searched.
-use Rattle.std.specs.Prelude.{ℕ, List}
+use Rattle.std.specs.Prelude.{ℕ, Bool, List}
 use Rattle.model_board.specs.Boards.{Board}
 use Rattle.model_board.specs.Maps.{Map}
 use Rattle.board_space.specs.Layouts.{width_of}
@@ -11,6 +11,8 @@ use Rattle.board_space.specs.declared.space.BoardSpace.{BoardSpace}
 pub record Setting : Type 0 where
   pub asked : Asked
   pub map : Map
+  -- whether registers are left out of rows
+  pub leaves : Bool
   -- how many numbers a row has
   pub width : ℕ
 
@@ -24,7 +26,7 @@ asked_of s = record {
 }
 
 abbrev pub setting_of : BoardSpace → Setting
-setting_of s = record { asked = asked_of s; map = map_in s.map; width = width_of s.rows.layout }
+setting_of s = record { asked = asked_of s; map = map_in s.map; leaves = s.leaves; width = width_of s.rows.layout }
 
 -- each row stands for what it stood for
 abbrev pub RowsStay : BoardSpace → BoardSpace → Type 0

@@ -4,8 +4,10 @@ use Rattle.board_model.specs.Shapes.{Size}
 use Rattle.board_model.specs.declared.durable.Reason.{Reason}
 use Rattle.model_board.specs.Boards.{Board, Off}
 use Rattle.model_board.specs.Events.{Event, Turn, Refused, Wake, Cut, PowerOn, Does, IsEnd, GoesOn}
-use Rattle.model_board.specs.Maps.{Map, Keeps, Local}
+use Rattle.model_board.specs.LeftOut.{StandsFor, ReadsNone}
+use Rattle.model_board.specs.Maps.{Map, Keeps, TurnKeeps, Local}
 use Rattle.model_board.specs.Plain.{standing}
+use Rattle.model_board.specs.Registers.{MovesPc}
 use Rattle.state_space.specs.Orders.{Chain}
 use Rattle.state_space.specs.Systems.{Rules}
 
@@ -88,5 +90,38 @@ board_rules asked map = record {
   goes = GoesBy asked;
   settles = Settles asked.size map;
   keeps = λ b. (e : Event) → KeepsEach asked map e b;
+  is_end = IsEnd;
+}
+
+-- ---- rows that stand for more than one board
+-- the first board stands for the second, where registers are left out, or is it
+abbrev pub IsFor : Bool → Board → Board → Type 0
+IsFor true b c = StandsFor b c
+IsFor false b c = c ≡ b
+
+-- the event reads no register that is left out, where some are
+abbrev pub ReadsKept : Bool → Event → Board → Type 0
+ReadsKept true e b = ReadsNone e b
+ReadsKept false e b = Unit {0}
+
+-- what the turn of a hart touches, it may, and it reads no such register
+abbrev pub KeepsSure : Map → Bool → ℕ → Board → Type 0
+KeepsSure map leaves h b = TurnKeeps map h b × ReadsKept leaves (Turn h) b
+
+-- a local turn that changes the pc, and reads no such register
+abbrev pub IsSureTurn : Size → Map → Bool → ℕ → Board → Board → Type 0
+IsSureTurn size map leaves h b c = IsLocalTurn size map h b c × ReadsKept leaves (Turn h) b × MovesPc h b c
+
+abbrev pub SettlesSure : Size → Map → Bool → Board → Board → Type 0
+SettlesSure size map leaves b c = (n : ℕ) × Chain (IsSureTurn size map leaves) n b c
+
+-- what is asked of the board of a row
+abbrev pub sure_rules : Asked → Map → Bool → Rules Board
+sure_rules asked map leaves = record {
+  start = start_of asked;
+  steps = Steps asked;
+  goes = GoesBy asked;
+  settles = SettlesSure asked.size map leaves;
+  keeps = λ b. (e : Event) → IsOne asked e → Keeps map e b × ReadsKept leaves e b;
   is_end = IsEnd;
 }

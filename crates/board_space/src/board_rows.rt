@@ -3,6 +3,7 @@
 ghost use Rattle.std.specs.Prelude.{◌≡◌, ◌<◌, ◌≤◌, ◌+◌, ◌*◌, ◌/◌, ℕ, List, length, slice_index, get_or, true, false, None, IfOk};
 ghost use Rattle.hart.specs.State.{ArchState, never_started};
 ghost use Rattle.model_board.specs.Boards.{Board as AnyBoard};
+ghost use Rattle.model_board.specs.LeftOut.{StandsFor};
 ghost use Rattle.model_board.specs.Plain.{with_machine};
 ghost use Rattle.model_board.specs.Rests.{Fits, IsRest};
 ghost use Rattle.ram.specs.Memory.{value};
@@ -12,7 +13,7 @@ ghost use Rattle.board_space.specs.Tracked.{IsTracked, AreWithin, segment_count}
 ghost use Rattle.board_space.specs.Records.{IsAt, Stays};
 ghost use Rattle.board_space.specs.Rows.{IsShownByParts, Hold, AreSegments, AreHarts, Stands, Extends, Grows, no_tables, seen_rest, seen_harts, seen_memory};
 
-use crate::differs::{hart_differs, state_differs};
+use crate::differs::{doze_differs, hart_differs, power_differs, state_differs};
 use crate::records::Records;
 use crate::row_layout::Layout;
 use board_model::HartId;
@@ -332,7 +333,7 @@ impl BoardRows {
         requires fits { Fits board.now.machine.size.harts own.now }
         requires size { board.now.machine.size ≡ size_of self.now.layout }
         requires within { hart < (size_of self.now.layout).harts }
-        ensures { result ≡ true → Stands self.now row.now board.now.board → ⊥ }
+        ensures { result ≡ true → (n d : AnyBoard) → Stands self.now row.now n → StandsFor n d → StandsFor board.now.board d → ⊥ }
     {
         let place = hart.index();
         state_differs(rest.tables.states[place], own.tables.states[place])
@@ -354,7 +355,7 @@ impl BoardRows {
         requires own { IsRest own.now board.now }
         requires based { IsBased self.now.layout board.now }
         requires within { segment < segment_count (tracked_of self.now.layout) }
-        ensures { result ≡ true → Stands self.now row.now board.now.board → ⊥ }
+        ensures { result ≡ true → (n d : AnyBoard) → Stands self.now row.now n → StandsFor n d → StandsFor board.now.board d → ⊥ }
     {
         let words = self.layout.segment(segment);
         let values = self
@@ -368,18 +369,37 @@ impl BoardRows {
         false
     }
 
-    /// Whether a board is shown to differ from that of a row, which is on.
+    /// Whether a board is not on, other than that of the row, or dozes otherwise.
+    fn rest_differs(&self, rest: &Rest, own: &Rest, row: &[u32], board: &Board) -> bool
+        requires known { (b : AnyBoard) × Stands self.now row.now b }
+        requires rested { IsAt self.now.rests.records.items (slice_index row.now 0) rest.now }
+        requires on { rest.now.power ≡ Power.On }
+        requires own { IsRest own.now board.now }
+        ensures { result ≡ true → (n d : AnyBoard) → Stands self.now row.now n → StandsFor n d → StandsFor board.now.board d → ⊥ }
+    {
+        let _ = row;
+        let _ = board;
+        if power_differs(own.power, rest.power) {
+            return true;
+        }
+        if doze_differs(own.doze, rest.doze) {
+            return true;
+        }
+        false
+    }
+
+    /// Whether a board is shown to differ from that of a row, which is on: they stand for no board both.
     pub fn differs(&self, row: &[u32], board: &Board) -> bool
         requires known { (b : AnyBoard) × Stands self.now row.now b }
         requires based { IsBased self.now.layout board.now }
-        ensures { result ≡ true → Stands self.now row.now board.now.board → ⊥ }
+        ensures { result ≡ true → (n d : AnyBoard) → Stands self.now row.now n → StandsFor n d → StandsFor board.now.board d → ⊥ }
     {
         let rest = self.rests.get(row[0]);
         let own = board.rest();
         if rest.power != Power::On {
             return false;
         }
-        if own.power != Power::On || own.doze != rest.doze {
+        if self.rest_differs(rest, &own, row, board) {
             return true;
         }
         for number in 0..self.layout.harts() {

@@ -4,20 +4,27 @@ ghost use Rattle.std.specs.Prelude.{◌≡◌, ◌≤◌, ◌<◌, ℕ, List, If
 ghost use Rattle.board_model.specs.Shapes.{ram_bytes_of};
 ghost use Rattle.model_board.specs.Boards.{Board as AnyBoard};
 ghost use Rattle.model_board.specs.Events.{Event, GoesOn, IsEnd};
-ghost use Rattle.state_space.specs.Orders.{Runs, Leads, CanEnd};
+ghost use Rattle.state_space.specs.Orders.{Leads, CanEnd};
+ghost use Rattle.board_space.specs.Few.{AskedOrders, RunsAsked};
 ghost use Rattle.board_space.specs.Happenings.{event_of};
-ghost use Rattle.board_space.specs.Space.{Asked, Happens, IsOne, number_of, start_of};
+ghost use Rattle.board_space.specs.Searches.{IsSearchOf};
+ghost use Rattle.board_space.specs.Settings.{asked_of};
+ghost use Rattle.board_space.specs.Space.{Happens, IsOne, number_of, start_of};
 
+use crate::followed::open_rows;
+use crate::guesses::Guess;
 use crate::happenings::Happening;
 use crate::orders::{StandsFor, every_order};
 use crate::outcomes::Outcome;
-use crate::seeds::{allow, seed};
+use crate::seeds::seed;
 use crate::settling::settle_one;
-use crate::showing::shown_by_all;
+use crate::showing::{board_part, shown_by_all};
 use crate::space::{BoardSpace, Failures};
 use board_model::{HartId, Reason, Shape};
 use model_board::{Board, TouchMap};
-use state_space::{Graph, Limits, Refused, Verdict, explore, first_dead, way_to};
+use state_space::{
+    Graph, Limits, Refused, Switching, Verdict, at_end, explore, first_dead, way_to,
+};
 use std::alloc::Global;
 use std::marker::Model;
 
@@ -32,79 +39,127 @@ pub struct Question<'a> {
     pub reason: Reason,
     /// Which failures may come.
     pub failures: Failures,
+    /// How many harts may be preempted in an order, if it is bounded: another hart's turn follows a hart's that does not wait. A hart waits
+    /// where at most 100 turns of its own lead back to the same board.
+    pub switches: Option<u32>,
     /// Where the search is given up.
     pub limits: Limits,
 }
 
 /// How often a search starts over with a wider map before it is given up.
-pub(crate) const MOST_MAPS: u32 = 10_000;
+const MOST_MAPS: u32 = 10_000;
 
-/// The boards that some events lead to from one that was never on, as far as the search went.
+/// The boards that the orders that are asked for lead to from one that was never on, as far as the search went.
 #[derive(Drop)]
 pub struct Explored {
     alloc: Global,
     graph: Graph,
     space: BoardSpace,
+    switches: Option<u32>,
     verdict: Verdict,
 }
 
 impl Model for Explored {
-    ghost use Rattle.board_space.specs.Space.{Asked};
-
-    ghost Value = { Asked };
-
+    ghost use Rattle.board_space.specs.Few.{AskedOrders};
+    ghost use Rattle.board_space.specs.Searches.{IsSearchOf};
     ghost use Rattle.board_space.specs.Settings.{asked_of};
-    ghost use Rattle.board_space.specs.Explorations.{IsSearchOf};
 
-    ghost view = { λ e. asked_of e.space };
+    ghost Value = { AskedOrders };
 
-    ghost invariant = { λ e. IsSearchOf e.space e.graph };
+    ghost view = { λ e. record { asked = asked_of e.space; switches = e.switches } };
+
+    ghost invariant = { λ e. IsSearchOf e.space e.switches e.graph };
 }
 
 impl StandsFor for BoardSpace {
-    ghost use Rattle.board_space.specs.Rows.{Stands};
+    ghost use Rattle.board_space.specs.Covering.{StandsAll};
     ghost use Rattle.board_space.specs.declared.space.BoardSpace.{BoardSpace as Space};
 
     ghost Tables = { Space };
 
-    ghost stands = { λ s. Stands s.rows };
+    ghost stands = { λ s. StandsAll s.leaves s.rows };
 }
 
-/// Explores a kernel. Refused where there is no room, and where more than 10,000 maps were tried.
+/// A search of a board's states, with the board's space after it.
+#[derive(Drop)]
+struct Searched {
+    space: BoardSpace,
+    found: Result<(Graph, Verdict), Refused>,
+}
+
+/// Searches every order.
+fn search_all(alloc: Global, space: BoardSpace, limits: Limits) -> Searched
+    ensures asked { asked_of result.space ≡ asked_of space }
+    ensures search { IfOk result.found (λ found. IsSearchOf result.space None found.0) }
+{
+    let mut space = space;
+    let found = explore(alloc, &mut space, limits);
+    Searched { space, found }
+}
+
+/// Searches the orders in which at most so many harts are preempted.
+fn search_few(alloc: Global, space: BoardSpace, switches: u32, limits: Limits) -> Searched
+    ensures asked { asked_of result.space ≡ asked_of space }
+    ensures search { IfOk result.found (λ found. IsSearchOf result.space (Some switches) found.0) }
+{
+    let mut switching = Switching::new(alloc, space, switches);
+    let found = explore(alloc, &mut switching, limits);
+    Searched {
+        space: switching.into_system(),
+        found,
+    }
+}
+
+/// Searches the orders that are asked for.
+fn search(alloc: Global, space: BoardSpace, switches: Option<u32>, limits: Limits) -> Searched
+    ensures asked { asked_of result.space ≡ asked_of space }
+    ensures search { IfOk result.found (λ found. IsSearchOf result.space switches found.0) }
+{
+    match switches {
+        None => search_all(alloc, space, limits),
+        Some(switches) => search_few(alloc, space, switches, limits),
+    }
+}
+
+/// Explores a kernel. Refused where there is no room, and where more than 10,000 guesses were tried.
 pub fn explore_board(alloc: Global, question: &Question) -> Result<Explored, Refused>
     requires { length question.now.payload.now ≤ ram_bytes_of question.now.shape }
     ensures { IfOk result (λ e. e ≡ record {
-      size = question.now.shape;
-      payload = question.now.payload.now;
-      reason = question.now.reason;
-      cuts = question.now.failures.cuts;
-      refusals = question.now.failures.refusals;
+      asked = record {
+        size = question.now.shape;
+        payload = question.now.payload.now;
+        reason = question.now.reason;
+        cuts = question.now.failures.cuts;
+        refusals = question.now.failures.refusals;
+      };
+      switches = question.now.switches;
     }) }
 {
-    let Ok(mut map) = TouchMap::new(alloc, &question.shape) else {
-        return Err(Refused::Memory);
-    };
-    seed(alloc, question, &mut map)?;
+    let mut guess = Guess::new(alloc, &question.shape)?;
+    seed(alloc, question, &mut guess)?;
     for _round in 0..MOST_MAPS {
-        let mut space = BoardSpace::new(
+        let space = BoardSpace::new(
             alloc,
             &question.shape,
             question.payload,
             question.reason,
             question.failures,
-            map,
+            guess,
+            question.switches.is_none(),
         )?;
-        let (graph, verdict) = explore(alloc, &mut space, question.limits)?;
-        let Some((hart, broke)) = space.broke() else {
+        let Searched { space, found } = search(alloc, space, question.switches, question.limits);
+        let Some(broke) = space.broke() else {
+            let (graph, verdict) = found?;
             return Ok(Explored {
                 alloc,
                 graph,
                 space,
+                switches: question.switches,
                 verdict,
             });
         };
-        map = space.into_map();
-        allow(&mut map, hart, broke);
+        guess = space.into_guess();
+        guess.widen(broke);
     }
     Err(Refused::Numbers)
 }
@@ -113,26 +168,35 @@ impl Explored {
     ghost use Rattle.board_space.specs.Shown.{Shows};
     ghost use Rattle.board_space.specs.WaysOf.{IsWayOf};
 
-    /// What every order shows at its end: `Some` only where the search is closed, no board that was found is dead, and all ends that were
-    /// found show the same in the bytes `from..to` of RAM. It speaks of all orders of the events that were asked for, of any length: each end
-    /// shows it, and from each board that they lead to, some events that are no failures lead to an end.
+    /// What each order that is asked for shows at its end: `Some` only where the search is closed, each row that was found reaches an end by
+    /// events that are no failures, and all ends that were found show the same in the bytes `from..to` of RAM. It speaks of orders of any
+    /// length: each end shows it, and from each board that they lead to, some events that are no failures lead to an end.
     pub fn outcome(&mut self, from: usize, to: usize) -> Result<Option<Outcome>, Refused>
         requires order { from ≤ to }
-        requires within { to ≤ ram_bytes_of self.old.size }
+        requires within { to ≤ ram_bytes_of self.old.asked.size }
         ensures ends { IfOk result (λ found. IfSome found (λ outcome. (events : List Event) (last : AnyBoard)
-            → Runs (Happens self.old) events (start_of self.old) last → IsEnd last → Shows from to outcome last)) }
+            → RunsAsked self.old events last → IsEnd last → Shows from to outcome last)) }
         ensures no_dead_end { IfOk result (λ found. IfSome found (λ outcome. (events : List Event) (last : AnyBoard)
-            → Runs (Happens self.old) events (start_of self.old) last → CanEnd (Happens self.old) GoesOn IsEnd last)) }
+            → RunsAsked self.old events last → CanEnd (Happens self.old.asked) GoesOn IsEnd last)) }
         ensures same { self.new ≡ self.old }
     {
         every_order::<BoardSpace>();
+        let _few = self.space.harts();
         if self.graph.expanded() != self.graph.count() {
             return Ok(None);
         }
-        if first_dead(self.alloc, &self.space, &self.graph)?.is_some() {
+        let ends = at_end(self.alloc, &self.graph)?;
+        if first_dead(self.alloc, &self.space, &self.graph, &ends)?.is_some() {
             return Ok(None);
         }
-        shown_by_all(&mut self.space, &self.graph, from, to)
+        shown_by_all(&mut self.space, self.switches, &self.graph, from, to)
+    }
+
+    /// How many harts may be preempted in an order, if it is bounded.
+    pub fn switches(&self) -> Option<u32>
+        ensures { result ≡ self.now.switches }
+    {
+        self.switches
     }
 
     /// How the search ended.
@@ -140,12 +204,7 @@ impl Explored {
         self.verdict
     }
 
-    /// Whether each board that was found is expanded.
-    pub fn is_closed(&self) -> bool {
-        self.graph.expanded() == self.graph.count()
-    }
-
-    /// How many boards were found.
+    /// How many boards were found: with different numbers of switches left one is counted as often.
     pub fn count(&self) -> usize {
         self.graph.count()
     }
@@ -171,49 +230,36 @@ impl Explored {
         Ok(ends)
     }
 
-    /// The first row whose board comes to no end by events that are no failures, where the search is closed. So some events lead to a
-    /// board from which no such events lead to an end.
+    /// The first row whose board comes to no end by events that are no failures, as far as the search went: all that follows it is known, and
+    /// no switch was left out for want of one. So some events lead to a board from which no such events lead to an end.
     pub fn first_dead(&self) -> Result<Option<usize>, Refused>
-        ensures { IfOk result (λ found. IfSome found (λ _. (b : AnyBoard) × Leads (Happens self.now) (start_of self.now) b
-            × (CanEnd (Happens self.now) GoesOn IsEnd b → ⊥))) }
+        ensures { IfOk result (λ found. IfSome found (λ _. (b : AnyBoard) × Leads (Happens self.now.asked) (start_of self.now.asked) b
+            × (CanEnd (Happens self.now.asked) GoesOn IsEnd b → ⊥))) }
     {
         every_order::<BoardSpace>();
-        let _few = self.space.harts();
-        if self.graph.expanded() != self.graph.count() {
-            return Ok(None);
-        }
-        first_dead(self.alloc, &self.space, &self.graph)
+        let open = open_rows(self.alloc, &self.graph, self.space.harts())?;
+        first_dead(self.alloc, &self.space, &self.graph, &open)
     }
 
     /// The events, by their numbers, of a way from the start to a row, before the first of which and after each the board settles. `None`
     /// where there is no such row.
     pub fn way(&self, row: usize) -> Result<Option<Vec<u8>>, Refused>
-        ensures { IfOk result (λ found. IfSome found (λ way. IsWayOf self.now way.items)) }
+        ensures { IfOk result (λ found. IfSome found (λ way. IsWayOf self.now.asked way.items)) }
     {
         every_order::<BoardSpace>();
         way_to(self.alloc, &self.graph, row)
     }
 
-    /// The board of a row: some events lead to it.
-    pub fn board(&mut self, row: usize) -> Option<&Board>
-        ensures { IfSome result (λ board. Leads (Happens self.old) (start_of self.old) board.now.board) }
-    {
-        every_order::<BoardSpace>();
-        if self.graph.count() <= row {
-            return None;
-        }
-        self.space.show(self.graph.row(row));
-        Some(self.space.current())
-    }
-
-    /// Puts the board of a row, to be looked at by `current`: the search stays as it is. Whether there is such a row.
+    /// Puts the board of a row, to be looked at by `current`: the search stays as it is. Whether there is such a row. Registers of it may be left
+    /// out, which hold `LEFT_OUT` then: a way to the row, replayed, leads to a board of it.
     pub fn show(&mut self, row: usize) -> bool
         ensures { self.new ≡ self.old }
     {
         if self.graph.count() <= row {
             return false;
         }
-        self.space.show(self.graph.row(row));
+        self.space
+            .show(board_part(self.graph.row(row), self.switches));
         true
     }
 
@@ -224,26 +270,26 @@ impl Explored {
 
     /// The board with which the search began.
     pub fn first_board(&self) -> Result<Board, Refused>
-        ensures board { IfOk result (λ b. b.board ≡ start_of self.now) }
-        ensures size { IfOk result (λ b. b.size ≡ self.now.size) }
+        ensures board { IfOk result (λ b. b.board ≡ start_of self.now.asked) }
+        ensures size { IfOk result (λ b. b.size ≡ self.now.asked.size) }
     {
         self.space.first_board()
     }
 
     /// The happening of that number, where it was asked for.
     pub fn happening(&self, number: u8) -> Option<Happening>
-        ensures some { IfSome result (λ h. IsOne self.now (event_of h) × (number_of (event_of h) ≡ number)) }
-        ensures none { IfNone result ((e : Event) → IsOne self.now e → number_of e ≡ number → ⊥) }
+        ensures some { IfSome result (λ h. IsOne self.now.asked (event_of h) × (number_of (event_of h) ≡ number)) }
+        ensures none { IfNone result ((e : Event) → IsOne self.now.asked e → number_of e ≡ number → ⊥) }
     {
         self.space.happening(number)
     }
 
     /// Makes a happening happen to a board, and answers whether it could. The board has not settled then.
     pub fn replay(&self, board: &mut Board, number: u8) -> bool
-        requires { board.old.size ≡ self.now.size }
-        ensures happens { result ≡ true → (e : Event) × (number_of e ≡ number) × Happens self.now e board.old.board board.new.board }
+        requires { board.old.size ≡ self.now.asked.size }
+        ensures happens { result ≡ true → (e : Event) × (number_of e ≡ number) × Happens self.now.asked e board.old.board board.new.board }
         ensures never { result ≡ false → (e : Event) (c : AnyBoard) → number_of e ≡ number
-            → Happens self.now e board.old.board c → ⊥ }
+            → Happens self.now.asked e board.old.board c → ⊥ }
         ensures size { board.new.size ≡ board.old.size }
     {
         self.space.replay(board, number)
@@ -252,12 +298,12 @@ impl Explored {
     /// Makes the local turns of a hart by which a board settles, and answers how many. A board settles by those of hart 0 first, then by those
     /// of the next, up to the last.
     pub fn settle(&self, board: &mut Board, number: u64) -> u32
-        ensures turns { board.old.size ≡ self.now.size → Leads (Happens self.now) board.old.board board.new.board }
+        ensures turns { board.old.size ≡ self.now.asked.size → Leads (Happens self.now.asked) board.old.board board.new.board }
         ensures size { board.new.size ≡ board.old.size }
     {
         every_order::<BoardSpace>();
         match board.machine().shape().hart(number) {
-            Some(hart) => settle_one(board, self.space.map(), hart),
+            Some(hart) => settle_one(board, self.space.map(), false, hart),
             None => 0,
         }
     }

@@ -1,17 +1,22 @@
-//! The states of a model board, explored: boards as rows of numbers and back, exactly; all boards that some orders of events lead to; and what
-//! they say of every order.
+//! The states of a model board, explored: boards as rows of numbers and back; all boards that some orders of events lead to, but for
+//! registers that are not read again; and what they say of every order.
 #![tactic(auto)]
 
 mod board_rows;
 mod differs;
 mod explored;
-mod explored_few;
+mod followed;
+mod guesses;
 mod happenings;
 mod keys;
+mod leaving;
+mod lives;
 mod orders;
 mod outcomes;
 mod preempted;
 mod records;
+mod resting;
+mod returning;
 mod row_layout;
 mod seeds;
 mod settling;
@@ -22,9 +27,10 @@ mod tests;
 
 pub use board_rows::BoardRows;
 pub use explored::{Explored, Question, explore_board};
-pub use explored_few::{ExploredFew, explore_few};
+pub use guesses::{Broke, Guess};
 pub use happenings::Happening;
-pub use orders::{StandsFor, every_order, few_switches};
+pub use lives::Lives;
+pub use orders::{StandsFor, every_order};
 pub use outcomes::Outcome;
 pub use records::{Recorded, Records};
 pub use row_layout::Layout;

@@ -23,6 +23,9 @@ impl Preempted for BoardSpace {
 
     fn waits(&mut self, row: &[u32], process: u8) -> Result<bool, Refused> {
         let _few = self.harts();
+        if self.leaves_out() {
+            return Err(Refused::Numbers);
+        }
         match self.hart(process) {
             Some(hart) => self.waits_at(row, hart),
             None => Ok(false),

@@ -4,13 +4,22 @@ ghost use Rattle.std.specs.Prelude.{◌≡◌, ◌<◌, ◌≤◌, length};
 ghost use Rattle.board_model.specs.Shapes.{ram_bytes_of};
 
 use crate::explored::Question;
+use crate::guesses::{Broke, Guess};
+use crate::space::Failures;
 use board_model::HartId;
-use model_board::{Board, Break, Status, TouchMap};
+use model_board::{Board, Status};
 use state_space::Refused;
 use std::alloc::Global;
 
 /// How many turns a run has.
 const TURNS: u64 = 50_000;
+
+/// In how many turns power fails once, one is made that the store refuses if it is asked, and one of a store that is down from then on.
+const CUT_IN: u64 = 8191;
+
+const REFUSED_IN: u64 = 3;
+
+const DOWN_IN: u64 = 12;
 
 /// The next number of a sequence that looks random (Marsaglia, Xorshift RNGs, 2003).
 fn draw(state: &mut u64) -> u64 {
@@ -20,24 +29,15 @@ fn draw(state: &mut u64) -> u64 {
     *state
 }
 
-/// Lets a hart do what broke the map.
-pub(crate) fn allow(map: &mut TouchMap, hart: HartId, broke: Break) {
-    match broke {
-        Break::Reads(word) => map.let_read(hart, word),
-        Break::Writes(word) => map.let_write(hart, word),
-        Break::Sends(target) => map.let_send(hart, target),
-    }
-}
-
 /// Widens the map by what the next turn of a hart touches, which is four things at most.
-fn widen(board: &mut Board, map: &mut TouchMap, hart: HartId)
+fn widen(board: &mut Board, guess: &mut Guess, hart: HartId)
     requires { hart < board.old.size.harts }
     ensures { board.new ≡ board.old }
 {
     for touch in 0..12u8 {
-        match board.keeps(hart, map) {
+        match board.keeps(hart, &guess.map) {
             Ok(()) => return,
-            Err(broke) => allow(map, hart, broke),
+            Err(broke) => guess.widen(Broke::Touches(hart, broke)),
         }
     }
 }
@@ -57,8 +57,67 @@ fn bring_on(board: &mut Board, payload: &[u8]) -> bool
     }
 }
 
+/// A turn of a hart, of which the store may refuse what it asks, or before which power may fail, where that is asked for.
+fn make_turn(board: &mut Board, failures: Failures, hart: HartId, drawn: u64)
+    requires { hart < board.old.size.harts }
+    ensures { board.new.size ≡ board.old.size }
+{
+    if failures.cuts && drawn % CUT_IN == 0 {
+        board.cut();
+    } else if failures.refusals && drawn % REFUSED_IN == 0 {
+        let _refused = board.refused(hart, drawn % DOWN_IN == 0);
+    } else {
+        board.turn(hart);
+    }
+}
+
+/// What a hart did at a turn.
+#[derive(Clone, Copy, Drop)]
+struct Use {
+    hart: HartId,
+    pc: u64,
+    /// The registers that it read, and those that it wrote.
+    reads: u32,
+    writes: u32,
+}
+
+/// Adds what the next turn of a hart does.
+fn trace(board: &mut Board, hart: HartId, uses: &mut Vec<Use>) -> Result<(), Refused>
+    requires { hart < board.old.size.harts }
+    ensures { board.new ≡ board.old }
+{
+    let (reads, writes) = board.uses(hart);
+    let _sized = board.machine();
+    let pc = board.machine().hart(hart).pc();
+    uses.push(Use {
+        hart,
+        pc,
+        reads,
+        writes,
+    })?;
+    Ok(())
+}
+
+/// What each hart read again, from each of its turns on.
+fn look_back(uses: &[Use], guess: &mut Guess) {
+    let mut live = [0u32; 8];
+    for back in 0..uses.len() {
+        let used = uses[uses.len() - 1 - back];
+        let place = used.hart.index();
+        live[place] = live[place] & !used.writes | used.reads;
+        guess.widen(Broke::Reads(used.pc, live[place]));
+    }
+}
+
 /// A run of turns of harts that are drawn, each for a number of turns that is drawn below `longest`.
-fn run(board: &mut Board, question: &Question, map: &mut TouchMap, longest: u64, state: &mut u64)
+fn run(
+    board: &mut Board,
+    question: &Question,
+    guess: &mut Guess,
+    longest: u64,
+    state: &mut u64,
+    uses: &mut Vec<Use>,
+) -> Result<(), Refused>
     requires fits { length question.now.payload.now ≤ ram_bytes_of question.now.shape }
     requires size { board.old.size ≡ question.now.shape }
     requires some { 0 < longest }
@@ -69,21 +128,23 @@ fn run(board: &mut Board, question: &Question, map: &mut TouchMap, longest: u64,
     for turn in 0..TURNS {
         if left == 0 {
             if !bring_on(board, question.payload) {
-                return;
+                return Ok(());
             }
             turning = question.shape.hart(draw(state) % harts);
             left = 1 + draw(state) % longest;
         }
         left -= 1;
         if let Some(hart) = turning {
-            widen(board, map, hart);
-            board.turn(hart);
+            widen(board, guess, hart);
+            trace(board, hart, uses)?;
+            make_turn(board, question.failures, hart, draw(state));
         }
     }
+    Ok(())
 }
 
-/// Widens a map by what some runs from a boot touch.
-pub(crate) fn seed(alloc: Global, question: &Question, map: &mut TouchMap) -> Result<(), Refused>
+/// Widens a guess by what some runs from a boot do.
+pub(crate) fn seed(alloc: Global, question: &Question, guess: &mut Guess) -> Result<(), Refused>
     requires { length question.now.payload.now ≤ ram_bytes_of question.now.shape }
 {
     let mut state = 0x9e37_79b9_7f4a_7c15;
@@ -91,7 +152,9 @@ pub(crate) fn seed(alloc: Global, question: &Question, map: &mut TouchMap) -> Re
         let Ok(mut board) = Board::new(alloc, &question.shape, question.reason) else {
             return Err(Refused::Memory);
         };
-        run(&mut board, question, map, longest, &mut state);
+        let mut uses = Vec::new(alloc);
+        run(&mut board, question, guess, longest, &mut state, &mut uses)?;
+        look_back(uses.as_slice(), guess);
     }
     Ok(())
 }

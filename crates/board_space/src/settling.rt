@@ -1,10 +1,11 @@
 //! Local turns, made until one is not: what a board settles to. How far they go is a guess; that each is local is not.
 
-ghost use Rattle.std.specs.Prelude.{◌≡◌, ◌<◌, ◌≤◌};
+ghost use Rattle.std.specs.Prelude.{◌≡◌, ◌<◌, ◌≤◌, true, false};
 ghost use Rattle.model_board.specs.Maps.{SameOutside};
 ghost use Rattle.board_space.specs.Mapped.{map_in};
-ghost use Rattle.board_space.specs.Space.{Settles};
+ghost use Rattle.board_space.specs.Space.{IsSureTurn, SettlesSure};
 
+use crate::leaving::reads_kept;
 use board_model::{HartId, Shape};
 use hart::Hart;
 use model_board::{Board, TouchMap};
@@ -27,12 +28,29 @@ fn is_less(a: &Hart, b: &Hart) -> bool {
     false
 }
 
+/// Makes the next turn of a hart where it is local by the map, and where it reads no register that is left out, if some may be. Whether it
+/// did; if not, nothing changes.
+#[inline(always)]
+fn move_on(board: &mut Board, map: &TouchMap, leaves: bool, hart: HartId) -> bool
+    requires { hart < board.old.size.harts }
+    ensures local { result ≡ true → IsSureTurn board.old.size (map_in map.now) leaves hart board.old.board board.new.board }
+    ensures stays { result ≡ false → board.new ≡ board.old }
+    ensures size { board.new.size ≡ board.old.size }
+    ensures raw { board.new.machine.size ≡ board.old.machine.size }
+    ensures outside { SameOutside (map_in map.now) board.old.machine.memory board.new.machine.memory }
+{
+    if !reads_kept(board, leaves, hart) {
+        return false;
+    }
+    board.move_alone(hart, map)
+}
+
 /// Makes local turns of a hart until one is not, or until the hart stands as it stood before. How many they were, and whether it does.
 #[tactic(auto, using(crate::proofs::Chains::settled, crate::proofs::Chains::settles_by, crate::proofs::Chains::same_outside, crate::proofs::Chains::outside_on))]
-fn run(board: &mut Board, map: &TouchMap, hart: HartId) -> (u32, bool)
+fn run(board: &mut Board, map: &TouchMap, leaves: bool, hart: HartId) -> (u32, bool)
     requires { hart < board.old.size.harts }
     ensures few { result.0 ≤ 10000 }
-    ensures settles { Settles board.old.size (map_in map.now) board.old.board board.new.board }
+    ensures settles { SettlesSure board.old.size (map_in map.now) leaves board.old.board board.new.board }
     ensures size { board.new.size ≡ board.old.size }
     ensures raw { board.new.machine.size ≡ board.old.machine.size }
     ensures memory { SameOutside (map_in map.now) board.old.machine.memory board.new.machine.memory }
@@ -40,7 +58,7 @@ fn run(board: &mut Board, map: &TouchMap, hart: HartId) -> (u32, bool)
     let mut seen = board.machine().hart(hart).copy();
     let mut next = 16;
     for turn in 1..=MOST_TURNS {
-        if !board.move_alone(hart, map) {
+        if !move_on(board, map, leaves, hart) {
             return (turn - 1, false);
         }
         let stands = board.machine().hart(hart);
@@ -57,10 +75,10 @@ fn run(board: &mut Board, map: &TouchMap, hart: HartId) -> (u32, bool)
 
 /// The least that a hart stands as, while it goes round once more, and how many turns these are.
 #[tactic(auto, using(crate::proofs::Chains::settled, crate::proofs::Chains::settles_by, crate::proofs::Chains::same_outside, crate::proofs::Chains::outside_on))]
-fn go_round(board: &mut Board, map: &TouchMap, hart: HartId) -> (u32, Hart)
+fn go_round(board: &mut Board, map: &TouchMap, leaves: bool, hart: HartId) -> (u32, Hart)
     requires { hart < board.old.size.harts }
     ensures few { result.0 ≤ 10000 }
-    ensures settles { Settles board.old.size (map_in map.now) board.old.board board.new.board }
+    ensures settles { SettlesSure board.old.size (map_in map.now) leaves board.old.board board.new.board }
     ensures size { board.new.size ≡ board.old.size }
     ensures raw { board.new.machine.size ≡ board.old.machine.size }
     ensures memory { SameOutside (map_in map.now) board.old.machine.memory board.new.machine.memory }
@@ -68,7 +86,7 @@ fn go_round(board: &mut Board, map: &TouchMap, hart: HartId) -> (u32, Hart)
     let first = board.machine().hart(hart).copy();
     let mut least = first.copy();
     for turn in 1..=MOST_TURNS {
-        if !board.move_alone(hart, map) {
+        if !move_on(board, map, leaves, hart) {
             return (turn - 1, least);
         }
         let stands = board.machine().hart(hart);
@@ -84,16 +102,16 @@ fn go_round(board: &mut Board, map: &TouchMap, hart: HartId) -> (u32, Hart)
 
 /// Makes local turns of a hart until it stands so, and answers how many.
 #[tactic(auto, using(crate::proofs::Chains::settled, crate::proofs::Chains::settles_by, crate::proofs::Chains::same_outside, crate::proofs::Chains::outside_on))]
-fn run_to(board: &mut Board, map: &TouchMap, hart: HartId, at: &Hart) -> u32
+fn run_to(board: &mut Board, map: &TouchMap, leaves: bool, hart: HartId, at: &Hart) -> u32
     requires { hart < board.old.size.harts }
     ensures few { result ≤ 10000 }
-    ensures settles { Settles board.old.size (map_in map.now) board.old.board board.new.board }
+    ensures settles { SettlesSure board.old.size (map_in map.now) leaves board.old.board board.new.board }
     ensures size { board.new.size ≡ board.old.size }
     ensures raw { board.new.machine.size ≡ board.old.machine.size }
     ensures memory { SameOutside (map_in map.now) board.old.machine.memory board.new.machine.memory }
 {
     for turn in 0..MOST_TURNS {
-        if board.machine().hart(hart).is_as(at) || !board.move_alone(hart, map) {
+        if board.machine().hart(hart).is_as(at) || !move_on(board, map, leaves, hart) {
             return turn;
         }
     }
@@ -102,32 +120,32 @@ fn run_to(board: &mut Board, map: &TouchMap, hart: HartId, at: &Hart) -> u32
 
 /// Makes local turns of a hart, and answers how many. Where it goes round in them, it ends at the least that it stands as.
 #[tactic(auto, using(crate::proofs::Chains::settled, crate::proofs::Chains::settles_on, crate::proofs::Chains::same_outside, crate::proofs::Chains::outside_on))]
-pub(crate) fn settle_one(board: &mut Board, map: &TouchMap, hart: HartId) -> u32
+pub(crate) fn settle_one(board: &mut Board, map: &TouchMap, leaves: bool, hart: HartId) -> u32
     requires { hart < board.old.size.harts }
-    ensures settles { Settles board.old.size (map_in map.now) board.old.board board.new.board }
+    ensures settles { SettlesSure board.old.size (map_in map.now) leaves board.old.board board.new.board }
     ensures size { board.new.size ≡ board.old.size }
     ensures raw { board.new.machine.size ≡ board.old.machine.size }
     ensures memory { SameOutside (map_in map.now) board.old.machine.memory board.new.machine.memory }
 {
-    let (turns, is_round) = run(board, map, hart);
+    let (turns, is_round) = run(board, map, leaves, hart);
     if !is_round {
         return turns;
     }
-    let (round, least) = go_round(board, map, hart);
-    turns + round + run_to(board, map, hart, &least)
+    let (round, least) = go_round(board, map, leaves, hart);
+    turns + round + run_to(board, map, leaves, hart, &least)
 }
 
 /// Makes local turns of each hart in turn.
 #[tactic(auto, using(crate::proofs::Chains::settled, crate::proofs::Chains::settles_on, crate::proofs::Chains::same_outside, crate::proofs::Chains::outside_on))]
-pub(crate) fn settle(board: &mut Board, map: &TouchMap)
-    ensures settles { Settles board.old.size (map_in map.now) board.old.board board.new.board }
+pub(crate) fn settle(board: &mut Board, map: &TouchMap, leaves: bool)
+    ensures settles { SettlesSure board.old.size (map_in map.now) leaves board.old.board board.new.board }
     ensures size { board.new.size ≡ board.old.size }
     ensures raw { board.new.machine.size ≡ board.old.machine.size }
     ensures memory { SameOutside (map_in map.now) board.old.machine.memory board.new.machine.memory }
 {
     for number in 0..8u64 {
         if let Some(hart) = board.machine().shape().hart(number) {
-            let _turns = settle_one(board, map, hart);
+            let _turns = settle_one(board, map, leaves, hart);
         }
     }
 }

@@ -3,29 +3,29 @@
 ghost use Rattle.std.specs.Prelude.{◌≡◌, ◌<◌, ◌≤◌, ◌*◌, ℕ, List, IfOk, IfSome, IfNone, Some, None, Ok, true, false, length};
 ghost use Rattle.board_model.specs.Shapes.{Size, ram_bytes_of};
 ghost use Rattle.model_board.specs.Boards.{Board as AnyBoard, Off};
-ghost use Rattle.model_board.specs.Events.{Event, TurnOn, IsEnd};
-ghost use Rattle.model_board.specs.Maps.{Map, TurnKeeps};
+ghost use Rattle.model_board.specs.Events.{Event};
+ghost use Rattle.model_board.specs.Maps.{Map};
 ghost use Rattle.model_board.specs.Plain.{standing};
 ghost use Rattle.state_space.specs.Successors.{found_count, found_width};
 ghost use Rattle.board_space.specs.Layouts.{size_of, base_of, width_of, IsBased};
 ghost use Rattle.board_space.specs.Ready.{Tracks, boot_memory, MasksOf};
-ghost use Rattle.board_space.specs.Space.{Happens, IsOne, KeepsEach, number_of};
+ghost use Rattle.board_space.specs.Covering.{StandsAll};
+ghost use Rattle.board_space.specs.Space.{Happens, IsOne, KeepsEach, KeepsSure, number_of};
 ghost use Rattle.board_space.specs.Happenings.{event_of};
-ghost use Rattle.board_space.specs.Few.{WaitsAt};
 ghost use Rattle.board_space.specs.Mapped.{map_in};
 
 use crate::board_rows::BoardRows;
+use crate::guesses::{Broke, Guess};
 use crate::happenings::{HAPPENINGS, Happening};
+use crate::leaving::{boards_stand, leave_all, reads_kept};
+use crate::lives::Lives;
 use crate::outcomes::Outcome;
 use crate::row_layout::Layout;
 use crate::settling::settle;
 use board_model::{HartId, Reason, Shape};
-use model_board::{Board, Break, Status, TouchMap};
+use model_board::{Board, Status, TouchMap};
 use state_space::{Expansion, Refused, Successors, System};
 use std::alloc::Global;
-
-/// A hart waits where at most so many turns of its own lead back to the same board.
-const MOST_WAITED: u32 = 100;
 
 /// Which failures may come, beside the turns of the harts and what the operator does.
 #[derive(Clone, Copy, PartialEq, Eq, Drop)]
@@ -39,19 +39,24 @@ pub struct Failures {
 /// The boards that some events lead to from one that was never on, as rows.
 #[derive(Drop)]
 pub struct BoardSpace {
-    alloc: Global,
-    shape: Shape,
-    payload: Vec<u8>,
-    reason: Reason,
-    failures: Failures,
-    map: TouchMap,
-    rows: BoardRows,
+    pub(crate) alloc: Global,
+    pub(crate) shape: Shape,
+    pub(crate) payload: Vec<u8>,
+    pub(crate) reason: Reason,
+    pub(crate) failures: Failures,
+    pub(crate) map: TouchMap,
+    /// Which registers are read again: the others are left out of rows, if any are.
+    pub(crate) lives: Lives,
+    pub(crate) leaves: bool,
+    pub(crate) rows: BoardRows,
     /// The board on which rows are put.
-    board: Board,
+    pub(crate) board: Board,
     /// The row that was told last.
-    row: Vec<u32>,
-    /// What broke the map.
-    broke: Option<(HartId, Break)>,
+    pub(crate) row: Vec<u32>,
+    /// Where the harts of the row stood that is being expanded.
+    pub(crate) stood: [u64; 8],
+    /// What was guessed wrong.
+    pub(crate) broke: Option<Broke>,
     ghost fits: { length payload.items ≤ ram_bytes_of shape },
     ghost size: { size_of rows.layout ≡ shape },
     ghost base: { base_of rows.layout ≡ boot_memory shape payload.items },
@@ -99,14 +104,16 @@ impl BoardSpace {
     ghost use Rattle.board_space.specs.Shown.{Shows};
     ghost use Rattle.board_space.specs.Settings.{Setting, setting_of, asked_of, RowsStay};
 
-    /// Of a board of that shape whose boot slot holds the payload, whose first boot finds that reason, with those failures, under a map.
+    /// Of a board of that shape whose boot slot holds the payload, whose first boot finds that reason, with those failures, by a guess. Whether
+    /// registers are left out that are not read again: a row then stands for each board that holds something else in them.
     pub fn new(
         alloc: Global,
         shape: &Shape,
         payload: &[u8],
         reason: Reason,
         failures: Failures,
-        map: TouchMap,
+        guess: Guess,
+        leaves: bool,
     ) -> Result<BoardSpace, Refused>
         requires { length payload.now ≤ ram_bytes_of shape.now }
         ensures { IfOk result (λ space. asked_of space ≡ record {
@@ -117,6 +124,7 @@ impl BoardSpace {
           refusals = failures.refusals;
         }) }
     {
+        let Guess { map, lives } = guess;
         let masks = writers(alloc, shape, &map)?;
         Ok(BoardSpace {
             alloc,
@@ -125,15 +133,18 @@ impl BoardSpace {
             reason,
             failures,
             map,
+            lives,
+            leaves,
             rows: BoardRows::new(alloc, Layout::new(alloc, shape, payload, &masks)?)?,
             board: fresh_board(alloc, shape, payload, reason)?,
             row: Vec::new(alloc),
+            stood: [0; 8],
             broke: None,
         })
     }
 
-    /// What broke the map, where something did.
-    pub fn broke(&self) -> Option<(HartId, Break)> {
+    /// What was guessed wrong, where something was.
+    pub fn broke(&self) -> Option<Broke> {
         self.broke
     }
 
@@ -145,6 +156,13 @@ impl BoardSpace {
         self.shape.harts()
     }
 
+    /// Whether registers are left out of rows.
+    pub fn leaves_out(&self) -> bool
+        ensures { result ≡ self.now.leaves }
+    {
+        self.leaves
+    }
+
     /// The map.
     pub fn map(&self) -> &TouchMap
         ensures { map_in result.now ≡ (setting_of self.now).map }
@@ -152,10 +170,10 @@ impl BoardSpace {
         &self.map
     }
 
-    /// The map, to be made wider.
-    pub fn into_map(self) -> TouchMap {
-        let BoardSpace { map, .. } = self;
-        map
+    /// The guess, to be mended.
+    pub fn into_guess(self) -> Guess {
+        let BoardSpace { map, lives, .. } = self;
+        Guess { map, lives }
     }
 
     /// The board with which the search begins: it is off, and no image stands.
@@ -205,7 +223,7 @@ impl BoardSpace {
         requires known { (b : AnyBoard) × Stands self.old.rows row.now b }
         requires order { from ≤ to }
         requires within { to ≤ ram_bytes_of self.old.shape }
-        ensures shows { IfOk result (λ found. IfSome found (λ outcome. (b : AnyBoard) → Stands self.old.rows row.now b
+        ensures shows { IfOk result (λ found. IfSome found (λ outcome. (b : AnyBoard) → StandsAll self.old.leaves self.old.rows row.now b
             → Shows from to outcome b)) }
         ensures rows { self.new.rows ≡ self.old.rows }
         ensures setting { setting_of self.new ≡ setting_of self.old }
@@ -262,29 +280,38 @@ impl BoardSpace {
         }
     }
 
-    /// What the next turn of a hart of that number touches first that the map does not let it, where it does.
-    fn break_of(&mut self, number: u64) -> Option<(HartId, Break)>
+    /// What the next turn of a hart of that number touches first that the map does not let it, or which register that is left out it reads,
+    /// where it does.
+    pub(crate) fn break_of(&mut self, number: u64) -> Option<Broke>
         ensures board { self.new.board ≡ self.old.board }
         ensures rows { self.new.rows ≡ self.old.rows }
         ensures setting { setting_of self.new ≡ setting_of self.old }
         ensures keeps { IfNone result (number < self.old.shape.harts
-            → TurnKeeps (map_in self.old.map) number self.old.board.board) }
+            → KeepsSure (map_in self.old.map) self.old.leaves number self.old.board.board) }
     {
         let _sized = self.board.machine();
         let hart = self.shape.hart(number)?;
-        match self.board.keeps(hart, &self.map) {
-            Ok(()) => None,
-            Err(broke) => Some((hart, broke)),
+        if let Err(broke) = self.board.keeps(hart, &self.map) {
+            return Some(Broke::Touches(hart, broke));
         }
+        if reads_kept(&mut self.board, self.leaves, hart) {
+            return None;
+        }
+        let pc = self.board.machine().hart(hart).pc();
+        let registers = match self.board.source_left_out(hart) {
+            Some(register) => 1 << register.number(),
+            None => 0,
+        };
+        Some(Broke::Reads(pc, registers))
     }
 
-    /// What the next turn of some hart touches first that the map does not let it, where it does.
-    fn first_break(&mut self) -> Option<(HartId, Break)>
+    /// What was guessed wrong of the next turn of some hart, where something was.
+    fn first_break(&mut self) -> Option<Broke>
         ensures board { self.new.board ≡ self.old.board }
         ensures rows { self.new.rows ≡ self.old.rows }
         ensures setting { setting_of self.new ≡ setting_of self.old }
         ensures keeps { IfNone result ((h : ℕ) → h < self.old.shape.harts
-            → TurnKeeps (map_in self.old.map) h self.old.board.board) }
+            → KeepsSure (map_in self.old.map) self.old.leaves h self.old.board.board) }
     {
         let _harts = self.shape.harts();
         for number in 0..8u64 {
@@ -307,7 +334,8 @@ impl BoardSpace {
         requires keeps { (b : AnyBoard) → Stands self.old.rows row.now b → (e : Event) → KeepsEach (asked_of self.old) (map_in self.old.map) e b }
         requires width { found_width found.old ≡ width_of self.old.rows.layout }
         ensures teller { IfOk result (λ _. (b : AnyBoard) → Stands self.old.rows row.now b
-            → IsTeller (asked_of self.old) (map_in self.old.map) (Stands self.new.rows) found.old found.new b (event_of happening.now)) }
+            → IsTeller (asked_of self.old) (map_in self.old.map) self.old.leaves (StandsAll self.old.leaves self.new.rows) found.old found.new b
+            (event_of happening.now)) }
         ensures stay { RowsStay self.old self.new }
         ensures setting { setting_of self.new ≡ setting_of self.old }
         ensures width { found_width found.new ≡ found_width found.old }
@@ -319,7 +347,14 @@ impl BoardSpace {
         if !happening.happen(&mut self.board, self.payload.as_slice()) {
             return Ok(());
         }
-        settle(&mut self.board, &self.map);
+        settle(&mut self.board, &self.map, self.leaves);
+        self.broke = leave_all(
+            &mut self.board,
+            &self.lives,
+            &self.stood,
+            self.leaves,
+            self.broke,
+        );
         self.rows.row_of(&self.board, &mut self.row)?;
         found.push(number, &self.row)?;
         Ok(())
@@ -332,7 +367,7 @@ impl BoardSpace {
         requires width { found_width found.old ≡ width_of self.old.rows.layout }
         requires none { found_count found.old ≡ 0 }
         ensures told { IfOk result (λ _. (b : AnyBoard) → Stands self.old.rows row.now b
-            → AreTold (asked_of self.old) (map_in self.old.map) (Stands self.new.rows) found.new b 27) }
+            → AreTold (asked_of self.old) (map_in self.old.map) self.old.leaves (StandsAll self.old.leaves self.new.rows) found.new b 27) }
         ensures stay { RowsStay self.old self.new }
         ensures setting { setting_of self.new ≡ setting_of self.old }
         ensures width { found_width found.new ≡ found_width found.old }
@@ -344,162 +379,14 @@ impl BoardSpace {
         }
         Ok(())
     }
-
-    /// Whether a turn of a hart changes the board of a row, which is on.
-    fn changes(&mut self, row: &[u32], hart: HartId) -> Result<bool, Refused>
-        requires known { (b : AnyBoard) × Stands self.old.rows row.now b }
-        requires keeps { (b : AnyBoard) → Stands self.old.rows row.now b → TurnKeeps (map_in self.old.map) hart b }
-        requires hart { hart < self.old.shape.harts }
-        ensures stays { result ≡ Ok false → (b c : AnyBoard) → Stands self.old.rows row.now b → TurnOn hart b c → c ≡ b }
-        ensures changes { result ≡ Ok true → (b : AnyBoard) → Stands self.old.rows row.now b
-            → ((c : AnyBoard) → TurnOn hart b c → c ≡ b) → ⊥ }
-        ensures stay { RowsStay self.old self.new }
-        ensures setting { setting_of self.new ≡ setting_of self.old }
-    {
-        model_board::one_event();
-        self.rows.put(row, &mut self.board);
-        let _sized = self.board.machine();
-        self.board.turn(hart);
-        if self.rows.differs(row, &self.board) {
-            return Ok(true);
-        }
-        self.rows.row_of(&self.board, &mut self.row)?;
-        if self.row.as_slice() == row {
-            return Ok(false);
-        }
-        Err(Refused::Numbers)
-    }
-
-    /// Whether a turn of the hart of that number, where there is one, changes the board of a row, which is on.
-    fn changes_by(&mut self, row: &[u32], number: u64) -> Result<bool, Refused>
-        requires known { (b : AnyBoard) × Stands self.old.rows row.now b }
-        requires keeps { (b : AnyBoard) → Stands self.old.rows row.now b → (h : ℕ) → h < self.old.shape.harts
-            → TurnKeeps (map_in self.old.map) h b }
-        ensures stays { result ≡ Ok false → (b c : AnyBoard) → Stands self.old.rows row.now b → number < self.old.shape.harts
-            → TurnOn number b c → c ≡ b }
-        ensures changes { result ≡ Ok true → (b : AnyBoard) → Stands self.old.rows row.now b
-            → ((h : ℕ) (c : AnyBoard) → h < self.old.shape.harts → TurnOn h b c → c ≡ b) → ⊥ }
-        ensures stay { RowsStay self.old self.new }
-        ensures setting { setting_of self.new ≡ setting_of self.old }
-    {
-        match self.shape.hart(number) {
-            Some(hart) => self.changes(row, hart),
-            None => Ok(false),
-        }
-    }
-
-    /// Whether no turn of a hart changes the board of a row, which is on.
-    fn rests(&mut self, row: &[u32]) -> Result<bool, Refused>
-        requires known { (b : AnyBoard) × Stands self.old.rows row.now b }
-        requires keeps { (b : AnyBoard) → Stands self.old.rows row.now b → (h : ℕ) → h < self.old.shape.harts
-            → TurnKeeps (map_in self.old.map) h b }
-        ensures rests { result ≡ Ok true → (b : AnyBoard) → Stands self.old.rows row.now b
-            → (h : ℕ) (c : AnyBoard) → h < self.old.shape.harts → TurnOn h b c → c ≡ b }
-        ensures moves { result ≡ Ok false → (b : AnyBoard) → Stands self.old.rows row.now b
-            → ((h : ℕ) (c : AnyBoard) → h < self.old.shape.harts → TurnOn h b c → c ≡ b) → ⊥ }
-        ensures stay { RowsStay self.old self.new }
-        ensures setting { setting_of self.new ≡ setting_of self.old }
-    {
-        let _harts = self.shape.harts();
-        for number in 0..8u64 {
-            if self.changes_by(row, number)? {
-                return Ok(false);
-            }
-        }
-        Ok(true)
-    }
-
-    /// Whether the board of a row is at an end.
-    fn is_end(&mut self, row: &[u32]) -> Result<bool, Refused>
-        requires known { (b : AnyBoard) × Stands self.old.rows row.now b }
-        requires keeps { (b : AnyBoard) → Stands self.old.rows row.now b → (h : ℕ) → h < self.old.shape.harts → TurnKeeps (map_in self.old.map) h b }
-        ensures ends { result ≡ Ok true → (b : AnyBoard) → Stands self.old.rows row.now b → IsEnd b }
-        ensures goes { result ≡ Ok false → (b : AnyBoard) → Stands self.old.rows row.now b → IsEnd b → ⊥ }
-        ensures stay { RowsStay self.old self.new }
-        ensures setting { setting_of self.new ≡ setting_of self.old }
-    {
-        self.rows.put(row, &mut self.board);
-        let _sized = self.board.machine();
-        match self.board.status() {
-            Status::Ended => Ok(true),
-            Status::Off => Ok(false),
-            Status::On => {
-                if self.board.rest().doze.is_some() {
-                    Ok(false)
-                } else {
-                    self.rests(row)
-                }
-            }
-        }
-    }
-}
-
-impl BoardSpace {
-    ghost use Rattle.board_space.specs.Rows.{Stands};
-    ghost use Rattle.board_space.specs.Settings.{setting_of, asked_of, RowsStay};
-
-    /// Makes a turn of a hart of the board, and answers whether it is that of the row then. Refused where the map does not let the turn.
-    fn turns_back(&mut self, row: &[u32], hart: HartId) -> Result<bool, Refused>
-        requires known { (b : AnyBoard) × Stands self.old.rows row.now b }
-        requires hart { hart < self.old.shape.harts }
-        ensures turns { IfOk result (λ _. TurnOn hart self.old.board.board self.new.board.board) }
-        ensures back { result ≡ Ok true → (b : AnyBoard) → Stands self.old.rows row.now b → self.new.board.board ≡ b }
-        ensures away { result ≡ Ok false → (b : AnyBoard) → Stands self.old.rows row.now b → self.new.board.board ≡ b → ⊥ }
-        ensures stay { RowsStay self.old self.new }
-        ensures setting { setting_of self.new ≡ setting_of self.old }
-    {
-        if let Some(broke) = self.break_of(u64::from(hart.number())) {
-            self.broke = Some(broke);
-            return Err(Refused::Numbers);
-        }
-        let _sized = self.board.machine();
-        self.board.turn(hart);
-        if self.rows.differs(row, &self.board) {
-            return Ok(false);
-        }
-        self.rows.row_of(&self.board, &mut self.row)?;
-        if self.row.as_slice() == row {
-            return Ok(true);
-        }
-        Err(Refused::Numbers)
-    }
-
-    /// Whether a hart waits at the board of a row: some turns of its own, at most 100, lead back to it.
-    pub(crate) fn waits_at(&mut self, row: &[u32], hart: HartId) -> Result<bool, Refused>
-        requires known { (b : AnyBoard) × Stands self.old.rows row.now b }
-        requires hart { hart < self.old.shape.harts }
-        ensures waits { result ≡ Ok true → (b : AnyBoard) → Stands self.old.rows row.now b → WaitsAt (asked_of self.old) hart b }
-        ensures goes { result ≡ Ok false → (b : AnyBoard) → Stands self.old.rows row.now b → WaitsAt (asked_of self.old) hart b → ⊥ }
-        ensures stay { RowsStay self.old self.new }
-        ensures setting { setting_of self.new ≡ setting_of self.old }
-    {
-        model_board::one_event();
-        let _harts = self.shape.harts();
-        self.rows.put(row, &mut self.board);
-        for turn in 0..MOST_WAITED {
-            if self.turns_back(row, hart)? {
-                return Ok(true);
-            }
-        }
-        Ok(false)
-    }
-
-    /// The hart of that number, where the board has it.
-    pub(crate) fn hart(&self, number: u8) -> Option<HartId>
-        ensures some { IfSome result (λ h. (h ≡ number) × (h < self.now.shape.harts)) }
-        ensures none { IfNone result (self.now.shape.harts ≤ number) }
-    {
-        self.shape.hart(u64::from(number))
-    }
 }
 
 impl System for BoardSpace {
     ghost use Rattle.std.specs.Prelude.{◌≡◌, ℕ, List};
     ghost use Rattle.model_board.specs.Boards.{Board};
-    ghost use Rattle.board_space.specs.Rows.{Stands};
+    ghost use Rattle.board_space.specs.Covering.{StandsAll};
     ghost use Rattle.board_space.specs.Settings.{Setting, setting_of};
     ghost use Rattle.board_space.specs.Space.{board_rules};
-    ghost use Rattle.board_space.specs.OneBoard.{one_board};
 
     ghost State = { Board };
 
@@ -511,9 +398,7 @@ impl System for BoardSpace {
 
     ghost width = { λ s. s.width };
 
-    ghost stands = { λ s. Stands s.rows };
-
-    ghost one = { λ s. one_board s.rows };
+    ghost stands = { λ s. StandsAll s.leaves s.rows };
 
     fn start(&mut self) -> Result<Vec<u32>, Refused> {
         let board = self.first_board()?;
@@ -522,18 +407,23 @@ impl System for BoardSpace {
     }
 
     fn expand(&mut self, row: &[u32], found: &mut Successors) -> Result<Expansion, Refused> {
+        boards_stand();
         let _harts = self.shape.harts();
         self.rows.put(row, &mut self.board);
         if let Some(broke) = self.first_break() {
             self.broke = Some(broke);
             return Ok(Expansion::Halts);
         }
+        self.stand();
         self.add_all(row, found)?;
-        Ok(if self.is_end(row)? {
-            Expansion::Ends
-        } else {
-            Expansion::Goes
-        })
+        let is_end = self.is_end(row)?;
+        if self.broke.is_some() {
+            return Ok(Expansion::Halts);
+        }
+        if is_end {
+            return Ok(Expansion::Ends);
+        }
+        Ok(Expansion::Goes)
     }
 
     fn goes(&self, event: u8) -> bool {

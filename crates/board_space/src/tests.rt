@@ -27,7 +27,7 @@ fn small_board() -> Result<Shape, Fail>
 }
 
 /// A kernel wherever power fails and whatever the store refuses.
-fn asked<'a>(shape: Shape, payload: &'a [u8]) -> Question<'a>
+fn asked<'a>(shape: Shape, payload: &'a [u8], switches: Option<u32>) -> Question<'a>
     ensures shape { result.shape ≡ shape }
     ensures payload { result.payload.now ≡ payload.now }
 {
@@ -39,6 +39,7 @@ fn asked<'a>(shape: Shape, payload: &'a [u8]) -> Question<'a>
             cuts: true,
             refusals: true,
         },
+        switches,
         limits: Limits {
             rows: 100,
             bytes: 10_000_000,
@@ -46,25 +47,17 @@ fn asked<'a>(shape: Shape, payload: &'a [u8]) -> Question<'a>
     }
 }
 
-/// Every order of a kernel.
-fn explored(alloc: Global, payload: &[u8]) -> Result<Explored, Fail>
-    requires { length payload.now ≤ 8 }
-    ensures { IfOk result (λ e. 4 ≤ ram_bytes_of e.size) }
-{
-    Ok(explore_board(alloc, &asked(small_board()?, payload))?)
-}
-
-/// The orders in which one hart at most is preempted.
-fn explored_few(alloc: Global, payload: &[u8]) -> Result<ExploredFew, Fail>
+/// Every order of a kernel, or those in which so many harts at most are preempted.
+fn explored(alloc: Global, payload: &[u8], switches: Option<u32>) -> Result<Explored, Fail>
     requires { length payload.now ≤ 8 }
     ensures { IfOk result (λ e. 4 ≤ ram_bytes_of e.asked.size) }
 {
-    Ok(explore_few(alloc, &asked(small_board()?, payload), 1)?)
+    Ok(explore_board(alloc, &asked(small_board()?, payload, switches))?)
 }
 
 #[test]
 fn a_kernel_that_rests_shows_its_memory(rt: HostRuntime) -> Result<(), Fail> {
-    let mut explored = explored(rt.alloc(), &RESTS)?;
+    let mut explored = explored(rt.alloc(), &RESTS, None)?;
     assert_eq!(rt; explored.verdict(), Verdict::Closed);
     assert_eq!(rt; explored.first_dead()?, None);
     match explored.outcome(0, 4)? {
@@ -78,7 +71,7 @@ fn a_kernel_that_rests_shows_its_memory(rt: HostRuntime) -> Result<(), Fail> {
 
 #[test]
 fn a_kernel_that_goes_round_comes_to_no_end(rt: HostRuntime) -> Result<(), Fail> {
-    let mut explored = explored(rt.alloc(), &GOES_ROUND)?;
+    let mut explored = explored(rt.alloc(), &GOES_ROUND, None)?;
     assert_eq!(rt; explored.verdict(), Verdict::Closed);
     assert_eq!(rt; explored.first_dead()?, Some(0));
     if explored.outcome(0, 4)?.is_some() {
@@ -89,7 +82,7 @@ fn a_kernel_that_goes_round_comes_to_no_end(rt: HostRuntime) -> Result<(), Fail>
 
 #[test]
 fn few_orders_of_a_kernel_that_rests_show_its_memory(rt: HostRuntime) -> Result<(), Fail> {
-    let mut explored = explored_few(rt.alloc(), &RESTS)?;
+    let mut explored = explored(rt.alloc(), &RESTS, Some(1))?;
     assert_eq!(rt; explored.verdict(), Verdict::Closed);
     assert_eq!(rt; explored.first_dead()?, None);
     match explored.outcome(0, 4)? {

@@ -1,7 +1,7 @@
 -- A step that keeps a map, and one that is local by it, by its footprint; and what such a step makes of a machine and a board.
 use Rattle.std.proofs.Common.{ℕ, Bool, true, false, IsTrue, List, ◌≡◌, ◌≢◌, ◌⊎◌, ◌+◌, ◌%◌, ◌^◌, ◌<◌, length, slice_index, refl, sym, ap, ◌∙◌, subst, inl, inr, Option, Some, None, arith}
 use Rattle.std.specs.Prelude.{get_or, slice_set}
-use Rattle.std.proofs.lemmas.List.{ext_get_or}
+use Rattle.std.proofs.lemmas.List.{ext_get_or, get_or-set_same}
 use Rattle.board_model.specs.Shapes.{Size}
 use Rattle.hart.specs.State.{ArchState, never_started}
 use Rattle.hart.specs.Means.{Steps}
@@ -17,7 +17,7 @@ use Rattle.sbi_calls.specs.Requests.{request_of}
 use Rattle.sbi_calls.specs.Both.{TableState}
 use Rattle.susp.specs.declared.buses.Doze.{Doze}
 use Rattle.turns.specs.Turns.{has_pending}
-use Rattle.machine.specs.Machine.{Machine}
+use Rattle.machine.specs.Machine.{Machine, hart_at}
 use Rattle.model_board.specs.Touches.{WritesWord}
 use Rattle.model_board.specs.Footprints.{Covers}
 use Rattle.model_board.specs.Masks.{MaySend, IsAloneBy}
@@ -66,6 +66,14 @@ module _ (map : Map) (size : Size) (memory : List ℕ) (doze : Option Doze) (har
     (view : shown size memory doze harts table ≡ old) (p : IsPlain size memory harts table) (below : h < old.size.harts) where
   inside : h < length harts
   inside = subst (λ (k : ℕ). h < k) (sym p.long) (subst (λ (m : Machine). h < m.size.harts) (sym view) below)
+
+  -- the hart's pc is that of the step
+  pub machine_steps : (i : ℕ) (x y : ArchState) (n : List ℕ) → i ≡ h → x ≡ get_or harts i x → (y.pc ≡ x.pc → ⊥) → (hart_at (shown size n doze (slice_set harts i y) table) h).pc ≡ (hart_at old h).pc → ⊥
+  machine_steps i x y n at found moves same =
+      let e : x ≡ get_or harts h (never_started h) = hart_is harts i h x at inside found in
+      let there : get_or (slice_set harts i y) h (never_started h) ≡ y = subst (λ (k : ℕ). get_or (slice_set harts k y) h (never_started h) ≡ y) (sym at) (get_or-set_same harts h y (never_started h) inside) in
+      let here : (hart_at old h).pc ≡ x.pc = ap (λ (m : Machine). (hart_at m h).pc) (sym view) ∙ ap (λ (s : ArchState). s.pc) (sym e) in
+      moves (ap (λ (s : ArchState). s.pc) (sym there) ∙ (same ∙ here))
 
   pub machine_moves : (i : ℕ) (x y : ArchState) (n : List ℕ) (pending : Bool) → i ≡ h → x ≡ get_or harts i x → old.doze ≡ None → listed table.states h ≡ started → pending ≡ has_pending h table.pairs → StepsAlone map x.id pending x memory y n → y ≢ x
       → MovesTo map h old (shown size n doze (slice_set harts i y) table)

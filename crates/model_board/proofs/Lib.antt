@@ -13,6 +13,8 @@ pub mod Begins
 pub mod Unread
 pub mod UnreadEvents
 pub mod UnreadTouches
+pub mod Filling
+pub mod Sourced
 pub mod Touching
 pub mod ByMap
 pub mod Outside

@@ -259,7 +259,7 @@ module _ (h k x : ℕ) where
       (λ made. (y.0, y.1, made, hidden_told granted l y.0 y.1 c y.3))
       (own_turn one l.machine y.0 y.1 has none y.2)
 
-  other_turns : (granted : Bool) (g : ℕ) (l : Life) (c : Board) → (g ≡ h → ⊥) → TurnsBy granted g l c → TurnsBy granted g (L l) (B c)
+  pub other_turns : (granted : Bool) (g : ℕ) (l : Life) (c : Board) → (g ≡ h → ⊥) → TurnsBy granted g l c → TurnsBy granted g (L l) (B c)
   other_turns granted g l c apart y =
       (R y.0, y.1, other_turn l.machine y.0 y.1 g apart y.2, other_told granted g l y.0 y.1 c apart y.3)
 

@@ -5,6 +5,8 @@ pub mod Touches
 pub mod Maps
 pub mod Plain
 pub mod Registers
+pub mod LeftOut
+pub mod Sources
 pub mod Footprints
 pub mod Masks
 pub mod Rests

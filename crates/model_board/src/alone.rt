@@ -183,7 +183,7 @@ fn goes_on(outcome: Outcome, from: u64, to: u64) -> bool
 /// not, the hart is put back, and the memory is as it was.
 fn step_on(hart: &mut Hart, ram: &mut Ram, pending: bool) -> bool
     ensures steps { result ≡ true → Steps pending hart.old ram.old hart.new ram.new Outcome.Next }
-    ensures moves { result ≡ true → hart.new ≢ hart.old }
+    ensures moves { result ≡ true → hart.new.pc ≢ hart.old.pc }
     ensures stays { result ≡ false → (hart.new ≡ hart.old) × (ram.new ≡ ram.old) }
 {
     let before = hart.copy();
@@ -195,10 +195,10 @@ fn step_on(hart: &mut Hart, ram: &mut Ram, pending: bool) -> bool
     moved
 }
 
-/// Makes the next step of a hart where it is local by the map and changes something. Whether it did; if not, nothing changes.
+/// Makes the next step of a hart where it is local by the map and changes the pc. Whether it did; if not, nothing changes.
 pub fn step_alone(hart: &mut Hart, ram: &mut Ram, pending: bool, map: &TouchMap) -> bool
     ensures alone { result ≡ true → StepsAlone (map_of map.now) hart.old.id pending hart.old ram.old hart.new ram.new }
-    ensures moves { result ≡ true → hart.new ≢ hart.old }
+    ensures moves { result ≡ true → hart.new.pc ≢ hart.old.pc }
     ensures stays { result ≡ false → (hart.new ≡ hart.old) × (ram.new ≡ ram.old) }
 {
     let footprint = footprint_of(hart, ram, pending);

@@ -7,8 +7,10 @@ ghost use Rattle.machine.specs.Machine.{Machine};
 ghost use Rattle.model_board.specs.Boards.{Board as AnyBoard, Life, On, Off, powered_by};
 ghost use Rattle.model_board.specs.Events.{Does, Turn, Refused, Wake, Cut, PowerOn};
 ghost use Rattle.model_board.specs.Held.{with_hart};
+ghost use Rattle.model_board.specs.LeftOut.{ReadsNone};
 ghost use Rattle.model_board.specs.Maps.{TurnKeeps, Local, Map, SameOutside};
 ghost use Rattle.model_board.specs.Plain.{Sized, IsKnown, HasSleeper, board_shown, board_after, life_of, image_at, standing, status_of, sized, with_machine, with_payload, IsPlain};
+ghost use Rattle.model_board.specs.Registers.{MovesPc};
 ghost use Rattle.model_board.specs.Rests.{IsRest, Fits, with_rest};
 ghost use Rattle.store.specs.declared.saving.Resumption.{Resumption};
 ghost use Rattle.ram.specs.Memory.{value, Stored};
@@ -21,6 +23,7 @@ use crate::rests::Rest;
 use crate::touches::{Break, TouchMap};
 use board_model::{HartId, Reason, Refusal, Shape};
 use hart::Hart;
+use rv_decode::Reg;
 use sbi::ResetType;
 use std::alloc::Global;
 use std::marker::Model;
@@ -251,10 +254,36 @@ impl Board {
         }
     }
 
+    /// A register that is left out and that the next turn of a hart may read, where there is one.
+    pub fn source_left_out(&mut self, hart: HartId) -> Option<Reg>
+        requires { hart < self.old.size.harts }
+        ensures same { self.new ≡ self.old }
+        ensures none { result ≡ None → ReadsNone (Turn hart) self.old.board }
+    {
+        match self.power {
+            Power::On => self.machine.source_left_out(hart),
+            Power::Off(_) => None,
+            Power::Ended => None,
+        }
+    }
+
+    /// The registers that the next turn of a hart reads, and those that it writes, as the bits of numbers: a guess.
+    pub fn uses(&mut self, hart: HartId) -> (u32, u32)
+        requires { hart < self.old.size.harts }
+        ensures { self.new ≡ self.old }
+    {
+        match self.power {
+            Power::On => self.machine.uses(hart),
+            Power::Off(_) => (0, 0),
+            Power::Ended => (0, 0),
+        }
+    }
+
     /// Makes the next turn of a hart where it is local by the map. Whether it did; if not, nothing changes.
     pub fn move_alone(&mut self, hart: HartId, map: &TouchMap) -> bool
         requires { hart < self.old.size.harts }
         ensures local { result ≡ true → Local (map_of map.now) hart self.old.board self.new.board }
+        ensures moves { result ≡ true → MovesPc hart self.old.board self.new.board }
         ensures stays { result ≡ false → self.new ≡ self.old }
         ensures size { self.new.size ≡ self.old.size }
         ensures raw { self.new.machine.size ≡ self.old.machine.size }

@@ -7,6 +7,7 @@ mod board;
 mod footprints;
 mod holds;
 mod laws;
+mod left_out;
 mod plain;
 mod powers;
 mod registers;
@@ -17,6 +18,7 @@ mod whole;
 
 pub use board::Board;
 pub use laws::{one_event, one_hart_moves, turn_outside};
+pub use left_out::{LEFT_OUT, PROBE, one_for_all};
 pub use plain::PlainMachine;
 pub use powers::{Power, Status};
 pub use registers::unread_register;

@@ -1,9 +1,9 @@
 //! The machine of a model board: its memory, harts and tables, which can be set and taken back.
 
-ghost use Rattle.std.specs.Prelude.{◌≡◌, ◌<◌, ◌≤◌, ℕ, List, Bool, true, false, None, IfOk, OnErr, length, Err, Some, get_or, IsOk, ◌+◌, ◌*◌};
+ghost use Rattle.std.specs.Prelude.{◌≡◌, ◌≢◌, ◌<◌, ◌≤◌, ℕ, List, Bool, true, false, None, IfOk, OnErr, length, Err, Some, get_or, IsOk, ◌+◌, ◌*◌};
 ghost use Rattle.board_model.specs.Shapes.{ram_bytes_of};
 ghost use Rattle.board_model.specs.declared.refusal.Refusal.TheVariants.{Memory};
-ghost use Rattle.hart.specs.State.{ArchState, never_started, answered, started as fresh};
+ghost use Rattle.hart.specs.State.{ArchState, never_started, answered, reg, started as fresh};
 ghost use Rattle.machine.specs.Machine.{hart_at, stopped_harts, resting, machine_begun};
 ghost use Rattle.machine.specs.Turns.{MakesTurn, DozeTurn, DoneBy};
 ghost use Rattle.sbi_abi.specs.Answers.{error_of};
@@ -11,19 +11,23 @@ ghost use Rattle.susp.specs.Dozes.{doze_of, dozing, can_wake};
 ghost use Rattle.turns.specs.Turns.{TurnOf, has_pending, after_take};
 ghost use Rattle.model_board.specs.Events.{woken_up};
 ghost use Rattle.model_board.specs.Held.{IsAlone, with_hart};
+ghost use Rattle.model_board.specs.LeftOut.{LEFT_OUT};
 ghost use Rattle.model_board.specs.Maps.{KeepsMap, MovesTo, Map, SameOutside};
 ghost use Rattle.model_board.specs.Masks.{map_of};
 ghost use Rattle.model_board.specs.Plain.{begun_again, with_payload, IsPlain};
+ghost use Rattle.model_board.specs.Registers.{TurnUnread};
 ghost use Rattle.model_board.specs.Rests.{table_copied, IsCopy};
 ghost use Rattle.ram.specs.Memory.{value, Stored};
 
 use crate::alone::{step_alone, step_keeps};
+use crate::left_out::{source_left_out, uses};
 use crate::tables::{PlainTables, TableCopy};
 use crate::touches::{Break, TouchMap};
 use crate::whole;
 use board_model::{HartId, RAM_BASE, Reason, Refusal, Shape};
 use hart::Hart;
 use ram::{Ram, Width};
+use rv_decode::Reg;
 use sbi_abi::{SbiError, put};
 use sbi_calls::{Did, Turned};
 use std::alloc::Global;
@@ -330,12 +334,35 @@ impl PlainMachine {
         step_keeps(own, &mut self.bus.ram, &self.shape, pending, map)
     }
 
+    /// A register that is left out and that the next turn of a hart may read, where there is one.
+    pub fn source_left_out(&mut self, hart: HartId) -> Option<Reg>
+        requires { hart < self.old.size.harts }
+        ensures same { self.new ≡ self.old }
+        ensures none { result ≡ None → (k : ℕ) → k < 32 → reg (hart_at self.old hart) k ≡ LEFT_OUT → TurnUnread hart k self.old }
+    {
+        let own = &self.harts[hart.index()];
+        source_left_out(own, &mut self.bus.ram)
+    }
+
+    /// The registers that the next turn of a hart reads, and those that it writes, as the bits of numbers: a guess.
+    pub fn uses(&mut self, hart: HartId) -> (u32, u32)
+        requires { hart < self.old.size.harts }
+        ensures { self.new ≡ self.old }
+    {
+        if !self.tables.is_started(hart) {
+            return (0, 0);
+        }
+        let own = &self.harts[hart.index()];
+        uses(own, &mut self.bus.ram)
+    }
+
     /// Makes the next turn of a hart of a board that does not doze where it is local by the map. Whether it did; if not, nothing
     /// changes.
     fn own_alone(&mut self, hart: HartId, map: &TouchMap) -> bool
         requires known { hart < self.old.size.harts }
         requires awake { self.old.doze ≡ None }
         ensures local { result ≡ true → MovesTo (map_of map.now) hart self.old self.new }
+        ensures moves { result ≡ true → (hart_at self.new hart).pc ≢ (hart_at self.old hart).pc }
         ensures stays { result ≡ false → self.new ≡ self.old }
     {
         if !self.tables.is_started(hart) {
@@ -350,6 +377,7 @@ impl PlainMachine {
     pub fn move_alone(&mut self, hart: HartId, map: &TouchMap) -> bool
         requires { hart < self.old.size.harts }
         ensures local { result ≡ true → MovesTo (map_of map.now) hart self.old self.new }
+        ensures moves { result ≡ true → (hart_at self.new hart).pc ≢ (hart_at self.old hart).pc }
         ensures stays { result ≡ false → self.new ≡ self.old }
     {
         match self.bus.doze {

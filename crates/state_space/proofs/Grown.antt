@@ -7,7 +7,7 @@ use Rattle.state_space.specs.declared.graph.Graph.{Graph}
 use Rattle.state_space.specs.declared.systems.Expansion.{Expansion}
 use Rattle.state_space.specs.declared.systems.Expansion.TheVariants.{Goes, Ends}
 use Rattle.state_space.specs.Successors.{found_count, found_event, found_row}
-use Rattle.state_space.specs.Systems.{Rules, Moves, IsExpanded, Says, UnlessHalts}
+use Rattle.state_space.specs.Systems.{Rules, Moves, IsExpanded, Says, Stay, UnlessHalts}
 use Rattle.state_space.specs.Graphs.{count_of, expanded_of, row_at, first_step, end_step, target_of, event_of, StepOf, IsEnd, IsWhole, IsAdded, IsSearched}
 
 -- the same successors, told by other tables
@@ -24,15 +24,15 @@ expanded_moved rules stands stands' count count' event event' row row' b stays c
 }
 
 module _ {State : Type 0} (rules : Rules State) (stands stands' : List ℕ → State → Type 0) (old new : Graph) (found : Successors) (is_end : Bool) where
-  module _ (stays : (r : List ℕ) (c : State) → stands r c → stands' r c) (one : (r : List ℕ) (b c : State) → stands' r b → stands' r c → b ≡ c) (was : IsSearched rules stands old) (whole : IsWhole new) (added : IsAdded old new found is_end) (next : expanded_of old < count_of old) where
+  module _ (stays : Stay stands stands') (was : IsSearched rules stands old) (whole : IsWhole new) (added : IsAdded old new found is_end) (next : expanded_of old < count_of old) where
     -- what an old row stands for stays, both ways
     later : (k : ℕ) (b : State) → k < count_of old → stands (row_at old k) b → stands' (row_at new k) b
-    later k b lt has = subst (λ r. stands' r b) (sym (added.rows k lt)) (stays (row_at old k) b has)
+    later k b lt has = subst (λ r. stands' r b) (sym (added.rows k lt)) ((stays (row_at old k) b b has).0 has)
 
     earlier : (k : ℕ) (b : State) → k < count_of old → stands' (row_at new k) b → stands (row_at old k) b
     earlier k b lt has =
         let known = was.known k lt in
-        subst (λ c. stands (row_at old k) c) (one (row_at new k) known.0 b (later k known.0 lt known.1) has) known.1
+        (stays (row_at old k) known.0 b known.1).1 (subst (λ r. stands' r b) (added.rows k lt) has)
 
     module _ (told : (b : State) → stands (row_at old (expanded_of old)) b → IsExpanded rules stands' (found_count found) (found_event found) (found_row found) b) (ended : (b : State) → stands (row_at old (expanded_of old)) b → (is_end ≡ true) ↔ rules.is_end b) where
       known : (k : ℕ) → k < count_of new → (b : State) × stands' (row_at new k) b
@@ -94,7 +94,7 @@ module _ {State : Type 0} (rules : Rules State) (stands stands' : List ℕ → S
           expanded_moved rules stands stands' (end_step old k - first_step old k) (end_step new k - first_step new k)
           (λ i. event_of old (first_step old k + i)) (λ i. event_of new (first_step new k + i))
           (λ i. row_at old (target_of old (first_step old k + i))) (λ i. row_at new (target_of new (first_step new k + i)))
-          b stays
+          b (λ r c here. (stays r c c here).0 here)
           (omega (arith, begins.0, begins.1))
           (λ i less. ap (λ n. event_of new (n + i)) begins.0 ∙ (added.steps (first_step old k + i) (omega (arith, within, less))).1)
           (λ i less.
@@ -143,19 +143,20 @@ module _ {State : Type 0} (rules : Rules State) (stands stands' : List ℕ → S
       }
 
   -- where the search stops at a row, more may stand in the system's tables
-  pub searched_kept : ((r : List ℕ) (c : State) → stands r c → stands' r c) → ((r : List ℕ) (b c : State) → stands' r b → stands' r c → b ≡ c) → IsSearched rules stands old → IsSearched rules stands' old
-  searched_kept stays one was =
+  pub searched_kept : Stay stands stands' → IsSearched rules stands old → IsSearched rules stands' old
+  searched_kept stays was =
       let back : (k : ℕ) (b : State) → k < count_of old → stands' (row_at old k) b → stands (row_at old k) b = λ k b lt has.
       let known = was.known k lt in
-      subst (λ c. stands (row_at old k) c) (one (row_at old k) known.0 b (stays (row_at old k) known.0 known.1) has) known.1 in
+      (stays (row_at old k) known.0 b known.1).1 has in
+      let forth : (r : List ℕ) (c : State) → stands r c → stands' r c = λ r c here. (stays r c c here).0 here in
       record {
         whole = was.whole;
         some = was.some;
         most = was.most;
-        start = (was.start.0, was.start.1, stays (row_at old 0) was.start.0 was.start.2);
-        known = λ k lt. ((was.known k lt).0, stays (row_at old k) (was.known k lt).0 (was.known k lt).1);
+        start = (was.start.0, was.start.1, forth (row_at old 0) was.start.0 was.start.2);
+        known = λ k lt. ((was.known k lt).0, forth (row_at old k) (was.known k lt).0 (was.known k lt).1);
         reached = was.reached;
-        expanded = λ k b lt has. expanded_moved rules stands stands' (end_step old k - first_step old k) (end_step old k - first_step old k) (λ i. event_of old (first_step old k + i)) (λ i. event_of old (first_step old k + i)) (λ i. row_at old (target_of old (first_step old k + i))) (λ i. row_at old (target_of old (first_step old k + i))) b stays refl (λ i less. refl) (λ i less. refl) (was.expanded k b lt (back k b (in_count k lt) has));
+        expanded = λ k b lt has. expanded_moved rules stands stands' (end_step old k - first_step old k) (end_step old k - first_step old k) (λ i. event_of old (first_step old k + i)) (λ i. event_of old (first_step old k + i)) (λ i. row_at old (target_of old (first_step old k + i))) (λ i. row_at old (target_of old (first_step old k + i))) b forth refl (λ i less. refl) (λ i less. refl) (was.expanded k b lt (back k b (in_count k lt) has));
         ends = λ k b lt has. was.ends k b lt (back k b (in_count k lt) has);
       }
     where

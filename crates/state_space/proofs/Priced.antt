@@ -1,16 +1,26 @@
 -- What a successor costs, and rows with what is left.
-use Rattle.std.proofs.Common.{◌≡◌, ◌⊎◌, ⊎_elim, inl, inr, ℕ, zero, suc, ◌+◌, ◌<◌, ◌≤◌, Bool, true, false, List, ◌∷◌, Option, Some, None, refl, sym, ap, ◌∙◌, subst, arith}
+use Rattle.std.proofs.Common.{◌≡◌, ◌⊎◌, ⊎_elim, inl, inr, ℕ, ◌+◌, ◌<◌, ◌≤◌, Bool, true, false, List, Option, Some, None, refl, sym, ap, ◌∙◌, subst, arith}
 use Rattle.std.specs.Prelude.{◌-◌, drop, take, length}
 use Rattle.std.proofs.lemmas.List.{take_all}
 use Rattle.std.proofs.lemmas.Bool.{cases_eq, cases_lt}
 use Rattle.state_space.specs.Bounded.{Budget, IsFreeBy, PaysBy, Richer}
 use Rattle.state_space.specs.Successors.{found_count, found_event, found_row}
-use Rattle.state_space.specs.OneWithin.{last_one, same_budget}
-use Rattle.state_space.specs.Switched.{Switched, within_rules, last_number, row_within, StandsWithin, IsPriced, IsSaid, IsListed, AreListed, IsTold}
-use Rattle.state_space.specs.Systems.{Rules, IsExpanded, Moves, UnlessHalts}
+use Rattle.state_space.specs.Switched.{within_rules, last_number, row_within, StandsWithin, IsPriced, IsSaid, IsListed, AreListed, IsTold}
+use Rattle.state_space.specs.Systems.{Rules, IsExpanded, Stay, UnlessHalts}
 use Rattle.state_space.specs.declared.systems.Expansion.{Expansion}
 use Rattle.state_space.specs.declared.systems.Expansion.TheVariants.{Goes, Ends, Halts}
 use Rattle.state_space.specs.declared.found.Successors.{Successors}
+
+-- ---- one number stands for one process
+same_budget : (u v : Budget) → u.last ≡ v.last → u.left ≡ v.left → u ≡ v
+same_budget u v last left =
+    ap (λ (o : Option ℕ). record { last = o; left = u.left }) last ∙ ap (λ (n : ℕ). record { last = v.last; left = n }) left
+
+last_one : (a b : Option ℕ) → last_number a ≡ last_number b → a ≡ b
+last_one None None is = refl
+last_one None (Some q) is = absurd (omega (arith, is))
+last_one (Some p) None is = absurd (omega (arith, is))
+last_one (Some p) (Some q) is = ap (λ (n : ℕ). Some n) (omega (arith, is))
 
 true_false : (x : Bool) → x ≡ true → x ≡ false → ⊥
 true_false x is was = let e : true ≡ false = sym is ∙ was in cc
@@ -174,3 +184,17 @@ pub lifted : (said : Expansion) (P Q : Type 0) → (P → Q) → UnlessHalts sai
 lifted Goes P Q so is = so is
 lifted Ends P Q so is = so is
 lifted Halts P Q so is = is
+
+-- ---- what rows stand for stays
+pub stays_on : {State : Type 0} (a b c : List ℕ → State → Type 0) → Stay a b → Stay b c → Stay a c
+stays_on a b c first second r x y has =
+    let forth = (second r x y ((first r x x has).0 has)) in
+    (λ at. forth.0 ((first r x y has).0 at), λ at. (first r x y has).1 (forth.1 at))
+
+pub stays_within : {State : Type 0} (old new : List ℕ → State → Type 0) → Stay old new → Stay (StandsWithin old) (StandsWithin new)
+stays_within old new stays row x y has = (
+  λ at. (at.0, at.1, (stays at.0 y.state y.state at.2).0 at.2),
+  λ at.
+      let same : has.0 ≡ at.0 = ap (λ (r : List ℕ). drop 2 r) (sym has.1 ∙ at.1) in
+      (at.0, at.1, (stays at.0 x.state y.state (subst (λ (r : List ℕ). old r x.state) same has.2)).1 at.2),
+)

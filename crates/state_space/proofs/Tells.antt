@@ -1,16 +1,17 @@
 -- What a graph that is all expanded tells of the states.
-use Rattle.std.proofs.Common.{◌≡◌, ⊎_elim, ℕ, zero, suc, ◌+◌, ◌-◌, ◌<◌, List, [], ◌∷◌, refl, sym, ap, subst, ◌∙◌, arith}
+use Rattle.std.proofs.Common.{◌≡◌, ⊎_elim, ℕ, zero, suc, ◌+◌, ◌-◌, ◌<◌, List, [], ◌∷◌, map, refl, sym, ap, subst, ◌∙◌, arith}
 use Rattle.std.proofs.lemmas.Bool.{cases_lt}
 use Rattle.state_space.specs.declared.graph.Graph.{Graph}
 use Rattle.state_space.specs.Orders.{Runs, Leads, Only, Chain, IsClosed, CanEnd}
 use Rattle.state_space.specs.Systems.{Rules, Moves}
 use Rattle.state_space.specs.Graphs.{count_of, expanded_of, row_at, first_step, end_step, target_of, event_of, StepOf, IsEnd, IsSearched, IsFound, IsCovered, IsEndless}
 use Rattle.state_space.specs.Deads.{ReachesEnd}
+use Rattle.state_space.specs.Ways.{IsWay}
 use Rattle.state_space.proofs.AllOrders.{leads_on, leads_by}
 
-module _ {State : Type 0} (rules : Rules State) (stands : List ℕ → State → Type 0) (one : (r : List ℕ) (b c : State) → stands r b → stands r c → b ≡ c) (graph : Graph) (searched : IsSearched rules stands graph) where
+module _ {State : Type 0} (rules : Rules State) (stands : List ℕ → State → Type 0) (graph : Graph) (searched : IsSearched rules stands graph) where
   -- a step of the graph is a move of the state
-  stepped : (i j k : ℕ) (b : State) → StepOf graph i j k → stands (row_at graph j) b → (to : State) × Moves rules (event_of graph i) b to × stands (row_at graph k) to
+  pub stepped : (i j k : ℕ) (b : State) → StepOf graph i j k → stands (row_at graph j) b → (to : State) × Moves rules (event_of graph i) b to × stands (row_at graph k) to
   stepped i j k b step has =
       let at : first_step graph j + (i - first_step graph j) ≡ i = omega (arith, step.1) in
       let to = (searched.expanded j b step.0 has).sound (i - first_step graph j) (omega (arith, step.1, step.2)) in (
@@ -19,25 +20,52 @@ module _ {State : Type 0} (rules : Rules State) (stands : List ℕ → State →
         subst (λ n. stands (row_at graph n) to.0) (ap (target_of graph) at ∙ sym step.3) to.2,
       )
 
-  reach_below : (n k : ℕ) (b : State) → k < n → k < count_of graph → stands (row_at graph k) b → Leads (Moves rules) searched.start.0 b
-  reach_below zero k b lt within has = absurd (omega arith)
-  reach_below (suc n) k b lt within has =
+  -- so some steps are moves by their events
+  steps_move : (w : List ℕ) (k last : ℕ) (b : State) → Runs (StepOf graph) w k last → stands (row_at graph k) b → (c : State) × Runs (Moves rules) (map (event_of graph) w) b c × stands (row_at graph last) c
+  steps_move [] k last b is has = (b, refl, subst (λ n. stands (row_at graph n) b) (sym is) has)
+  steps_move (i ∷ w) k last b run has =
+      let to = stepped i k run.0 b run.1 has in
+      let on = steps_move w run.0 last to.0 run.2 to.2 in
+      (on.0, (to.0, to.1, on.1), on.2)
+
+  -- and a way to a row leads to its state
+  pub way_moves : (way : List ℕ) (row : ℕ) → IsWay graph way row → (first : State) × (b : State) × rules.settles rules.start first × Runs (Moves rules) way first b × stands (row_at graph row) b
+  way_moves way row is =
+      let first = searched.start in
+      let to = steps_move is.0 0 row first.0 is.1 first.2 in
+      (first.0, to.0, first.1, subst (λ w. Runs (Moves rules) w first.0 to.0) is.2 to.1, to.2)
+
+  -- each step of the state of an expanded row is one of the graph
+  pub stepped_out : (k : ℕ) (b : State) → k < expanded_of graph → stands (row_at graph k) b → (e : ℕ) (mid : State) → rules.steps e b mid → (i : ℕ) × (j : ℕ) × (to : State) × StepOf graph i k j × (event_of graph i ≡ e) × (j < count_of graph) × rules.settles mid to × stands (row_at graph j) to
+  stepped_out k b expanded has e mid did =
+      let was = (searched.expanded k b expanded has).complete e mid did in
+      let i : ℕ = first_step graph k + was.0 in
+      let within : i < end_step graph k = omega (arith, was.2) in
+      (i, target_of graph i, was.1, (expanded, omega arith, within, refl), was.3, searched.whole.lead i (omega (arith, searched.whole.within k expanded)), was.4, was.5)
+
+  abbrev IsReached : ℕ → Type 0
+  IsReached k = (b : State) × stands (row_at graph k) b × Leads (Moves rules) searched.start.0 b
+
+  reach_below : (n k : ℕ) → k < n → k < count_of graph → IsReached k
+  reach_below zero k lt within = absurd (omega arith)
+  reach_below (suc n) k lt within =
       ⊎_elim
       (λ some.
       let from = searched.reached k within some in
-      let c = searched.known from.0 (omega (arith, from.1)) in
-      let to = stepped from.2.0 from.0 k c.0 from.2.1 c.1 in
-      leads_on (Moves rules) searched.start.0 c.0 b
-      (reach_below n from.0 c.0 (omega (arith, from.1)) (omega (arith, from.1)) c.1)
-      (event_of graph from.2.0 ∷ [], (to.0, to.1, one (row_at graph k) b to.0 has to.2)))
+      let before = reach_below n from.0 (omega (arith, from.1)) (omega (arith, from.1)) in
+      let to = stepped from.2.0 from.0 k before.0 from.2.1 before.1 in (
+        to.0,
+        to.2,
+        leads_on (Moves rules) searched.start.0 before.0 to.0 before.2 (event_of graph from.2.0 ∷ [], (to.0, to.1, refl)),
+      ))
       (λ none.
       let is : k ≡ 0 = omega arith in
-      ([], one (row_at graph 0) b searched.start.0 (subst (λ m. stands (row_at graph m) b) is has) searched.start.2))
+      subst IsReached (sym is) (searched.start.0, searched.start.2, ([], refl)))
       (cases_lt 0 k)
 
-  -- each state found is reached from the start
-  pub found_reached : (b : State) → IsFound stands graph b → Leads (Moves rules) searched.start.0 b
-  found_reached b found = reach_below (suc found.0) found.0 b (omega arith) found.1 found.2
+  -- some state of each row is reached from the start
+  pub row_reached : (k : ℕ) → k < count_of graph → IsReached k
+  row_reached k within = reach_below (suc k) k (omega arith) within
 
   -- where a row reaches an end, so does its state
   pub end_reached : (k : ℕ) (b : State) → ReachesEnd rules.goes graph k → stands (row_at graph k) b → CanEnd (Moves rules) rules.goes rules.is_end b
@@ -60,11 +88,8 @@ module _ {State : Type 0} (rules : Rules State) (stands : List ℕ → State →
         let here = searched.expanded k b expanded found.3 in (
           here.keeps,
           λ e mid is_kind did.
-              let was = here.complete e mid did in
-              let i : ℕ = first_step graph k + was.0 in
-              let within : i < end_step graph k = omega (arith, was.2) in
-              let step : StepOf graph i k (target_of graph i) = (expanded, omega arith, within, refl) in
-              (was.1, was.4, (target_of graph i, searched.whole.lead i (omega (arith, searched.whole.within k expanded)), closed i k (target_of graph i) found.2 step (subst kind (sym was.3) is_kind), was.5)),
+              let out = stepped_out k b expanded found.3 e mid did in
+              (out.2, out.6, (out.1, out.5, closed out.0 k out.1 found.2 out.3 (subst kind (sym out.4) is_kind), out.7)),
         )
 
     -- the states found

@@ -23,6 +23,10 @@ pub record IsExpanded {State : Type 0} (rules : Rules State) (stands : List ℕ 
   pub complete : (e : ℕ) (mid : State) → rules.steps e state mid → (i : ℕ) × (to : State) × (i < count) × (event i ≡ e) × rules.settles mid to × stands (row i) to
   pub sound : (i : ℕ) → i < count → (to : State) × Moves rules (event i) state to × stands (row i) to
 
+-- what the rows stand for that stand for something stays
+abbrev pub Stay : {State : Type 0} → (List ℕ → State → Type 0) → (List ℕ → State → Type 0) → Type 0
+Stay {State} old new = (r : List ℕ) (b c : State) → old r b → (old r c → new r c) × (new r c → old r c)
+
 -- what is said of an end
 abbrev pub Says : Expansion → Type 0 → Type 0
 Says Goes end = end → ⊥

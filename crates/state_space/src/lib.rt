@@ -23,7 +23,7 @@ mod ways;
 mod word_pool;
 
 pub use distinct::Distinct;
-pub use ends::{first_dead, reaching};
+pub use ends::{at_end, first_dead, reaching};
 pub use explores::explore;
 pub use found::Successors;
 pub use graph::Graph;

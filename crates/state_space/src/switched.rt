@@ -14,6 +14,7 @@ use std::alloc::Global;
 pub trait Preempted: System {
     ghost use Rattle.std.specs.Prelude.{◌≡◌, ℕ, List, Option, Ok, true, false};
     ghost use Rattle.state_space.specs.Bounded.{Waits};
+    ghost use Rattle.state_space.specs.Systems.{Stay};
 
     /// The process whose turn the event of a number is, if it is one.
     ghost by: { ℕ → Option ℕ };
@@ -32,7 +33,7 @@ pub trait Preempted: System {
     fn waits(&mut self, row: &[u32], process: u8) -> Result<bool, Refused>
         requires known { (b : Self.State) × Self.stands self.old row.now b }
         ensures setting { Self.setting self.new ≡ Self.setting self.old }
-        ensures stays { (r : List ℕ) (b : Self.State) → Self.stands self.old r b → Self.stands self.new r b }
+        ensures stays { Stay (Self.stands self.old) (Self.stands self.new) }
         ensures waits { result ≡ Ok true → (b : Self.State) → Self.stands self.old row.now b
             → Waits (Self.rules (Self.setting self.new)).steps turn most process b }
         ensures goes { result ≡ Ok false → (b : Self.State) → Self.stands self.old row.now b
@@ -97,6 +98,7 @@ pub struct Switching<S: System> {
 
 impl<S: Preempted> Switching<S> {
     ghost use Rattle.state_space.specs.Switched.{IsSaid};
+    ghost use Rattle.state_space.specs.Systems.{Stay};
 
     /// The system, from whose start so many switches may be made.
     pub fn new(alloc: Global, system: S, switches: u32) -> Switching<S>
@@ -123,7 +125,7 @@ impl<S: Preempted> Switching<S> {
         requires known { (b : S.State) × S.stands self.old.system row.now b }
         ensures setting { S.setting self.new.system ≡ S.setting self.old.system }
         ensures switches { self.new.switches ≡ self.old.switches }
-        ensures stays { (r : List ℕ) (b : S.State) → S.stands self.old.system r b → S.stands self.new.system r b }
+        ensures stays { Stay (S.stands self.old.system) (S.stands self.new.system) }
         ensures said { IfOk result (λ free. (w : Budget) (b : S.State) → last ≡ last_number w.last → S.stands self.old.system row.now b
             → IsSaid (Waits (S.rules (S.setting self.new.system)).steps S.turn S.most) free w b) }
     {
@@ -170,7 +172,6 @@ impl<S: Preempted> System for Switching<S> {
     ghost use Rattle.std.specs.Prelude.{◌≡◌, ◌+◌, ℕ, List};
     ghost use Rattle.state_space.specs.Bounded.{Waits};
     ghost use Rattle.state_space.specs.Switched.{Switched, StandsWithin, within_rules};
-    ghost use Rattle.state_space.specs.OneWithin.{one_within};
 
     ghost State = { Switched S.State };
 
@@ -184,8 +185,6 @@ impl<S: Preempted> System for Switching<S> {
 
     ghost stands = { λ s. StandsWithin (S.stands s.system) };
 
-    ghost one = { λ s. one_within (S.stands s.system) (S.one s.system) };
-
     fn start(&mut self) -> Result<Vec<u32>, Refused> {
         let first = self.system.start()?;
         let mut row = vec![in self.alloc; 0, self.switches]?;
@@ -193,6 +192,7 @@ impl<S: Preempted> System for Switching<S> {
         Ok(row)
     }
 
+    #[tactic(auto, using(crate::proofs::Priced::stays_on, crate::proofs::Priced::stays_within))]
     fn expand(&mut self, row: &[u32], found: &mut Successors) -> Result<Expansion, Refused> {
         let budget = (row[0], row[1]);
         let is_free = self.is_free(&row[2..], budget.0)?;

@@ -14,10 +14,11 @@ pub enum Expansion {
     Halts,
 }
 
-/// A system whose states are told as rows of numbers. Its tables may grow from call to call, and what a row stands for stays.
+/// A system whose states are told as rows of numbers. A row may stand for many states: what it says of its successors and of ends holds for
+/// each of them. The system's tables may grow from call to call, and what a row stands for stays.
 pub trait System: Drop {
     ghost use Rattle.std.specs.Prelude.{◌≡◌, ℕ, List, length, IfOk, true, false};
-    ghost use Rattle.state_space.specs.Systems.{Rules, IsExpanded, Says, UnlessHalts};
+    ghost use Rattle.state_space.specs.Systems.{Rules, IsExpanded, Says, Stay, UnlessHalts};
     ghost use Rattle.state_space.specs.Successors.{found_count, found_event, found_row, found_width};
 
     ghost State: { Type 0 };
@@ -31,7 +32,7 @@ pub trait System: Drop {
 
     ghost width: { Setting → ℕ };
 
-    /// The state that a row stands for.
+    /// The states that a row stands for.
     ghost stands: { Self → List ℕ → State → Type 0 };
 
     /// The row of the state in which the system starts.
@@ -41,13 +42,13 @@ pub trait System: Drop {
         ensures first { IfOk result (λ row. (b : State) × (rules (setting self.new)).settles (rules (setting self.new)).start b
             × stands self.new row.items b) };
 
-    /// Adds the successors of the state that a row stands for, and says whether it is at an end.
+    /// Adds the successors of the states that a row stands for, and says whether they are at an end.
     fn expand(&mut self, row: &[u32], found: &mut Successors) -> Result<Expansion, Refused>
         requires known { (b : State) × stands self.old row.now b }
         requires width { found_width found.old ≡ width (setting self.old) }
         requires none { found_count found.old ≡ 0 }
         ensures setting { setting self.new ≡ setting self.old }
-        ensures stays { (r : List ℕ) (b : State) → stands self.old r b → stands self.new r b }
+        ensures stays { Stay (stands self.old) (stands self.new) }
         ensures width { found_width found.new ≡ found_width found.old }
         ensures successors { IfOk result (λ said. (b : State) → stands self.old row.now b
             → UnlessHalts said (IsExpanded (rules (setting self.new)) (stands self.new) (found_count found.new)
@@ -62,7 +63,4 @@ pub trait System: Drop {
 
     /// How much memory the system's tables take, in bytes.
     fn bytes(&self) -> u64;
-
-    /// A row stands for one state.
-    ghost one: { (system : Self) (r : List ℕ) (b c : State) → stands system r b → stands system r c → b ≡ c };
 }

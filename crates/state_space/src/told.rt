@@ -11,15 +11,15 @@ use crate::systems::System;
 
 /// What a search tells of the states of a system.
 ///
-/// - `reached`: each state found is reached from the start by moves, closed or not.
+/// - `reached`: some state of each row is reached from the start by moves, closed or not.
 /// - `closed`: where all rows are expanded, each step of a state found settles to one that was found, and each keeps the system's map.
 /// - `can_end`: where a row reaches an end, some moves by which a state goes on lead from its state to an end.
 /// - `dead`: where all rows are expanded, the states of the rows that reach no end have no end: each step by which one goes on settles to
 ///   one of them.
 pub fn search_tells<S: System>()
     ensures reached { (system : S) (graph : Graph)
-        (searched : IsSearched (S.rules (S.setting system)) (S.stands system) graph) (b : S.State)
-        → IsFound (S.stands system) graph b → Leads (Moves (S.rules (S.setting system))) searched.start.0 b }
+        (searched : IsSearched (S.rules (S.setting system)) (S.stands system) graph) (k : ℕ) → k < count_of graph
+        → (b : S.State) × S.stands system (row_at graph k) b × Leads (Moves (S.rules (S.setting system))) searched.start.0 b }
     ensures closed { (system : S) (graph : Graph) → IsSearched (S.rules (S.setting system)) (S.stands system) graph
         → expanded_of graph ≡ count_of graph → IsCovered (S.rules (S.setting system)) (IsFound (S.stands system) graph) }
     ensures can_end { (system : S) (graph : Graph) (k : ℕ) (b : S.State)

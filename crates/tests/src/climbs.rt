@@ -18,9 +18,8 @@ struct Climb {
 }
 
 impl System for Climb {
-    ghost use Rattle.std.specs.Prelude.{◌≡◌, ℕ, [], ◌∷◌, slice_index};
+    ghost use Rattle.std.specs.Prelude.{◌≡◌, ℕ, [], ◌∷◌};
     ghost use Rattle.tests.specs.Stairs.{climbing};
-    ghost use Rattle.std.proofs.Common.{sym, ap, ◌∙◌};
 
     ghost State = { ℕ };
 
@@ -33,8 +32,6 @@ impl System for Climb {
     ghost width = { λ _. 1 };
 
     ghost stands = { λ _ row b. row ≡ b ∷ [] };
-
-    ghost one = { λ system r b c hb hc. ap (λ l. slice_index l 0) (sym hb ∙ hc) };
 
     fn start(&mut self) -> Result<Vec<u32>, Refused> {
         Ok(vec![in self.alloc; 0]?)
@@ -72,7 +69,8 @@ fn a_climb_past_its_goal_is_dead(rt: HostRuntime) -> Result<(), Fail> {
     if verdict != Verdict::Closed {
         return Err("open".into());
     }
-    assert_eq!(rt; first_dead(rt.alloc(), &climb, &graph)?, Some(4));
+    let goals = at_end(rt.alloc(), &graph)?;
+    assert_eq!(rt; first_dead(rt.alloc(), &climb, &graph, &goals)?, Some(4));
     let way = way_to(rt.alloc(), &graph, 4)?.ok_or("no way")?;
     assert_eq!(rt; way.as_slice(), [0, 0, 0, 0].as_slice());
     Ok(())

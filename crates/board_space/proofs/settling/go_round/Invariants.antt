@@ -1,12 +1,12 @@
 use Rattle.std.proofs.Common.{◌≡◌}
 use Rattle.model_board.specs.Maps.{SameOutside}
 use Rattle.board_space.specs.Mapped.{map_in}
-use Rattle.board_space.specs.Space.{Settles}
+use Rattle.board_space.specs.Space.{SettlesSure}
 use Rattle.board_space.proofs.settling.go_round.Given as goal
 
 abbrev pub invariant-loop-turn : goal.invariant-loop-turn
 invariant-loop-turn l = record {
-  settles : Settles l.fn.board.size (map_in l.map) l.fn.board.board l.board.board;
+  settles : SettlesSure l.fn.board.size (map_in l.map) l.leaves l.fn.board.board l.board.board;
   size : l.board.size ≡ l.fn.board.size;
   raw : l.board.machine.size ≡ l.fn.board.machine.size;
   memory : SameOutside (map_in l.map) l.fn.board.machine.memory l.board.machine.memory;

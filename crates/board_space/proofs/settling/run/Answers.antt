@@ -1,15 +1,17 @@
-use Rattle.std.proofs.Common.{◌∙◌}
+use Rattle.std.proofs.Common.{◌∙◌, subst}
+use Rattle.board_model.specs.Shapes.{Size}
 use Rattle.board_space.specs.Mapped.{map_in}
+use Rattle.board_space.specs.Space.{IsSureTurn}
 use Rattle.board_space.proofs.Chains.{settles_by, outside_on}
 use Rattle.board_space.proofs.settling.run.Goals as goal
 
 pub loop-turn-preserved : goal.loop-turn-preserved
 loop-turn-preserved c = record {
-  settles = settles_by c.args.board.now.size (map_in c.args.map.now) c.args.hart c.args.board.now.board c.loop-turn.board.board c.move_alone.new.self.board c.loop-turn.invariant.settles c.requires (c.move_alone.ensures.local c.if-not-move_alone.false);
-  size = c.move_alone.ensures.size ∙ c.loop-turn.invariant.size;
-  raw = c.move_alone.ensures.raw ∙ c.loop-turn.invariant.raw;
-  memory = outside_on (map_in c.args.map.now) c.args.board.now.machine.memory c.loop-turn.board.machine.memory c.move_alone.new.self.machine.memory c.loop-turn.invariant.memory c.move_alone.ensures.outside;
+  settles = settles_by c.args.board.now.size (map_in c.args.map.now) c.args.leaves c.args.hart c.args.board.now.board c.loop-turn.board.board c.move_on.new.board.board c.loop-turn.invariant.settles (subst (λ (t : Size). IsSureTurn t (map_in c.args.map.now) c.args.leaves c.args.hart c.loop-turn.board.board c.move_on.new.board.board) c.loop-turn.invariant.size (c.move_on.ensures.local c.if-not-move_on.false));
+  size = c.move_on.ensures.size ∙ c.loop-turn.invariant.size;
+  raw = c.move_on.ensures.raw ∙ c.loop-turn.invariant.raw;
+  memory = outside_on (map_in c.args.map.now) c.args.board.now.machine.memory c.loop-turn.board.machine.memory c.move_on.new.board.machine.memory c.loop-turn.invariant.memory c.move_on.ensures.outside;
 }
 
 pub returns-then-is_as-clause-settles : goal.returns-then-is_as-clause-settles
-returns-then-is_as-clause-settles c = settles_by c.args.board.now.size (map_in c.args.map.now) c.args.hart c.args.board.now.board c.loop-turn.board.board c.move_alone.new.self.board c.loop-turn.invariant.settles c.requires (c.move_alone.ensures.local c.if-not-move_alone.false)
+returns-then-is_as-clause-settles c = settles_by c.args.board.now.size (map_in c.args.map.now) c.args.leaves c.args.hart c.args.board.now.board c.loop-turn.board.board c.move_on.new.board.board c.loop-turn.invariant.settles (subst (λ (t : Size). IsSureTurn t (map_in c.args.map.now) c.args.leaves c.args.hart c.loop-turn.board.board c.move_on.new.board.board) c.loop-turn.invariant.size (c.move_on.ensures.local c.if-not-move_on.false))

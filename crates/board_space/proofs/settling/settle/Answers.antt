@@ -1,7 +1,7 @@
 use Rattle.std.proofs.Common.{◌∙◌, subst}
 use Rattle.board_model.specs.Shapes.{Size}
 use Rattle.board_space.specs.Mapped.{map_in}
-use Rattle.board_space.specs.Space.{Settles}
+use Rattle.board_space.specs.Space.{SettlesSure}
 use Rattle.board_space.proofs.Chains.{settles_on, outside_on}
 use Rattle.board_space.proofs.settling.settle.Goals as goal
 use Rattle.board_space.proofs.settling.settle.Goals.{in-Some, in_default}
@@ -14,7 +14,7 @@ loop-number-preserved c =
           let one = w.settle_one-turns.ensures in
           let until = c.loop-number.invariant in
           rw w.board-is (record {
-            settles = settles_on c.args.board.now.size map c.args.board.now.board c.loop-number.board.board w.settle_one-turns.new.board.board until.settles (subst (λ (s : Size). Settles s map c.loop-number.board.board w.settle_one-turns.new.board.board) until.size one.settles);
+            settles = settles_on c.args.board.now.size map c.args.leaves c.args.board.now.board c.loop-number.board.board w.settle_one-turns.new.board.board until.settles (subst (λ (s : Size). SettlesSure s map c.args.leaves c.loop-number.board.board w.settle_one-turns.new.board.board) until.size one.settles);
             size = one.size ∙ until.size;
             raw = one.raw ∙ until.raw;
             memory = outside_on map c.args.board.now.machine.memory c.loop-number.board.machine.memory w.settle_one-turns.new.board.machine.memory until.memory one.memory;

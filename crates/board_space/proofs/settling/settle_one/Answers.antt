@@ -1,7 +1,7 @@
 use Rattle.std.proofs.Common.{◌∙◌, subst}
 use Rattle.board_model.specs.Shapes.{Size}
 use Rattle.board_space.specs.Mapped.{map_in}
-use Rattle.board_space.specs.Space.{Settles}
+use Rattle.board_space.specs.Space.{SettlesSure}
 use Rattle.board_space.proofs.Chains.{settles_on}
 use Rattle.board_space.proofs.settling.settle_one.Goals as goal
 
@@ -14,6 +14,6 @@ returns-clause-settles c =
     let e = c.run_to.new.board.board in
     let one = c.run-turns.ensures.size in
     let two = c.go_round-round.ensures.size ∙ one in
-    settles_on c.args.board.now.size map a d e
-    (settles_on c.args.board.now.size map a b d c.run-turns.ensures.settles (subst (λ (s : Size). Settles s map b d) one c.go_round-round.ensures.settles))
-    (subst (λ (s : Size). Settles s map d e) two c.run_to.ensures.settles)
+    settles_on c.args.board.now.size map c.args.leaves a d e
+    (settles_on c.args.board.now.size map c.args.leaves a b d c.run-turns.ensures.settles (subst (λ (s : Size). SettlesSure s map c.args.leaves b d) one c.go_round-round.ensures.settles))
+    (subst (λ (s : Size). SettlesSure s map c.args.leaves d e) two c.run_to.ensures.settles)

@@ -1,5 +1,6 @@
 use Rattle.std.proofs.Common.{◌≡◌}
-use Rattle.board_space.specs.Rows.{Stands}
+use Rattle.board_space.specs.Covering.{StandsAll}
+use Rattle.board_space.specs.Searches.{StandsBy}
 use Rattle.board_space.specs.Settings.{setting_of}
 use Rattle.board_space.specs.Shown.{AllShow}
 use Rattle.board_space.proofs.showing.shown_by_all.Given as goal
@@ -8,5 +9,5 @@ abbrev pub invariant-loop-row : goal.invariant-loop-row
 invariant-loop-row l = record {
   rows : l.space.rows ≡ l.fn.space.rows;
   setting : setting_of l.space ≡ setting_of l.fn.space;
-  all : AllShow l.from l.to (Stands l.fn.space.rows) l.graph l.row l.all;
+  all : AllShow l.from l.to (StandsBy l.switches (StandsAll l.fn.space.leaves l.fn.space.rows)) l.graph l.row l.all;
 }

@@ -8,5 +8,5 @@ loop-pass-init g c =
     let items : c.in_ok-marks.marks.items ≡ replicate c.count.result false = search rules in
     record {
       each = sym c.in_ok-marks.marks.ok.0 ∙ c.in_ok-marks.ensures.len ∙ c.count.ensures;
-      reaching = subst (AreReaching (g.S.System.rules (g.S.System.setting c.args.system.now)).goes c.args.graph.now) (sym items) (reaching_none (g.S.System.rules (g.S.System.setting c.args.system.now)).goes c.args.graph.now c.count.result);
+      reaching = subst (AreReaching (g.S.System.rules (g.S.System.setting c.args.system.now)).goes c.args.graph.now c.args.goals.now) (sym items) (reaching_none (g.S.System.rules (g.S.System.setting c.args.system.now)).goes c.args.graph.now c.args.goals.now c.count.result);
     }

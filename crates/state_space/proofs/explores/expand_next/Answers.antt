@@ -12,7 +12,6 @@ pub returns-in-Halts-clause-searched : goal.returns-in-Halts-clause-searched
 returns-in-Halts-clause-searched g c =
     searched_kept (g.S.System.rules (g.S.System.setting c.expand.new.self)) (g.S.System.stands c.args.system.now) (g.S.System.stands c.expand.new.self) c.args.graph.now c.args.graph.now c.expand.new.found false
     c.expand.ensures.stays
-    (λ r b d. g.met.S.System.one c.expand.new.self r b d)
     (subst (λ t. IsSearched (g.S.System.rules t) (g.S.System.stands c.args.system.now) c.args.graph.now) (sym c.expand.ensures.setting) c.requires.searched)
 
 pub returns-in_ok-add-in-Goes-clause-searched : goal.returns-in_ok-add-in-Goes-clause-searched
@@ -21,7 +20,6 @@ returns-in_ok-add-in-Goes-clause-searched g c =
     let at = c.row.ensures.row ∙ ap (row_at c.args.graph.now) c.expanded-next.ensures in
     searched_grown (s.rules (s.setting c.expand.new.self)) (s.stands c.args.system.now) (s.stands c.expand.new.self) c.args.graph.now c.add.new.self c.expand.new.found false
     c.expand.ensures.stays
-    (λ r b d. g.met.S.System.one c.expand.new.self r b d)
     (subst (λ t. IsSearched (s.rules t) (s.stands c.args.system.now) c.args.graph.now) (sym c.expand.ensures.setting) c.requires.searched)
     c.in_ok-add-in-Goes.ensures.whole c.in_ok-add-in-Goes.ensures.added c.requires.next
     (λ b has. unless_goes c.in_ok-expand.field-0 _ c.in-Goes.is (c.in_ok-expand.ensures.successors b (subst (λ r. s.stands c.args.system.now r b) (sym at) has)))
@@ -33,7 +31,6 @@ returns-in_ok-add-in-Ends-clause-searched g c =
     let at = c.row.ensures.row ∙ ap (row_at c.args.graph.now) c.expanded-next.ensures in
     searched_grown (s.rules (s.setting c.expand.new.self)) (s.stands c.args.system.now) (s.stands c.expand.new.self) c.args.graph.now c.add-in-Ends.new.self c.expand.new.found true
     c.expand.ensures.stays
-    (λ r b d. g.met.S.System.one c.expand.new.self r b d)
     (subst (λ t. IsSearched (s.rules t) (s.stands c.args.system.now) c.args.graph.now) (sym c.expand.ensures.setting) c.requires.searched)
     c.in_ok-add-in-Ends.ensures.whole c.in_ok-add-in-Ends.ensures.added c.requires.next
     (λ b has. unless_ends c.in_ok-expand.field-0 _ c.in-Ends.is (c.in_ok-expand.ensures.successors b (subst (λ r. s.stands c.args.system.now r b) (sym at) has)))

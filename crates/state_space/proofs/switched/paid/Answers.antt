@@ -1,4 +1,4 @@
-use Rattle.std.proofs.Common.{◌≡◌, ◌+◌, ℕ, Option, ⊎_elim, inl, inr, sym, subst, arith}
+use Rattle.std.proofs.Common.{◌+◌, ℕ, Option, ⊎_elim, inl, inr, sym, subst, arith}
 use Rattle.state_space.proofs.Priced.{IsPaid, none_paid, own_paid, other_paid}
 use Rattle.state_space.proofs.switched.paid.Goals as goal
 

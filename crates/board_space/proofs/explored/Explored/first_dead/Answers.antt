@@ -1,13 +1,14 @@
-use Rattle.std.proofs.Common.{◌≡◌, ◌∙◌, ◌<◌, ◌≤◌, IfOk, IfSome, sym, subst, arith}
+use Rattle.std.proofs.Common.{◌≡◌, ◌∙◌, ◌<◌, ◌≤◌, ℕ, Bool, List, IfOk, IfSome, sym, subst, arith}
 use Rattle.model_board.specs.Boards.{Board}
 use Rattle.model_board.specs.Events.{GoesOn, IsEnd}
-use Rattle.state_space.specs.Deads.{ReachesEnd}
-use Rattle.state_space.specs.Graphs.{count_of, expanded_of}
+use Rattle.state_space.specs.Deads.{IsMarked, Reaches}
+use Rattle.state_space.specs.Graphs.{count_of}
 use Rattle.state_space.specs.Orders.{Leads, CanEnd}
+use Rattle.board_space.specs.Few.{AskedOrders}
 use Rattle.board_space.specs.Mapped.{map_in}
-use Rattle.board_space.specs.OneBoard.{one_board}
+use Rattle.board_space.specs.Searches.{IsFollowed}
 use Rattle.board_space.specs.Settings.{asked_of}
-use Rattle.board_space.specs.Space.{Asked, GoesBy, Happens, start_of}
+use Rattle.board_space.specs.Space.{GoesBy, Happens, start_of}
 use Rattle.board_space.proofs.Answered.{both_some}
 use Rattle.board_space.proofs.explored.Explored.first_dead.Goals as goal
 
@@ -15,15 +16,17 @@ pub returns : goal.returns
 returns c =
     let space = c.self.inside.space in
     let graph = c.self.inside.graph in
+    let switches = c.self.inside.switches in
     let asked = asked_of space in
-    let all : expanded_of graph ≡ count_of graph = sym c.expanded.ensures ∙ (c.if-expanded-count.false ∙ c.count.ensures) in
-    let few : asked.size.harts ≤ 8 = omega (arith, c.harts-few.ensures.count, c.harts-few.ensures.few) in
-    subst (λ (a : Asked). IfOk c.first_dead.result (λ found. IfSome found (λ _. (b : Board) × Leads (Happens a) (start_of a) b × (CanEnd (Happens a) GoesOn IsEnd b → ⊥)))) c.self.view_is
-    (both_some c.first_dead.result (λ row. row < count_of graph) (λ row. ReachesEnd (GoesBy asked) graph row → ⊥) (λ _. (b : Board) × Leads (Happens asked) (start_of asked) b × (CanEnd (Happens asked) GoesOn IsEnd b → ⊥))
+    let goals = c.deref.result.now in
+    let few : asked.size.harts ≤ 8 = omega (arith, c.harts.ensures.count, c.harts.ensures.few) in
+    let followed : (k : ℕ) → k < count_of graph → (IsMarked goals k → ⊥) → IsFollowed asked.size.harts graph k = λ k lt other. subst (λ (n : ℕ). IsFollowed n graph k) c.harts.ensures.count (c.in_ok-open.ensures.others k lt (λ marked. other (subst (λ (l : List Bool). IsMarked l k) (sym c.deref.ensures.value) marked))) in
+    subst (λ (a : AskedOrders). IfOk c.first_dead.result (λ found. IfSome found (λ _. (b : Board) × Leads (Happens a.asked) (start_of a.asked) b × (CanEnd (Happens a.asked) GoesOn IsEnd b → ⊥)))) c.self.view_is
+    (both_some c.first_dead.result (λ row. row < count_of graph) (λ row. Reaches (GoesBy asked) graph goals row → ⊥) (λ _. (b : Board) × Leads (Happens asked) (start_of asked) b × (CanEnd (Happens asked) GoesOn IsEnd b → ⊥))
     (λ row within dead.
-    let known = c.self.invariant.known row within in (
-      known.0,
-      c.every_order.ensures.reached asked (map_in space.map) space graph (λ r b d x y. one_board space.rows r b d x y) c.self.invariant known.0 (row, within, known.1),
-      λ can. c.every_order.ensures.stuck asked (map_in space.map) space graph (λ r b d x y. one_board space.rows r b d x y) c.self.invariant all few row known.0 within dead known.1 can,
+    let led = c.every_order.ensures.reached asked (map_in space.map) switches space graph c.self.invariant.by row within in (
+      led.0,
+      led.2,
+      λ can. c.every_order.ensures.stuck asked (map_in space.map) switches space graph goals c.self.invariant.by few followed row led.0 within dead led.1 can,
     ))
     c.first_dead.ensures.within c.first_dead.ensures.dead)

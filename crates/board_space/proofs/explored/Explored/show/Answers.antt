@@ -1,10 +1,16 @@
-use Rattle.std.proofs.Common.{ℕ, List, ◌<◌, sym, subst, arith}
-use Rattle.state_space.specs.Graphs.{count_of}
-use Rattle.board_space.specs.Rows.{Stands}
+use Rattle.std.proofs.Common.{ℕ, List, ◌≡◌, ◌∙◌, ◌<◌, sym, ap, subst, arith}
+use Rattle.state_space.specs.Graphs.{count_of, row_at}
+use Rattle.board_space.specs.Covering.{StandsAll}
+use Rattle.board_space.specs.Searches.{board_part}
+use Rattle.board_space.proofs.Searching.{part_stands}
 use Rattle.board_space.proofs.explored.Explored.show.Goals as goal
 
 pub show-requires : goal.show-requires
 show-requires c =
+    let space = c.self.inside.space in
+    let switches = c.self.inside.switches in
     let low : c.args.row < count_of c.self.inside.graph = omega (arith, c.if-count-row.false, c.count.ensures) in
     let known = c.self.invariant.known c.args.row low in
-    (known.0, subst (λ (r : List ℕ). Stands c.self.inside.space.rows r known.0) (sym c.row.ensures.row) known.1)
+    let is : c.board_part.result.now ≡ board_part c.self.inside.switches (row_at c.self.inside.graph c.args.row) = c.board_part.ensures ∙ ap (board_part switches) c.row.ensures.row in
+    let all = subst (λ (r : List ℕ). StandsAll space.leaves space.rows r known.0) (sym is) (part_stands switches (StandsAll space.leaves space.rows) (row_at c.self.inside.graph c.args.row) known.0 known.1) in
+    (all.0, all.1)

@@ -1,6 +1,7 @@
 use Rattle.std.proofs.Common.{◌≡◌}
 use Rattle.model_board.specs.Boards.{Board}
 use Rattle.state_space.specs.Successors.{found_width}
+use Rattle.board_space.specs.Covering.{StandsAll}
 use Rattle.board_space.specs.Expanding.{AreTold}
 use Rattle.board_space.specs.Mapped.{map_in}
 use Rattle.board_space.specs.Rows.{Stands}
@@ -12,5 +13,5 @@ invariant-loop-number l = record {
   stay : RowsStay l.fn.self l.self;
   setting : setting_of l.self ≡ setting_of l.fn.self;
   width : found_width l.found ≡ found_width l.fn.found;
-  told : (b : Board) → Stands l.fn.self.rows l.row b → AreTold (asked_of l.fn.self) (map_in l.fn.self.map) (Stands l.self.rows) l.found b l.number;
+  told : (b : Board) → Stands l.fn.self.rows l.row b → AreTold (asked_of l.fn.self) (map_in l.fn.self.map) l.fn.self.leaves (StandsAll l.fn.self.leaves l.self.rows) l.found b l.number;
 }

@@ -1,7 +1,7 @@
 use Rattle.std.proofs.Common.{◌≡◌, ◌<◌, ℕ}
-use Rattle.model_board.specs.Maps.{TurnKeeps}
 use Rattle.board_space.specs.Mapped.{map_in}
 use Rattle.board_space.specs.Settings.{setting_of}
+use Rattle.board_space.specs.Space.{KeepsSure}
 use Rattle.board_space.proofs.space.BoardSpace.first_break.Given as goal
 
 abbrev pub invariant-loop-number : goal.invariant-loop-number
@@ -9,5 +9,5 @@ invariant-loop-number l = record {
   board : l.self.board ≡ l.fn.self.board;
   rows : l.self.rows ≡ l.fn.self.rows;
   setting : setting_of l.self ≡ setting_of l.fn.self;
-  keeps : (h : ℕ) → h < l.number → h < l.fn.self.shape.harts → TurnKeeps (map_in l.fn.self.map) h l.fn.self.board.board;
+  keeps : (h : ℕ) → h < l.number → h < l.fn.self.shape.harts → KeepsSure (map_in l.fn.self.map) l.fn.self.leaves h l.fn.self.board.board;
 }

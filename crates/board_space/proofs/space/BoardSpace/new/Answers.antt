@@ -26,7 +26,7 @@ invariant_of-result c =
       size = size;
       base = base;
       tracks = subst (λ (m : Masks). Tracks layout (map_of m)) (sym c.map.view_is)
-          (tracks_by layout c.in_ok-new.field-0 (map_of c.args.map) masks (ram_bytes_of c.args.shape.now) made long c.in_ok-masks.ensures.long c.in_ok-masks.ensures.masks covers);
+          (tracks_by layout c.in_ok-new.field-0 (map_of c.args.guess.map) masks (ram_bytes_of c.args.shape.now) made long c.in_ok-masks.ensures.long c.in_ok-masks.ensures.masks covers);
       based = record {
         size = c.in_ok-fresh_board.ensures.raw ∙ sym size;
         memory = boot_on_base layout c.in_ok-fresh_board.field-0.machine.memory (c.in_ok-fresh_board.ensures.memory ∙ (ap (λ (p : List ℕ). boot_memory c.args.shape.now p) (sym is) ∙ sym base));

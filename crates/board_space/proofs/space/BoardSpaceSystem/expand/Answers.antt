@@ -1,63 +1,138 @@
-use Rattle.std.proofs.Common.{◌≡◌, ◌∙◌, ◌<◌, ◌≤◌, sym, subst, arith}
+use Rattle.std.proofs.Common.{◌≡◌, ◌∙◌, ◌<◌, ◌≤◌, ℕ, List, Bool, Ok, ap, sym, subst, arith}
 use Rattle.model_board.specs.Boards.{Board}
-use Rattle.model_board.specs.Maps.{TurnKeeps}
 use Rattle.state_space.specs.Successors.{found_count, found_event, found_row}
 use Rattle.state_space.specs.Systems.{IsExpanded}
 use Rattle.board_space.specs.declared.board_rows.BoardRows.{BoardRows}
+use Rattle.board_space.specs.Covering.{StandsAll}
 use Rattle.board_space.specs.Expanding.{AreTold}
 use Rattle.board_space.specs.Mapped.{map_in}
 use Rattle.board_space.specs.OneBoard.{one_board}
 use Rattle.board_space.specs.Rows.{Stands}
 use Rattle.board_space.specs.Settings.{Setting, asked_of}
-use Rattle.board_space.specs.Space.{KeepsEach, board_rules}
+use Rattle.board_space.specs.Space.{KeepsEach, KeepsSure, board_rules, sure_rules}
+use Rattle.board_space.proofs.Covered.{stay_by, expanded_for}
 use Rattle.board_space.proofs.EventNumbers.{small, below}
-use Rattle.board_space.proofs.Moves.{told_all, told_stays, keeps_each}
+use Rattle.board_space.proofs.Moves.{told_all, told_stays, keeps_each, keeps_sure}
 use Rattle.board_space.proofs.space.BoardSpaceSystem.expand.Goals as goal
+
+pub put-requires-clause-known : goal.put-requires-clause-known
+put-requires-clause-known c = let known = c.requires.known in (known.1.0, known.1.1)
 
 pub add_all-requires-clause-keeps : goal.add_all-requires-clause-keeps
 add_all-requires-clause-keeps c b stands e =
     let first = c.in_default.ensures in
-    let at : Stands c.args.self.now.rows c.args.row.now b = subst (λ (r : BoardRows). Stands r c.args.row.now b) first.rows stands in
-    subst (λ (t : Setting). KeepsEach t.asked t.map e b) (sym first.setting)
-    (keeps_each (asked_of c.args.self.now) (map_in c.args.self.now.map) b (λ h lt. subst (λ (d : Board). TurnKeeps (map_in c.args.self.now.map) h d) (c.put.ensures.stands b at) (first.keeps h lt)) e)
+    let rows = c.stand.ensures.rows ∙ first.rows in
+    let at : Stands c.args.self.now.rows c.args.row.now b = subst (λ (r : BoardRows). Stands r c.args.row.now b) rows stands in
+    subst (λ (t : Setting). KeepsEach t.asked t.map e b) (sym (c.stand.ensures.setting ∙ first.setting))
+    (keeps_each (asked_of c.args.self.now) (map_in c.args.self.now.map) b (λ h lt. (subst (λ (d : Board). KeepsSure (map_in c.args.self.now.map) c.args.self.now.leaves h d) (c.put.ensures.stands b at) (first.keeps h lt)).0) e)
+
+pub is_end-requires-clause-known : goal.is_end-requires-clause-known
+is_end-requires-clause-known c =
+    let first = c.in_default.ensures in
+    let known = c.requires.known.1 in
+    let at : Stands c.stand.new.self.rows c.args.row.now known.0 = subst (λ (r : BoardRows). Stands r c.args.row.now known.0) (sym (c.stand.ensures.rows ∙ first.rows)) known.1 in
+    (known.0, c.in_ok-add_all.ensures.stay c.args.row.now known.0 at)
 
 pub is_end-requires-clause-keeps : goal.is_end-requires-clause-keeps
 is_end-requires-clause-keeps c b stands h lt =
     let first = c.in_default.ensures in
     let added = c.in_ok-add_all.ensures in
-    let known = c.requires.known in
-    let setting = added.setting ∙ first.setting in
-    let there : Stands c.add_all.new.self.rows c.args.row.now known.0 = added.stay c.args.row.now known.0 (subst (λ (r : BoardRows). Stands r c.args.row.now known.0) (sym first.rows) known.1) in
+    let known = c.requires.known.1 in
+    let setting = added.setting ∙ (c.stand.ensures.setting ∙ first.setting) in
+    let there : Stands c.add_all.new.self.rows c.args.row.now known.0 = added.stay c.args.row.now known.0 (subst (λ (r : BoardRows). Stands r c.args.row.now known.0) (sym (c.stand.ensures.rows ∙ first.rows)) known.1) in
     let is : known.0 ≡ b = one_board c.add_all.new.self.rows c.args.row.now known.0 b there stands in
-    subst (λ (t : Setting). TurnKeeps t.map h b) (sym setting)
-    (subst (λ (d : Board). TurnKeeps (map_in c.args.self.now.map) h d) (c.put.ensures.stands known.0 known.1 ∙ is) (first.keeps h (subst (λ (t : Setting). h < t.asked.size.harts) setting lt)))
+    subst (λ (t : Setting). KeepsSure t.map t.leaves h b) (sym setting)
+    (subst (λ (d : Board). KeepsSure (map_in c.args.self.now.map) c.args.self.now.leaves h d) (c.put.ensures.stands known.0 known.1 ∙ is) (first.keeps h (subst (λ (t : Setting). h < t.asked.size.harts) setting lt)))
 
-pub returns-then-branch-clause-successors : goal.returns-then-branch-clause-successors
-returns-then-branch-clause-successors c b stands =
+pub returns-then-is_end-clause-successors : goal.returns-then-is_end-clause-successors
+returns-then-is_end-clause-successors c d all =
     let first = c.in_default.ensures in
     let added = c.in_ok-add_all.ensures in
     let asked = asked_of c.args.self.now in
     let map = map_in c.args.self.now.map in
+    let leaves = c.args.self.now.leaves in
+    let b = all.0 in
     let few : c.args.self.now.shape.harts ≤ 8 = omega (arith, c.harts-harts.ensures.value, c.harts-harts.ensures.range.1) in
-    let at : Stands c.first_break.new.self.rows c.args.row.now b = subst (λ (r : BoardRows). Stands r c.args.row.now b) (sym first.rows) stands in
-    let told : AreTold asked map (Stands c.add_all.new.self.rows) c.add_all.new.found b 27 = subst (λ (t : Setting). AreTold t.asked t.map (Stands c.add_all.new.self.rows) c.add_all.new.found b 27) first.setting (added.told b at) in
-    let keeps = keeps_each asked map b (λ h lt. subst (λ (d : Board). TurnKeeps map h d) (c.put.ensures.stands b stands) (first.keeps h lt)) in
-    subst (λ (t : Setting). IsExpanded (board_rules t.asked t.map) (Stands c.is_end.new.self.rows) (found_count c.add_all.new.found) (found_event c.add_all.new.found) (found_row c.add_all.new.found) b)
-    (sym (c.in_ok-is_end.ensures.setting ∙ added.setting ∙ first.setting))
-    (told_all asked map (Stands c.is_end.new.self.rows) c.add_all.new.found b 27 (λ f one. below f (small asked f few one)) keeps
-    (told_stays asked map (Stands c.add_all.new.self.rows) (Stands c.is_end.new.self.rows) c.add_all.new.found b 27 c.in_ok-is_end.ensures.stay told))
+    let before = c.stand.ensures.setting ∙ first.setting in
+    let at : Stands c.stand.new.self.rows c.args.row.now all.0 = subst (λ (r : BoardRows). Stands r c.args.row.now all.0) (sym (c.stand.ensures.rows ∙ first.rows)) all.1 in
+    let told : AreTold asked map leaves (StandsAll leaves c.add_all.new.self.rows) c.add_all.new.found all.0 27 = subst (λ (t : Setting). AreTold t.asked t.map t.leaves (StandsAll t.leaves c.add_all.new.self.rows) c.add_all.new.found all.0 27) before (added.told b at) in
+    let keeps = keeps_sure asked map leaves b (λ h lt. subst (λ (e : Board). KeepsSure map leaves h e) (c.put.ensures.stands b all.1) (first.keeps h lt)) in
+    let sure : IsExpanded (sure_rules asked map leaves) (StandsAll leaves c.is_end.new.self.rows) (found_count c.add_all.new.found) (found_event c.add_all.new.found) (found_row c.add_all.new.found) all.0 = told_all asked map leaves (StandsAll leaves c.is_end.new.self.rows) c.add_all.new.found b 27 (λ f one. below f (small asked f few one)) keeps
+    (told_stays asked map leaves (StandsAll leaves c.add_all.new.self.rows) (StandsAll leaves c.is_end.new.self.rows) c.add_all.new.found b 27 (λ r e x. (x.0, c.in_ok-is_end.ensures.stay r x.0 x.1, x.2)) told) in
+    subst (λ (t : Setting). IsExpanded (board_rules t.asked t.map) (StandsAll t.leaves c.is_end.new.self.rows) (found_count c.add_all.new.found) (found_event c.add_all.new.found) (found_row c.add_all.new.found) d)
+    (sym (c.in_ok-is_end.ensures.setting ∙ (added.setting ∙ before)))
+    (expanded_for c.boards_stand.ensures asked map leaves c.is_end.new.self.rows (found_count c.add_all.new.found) (found_event c.add_all.new.found) (found_row c.add_all.new.found) b d all.2 sure)
 
-pub returns-else-branch-clause-successors : goal.returns-else-branch-clause-successors
-returns-else-branch-clause-successors c b stands =
+pub returns-clause-successors : goal.returns-clause-successors
+returns-clause-successors c d all =
     let first = c.in_default.ensures in
     let added = c.in_ok-add_all.ensures in
     let asked = asked_of c.args.self.now in
     let map = map_in c.args.self.now.map in
+    let leaves = c.args.self.now.leaves in
+    let b = all.0 in
     let few : c.args.self.now.shape.harts ≤ 8 = omega (arith, c.harts-harts.ensures.value, c.harts-harts.ensures.range.1) in
-    let at : Stands c.first_break.new.self.rows c.args.row.now b = subst (λ (r : BoardRows). Stands r c.args.row.now b) (sym first.rows) stands in
-    let told : AreTold asked map (Stands c.add_all.new.self.rows) c.add_all.new.found b 27 = subst (λ (t : Setting). AreTold t.asked t.map (Stands c.add_all.new.self.rows) c.add_all.new.found b 27) first.setting (added.told b at) in
-    let keeps = keeps_each asked map b (λ h lt. subst (λ (d : Board). TurnKeeps map h d) (c.put.ensures.stands b stands) (first.keeps h lt)) in
-    subst (λ (t : Setting). IsExpanded (board_rules t.asked t.map) (Stands c.is_end.new.self.rows) (found_count c.add_all.new.found) (found_event c.add_all.new.found) (found_row c.add_all.new.found) b)
-    (sym (c.in_ok-is_end.ensures.setting ∙ added.setting ∙ first.setting))
-    (told_all asked map (Stands c.is_end.new.self.rows) c.add_all.new.found b 27 (λ f one. below f (small asked f few one)) keeps
-    (told_stays asked map (Stands c.add_all.new.self.rows) (Stands c.is_end.new.self.rows) c.add_all.new.found b 27 c.in_ok-is_end.ensures.stay told))
+    let before = c.stand.ensures.setting ∙ first.setting in
+    let at : Stands c.stand.new.self.rows c.args.row.now all.0 = subst (λ (r : BoardRows). Stands r c.args.row.now all.0) (sym (c.stand.ensures.rows ∙ first.rows)) all.1 in
+    let told : AreTold asked map leaves (StandsAll leaves c.add_all.new.self.rows) c.add_all.new.found all.0 27 = subst (λ (t : Setting). AreTold t.asked t.map t.leaves (StandsAll t.leaves c.add_all.new.self.rows) c.add_all.new.found all.0 27) before (added.told b at) in
+    let keeps = keeps_sure asked map leaves b (λ h lt. subst (λ (e : Board). KeepsSure map leaves h e) (c.put.ensures.stands b all.1) (first.keeps h lt)) in
+    let sure : IsExpanded (sure_rules asked map leaves) (StandsAll leaves c.is_end.new.self.rows) (found_count c.add_all.new.found) (found_event c.add_all.new.found) (found_row c.add_all.new.found) all.0 = told_all asked map leaves (StandsAll leaves c.is_end.new.self.rows) c.add_all.new.found b 27 (λ f one. below f (small asked f few one)) keeps
+    (told_stays asked map leaves (StandsAll leaves c.add_all.new.self.rows) (StandsAll leaves c.is_end.new.self.rows) c.add_all.new.found b 27 (λ r e x. (x.0, c.in_ok-is_end.ensures.stay r x.0 x.1, x.2)) told) in
+    subst (λ (t : Setting). IsExpanded (board_rules t.asked t.map) (StandsAll t.leaves c.is_end.new.self.rows) (found_count c.add_all.new.found) (found_event c.add_all.new.found) (found_row c.add_all.new.found) d)
+    (sym (c.in_ok-is_end.ensures.setting ∙ (added.setting ∙ before)))
+    (expanded_for c.boards_stand.ensures asked map leaves c.is_end.new.self.rows (found_count c.add_all.new.found) (found_event c.add_all.new.found) (found_row c.add_all.new.found) b d all.2 sure)
+
+pub returns-in_err-add_all-clause-stays : goal.returns-in_err-add_all-clause-stays
+returns-in_err-add_all-clause-stays c =
+    let first = c.in_default.ensures in
+    let setting = c.stand.ensures.setting ∙ first.setting in
+    let before : (r : List ℕ) (b : Board) → Stands c.args.self.now.rows r b → Stands c.add_all.new.self.rows r b = λ r b stands. c.add_all.ensures.stay r b (subst (λ (x : BoardRows). Stands x r b) (sym (c.stand.ensures.rows ∙ first.rows)) stands) in
+    stay_by c.args.self.now.leaves c.add_all.new.self.leaves c.args.self.now.rows c.add_all.new.self.rows (ap (λ (t : Setting). t.leaves) (c.add_all.ensures.setting ∙ setting)) before
+
+pub returns-in_err-is_end-clause-stays : goal.returns-in_err-is_end-clause-stays
+returns-in_err-is_end-clause-stays c =
+    let first = c.in_default.ensures in
+    let setting = c.stand.ensures.setting ∙ first.setting in
+    let before : (r : List ℕ) (b : Board) → Stands c.args.self.now.rows r b → Stands c.add_all.new.self.rows r b = λ r b stands. c.add_all.ensures.stay r b (subst (λ (x : BoardRows). Stands x r b) (sym (c.stand.ensures.rows ∙ first.rows)) stands) in
+    stay_by c.args.self.now.leaves c.is_end.new.self.leaves c.args.self.now.rows c.is_end.new.self.rows (ap (λ (t : Setting). t.leaves) (c.is_end.ensures.setting ∙ (c.add_all.ensures.setting ∙ setting)))
+    (λ r b stands. c.is_end.ensures.stay r b (before r b stands))
+
+pub returns-then-is_some-clause-stays : goal.returns-then-is_some-clause-stays
+returns-then-is_some-clause-stays c =
+    let first = c.in_default.ensures in
+    let setting = c.stand.ensures.setting ∙ first.setting in
+    let before : (r : List ℕ) (b : Board) → Stands c.args.self.now.rows r b → Stands c.add_all.new.self.rows r b = λ r b stands. c.add_all.ensures.stay r b (subst (λ (x : BoardRows). Stands x r b) (sym (c.stand.ensures.rows ∙ first.rows)) stands) in
+    stay_by c.args.self.now.leaves c.is_end.new.self.leaves c.args.self.now.rows c.is_end.new.self.rows (ap (λ (t : Setting). t.leaves) (c.is_end.ensures.setting ∙ (c.add_all.ensures.setting ∙ setting)))
+    (λ r b stands. c.is_end.ensures.stay r b (before r b stands))
+
+pub returns-then-is_end-clause-stays : goal.returns-then-is_end-clause-stays
+returns-then-is_end-clause-stays c =
+    let first = c.in_default.ensures in
+    let setting = c.stand.ensures.setting ∙ first.setting in
+    let before : (r : List ℕ) (b : Board) → Stands c.args.self.now.rows r b → Stands c.add_all.new.self.rows r b = λ r b stands. c.add_all.ensures.stay r b (subst (λ (x : BoardRows). Stands x r b) (sym (c.stand.ensures.rows ∙ first.rows)) stands) in
+    stay_by c.args.self.now.leaves c.is_end.new.self.leaves c.args.self.now.rows c.is_end.new.self.rows (ap (λ (t : Setting). t.leaves) (c.is_end.ensures.setting ∙ (c.add_all.ensures.setting ∙ setting)))
+    (λ r b stands. c.is_end.ensures.stay r b (before r b stands))
+
+pub returns-clause-stays : goal.returns-clause-stays
+returns-clause-stays c =
+    let first = c.in_default.ensures in
+    let setting = c.stand.ensures.setting ∙ first.setting in
+    let before : (r : List ℕ) (b : Board) → Stands c.args.self.now.rows r b → Stands c.add_all.new.self.rows r b = λ r b stands. c.add_all.ensures.stay r b (subst (λ (x : BoardRows). Stands x r b) (sym (c.stand.ensures.rows ∙ first.rows)) stands) in
+    stay_by c.args.self.now.leaves c.is_end.new.self.leaves c.args.self.now.rows c.is_end.new.self.rows (ap (λ (t : Setting). t.leaves) (c.is_end.ensures.setting ∙ (c.add_all.ensures.setting ∙ setting)))
+    (λ r b stands. c.is_end.ensures.stay r b (before r b stands))
+
+pub returns-then-is_end-clause-ends : goal.returns-then-is_end-clause-ends
+returns-then-is_end-clause-ends c d all =
+    let first = c.in_default.ensures in
+    let setting = c.stand.ensures.setting ∙ first.setting in
+    let before : (r : List ℕ) (b : Board) → Stands c.args.self.now.rows r b → Stands c.add_all.new.self.rows r b = λ r b stands. c.add_all.ensures.stay r b (subst (λ (x : BoardRows). Stands x r b) (sym (c.stand.ensures.rows ∙ first.rows)) stands) in
+    let at = (stay_by c.args.self.now.leaves c.add_all.new.self.leaves c.args.self.now.rows c.add_all.new.self.rows (ap (λ (t : Setting). t.leaves) (c.add_all.ensures.setting ∙ setting)) before) c.args.row.now d d all in
+    c.in_ok-is_end.ensures.ends (ap (λ (x : Bool). Ok x) c.if-is_end.true) d (at.0 all)
+
+pub returns-clause-ends : goal.returns-clause-ends
+returns-clause-ends c d all end =
+    let first = c.in_default.ensures in
+    let setting = c.stand.ensures.setting ∙ first.setting in
+    let before : (r : List ℕ) (b : Board) → Stands c.args.self.now.rows r b → Stands c.add_all.new.self.rows r b = λ r b stands. c.add_all.ensures.stay r b (subst (λ (x : BoardRows). Stands x r b) (sym (c.stand.ensures.rows ∙ first.rows)) stands) in
+    let at = (stay_by c.args.self.now.leaves c.add_all.new.self.leaves c.args.self.now.rows c.add_all.new.self.rows (ap (λ (t : Setting). t.leaves) (c.add_all.ensures.setting ∙ setting)) before) c.args.row.now d d all in
+    c.in_ok-is_end.ensures.goes (ap (λ (x : Bool). Ok x) c.if-is_end.false) d (at.0 all) end

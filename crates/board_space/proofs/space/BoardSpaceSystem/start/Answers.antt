@@ -1,10 +1,9 @@
-use Rattle.std.proofs.Common.{List, ℕ, ◌≡◌, ◌∙◌, sym, subst}
+use Rattle.std.proofs.Common.{List, ℕ, ◌≡◌, ◌∙◌, refl, sym, subst}
 use Rattle.model_board.specs.Boards.{Board, Off}
 use Rattle.model_board.specs.Plain.{standing}
 use Rattle.std.proofs.Common.{None}
-use Rattle.board_space.specs.Mapped.{map_in}
 use Rattle.board_space.specs.Rows.{Stands}
-use Rattle.board_space.proofs.Chains.{settled}
+use Rattle.board_space.proofs.Covered.{for_self}
 use Rattle.board_space.proofs.Ready.{boot_on_base}
 use Rattle.board_space.proofs.space.BoardSpaceSystem.start.Goals as goal
 
@@ -19,7 +18,11 @@ returns-clause-first c =
     let start : Board = Off (standing c.args.self.now.reason None) in
     let is : c.in_ok-to_vec.field-0.items ≡ c.row_of.new.row.items = c.in_ok-to_vec.ensures.items_if_clones_equal (λ x y same. same) ∙ c.as_slice.ensures.value in (
       start,
-      settled c.args.self.now.shape (map_in c.args.self.now.map) start,
-      subst (λ (r : List ℕ). Stands c.row_of.new.self r start) (sym is)
-          (subst (λ (b : Board). Stands c.row_of.new.self c.row_of.new.row.items b) c.in_ok-board.ensures.board c.in_ok-row_of.ensures.stands),
+      (0, refl),
+      (
+        start,
+        subst (λ (r : List ℕ). Stands c.row_of.new.self r start) (sym is)
+            (subst (λ (b : Board). Stands c.row_of.new.self c.row_of.new.row.items b) c.in_ok-board.ensures.board c.in_ok-row_of.ensures.stands),
+        for_self c.args.self.now.leaves start,
+      ),
     )

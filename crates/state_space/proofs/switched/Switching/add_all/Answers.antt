@@ -1,5 +1,4 @@
 use Rattle.std.proofs.Common.{◌≡◌, ◌∙◌, ℕ, subst, arith}
-use Rattle.state_space.specs.Bounded.{Budget}
 use Rattle.state_space.specs.Successors.{found_count}
 use Rattle.state_space.specs.Switched.{AreListed}
 use Rattle.state_space.proofs.Priced.{listed_more}

@@ -24,4 +24,4 @@ returns-clause-successors g c b stands =
     (sym c.add_all.ensures.same.0)
     (lifted c.in_ok-said.said _ _
     (λ inner. expanded_within (s.rules (s.setting c.expand.new.self)) p.by (Waits (s.rules (s.setting c.expand.new.self)).steps p.turn p.most) c.add_all.new.self.switches (s.stands c.expand.new.self) c.in_ok-is_free.is_free b.budget b.state c.expand.new.found c.add_all.new.found said inner (c.in_ok-add_all-in_default.ensures.listed b.budget last left))
-    (c.in_ok-said.ensures.successors b.state (c.is_free.ensures.stays _ b.state at)))
+    (c.in_ok-said.ensures.successors b.state ((c.is_free.ensures.stays _ b.state b.state at).0 at)))

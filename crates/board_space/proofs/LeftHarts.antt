@@ -1,0 +1,148 @@
+-- Registers of a hart that are left out one after the other.
+use Rattle.std.proofs.Common.{ℕ, Bool, true, false, None, List, ◌≡◌, ◌<◌, length, refl, sym, ap, ◌∙◌, subst, if◌then◌else◌, arith}
+use Rattle.std.specs.Prelude.{slice_index, slice_set, nat_eq}
+use Rattle.std.proofs.lemmas.Bool.{eqb-true}
+use Rattle.std.proofs.lemmas.List.{set-set, set-get_or, get_or-set_same}
+use Rattle.board_model.specs.declared.durable.Reason.{Reason}
+use Rattle.hart.specs.State.{ArchState, put, reg, never_started}
+use Rattle.machine.specs.Machine.{Machine, hart_at}
+use Rattle.model_board.specs.Boards.{Board, Life, On, Off, Ended}
+use Rattle.model_board.specs.Held.{with_hart}
+use Rattle.model_board.specs.LeftOut.{LEFT_OUT, PROBE, IsLeftOut, StandsFor, held_at}
+use Rattle.model_board.specs.Plain.{Sized, board_shown, status_of, standing, with_machine}
+use Rattle.model_board.specs.Rests.{IsRest}
+use Rattle.model_board.specs.declared.rests.Rest.{Rest}
+use Rattle.model_board.specs.Registers.{with_register, machine_holding, board_holding}
+use Rattle.model_board.specs.declared.powers.Power.{Power}
+use Rattle.model_board.specs.declared.powers.Power.TheVariants as powers
+use Rattle.model_board.specs.declared.powers.Status.TheVariants as statuses
+use Rattle.model_board.proofs.Filling.{fills_set, stands_on, stands_one}
+use Rattle.board_space.specs.Leaving.{IsLeft}
+
+pub left_none : (s t : ArchState) → t ≡ s → IsLeft s t
+left_none s t is h l has at =
+    stands_one (On (record l { machine = with_hart h l.machine t })) (On l)
+    (ap (λ (harts : List ArchState). On (record l { machine = record l.machine { harts = harts } }))
+    (ap (λ (a : ArchState). slice_set l.machine.harts h a) (is ∙ sym at) ∙ set-get_or l.machine.harts h (never_started h)))
+
+-- a register that is left out more
+put_by : (z : Bool) (k : ℕ) (s : ArchState) → z ≡ false → (if z then s else record s { regs = slice_set s.regs k LEFT_OUT }) ≡ with_register k LEFT_OUT s
+put_by true k s is = absurd (cc)
+put_by false k s is = refl
+
+not_zero : (z : Bool) (k : ℕ) → nat_eq k 0 ≡ z → 0 < k → z ≡ false
+not_zero true k is some = absurd (let e = eqb-true k 0 is in omega (arith, e, some))
+not_zero false k is some = refl
+
+put_left : (k : ℕ) (s : ArchState) → 0 < k → put s k LEFT_OUT ≡ with_register k LEFT_OUT s
+put_left k s some = put_by (nat_eq k 0) k s (not_zero (nat_eq k 0) k refl some)
+
+held : (h k : ℕ) (m : Machine) (t : ArchState) → h < length m.harts → machine_holding h k LEFT_OUT (with_hart h m t) ≡ with_hart h m (with_register k LEFT_OUT t)
+held h k m t has =
+    ap (λ (a : ArchState). record m { harts = slice_set (slice_set m.harts h t) h (with_register k LEFT_OUT a) }) (get_or-set_same m.harts h t (never_started h) has)
+    ∙ ap (λ (harts : List ArchState). record m { harts = harts }) (set-set m.harts h t (with_register k LEFT_OUT t))
+
+pub left_more : (s t : ArchState) (k : ℕ) → 0 < k → k < 32 → IsLeft s t → IsLeft s (put t k LEFT_OUT)
+left_more s t k some low left h l has at =
+    let now : Board = On (record l { machine = with_hart h l.machine t }) in
+    let is : board_holding h k LEFT_OUT (On (record l { machine = with_hart h l.machine t })) ≡ On (record l { machine = with_hart h l.machine (put t k LEFT_OUT) }) =
+    ap (λ (m : Machine). On (record l { machine = m })) (held h k l.machine t has)
+    ∙ ap (λ (a : ArchState). On (record l { machine = with_hart h l.machine a })) (sym (put_left k t some)) in
+    stands_on (On (record l { machine = with_hart h l.machine (put t k LEFT_OUT) })) now (On l)
+    (subst (λ (b : Board). StandsFor b (On (record l { machine = with_hart h l.machine t }))) is (fills_set h k (λ e. omega (arith, e, some)) low now))
+    (left h l has at)
+
+-- the board with that hart
+pub left_board : (power : Power) (reason : Reason) (down : Bool) (m : Machine) (h : ℕ) (t : ArchState) → statuses.On ≡ status_of (board_shown power reason down m) → h < length m.harts → IsLeft (hart_at m h) t → StandsFor (board_shown power reason down (with_hart h m t)) (board_shown power reason down m)
+left_board powers.On reason down m h t is has left =
+    left h (record { machine = m; stands = standing reason None; down = down }) has refl
+left_board (powers.Off at) reason down m h t is has left = absurd (cc)
+left_board powers.Ended reason down m h t is has left = absurd (cc)
+
+pub left_sized : (rest : Rest) (b : Sized) (h : ℕ) (t : ArchState) → IsRest rest b → statuses.On ≡ status_of b.board → h < length b.machine.harts → IsLeft (hart_at b.machine h) t → StandsFor (with_machine (with_hart h b.machine t) b).board b.board
+left_sized rest b h t is on has left =
+    let shown : b.board ≡ board_shown b.power b.reason b.down b.machine = ap (λ (s : Sized). s.board) is ∙ sym (ap (λ (s : Sized). board_shown s.power s.reason s.down s.machine) is) in
+    subst (λ (x : Board). StandsFor (board_shown b.power b.reason b.down (with_hart h b.machine t)) x) (sym shown)
+    (left_board b.power b.reason b.down b.machine h t (subst (λ (x : Board). statuses.On ≡ status_of x) shown on) has left)
+
+id_by : (z : Bool) (k : ℕ) (s : ArchState) → (if z then s else record s { regs = slice_set s.regs k LEFT_OUT }).id ≡ s.id
+id_by true k s = refl
+id_by false k s = refl
+
+pub put_id : (k : ℕ) (s : ArchState) → (put s k LEFT_OUT).id ≡ s.id
+put_id k s = id_by (nat_eq k 0) k s
+
+-- ---- probes
+shown_sized : (rest : Rest) (b : Sized) → IsRest rest b → b.board ≡ board_shown b.power b.reason b.down b.machine
+shown_sized rest b is =
+    ap (λ (s : Sized). s.board) is ∙ sym (ap (λ (s : Sized). board_shown s.power s.reason s.down s.machine) is)
+
+probe_shown : (power : Power) (reason : Reason) (down : Bool) (m : Machine) (h k v : ℕ) → statuses.On ≡ status_of (board_shown power reason down m) → board_shown power reason down (with_hart h m (with_register k v (hart_at m h))) ≡ board_holding h k v (board_shown power reason down m)
+probe_shown powers.On reason down m h k v is = refl
+probe_shown (powers.Off at) reason down m h k v is = absurd (cc)
+probe_shown powers.Ended reason down m h k v is = absurd (cc)
+
+pub probe_sized : (rest : Rest) (b : Sized) (h k v : ℕ) → IsRest rest b → statuses.On ≡ status_of b.board → (with_machine (with_hart h b.machine (with_register k v (hart_at b.machine h))) b).board ≡ board_holding h k v b.board
+probe_sized rest b h k v is on =
+    let shown = shown_sized rest b is in
+    probe_shown b.power b.reason b.down b.machine h k v (subst (λ (x : Board). statuses.On ≡ status_of x) shown on)
+    ∙ ap (λ (x : Board). board_holding h k v x) (sym shown)
+
+left_shown : (power : Power) (reason : Reason) (down : Bool) (m : Machine) (h k : ℕ) → statuses.On ≡ status_of (board_shown power reason down m) → h < length m.harts → k < 32 → reg (hart_at m h) k ≡ LEFT_OUT → IsLeftOut h k (board_shown power reason down m)
+left_shown powers.On reason down m h k is has low left = (has, low, left)
+left_shown (powers.Off at) reason down m h k is has low left = absurd (cc)
+left_shown powers.Ended reason down m h k is has low left = absurd (cc)
+
+pub left_at_sized : (rest : Rest) (b : Sized) (h k : ℕ) → IsRest rest b → statuses.On ≡ status_of b.board → h < length b.machine.harts → k < 32 → reg (hart_at b.machine h) k ≡ LEFT_OUT → IsLeftOut h k b.board
+left_at_sized rest b h k is on has low left =
+    let shown = shown_sized rest b is in
+    subst (λ (x : Board). IsLeftOut h k x) (sym shown)
+    (left_shown b.power b.reason b.down b.machine h k (subst (λ (x : Board). statuses.On ≡ status_of x) shown on) has low left)
+
+held_shown : (power : Power) (reason : Reason) (down : Bool) (m : Machine) (h k : ℕ) → IsLeftOut h k (board_shown power reason down m) → reg (hart_at m h) k ≡ LEFT_OUT
+held_shown powers.On reason down m h k left = left.2
+held_shown (powers.Off at) reason down m h k left = absurd left
+held_shown powers.Ended reason down m h k left = absurd left
+
+pub held_at_sized : (rest : Rest) (b : Sized) (h k : ℕ) → IsRest rest b → IsLeftOut h k b.board → reg (hart_at b.machine h) k ≡ LEFT_OUT
+held_at_sized rest b h k is left =
+    held_shown b.power b.reason b.down b.machine h k (subst (λ (x : Board). IsLeftOut h k x) (shown_sized rest b is) left)
+
+pub none_off : (h k : ℕ) (b : Board) → statuses.Off ≡ status_of b → IsLeftOut h k b → ⊥
+none_off h k (On l) is left = cc
+none_off h k (Off s) is left = left
+none_off h k (Ended s) is left = left
+
+pub none_ended : (h k : ℕ) (b : Board) → statuses.Ended ≡ status_of b → IsLeftOut h k b → ⊥
+none_ended h k (On l) is left = cc
+none_ended h k (Off s) is left = left
+none_ended h k (Ended s) is left = left
+
+-- x0 holds 0
+left_some : (z : Bool) (v : ℕ) → (if z then 0 else v) ≡ LEFT_OUT → z ≡ false
+left_some true v e = absurd (omega (arith, e))
+left_some false v e = refl
+
+put_by_other : (z : Bool) (k v : ℕ) (s : ArchState) → z ≡ false → (if z then s else record s { regs = slice_set s.regs k v }) ≡ with_register k v s
+put_by_other true k v s is = absurd (cc)
+put_by_other false k v s is = refl
+
+pub put_left_out : (k v : ℕ) (s : ArchState) → reg s k ≡ LEFT_OUT → put s k v ≡ with_register k v s
+put_left_out k v s left = put_by_other (nat_eq k 0) k v s (left_some (nat_eq k 0) (slice_index s.regs k) left)
+
+held_by : (z : Bool) (v : ℕ) → (if z then 0 else v) ≡ PROBE → v ≡ PROBE
+held_by true v e = absurd (omega (arith, e))
+held_by false v e = e
+
+pub held_on : (b : Board) (m : Machine) (h k : ℕ) → statuses.On ≡ status_of b → ((l : Life) → b ≡ On l → m ≡ l.machine) → reg (hart_at m h) k ≡ PROBE → held_at h k b ≡ PROBE
+held_on (On l) m h k is at held =
+    held_by (nat_eq k 0) (slice_index (hart_at l.machine h).regs k) (subst (λ (n : Machine). reg (hart_at n h) k ≡ PROBE) (at l refl) held)
+held_on (Off s) m h k is at held = absurd (cc)
+held_on (Ended s) m h k is at held = absurd (cc)
+
+id_by_any : (z : Bool) (k v : ℕ) (s : ArchState) → (if z then s else record s { regs = slice_set s.regs k v }).id ≡ s.id
+id_by_any true k v s = refl
+id_by_any false k v s = refl
+
+pub put_any_id : (k v : ℕ) (s : ArchState) → (put s k v).id ≡ s.id
+put_any_id k v s = id_by_any (nat_eq k 0) k v s

@@ -1,0 +1,47 @@
+-- What is told of every order, put together.
+use Rattle.std.proofs.Common.{◌≡◌, ℕ, zero, suc, List, Bool, true, false, Option, None, Some, refl, subst}
+use Rattle.model_board.specs.Boards.{Board, On, Off, Ended}
+use Rattle.board_space.specs.Few.{AskedOrders}
+use Rattle.board_space.specs.Space.{Asked}
+use Rattle.kernel_check.specs.Tells.{EveryOrder, Holds, HoldsAs, IsOnWith, Says, SaysAs}
+use Rattle.kernel_check.specs.Verdicts.{fine_by, untold_by, verdict_of}
+use Rattle.kernel_check.specs.declared.facts.EndKind.{EndKind}
+use Rattle.kernel_check.specs.declared.facts.EndShown.{EndShown}
+use Rattle.kernel_check.specs.declared.facts.Stop.{Stop}
+use Rattle.kernel_check.specs.declared.facts.Verdict.{Verdict}
+use Rattle.kernel_check.specs.declared.looks.Look.{Look}
+
+on_both : (P Q R : List ℕ → Type 0) → ((memory : List ℕ) → P memory → Q memory → R memory) → (b : Board)
+    → IsOnWith P b → IsOnWith Q b → IsOnWith R b
+on_both P Q R f (On l) p q = f l.machine.memory p q
+on_both P Q R f (Off s) p q = p
+on_both P Q R f (Ended s) p q = p
+
+-- what follows from two things of a memory that every order shows
+pub both_told : (orders : AskedOrders) (P Q R : List ℕ → Type 0) → ((memory : List ℕ) → P memory → Q memory → R memory)
+    → EveryOrder orders (IsOnWith P) → EveryOrder orders (IsOnWith Q) → EveryOrder orders (IsOnWith R)
+both_told orders P Q R f p q = record {
+  ends = λ events last runs end. on_both P Q R f last (p.ends events last runs end) (q.ends events last runs end);
+  no_dead_end = p.no_dead_end;
+}
+
+-- ---- what a verdict says
+fine_says : (switches : Option ℕ) (asked : Asked) (looks : List Look) (kinds : List EndKind) → HoldsAs (record { asked = asked; switches = switches }) looks kinds → SaysAs (fine_by switches) asked looks kinds
+fine_says None asked looks kinds holds = holds
+fine_says (Some k) asked looks kinds holds = holds
+
+pub verdict_says : (n : ℕ) (stop : Option Stop) (shows told : Bool) (orders : AskedOrders) (looks : List Look) (kinds : List EndKind) → (told ≡ true → HoldsAs orders looks kinds) → SaysAs (verdict_of n stop shows told orders.switches) orders.asked looks kinds
+verdict_says (suc n) stop shows told orders looks kinds holds = tt
+verdict_says zero (Some stop) shows told orders looks kinds holds = tt
+verdict_says zero None false told orders looks kinds holds = tt
+verdict_says zero None true true orders looks kinds holds = fine_says orders.switches orders.asked looks kinds (holds refl)
+verdict_says zero None true false orders looks kinds holds = tt
+
+-- where it says that nothing is wrong
+pub says_fine : (switches : Option ℕ) (verdict : Verdict) (asked : Asked) (looks : List Look) → verdict ≡ fine_by switches → Says verdict asked looks → (end : EndShown) × Holds (record { asked = asked; switches = switches }) looks end
+says_fine None verdict asked looks is says =
+    let told = subst (λ (v : Verdict). SaysAs v asked looks says.0) is says.1 in
+    (told.0.shown, told.2)
+says_fine (Some k) verdict asked looks is says =
+    let told = subst (λ (v : Verdict). SaysAs v asked looks says.0) is says.1 in
+    (told.0.shown, told.2)

@@ -1,0 +1,75 @@
+-- What is told of every order. Source: docs/CHECKING.md, "What the verdict says, and what not".
+use Rattle.std.specs.Prelude.{◌≡◌, ℕ, List, [], ◌∷◌, None, Some}
+use Rattle.board_model.specs.declared.durable.Reason.{Reason}
+use Rattle.model_board.specs.Boards.{Board, On, Off, Ended}
+use Rattle.model_board.specs.Events.{Event, GoesOn, IsEnd}
+use Rattle.state_space.specs.Orders.{CanEnd}
+use Rattle.board_space.specs.Few.{AskedOrders, RunsAsked}
+use Rattle.board_space.specs.Space.{Asked, Happens}
+use Rattle.kernel_check.specs.Shown.{IsAsExpected, ShowsSome, looked}
+use Rattle.kernel_check.specs.declared.facts.EndKind.{EndKind}
+use Rattle.kernel_check.specs.declared.facts.EndShown.{EndShown}
+use Rattle.kernel_check.specs.declared.facts.EndShown.TheVariants as shown
+use Rattle.kernel_check.specs.declared.facts.Verdict.{Verdict}
+use Rattle.kernel_check.specs.declared.facts.Verdict.TheVariants as verdicts
+use Rattle.kernel_check.specs.declared.looks.Look.{Look}
+
+-- a board that is on, and whose memory that is so
+abbrev pub IsOnWith : (List ℕ → Type 0) → Board → Type 0
+IsOnWith Is (On l) = Is l.machine.memory
+IsOnWith Is (Off s) = ⊥
+IsOnWith Is (Ended s) = ⊥
+
+-- a board that was shut down for that reason
+abbrev pub EndsBy : Reason → Board → Type 0
+EndsBy why (On l) = ⊥
+EndsBy why (Off s) = ⊥
+EndsBy why (Ended s) = s.reason ≡ why
+
+-- its looks show these bytes, or it was shut down for that reason
+abbrev pub Shows : List Look → EndShown → Board → Type 0
+Shows looks (shown.On bytes) = IsOnWith (λ memory. looked looks memory ≡ bytes.items)
+Shows looks (shown.Shutdown why) = EndsBy why
+
+-- that is what a board shows, unless it is off
+abbrev pub ShownBy : List Look → Board → EndShown → Type 0
+ShownBy looks (On l) end = Shows looks end (On l)
+ShownBy looks (Off s) end = Unit {0}
+ShownBy looks (Ended s) end = Shows looks end (Ended s)
+
+-- Take any list of events in an order that is asked for. If they lead to an end, it shows this; and from the board that they lead to, some
+-- events that are no failures lead to an end.
+pub record EveryOrder (orders : AskedOrders) (Shown : Board → Type 0) : Type 0 where
+  pub ends : (events : List Event) (last : Board) → RunsAsked orders events last → IsEnd last → Shown last
+  pub no_dead_end : (events : List Event) (last : Board) → RunsAsked orders events last
+      → CanEnd (Happens orders.asked) GoesOn IsEnd last
+
+-- ---- the verdict that nothing is wrong
+-- every order ends, all ends show the same, that is what is expected, and it is something
+pub record Holds (orders : AskedOrders) (looks : List Look) (end : EndShown) : Type 0 where
+  pub every : EveryOrder orders (Shows looks end)
+  pub expected : IsAsExpected looks end
+  pub some : ShowsSome looks end
+
+-- and no other kind of ends is told
+abbrev pub HoldsAs : AskedOrders → List Look → List EndKind → Type 0
+HoldsAs orders looks kinds = (kind : EndKind) × (kinds ≡ kind ∷ []) × Holds orders looks kind.shown
+
+-- every order, and those in which at most so many harts are preempted
+abbrev pub all_orders : Asked → AskedOrders
+all_orders asked = record { asked = asked; switches = None }
+
+abbrev pub few_orders : ℕ → Asked → AskedOrders
+few_orders switches asked = record { asked = asked; switches = Some switches }
+
+-- what a verdict says, where these kinds of ends are told
+abbrev pub SaysAs : Verdict → Asked → List Look → List EndKind → Type 0
+SaysAs verdicts.Holds asked looks kinds = HoldsAs (all_orders asked) looks kinds
+SaysAs (verdicts.Within k) asked looks kinds = HoldsAs (few_orders k asked) looks kinds
+SaysAs verdicts.Found asked looks kinds = Unit {0}
+SaysAs (verdicts.Open stop) asked looks kinds = Unit {0}
+SaysAs verdicts.Blank asked looks kinds = Unit {0}
+
+-- whichever kinds are told
+abbrev pub Says : Verdict → Asked → List Look → Type 0
+Says verdict asked looks = (kinds : List EndKind) × SaysAs verdict asked looks kinds

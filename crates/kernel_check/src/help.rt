@@ -1,0 +1,251 @@
+//! The command, its options, and what `--help` says.
+
+ghost use Rattle.std.specs.Prelude.{◌≡◌, false, codes, IfOk};
+ghost use Rattle.clap.specs.Words.{app_of, rule_of};
+ghost use Rattle.clap.specs.declared.builder.value_parser.ValueParser.TheVariants.{Unsigned};
+ghost use Rattle.command_line.specs.Options.{value_rule};
+ghost use Rattle.kernel_check.specs.Usage.{sbicheck, kernel_rule, several_rule, reason_rule, memory_rule, with_board, with_looks, with_bounds, with_writing};
+
+use clap::builder::ValueParser;
+use clap::{Arg, ArgAction, Command};
+use command_line::{flag, number, option, program};
+use std::alloc::{AllocError, Global};
+
+/// How the program is called.
+pub const USAGE: &str = "sbicheck [OPTIONS] KERNEL";
+
+const ABOUT: &str = "\
+Checks a kernel in every order of the turns of its harts, wherever power fails.
+
+  sbicheck kernel.elf --harts 2 --look shown:16
+
+The kernel is an ELF file, or raw bytes as they stand at 0x80000000. It boots on
+a modelled RISC-V board, and each order of turns of its harts is followed, with a
+power cut at any moment, a refusal of each sleep and reset, and the power-on after
+it: not by trying many orders, but by visiting each board that any of them leads to.
+
+An end is a board that no turn changes, as where each hart has stopped or stands
+at `j .`, or that its kernel shut down. What is looked at must be the same at each
+end. A board that was shut down keeps no memory: its end shows the reset reason.
+A kernel that never rests is stuck for this program.";
+
+const STATUS: &str = "\
+Failures, of each kind the first that is found:
+  differs  two ends show different things, or one shows what is not expected
+  stuck    from some board no order leads to an end; or harts are suspended, none
+           is started, and no interrupt is pending
+  traps    a hart stands after a trap that has no handler; an EBREAK is one
+  fails    the kernel shuts down with reason 1, system failure
+
+Where the search of every order stops at --boards or --memory and nothing was
+found, orders with at most 0, 1, 2 and more preemptions are followed, until one of
+these searches stops too. A preemption: a hart that does not wait makes a turn, and
+the next one is another hart's. A hart waits where some turns of its own, at most
+100, lead back to the same board.
+
+Status:
+  0  every order was followed, and nothing was found
+  1  standard error has 'sbicheck: refusal N', 'sbicheck: file' where a file could
+     not be read, or what is wrong with the kernel
+  2  a fault of the command line
+  3  a failure was found
+  4  not every order was followed, but those with so many preemptions as it says,
+     or fewer; or nothing is looked at
+
+docs/CHECKING.md of the source says what the verdict means and what not, what
+blows up, and has the fields of --json; docs/REFUSALS.md the refusals.";
+
+/// The kernel's file.
+pub const KERNEL: &str = "KERNEL";
+
+/// How many harts.
+pub const HARTS: &str = "harts";
+
+/// How many pages of RAM.
+pub const PAGES: &str = "pages";
+
+/// How many saver lanes.
+pub const LANES: &str = "lanes";
+
+/// What is looked at.
+pub const LOOK: &str = "look";
+
+/// What must be there.
+pub const EXPECT: &str = "expect";
+
+/// The reset reason of the first boot.
+pub const REASON: &str = "reason";
+
+/// What does not happen.
+pub const WITHOUT: &str = "without";
+
+/// The word for power cuts.
+pub const CUTS: &str = "cuts";
+
+/// The word for refused sleeps and resets.
+pub const REFUSALS: &str = "refusals";
+
+/// How many harts may be preempted.
+pub const PREEMPTIONS: &str = "preemptions";
+
+/// At how many boards a search stops.
+pub const BOARDS: &str = "boards";
+
+/// At how much memory it stops.
+pub const MEMORY: &str = "memory";
+
+/// The flag for lines of JSON.
+pub const JSON: &str = "json";
+
+/// The flag for tests.
+pub const TAP: &str = "tap";
+
+/// The failure that is shown.
+pub const SHOW: &str = "show";
+
+/// The words of the failures.
+pub const DIFFERS: &str = "differs";
+
+pub const STUCK: &str = "stuck";
+
+pub const TRAPS: &str = "traps";
+
+pub const FAILS: &str = "fails";
+
+/// The most harts, pages and lanes of a board.
+pub const MOST_HARTS: u64 = 8;
+
+pub const MOST_PAGES: u64 = 256;
+
+pub const MOST_LANES: u64 = 4;
+
+/// The most preemptions of an order.
+pub const MOST_PREEMPTIONS: u64 = 1000;
+
+/// The most boards at which a search stops.
+pub const MOST_BOARDS: u64 = 4_000_000_000;
+
+/// The kernel's path, which is not empty.
+fn kernel<'a>(alloc: Global) -> Arg<'a>
+    ensures rule { rule_of result ≡ kernel_rule }
+    ensures local { result.global ≡ false }
+{
+    Arg::new(alloc, KERNEL)
+        .action(ArgAction::Set)
+        .value_parser(ValueParser::NonEmptyString)
+        .required(true)
+        .help("The kernel's file: an ELF file, or raw bytes")
+}
+
+/// An option that can be given several times.
+fn several<'a>(alloc: Global, id: &'a str, value: &'a str, help: &'a str) -> Arg<'a>
+    ensures rule { rule_of result ≡ several_rule id.entry.now }
+    ensures local { result.global ≡ false }
+{
+    option(alloc, id, value, help).action(ArgAction::Append)
+}
+
+/// The option with the number of pages.
+fn pages<'a>(alloc: Global) -> Arg<'a>
+    ensures rule { rule_of result ≡ value_rule (codes "pages") (Unsigned 1 256) }
+    ensures local { result.global ≡ false }
+{
+    let help = "How many pages of RAM it has, 1 to 256; as many as an ELF file needs if not said";
+    option(alloc, PAGES, "N", help).value_parser(ValueParser::unsigned(1, MOST_PAGES))
+}
+
+/// The option with the number of preemptions.
+fn preemptions<'a>(alloc: Global) -> Arg<'a>
+    ensures rule { rule_of result ≡ value_rule (codes "preemptions") (Unsigned 0 1000) }
+    ensures local { result.global ≡ false }
+{
+    let help = "Follows the orders with at most K preemptions, and no others";
+    option(alloc, PREEMPTIONS, "K", help).value_parser(ValueParser::unsigned(0, MOST_PREEMPTIONS))
+}
+
+/// The option with the reset reason.
+fn reason<'a>(alloc: Global) -> Arg<'a>
+    ensures rule { rule_of result ≡ reason_rule }
+    ensures local { result.global ≡ false }
+{
+    option(
+        alloc,
+        REASON,
+        "R",
+        "The reset reason of the first boot, 0 or 1",
+    )
+    .value_parser(ValueParser::unsigned(0, 1))
+    .default_value("0")
+}
+
+/// The option with the bound on memory.
+fn memory<'a>(alloc: Global) -> Arg<'a>
+    ensures rule { rule_of result ≡ memory_rule }
+    ensures local { result.global ≡ false }
+{
+    let help = "Stops at so many bytes of memory, as 500M or 8G";
+    option(alloc, MEMORY, "SIZE", help).default_value("4G")
+}
+
+/// The command with the options of the board.
+fn with_board<'a>(alloc: Global, command: Command<'a>) -> Result<Command<'a>, AllocError>
+    ensures { IfOk result (λ c. app_of c ≡ with_board (app_of command.entry)) }
+{
+    let harts = "How many harts the board has, 1 to 8";
+    let lanes = "How many saver lanes it has, 1 to 4, for the script of --show";
+    command
+        .arg(number(alloc, HARTS, MOST_HARTS, "1", harts))?
+        .arg(pages(alloc))?
+        .arg(number(alloc, LANES, MOST_LANES, "1", lanes))?
+        .arg(reason(alloc))
+}
+
+/// The command with the options that say what is looked at.
+fn with_looks<'a>(alloc: Global, command: Command<'a>) -> Result<Command<'a>, AllocError>
+    ensures { IfOk result (λ c. app_of c ≡ with_looks (app_of command.entry)) }
+{
+    let look = "Looks at NAME[:BYTES] or ADDRESS:BYTES; at `shown` if nothing is said";
+    let expect = "Expects these bytes at each end: NAME=HEX or ADDRESS=HEX";
+    command
+        .arg(several(alloc, LOOK, "NAME", look))?
+        .arg(several(alloc, EXPECT, "BYTES", expect))
+}
+
+/// The command with the options that bound the search.
+fn with_bounds<'a>(alloc: Global, command: Command<'a>) -> Result<Command<'a>, AllocError>
+    ensures { IfOk result (λ c. app_of c ≡ with_bounds (app_of command.entry)) }
+{
+    let without =
+        "Leaves out power cuts, or refused sleeps and resets [possible values: cuts, refusals]";
+    let boards = "Stops at N boards";
+    command
+        .arg(several(alloc, WITHOUT, "WHAT", without))?
+        .arg(preemptions(alloc))?
+        .arg(number(alloc, BOARDS, MOST_BOARDS, "10000000", boards))?
+        .arg(memory(alloc))
+}
+
+/// The command with the options that say how the verdict is written.
+fn with_writing<'a>(alloc: Global, command: Command<'a>) -> Result<Command<'a>, AllocError>
+    ensures { IfOk result (λ c. app_of c ≡ with_writing (app_of command.entry)) }
+{
+    let json = "Writes the verdict as lines of JSON";
+    let tap = "Writes the verdict in the Test Anything Protocol";
+    let show =
+        "Writes its order as a script that sbibench runs [possible values: differs, stuck, traps, fails]";
+    command
+        .arg(flag(alloc, JSON, json))?
+        .arg(flag(alloc, TAP, tap))?
+        .arg(option(alloc, SHOW, "FAILURE", show))
+}
+
+/// The command.
+pub fn command<'a>(alloc: Global) -> Result<Command<'a>, AllocError>
+    ensures { IfOk result (λ c. app_of c ≡ sbicheck) }
+{
+    let command = program(alloc, "sbicheck", USAGE, ABOUT, STATUS).arg(kernel(alloc))?;
+    let command = with_board(alloc, command)?;
+    let command = with_looks(alloc, command)?;
+    let command = with_bounds(alloc, command)?;
+    with_writing(alloc, command)
+}

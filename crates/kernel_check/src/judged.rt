@@ -1,0 +1,370 @@
+//! What a search says of a kernel: its ends, and what is wrong.
+
+ghost use Rattle.std.specs.Prelude.{◌≡◌, IfOk, [], None};
+ghost use Rattle.board_model.specs.Shapes.{ram_bytes_of};
+ghost use Rattle.kernel_check.specs.Shown.{AreIn};
+ghost use Rattle.kernel_check.specs.Tells.{SaysAs};
+ghost use Rattle.kernel_check.specs.Verdicts.{verdict_of};
+
+use crate::expected::is_as_expected;
+use crate::facts::{
+    EndKind, EndShown, Failure, OwnEnd, OwnOrder, SearchFacts, SharedWord, Stop, Verdict,
+};
+use crate::given::FailureKind;
+use crate::looks::Look;
+use crate::own::end_shown;
+use crate::places::data_text;
+use crate::told::holds;
+use crate::walks::{Setting, is_any_trapped, is_waited_for_ever, walk_to};
+use board_model::{RAM_BASE, Reason, Refusal};
+use board_space::Explored;
+use model_board::{Board, Power};
+use std::alloc::{AllocError, Global};
+
+/// The ends of a search: those that show something, by what they show, and those that are failures by themselves.
+#[derive(Drop)]
+struct Ends {
+    kinds: Vec<EndKind>,
+    traps: usize,
+    fails: Found,
+    waits: Found,
+    count: usize,
+}
+
+/// How many there are of a kind, and the first one.
+#[derive(Clone, Copy, Drop)]
+struct Found {
+    count: usize,
+    first: Option<usize>,
+}
+
+impl Found {
+    /// None.
+    fn none() -> Found {
+        Found {
+            count: 0,
+            first: None,
+        }
+    }
+
+    /// Counts one more.
+    fn add(&mut self, row: usize) {
+        self.count = self.count.saturating_add(1);
+        if self.first.is_none() {
+            self.first = Some(row);
+        }
+    }
+}
+
+/// Whether two ends show the same.
+fn shows_same(one: &EndShown, other: &EndShown) -> bool {
+    match (one, other) {
+        (EndShown::On(bytes), EndShown::On(others)) => bytes.as_slice() == others.as_slice(),
+        (EndShown::Shutdown(reason), EndShown::Shutdown(why)) => *reason == *why,
+        _ => false,
+    }
+}
+
+/// Counts an end that shows this.
+fn add_kind(
+    kinds: &mut Vec<EndKind>,
+    looks: &[Look],
+    own: &OwnOrder,
+    shown: EndShown,
+    row: usize,
+) -> Result<(), AllocError> {
+    for kind in kinds.iter_mut() {
+        if shows_same(&kind.shown, &shown) {
+            kind.count = kind.count.saturating_add(1);
+            return Ok(());
+        }
+    }
+    let is_expected = is_as_expected(looks, &shown);
+    let is_own = match &own.end {
+        OwnEnd::Ends(other) => shows_same(&shown, other),
+        OwnEnd::Runs(_) => false,
+    };
+    kinds.push(EndKind {
+        shown,
+        count: 1,
+        row,
+        is_expected,
+        is_own,
+    })?;
+    Ok(())
+}
+
+/// Counts an end.
+fn add_end(
+    setting: Setting<'_>,
+    ends: &mut Ends,
+    looks: &[Look],
+    own: &OwnOrder,
+    board: &Board,
+    row: usize,
+) -> Result<(), AllocError> {
+    if is_any_trapped(board, setting.shape) {
+        ends.traps = ends.traps.saturating_add(1);
+        return Ok(());
+    }
+    if is_waited_for_ever(board) {
+        ends.waits.add(row);
+        return Ok(());
+    }
+    let shown = end_shown(setting.alloc, looks, board)?;
+    if let EndShown::Shutdown(Reason::SystemFailure) = shown {
+        ends.fails.add(row);
+        return Ok(());
+    }
+    add_kind(&mut ends.kinds, looks, own, shown, row)
+}
+
+/// The ends of a search.
+fn ends_of(
+    setting: Setting<'_>,
+    explored: &mut Explored,
+    own: &OwnOrder,
+    looks: &[Look],
+) -> Result<Ends, Refusal>
+    ensures { explored.new ≡ explored.old }
+{
+    let Ok(rows) = explored.ends() else {
+        return Err(Refusal::Memory);
+    };
+    let mut ends = Ends {
+        kinds: Vec::new(setting.alloc),
+        traps: 0,
+        fails: Found::none(),
+        waits: Found::none(),
+        count: rows.len(),
+    };
+    for row in rows.iter() {
+        if explored.show(*row) {
+            add_end(setting, &mut ends, looks, own, explored.current(), *row)?;
+        }
+    }
+    Ok(ends)
+}
+
+/// What all boards of a search tell.
+#[derive(Clone, Copy, Drop)]
+struct Scanned {
+    /// The first board of which a hart is trapped.
+    first_trap: Option<usize>,
+    /// How many boards are off with an image.
+    images: usize,
+}
+
+/// Goes over all boards of a search.
+fn scan(setting: Setting<'_>, explored: &mut Explored) -> Scanned
+    ensures { explored.new ≡ explored.old }
+{
+    let mut scan = Scanned {
+        first_trap: None,
+        images: 0,
+    };
+    for row in 0..explored.count() {
+        if !explored.show(row) {
+            continue;
+        }
+        let board = explored.current();
+        if scan.first_trap.is_none() && is_any_trapped(board, setting.shape) {
+            scan.first_trap = Some(row);
+        }
+        if matches!(board.rest().power, Power::Off(Some(_))) {
+            scan.images = scan.images.saturating_add(1);
+        }
+    }
+    scan
+}
+
+/// The first end that differs: from what is expected, else from what the kernel's own order shows.
+fn first_difference(kinds: &[EndKind]) -> Option<usize> {
+    if let Some(kind) = kinds.iter().find(|kind| !kind.is_expected) {
+        return Some(kind.row);
+    }
+    if kinds.len() < 2 {
+        return None;
+    }
+    match kinds.iter().find(|kind| !kind.is_own) {
+        Some(kind) => Some(kind.row),
+        None => None,
+    }
+}
+
+/// How many ends differ so: those that show what is not expected, else those that show other things than the kernel's own order.
+fn differing(kinds: &[EndKind]) -> usize {
+    let any = kinds.iter().any(|kind| !kind.is_expected);
+    let mut count = 0usize;
+    for kind in kinds {
+        let differs = if any { !kind.is_expected } else { !kind.is_own };
+        if differs {
+            count = count.saturating_add(kind.count);
+        }
+    }
+    count
+}
+
+/// The first row of two, where there is one.
+fn first_of(one: Option<usize>, other: Option<usize>) -> Option<usize> {
+    match (one, other) {
+        (Some(row), Some(than)) if than < row => Some(than),
+        (Some(row), _) => Some(row),
+        (None, other) => other,
+    }
+}
+
+/// Why a search was not closed.
+fn stop_of(explored: &Explored) -> Option<Stop> {
+    match explored.verdict() {
+        state_space::Verdict::Closed => None,
+        state_space::Verdict::AtRows => Some(Stop::Boards),
+        state_space::Verdict::AtBytes => Some(Stop::Memory),
+        state_space::Verdict::Halted => Some(Stop::Map),
+    }
+}
+
+/// The words that harts share.
+fn shared_words(setting: Setting<'_>, explored: &Explored) -> Result<Vec<SharedWord>, AllocError> {
+    let mut shared = Vec::new(setting.alloc);
+    let map = explored.map();
+    for word in 0..map.words() {
+        let writers = map.writers(word);
+        let touching = writers | map.readers(word);
+        if writers != 0 && 2 <= touching.count_ones() {
+            let address = RAM_BASE.saturating_add(word.saturating_mul(8));
+            shared.push(SharedWord {
+                address,
+                name: data_text(setting.alloc, setting.elf, address)?,
+            })?;
+        }
+    }
+    Ok(shared)
+}
+
+/// What is told of a kernel.
+#[derive(Drop)]
+pub struct Judged {
+    pub search: SearchFacts,
+    /// What the ends show that are no failures by themselves.
+    pub kinds: Vec<EndKind>,
+    pub failures: Vec<Failure>,
+    pub verdict: Verdict,
+}
+
+/// The places of failures, in the order in which they are told.
+fn failing_rows(
+    explored: &Explored,
+    ends: &Ends,
+    first_trap: Option<usize>,
+) -> Result<[(FailureKind, usize, Option<usize>); 4], Refusal> {
+    let Ok(dead) = explored.first_dead() else {
+        return Err(Refusal::Memory);
+    };
+    let kinds = ends.kinds.as_slice();
+    let differs = first_difference(kinds);
+    let stuck = first_of(ends.waits.first, dead);
+    Ok([
+        (FailureKind::Traps, ends.traps, first_trap),
+        (FailureKind::Fails, ends.fails.count, ends.fails.first),
+        (FailureKind::Differs, differing(kinds), differs),
+        (FailureKind::Stuck, ends.waits.count, stuck),
+    ])
+}
+
+/// Whether each end shows something.
+fn shows_all(kinds: &[EndKind], looks: &[Look]) -> bool {
+    if !looks.is_empty() {
+        return true;
+    }
+    for kind in kinds {
+        if let EndShown::On(_) = kind.shown {
+            return false;
+        }
+    }
+    true
+}
+
+/// The verdict: what was found comes first, then whether the orders were followed, then whether each end shows something.
+fn verdict_of(
+    failures: usize,
+    stop: Option<Stop>,
+    shows: bool,
+    told: bool,
+    switches: Option<u32>,
+) -> Verdict
+    ensures { result ≡ verdict_of failures stop shows told switches }
+{
+    if failures != 0 {
+        return Verdict::Found;
+    }
+    if let Some(stop) = stop {
+        return Verdict::Open(stop);
+    }
+    if !shows {
+        return Verdict::Blank;
+    }
+    match (told, switches) {
+        (true, None) => Verdict::Holds,
+        (true, Some(switches)) => Verdict::Within(switches),
+        (false, None) => Verdict::Open(Stop::Untold),
+        (false, Some(_)) => Verdict::Open(Stop::Switches),
+    }
+}
+
+/// Judges a kernel by a search.
+#[tactic(auto, using(crate::proofs::Telling::verdict_says))]
+pub fn judge(
+    setting: Setting<'_>,
+    explored: &mut Explored,
+    own: &OwnOrder,
+    looks: &[Look],
+) -> Result<Judged, Refusal>
+    requires { AreIn (ram_bytes_of explored.old.asked.size) looks.now }
+    // Where nothing is wrong, each order that is asked for ends with the one kind of ends that is told.
+    ensures says { IfOk result (λ judged. SaysAs judged.verdict explored.old.asked looks.now judged.kinds.items) }
+    // Then no failure is told, and the search was closed.
+    ensures clear { IfOk result (λ judged. judged.verdict ≡ Verdict.Holds → judged.failures.items ≡ []) }
+    ensures closed { IfOk result (λ judged. judged.verdict ≡ Verdict.Holds → judged.search.stop ≡ None) }
+{
+    let ends = ends_of(setting, explored, own, looks)?;
+    let scan = scan(setting, explored);
+    let rows = failing_rows(explored, &ends, scan.first_trap)?;
+    let mut failures = Vec::new(setting.alloc);
+    for (kind, count, row) in rows {
+        if let Some(row) = row {
+            let walk = walk_to(setting, explored, row)?;
+            failures.push(Failure {
+                kind,
+                ends: count,
+                row,
+                order: walk.order,
+                harts: walk.harts,
+                is_on: walk.is_on,
+            })?;
+        }
+    }
+    let stop = stop_of(explored);
+    let preemptions = explored.switches();
+    let search = SearchFacts {
+        preemptions,
+        boards: explored.count(),
+        stop,
+        shared: shared_words(setting, explored)?,
+        images: scan.images,
+        ends: ends.count,
+    };
+    let verdict = verdict_of(
+        failures.len(),
+        stop,
+        shows_all(ends.kinds.as_slice(), looks),
+        holds(explored, looks, ends.kinds.as_slice())?,
+        preemptions,
+    );
+    Ok(Judged {
+        search,
+        kinds: ends.kinds,
+        failures,
+        verdict,
+    })
+}

@@ -1,0 +1,46 @@
+//! The verdict as the Test Anything Protocol has it: a test of each kind of failures, and one of the orders that were followed.
+
+use crate::facts::{Failure, Verdict};
+use crate::given::FailureKind;
+use crate::judged::Judged;
+use crate::texts::failure_word;
+use std::io::{self, Write};
+
+/// The kinds of failures, in the order in which they are told.
+const KINDS: [FailureKind; 4] = [
+    FailureKind::Traps,
+    FailureKind::Fails,
+    FailureKind::Differs,
+    FailureKind::Stuck,
+];
+
+/// Whether a failure of that kind was found.
+fn is_found(failures: &[Failure], kind: FailureKind) -> bool {
+    failures.iter().any(|failure| failure.kind == kind)
+}
+
+/// How the line of a test begins.
+fn word_of(is_well: bool) -> &'static str {
+    if is_well { "ok" } else { "not ok" }
+}
+
+/// Writes the tests. Where the search was given up, a kind that was not found is skipped.
+pub fn write_tap<W: Write>(out: &mut W, judged: &Judged) -> io::Result<()> {
+    writeln!(out, "TAP version 13")?;
+    let mut number = 1u32;
+    for kind in KINDS {
+        let is_found = is_found(judged.failures.as_slice(), kind);
+        let word = word_of(!is_found);
+        let name = failure_word(kind);
+        let skip = if !is_found && judged.search.stop.is_some() {
+            " # SKIP not every order was followed"
+        } else {
+            ""
+        };
+        writeln!(out, "{word} {number} - {name}{skip}")?;
+        number = number.saturating_add(1);
+    }
+    let word = word_of(judged.verdict == Verdict::Holds);
+    writeln!(out, "{word} 5 - every order, and something is looked at")?;
+    writeln!(out, "1..5")
+}

@@ -1,0 +1,375 @@
+//! The verdict in words.
+
+use crate::facts::{
+    EndKind, EndShown, Failure, HartFacts, HartState, OrderStep, OwnEnd, OwnOrder, RunEnd,
+    SearchFacts, StoreCall, TrapFacts,
+};
+use crate::given::FailureKind;
+use crate::looks::Look;
+use board_model::{Reason, Shape};
+use std::fmt;
+use std::io::{self, Write};
+
+/// A number of things, with their noun: `1 end`, `2 ends`.
+#[derive(Drop)]
+pub struct Count(pub u64, pub &'static str);
+
+impl fmt::Display for Count {
+    fn fmt<W: fmt::Write>(&self, f: &mut fmt::Formatter<W>) -> fmt::Result {
+        let Count(number, noun) = self;
+        if *number == 1 {
+            write!(f, "{number} {noun}")
+        } else {
+            write!(f, "{number} {noun}s")
+        }
+    }
+}
+
+/// Bytes in hexadecimal digits.
+#[derive(Drop)]
+pub struct Hex<'a>(pub &'a [u8]);
+
+impl fmt::Display for Hex<'_> {
+    fn fmt<W: fmt::Write>(&self, f: &mut fmt::Formatter<W>) -> fmt::Result {
+        for byte in self.0 {
+            write!(f, "{byte:02x}")?;
+        }
+        Ok(())
+    }
+}
+
+/// What an end shows.
+#[derive(Drop)]
+struct ShownText<'a>(&'a EndShown, &'a [Look]);
+
+impl fmt::Display for ShownText<'_> {
+    fn fmt<W: fmt::Write>(&self, f: &mut fmt::Formatter<W>) -> fmt::Result {
+        let mut rest = match self.0 {
+            EndShown::Shutdown(reason) => {
+                let number = reason.number();
+                return write!(f, "shutdown, reason {number}");
+            }
+            EndShown::On(bytes) => bytes.as_slice(),
+        };
+        let mut mark = "";
+        for look in self.1 {
+            let name = &look.name;
+            let bytes = Hex(rest.get(..look.bytes).unwrap_or(rest));
+            write!(f, "{mark}{name} {bytes}")?;
+            rest = rest.get(look.bytes..).unwrap_or(&[]);
+            mark = ", ";
+        }
+        if self.1.is_empty() {
+            f.write_str("nothing, since nothing is looked at")?;
+        }
+        Ok(())
+    }
+}
+
+/// The word of a failure.
+pub fn failure_word(kind: FailureKind) -> &'static str {
+    match kind {
+        FailureKind::Differs => "differs",
+        FailureKind::Stuck => "stuck",
+        FailureKind::Traps => "traps",
+        FailureKind::Fails => "fails",
+    }
+}
+
+/// The name of a state (SBI specification 2.0, chapter HSM).
+pub fn state_word(state: HartState) -> &'static str {
+    match state {
+        HartState::Stopped => "STOPPED",
+        HartState::StartPending => "START_PENDING",
+        HartState::Started => "STARTED",
+        HartState::Suspended => "SUSPENDED",
+    }
+}
+
+/// What a trap's cause is called (the ISA's volume 2, table of scause).
+fn cause_words(cause: u64) -> &'static str {
+    match cause {
+        0 => "a misaligned instruction address",
+        1 => "no instruction there",
+        2 => "an illegal instruction",
+        3 => "EBREAK",
+        4 => "a misaligned load",
+        5 => "a load outside of RAM",
+        6 => "a misaligned store",
+        7 => "a store outside of RAM",
+        _ => "the software interrupt",
+    }
+}
+
+/// Writes what is checked, as `own.elf: 917 bytes at 0x80000000, 2 harts, 2 pages`.
+pub fn write_kernel<W: Write>(
+    out: &mut W,
+    name: &str,
+    bytes: usize,
+    shape: &Shape,
+) -> io::Result<()> {
+    let bytes = Count(bytes as u64, "byte");
+    let harts = Count(u64::from(shape.harts()), "hart");
+    let pages = Count(u64::from(shape.pages()), "page");
+    writeln!(out, "{name}: {bytes} at 0x80000000, {harts}, {pages}")
+}
+
+/// Writes how the kernel's own order ends.
+pub fn write_own<W: Write>(out: &mut W, own: &OwnOrder, looks: &[Look]) -> io::Result<()> {
+    let turns = Count(own.turns, "turn");
+    match &own.end {
+        OwnEnd::Ends(_) => write!(out, "own order: ends after {turns}")?,
+        OwnEnd::Runs(_) => write!(out, "own order: still runs after {turns}")?,
+    }
+    if 0 < own.sleeps {
+        let sleeps = Count(own.sleeps, "sleep");
+        write!(out, ", {sleeps}")?;
+    }
+    if 0 < own.reboots {
+        let reboots = Count(own.reboots, "reboot");
+        write!(out, ", {reboots}")?;
+    }
+    match &own.end {
+        OwnEnd::Ends(shown) => {
+            let shown = ShownText(shown, looks);
+            writeln!(out, ": {shown}")
+        }
+        OwnEnd::Runs(harts) => {
+            writeln!(out, "")?;
+            write_harts(out, harts.as_slice())
+        }
+    }
+}
+
+/// How many names of shared words are told.
+const MOST_NAMES: usize = 4;
+
+/// The names of shared words, the first few.
+#[derive(Drop)]
+struct SharedText<'a>(&'a SearchFacts);
+
+impl fmt::Display for SharedText<'_> {
+    fn fmt<W: fmt::Write>(&self, f: &mut fmt::Formatter<W>) -> fmt::Result {
+        let mut mark = " (";
+        for (place, word) in self.0.shared.iter().enumerate() {
+            if place == MOST_NAMES {
+                return f.write_str(", ..)");
+            }
+            match &word.name {
+                Some(name) => write!(f, "{mark}{name}")?,
+                None => {
+                    let address = word.address;
+                    write!(f, "{mark}{address:#x}")?;
+                }
+            }
+            mark = ", ";
+        }
+        if self.0.shared.is_empty() {
+            Ok(())
+        } else {
+            f.write_str(")")
+        }
+    }
+}
+
+/// Writes how far a search went.
+pub fn write_search<W: Write>(out: &mut W, search: &SearchFacts) -> io::Result<()> {
+    if let Some(preemptions) = search.preemptions {
+        let preemptions = Count(u64::from(preemptions), "preemption");
+        write!(out, "at most {preemptions}: ")?;
+    }
+    let boards = Count(search.boards as u64, "board");
+    let shared = Count(search.shared.len() as u64, "shared word");
+    let names = SharedText(search);
+    let images = Count(search.images as u64, "image");
+    let ends = Count(search.ends as u64, "end");
+    writeln!(out, "{boards}, {shared}{names}, {images}, {ends}")
+}
+
+/// Writes what some ends show.
+fn write_end<W: Write>(out: &mut W, kind: &EndKind, looks: &[Look]) -> io::Result<()> {
+    let ends = Count(kind.count as u64, "end");
+    let shown = ShownText(&kind.shown, looks);
+    let own = if kind.is_own {
+        ", as in its own order"
+    } else {
+        ""
+    };
+    let expected = if kind.is_expected {
+        ""
+    } else {
+        ", not as expected"
+    };
+    writeln!(out, "  {ends}{own}{expected}: {shown}")
+}
+
+/// How many kinds of ends are told.
+const MOST_KINDS: usize = 8;
+
+/// Writes what ends show, the first few kinds.
+fn write_ends<W: Write>(out: &mut W, kinds: &[EndKind], looks: &[Look]) -> io::Result<()> {
+    for (place, kind) in kinds.iter().enumerate() {
+        if place == MOST_KINDS {
+            let kinds = kinds.len();
+            return writeln!(out, "  .. of {kinds} kinds of ends");
+        }
+        write_end(out, kind, looks)?;
+    }
+    Ok(())
+}
+
+/// Writes what ends show where the kernel's own order came to none of them.
+pub fn write_unseen<W: Write>(out: &mut W, kinds: &[EndKind], looks: &[Look]) -> io::Result<()> {
+    for kind in kinds {
+        if kind.is_own {
+            return Ok(());
+        }
+    }
+    write_ends(out, kinds, looks)
+}
+
+/// A step of an order.
+#[derive(Drop)]
+struct StepText<'a>(&'a OrderStep);
+
+/// How a run of a hart's turns ends.
+#[derive(Drop)]
+struct RunEndText<'a>(&'a RunEnd);
+
+impl fmt::Display for RunEndText<'_> {
+    fn fmt<W: fmt::Write>(&self, f: &mut fmt::Formatter<W>) -> fmt::Result {
+        match self.0 {
+            RunEnd::At(place) => write!(f, "to {place}"),
+            RunEnd::Stops => f.write_str("and stops"),
+            RunEnd::Suspends => f.write_str("and suspends itself"),
+            RunEnd::Sleeps => f.write_str("and the board sleeps"),
+            RunEnd::ShutsDown(reason) => {
+                let number = reason.number();
+                write!(f, "and shuts down, reason {number}")
+            }
+            RunEnd::Reboots => f.write_str("and reboots"),
+            RunEnd::Traps => f.write_str("and traps"),
+        }
+    }
+}
+
+impl fmt::Display for StepText<'_> {
+    fn fmt<W: fmt::Write>(&self, f: &mut fmt::Formatter<W>) -> fmt::Result {
+        match self.0 {
+            OrderStep::PowerOn(false) => f.write_str("the kernel boots"),
+            OrderStep::PowerOn(true) => f.write_str("the board goes on with its image"),
+            OrderStep::Turns(hart, turns, end) => {
+                let turns = Count(*turns, "turn");
+                let end = RunEndText(end);
+                write!(f, "hart {hart} makes {turns}, {end}")
+            }
+            OrderStep::Refused(hart, call, down) => {
+                let what = match call {
+                    StoreCall::Sleep => "sleep",
+                    StoreCall::Reset => "reset",
+                };
+                let later = if *down { ", as all that follow" } else { "" };
+                write!(f, "the {what} of hart {hart} is refused{later}")
+            }
+            OrderStep::Wake => f.write_str("the board is woken"),
+            OrderStep::Cut => f.write_str("power fails"),
+        }
+    }
+}
+
+/// Whether what comes after a step stands on a line of its own.
+fn ends_line(step: &OrderStep) -> bool {
+    match step {
+        OrderStep::Turns(_, _, RunEnd::Sleeps) => true,
+        OrderStep::Turns(_, _, RunEnd::Reboots) => true,
+        OrderStep::Turns(_, _, _) => false,
+        OrderStep::Refused(_, _, _) => true,
+        OrderStep::Cut => true,
+        OrderStep::PowerOn(_) => false,
+        OrderStep::Wake => false,
+    }
+}
+
+/// Writes the steps of an order, those of a life as a line, and what comes after a refusal as another.
+fn write_order<W: Write>(out: &mut W, order: &[OrderStep]) -> io::Result<()> {
+    let mut mark = "  ";
+    for step in order {
+        let text = StepText(step);
+        write!(out, "{mark}{text}")?;
+        mark = if ends_line(step) { "\n  " } else { "; " };
+    }
+    writeln!(out, "")
+}
+
+/// Writes a trap that has no handler.
+fn write_trap<W: Write>(out: &mut W, trap: &TrapFacts) -> io::Result<()> {
+    let words = cause_words(trap.cause);
+    let TrapFacts {
+        cause,
+        place,
+        value,
+    } = trap;
+    write!(
+        out,
+        ", after a trap at {place} with no handler: {words} (scause {cause}, stval {value:#x})"
+    )
+}
+
+/// Writes where a hart stands, or stood when it stopped.
+fn write_hart<W: Write>(out: &mut W, hart: &HartFacts) -> io::Result<()> {
+    let number = hart.hart;
+    let state = state_word(hart.state);
+    let place = &hart.place;
+    write!(out, "  hart {number}: {state} at {place}")?;
+    if hart.is_pending {
+        write!(out, ", an interrupt is pending")?;
+    }
+    if let Some(trap) = &hart.trap {
+        write_trap(out, trap)?;
+    }
+    writeln!(out, "")
+}
+
+/// Writes where harts stand.
+fn write_harts<W: Write>(out: &mut W, harts: &[HartFacts]) -> io::Result<()> {
+    for hart in harts {
+        write_hart(out, hart)?;
+    }
+    Ok(())
+}
+
+/// What a failure is.
+fn failure_words(kind: FailureKind) -> &'static str {
+    match kind {
+        FailureKind::Differs => "two ends show different things, or one shows what is not expected",
+        FailureKind::Stuck =>
+            "no order leads from here to an end, or harts wait for an interrupt that no hart sends",
+        FailureKind::Traps => "a hart stands after a trap that has no handler",
+        FailureKind::Fails => "the kernel shuts down with reason 1, system failure",
+    }
+}
+
+/// Writes a failure: what it is, the order that leads there, and the harts there.
+pub fn write_failure<W: Write>(
+    out: &mut W,
+    failure: &Failure,
+    kinds: &[EndKind],
+    looks: &[Look],
+) -> io::Result<()> {
+    let word = failure_word(failure.kind);
+    let words = failure_words(failure.kind);
+    write!(out, "{word}: {words}")?;
+    if 0 < failure.ends && failure.kind != FailureKind::Differs {
+        let ends = Count(failure.ends as u64, "end");
+        write!(out, " ({ends})")?;
+    }
+    writeln!(out, "")?;
+    if failure.kind == FailureKind::Differs {
+        write_ends(out, kinds, looks)?;
+    }
+    if failure.order.is_empty() {
+        return writeln!(out, "  from the first boot on");
+    }
+    write_order(out, failure.order.as_slice())?;
+    write_harts(out, failure.harts.as_slice())
+}

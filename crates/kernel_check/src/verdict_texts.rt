@@ -1,0 +1,98 @@
+//! The verdict of the orders that were followed, in words.
+
+use crate::facts::{SearchFacts, Stop, Verdict};
+use crate::given::Asked;
+use crate::texts::Count;
+use std::fmt;
+use std::io::{self, Write};
+
+/// The orders that were followed, and what does not happen in them.
+#[derive(Drop)]
+struct OrdersText(Asked, Option<u32>);
+
+/// What does not happen in orders.
+fn left_out(asked: Asked) -> &'static str {
+    match (asked.cuts, asked.refusals) {
+        (true, true) => ", and wherever power fails",
+        (true, false) => ", and wherever power fails, where no sleep and no reset is refused",
+        (false, true) => ", where power does not fail",
+        (false, false) => ", where power does not fail and no sleep and no reset is refused",
+    }
+}
+
+impl fmt::Display for OrdersText {
+    fn fmt<W: fmt::Write>(&self, f: &mut fmt::Formatter<W>) -> fmt::Result {
+        let OrdersText(asked, preemptions) = self;
+        f.write_str("in every order of its harts")?;
+        if let Some(preemptions) = preemptions {
+            let preemptions = Count(u64::from(*preemptions), "preemption");
+            write!(f, " with at most {preemptions}")?;
+        }
+        f.write_str(left_out(*asked))
+    }
+}
+
+/// Why a search was not closed.
+fn stop_words(stop: Stop) -> &'static str {
+    match stop {
+        Stop::Boards => "so many boards as --boards says",
+        Stop::Memory => "so much memory as --memory says",
+        Stop::Numbers => "2^32 boards or steps",
+        Stop::Map => "a turn that broke the map of what harts touch",
+        Stop::Switches => "its end, with orders that come to none",
+        Stop::Untold => "its end, and it tells nothing of every order",
+    }
+}
+
+/// Writes why the search of every order was given up.
+pub fn write_stop<W: Write>(out: &mut W, stop: Stop) -> io::Result<()> {
+    let stop = stop_words(stop);
+    writeln!(out, "the search of every order stopped at {stop}")
+}
+
+/// Writes that nothing was found, and why not every order was followed.
+fn write_open<W: Write>(out: &mut W, stop: Stop, preemptions: Option<u32>) -> io::Result<()> {
+    if let (Stop::Switches, Some(preemptions)) = (stop, preemptions) {
+        let preemptions = Count(u64::from(preemptions), "preemption");
+        return writeln!(
+            out,
+            "open: nothing was found, but with at most {preemptions} some orders come to no end"
+        );
+    }
+    let stop = stop_words(stop);
+    writeln!(
+        out,
+        "open: nothing was found until the search stopped at {stop}, and nothing is said of other orders"
+    )
+}
+
+/// Writes the verdict.
+pub fn write_verdict<W: Write>(
+    out: &mut W,
+    verdict: Verdict,
+    search: &SearchFacts,
+    asked: Asked,
+) -> io::Result<()> {
+    let orders = OrdersText(asked, search.preemptions);
+    match (verdict, search.stop) {
+        (Verdict::Holds, _) => writeln!(out, "ok: {orders}, it ends with this"),
+        (Verdict::Within(most), _) => writeln!(out, "ok up to {most}: {orders}, it ends with this"),
+        (Verdict::Found, None) => {
+            writeln!(out, "found: {orders}, there is no failure of another kind")
+        }
+        (Verdict::Found, Some(stop)) => {
+            let stop = stop_words(stop);
+            writeln!(
+                out,
+                "found: there may be failures of other kinds, since the search stopped at {stop}"
+            )
+        }
+        (Verdict::Open(stop), _) => write_open(out, stop, search.preemptions),
+        (Verdict::Blank, _) => {
+            writeln!(
+                out,
+                "open: nothing was found, but nothing is looked at: name some bytes with --look or --expect"
+            )
+        }
+    }
+}

@@ -1,0 +1,366 @@
+//! The order that leads to a board, told step by step.
+
+ghost use Rattle.std.specs.Prelude.{◌≡◌, ◌<◌, IfOk};
+
+use crate::facts::{HartFacts, HartState, OrderStep, RunEnd, StoreCall, TrapFacts};
+use crate::places::{is_in_ram, place_text};
+use board_model::{HartId, Refusal, Shape};
+use board_space::{Explored, Happening};
+use elf_image::Elf;
+use hart::Hart;
+use hsm::Standing;
+use model_board::{Board, Power, Status};
+use rv_decode::{CsrNumber, Reg, SCAUSE, SEPC, STVAL, STVEC};
+use std::alloc::{AllocError, Global};
+
+/// What is known of the kernel and its board.
+#[derive(Clone, Copy, Drop)]
+pub struct Setting<'a> {
+    pub alloc: Global,
+    pub elf: Option<&'a Elf<'a>>,
+    pub shape: &'a Shape,
+}
+
+/// What a trap left.
+#[derive(Clone, Copy, Drop)]
+struct Trap {
+    cause: u64,
+    from: u64,
+    value: u64,
+}
+
+/// The order that leads to a board.
+#[derive(Drop)]
+pub struct Walk {
+    /// Its steps.
+    pub order: Vec<OrderStep>,
+    /// The harts at its end.
+    pub harts: Vec<HartFacts>,
+    /// Whether the board is on then.
+    pub is_on: bool,
+}
+
+/// What is read of a CSR, by its number; 0 where there is none.
+fn csr(hart: &Hart, number: u32) -> u64
+    requires { number < 4096 }
+{
+    hart.csr(CsrNumber::new(number as u16), false).unwrap_or(0)
+}
+
+/// The state of a hart.
+fn state_of(board: &Board, hart: HartId) -> HartState
+    requires { hart < board.now.size.harts }
+{
+    match board.rest().tables.states[hart.index()] {
+        Standing::Stopped => HartState::Stopped,
+        Standing::StartPending(_, _) => HartState::StartPending,
+        Standing::Started => HartState::Started,
+        Standing::Suspended => HartState::Suspended,
+    }
+}
+
+/// Whether a hart makes no instruction any more: it is started and stands outside of RAM, and each trap leads it there again.
+pub fn is_trapped(board: &Board, shape: &Shape, hart: HartId) -> bool
+    requires { hart < board.now.size.harts }
+{
+    let stands = board.machine().hart(hart);
+    board.status() == Status::On
+        && state_of(board, hart) == HartState::Started
+        && !is_in_ram(shape, stands.pc())
+        && !is_in_ram(shape, csr(stands, STVEC))
+}
+
+/// Whether a hart of the board is trapped so.
+pub fn is_any_trapped(board: &Board, shape: &Shape) -> bool {
+    for number in 0..8u64 {
+        if let Some(hart) = board.machine().shape().hart(number)
+            && is_trapped(board, shape, hart)
+        {
+            return true;
+        }
+    }
+    false
+}
+
+/// Whether harts wait for an interrupt that no hart will send: one is suspended, and none is started or about to start.
+pub fn is_waited_for_ever(board: &Board) -> bool {
+    let mut waits = false;
+    for number in 0..8u64 {
+        if let Some(hart) = board.machine().shape().hart(number) {
+            match state_of(board, hart) {
+                HartState::Suspended => waits = true,
+                HartState::Started | HartState::StartPending => return false,
+                HartState::Stopped => {}
+            }
+        }
+    }
+    waits && board.status() == Status::On
+}
+
+/// What a hart at a call asks of the store: its extension stands in a7.
+fn call_of(board: &Board, hart: HartId) -> StoreCall
+    requires { hart < board.now.size.harts }
+{
+    if board.machine().hart(hart).reg(Reg::new(17)) == 0x5352_5354 {
+        StoreCall::Reset
+    } else {
+        StoreCall::Sleep
+    }
+}
+
+/// How a run of a hart's turns ended, on the board after it.
+fn run_end(setting: Setting<'_>, board: &Board, hart: HartId) -> Result<RunEnd, AllocError>
+    requires { hart < board.now.size.harts }
+{
+    let rest = board.rest();
+    match rest.power {
+        Power::Ended => return Ok(RunEnd::ShutsDown(rest.reason)),
+        Power::Off(Some(_)) => return Ok(RunEnd::Sleeps),
+        Power::Off(None) => return Ok(RunEnd::Reboots),
+        Power::On => {}
+    }
+    if rest.doze.is_some() {
+        return Ok(RunEnd::Sleeps);
+    }
+    if is_trapped(board, setting.shape, hart) {
+        return Ok(RunEnd::Traps);
+    }
+    match state_of(board, hart) {
+        HartState::Stopped => Ok(RunEnd::Stops),
+        HartState::Suspended => Ok(RunEnd::Suspends),
+        HartState::Started | HartState::StartPending => {
+            let pc = board.machine().hart(hart).pc();
+            Ok(RunEnd::At(place_text(setting.alloc, setting.elf, setting.shape, pc)?))
+        }
+    }
+}
+
+/// Adds turns of a hart to an order, to those before them where they are the same hart's.
+fn add_turns(
+    order: &mut Vec<OrderStep>,
+    hart: HartId,
+    turns: u64,
+    end: RunEnd,
+) -> Result<(), AllocError> {
+    let mut made = turns;
+    if let Some(OrderStep::Turns(last, before, _)) = order.last()
+        && *last == hart.number()
+    {
+        made = made.saturating_add(*before);
+        let _last = order.pop();
+    }
+    order.push(OrderStep::Turns(hart.number(), made, end))?;
+    Ok(())
+}
+
+/// Adds a happening to an order, as it is about to come to the board.
+fn add_happening(
+    order: &mut Vec<OrderStep>,
+    board: &Board,
+    happening: Happening,
+) -> Result<(), AllocError> {
+    match happening {
+        Happening::Turn(_) => {}
+        Happening::Refused(hart, down) => {
+            if hart.number() < board.machine().shape().harts() {
+                let call = call_of(board, hart);
+                order.push(OrderStep::Refused(hart.number(), call, down))?;
+            }
+        }
+        Happening::Wake => order.push(OrderStep::Wake)?,
+        Happening::Cut => order.push(OrderStep::Cut)?,
+        Happening::PowerOn => {
+            let resumes = matches!(board.rest().power, Power::Off(Some(_)));
+            order.push(OrderStep::PowerOn(resumes))?;
+        }
+    }
+    Ok(())
+}
+
+/// The trap of a hart that stands outside of RAM: the one that led it there. Where it jumped there, the one that follows.
+fn trap_of(stands: &Hart, shape: &Shape) -> Trap {
+    let from = csr(stands, SEPC);
+    if is_in_ram(shape, from) {
+        return Trap {
+            cause: csr(stands, SCAUSE),
+            from,
+            value: csr(stands, STVAL),
+        };
+    }
+    Trap {
+        cause: 1,
+        from: stands.pc(),
+        value: stands.pc(),
+    }
+}
+
+/// Notes the traps after which harts stand newly, and forgets those of harts that do not.
+fn note_traps(traps: &mut [Option<Trap>; 8], board: &Board, shape: &Shape) {
+    for number in 0..8u64 {
+        let Some(hart) = board.machine().shape().hart(number) else {
+            continue;
+        };
+        let place = hart.index();
+        if !is_trapped(board, shape, hart) {
+            traps[place] = None;
+        } else if traps[place].is_none() {
+            traps[place] = Some(trap_of(board.machine().hart(hart), shape));
+        }
+    }
+}
+
+/// What is told of a trap.
+fn trap_facts(setting: Setting<'_>, trap: Trap) -> Result<TrapFacts, AllocError> {
+    Ok(TrapFacts {
+        cause: trap.cause,
+        place: place_text(setting.alloc, setting.elf, setting.shape, trap.from)?,
+        value: trap.value,
+    })
+}
+
+/// Where a hart of that state is about to start, if it is.
+fn start_of(state: &Standing) -> Option<u64> {
+    match state {
+        Standing::StartPending(address, _) => Some(address.value()),
+        _ => None,
+    }
+}
+
+/// Where a hart stands: one that is about to start at its start's address.
+fn stand_of(board: &Board, hart: HartId) -> u64
+    requires { hart < board.now.size.harts }
+{
+    let state = board.rest().tables.states[hart.index()];
+    match start_of(&state) {
+        Some(address) => address,
+        None => board.machine().hart(hart).pc(),
+    }
+}
+
+/// What is told of a hart.
+fn hart_facts(
+    setting: Setting<'_>,
+    board: &Board,
+    hart: HartId,
+    trap: Option<Trap>,
+) -> Result<HartFacts, AllocError>
+    requires { hart < board.now.size.harts }
+{
+    let stand = stand_of(board, hart);
+    let trap = match trap {
+        None => None,
+        Some(trap) => Some(trap_facts(setting, trap)?),
+    };
+    Ok(HartFacts {
+        hart: hart.number(),
+        state: state_of(board, hart),
+        place: place_text(setting.alloc, setting.elf, setting.shape, stand)?,
+        is_pending: board.machine().is_pending(hart),
+        trap,
+    })
+}
+
+/// What is told of the harts of a board, but for their traps; nothing where it is not on.
+pub fn harts_of(setting: Setting<'_>, board: &Board) -> Result<Vec<HartFacts>, AllocError> {
+    harts_facts(setting, board, &[None; 8])
+}
+
+/// What is told of the harts of a board; nothing where it is not on.
+fn harts_facts(
+    setting: Setting<'_>,
+    board: &Board,
+    traps: &[Option<Trap>; 8],
+) -> Result<Vec<HartFacts>, AllocError> {
+    let mut harts = Vec::new(setting.alloc);
+    if board.status() != Status::On {
+        return Ok(harts);
+    }
+    for number in 0..8u64 {
+        if let Some(hart) = board.machine().shape().hart(number) {
+            harts.push(hart_facts(setting, board, hart, traps[hart.index()])?)?;
+        }
+    }
+    Ok(harts)
+}
+
+/// Adds the turns that a hart made.
+fn add_run(
+    setting: Setting<'_>,
+    order: &mut Vec<OrderStep>,
+    board: &Board,
+    hart: HartId,
+    turns: u64,
+) -> Result<(), AllocError>
+    requires { hart < board.now.size.harts }
+{
+    if turns == 0 {
+        return Ok(());
+    }
+    let end = run_end(setting, board, hart)?;
+    add_turns(order, hart, turns, end)
+}
+
+/// Adds the turns by which a board settles, which it makes.
+fn add_settling(
+    setting: Setting<'_>,
+    explored: &Explored,
+    order: &mut Vec<OrderStep>,
+    board: &mut Board,
+) -> Result<(), AllocError>
+    ensures { board.new.size ≡ board.old.size }
+{
+    for number in 0..8u64 {
+        let turns = explored.settle(board, number);
+        if let Some(hart) = board.machine().shape().hart(number) {
+            add_run(setting, order, board, hart, u64::from(turns))?;
+        }
+    }
+    Ok(())
+}
+
+/// Lets an event come to the board, and adds it and the turns by which the board settles.
+fn add_event(
+    setting: Setting<'_>,
+    explored: &Explored,
+    order: &mut Vec<OrderStep>,
+    board: &mut Board,
+    event: u8,
+) -> Result<(), AllocError>
+    requires { board.old.size ≡ explored.now.asked.size }
+    ensures { board.new.size ≡ board.old.size }
+{
+    let Some(happening) = explored.happening(event) else {
+        return Ok(());
+    };
+    add_happening(order, board, happening)?;
+    explored.replay(board, event);
+    if let Happening::Turn(hart) = &happening
+        && hart.number() < board.machine().shape().harts()
+    {
+        add_run(setting, order, board, *hart, 1)?;
+    }
+    add_settling(setting, explored, order, board)
+}
+
+/// Follows a shortest way to a board that was found.
+pub fn walk_to(setting: Setting<'_>, explored: &Explored, row: usize) -> Result<Walk, Refusal> {
+    let way = match explored.way(row) {
+        Ok(Some(way)) => way,
+        Ok(None) => Vec::new(setting.alloc),
+        Err(_) => return Err(Refusal::Memory),
+    };
+    let Ok(mut board) = explored.first_board() else {
+        return Err(Refusal::Memory);
+    };
+    let mut order = Vec::new(setting.alloc);
+    let mut traps: [Option<Trap>; 8] = [None; 8];
+    for event in way.iter() {
+        add_event(setting, explored, &mut order, &mut board, *event)?;
+        note_traps(&mut traps, &board, setting.shape);
+    }
+    Ok(Walk {
+        order,
+        harts: harts_facts(setting, &board, &traps)?,
+        is_on: board.status() == Status::On,
+    })
+}

@@ -1,9 +1,0 @@
-use Rattle.std.proofs.Common.{drop}
-use Rattle.sbicheck.specs.Shown.{Meet}
-use Rattle.sbicheck.proofs.expected.meet.Given as goal
-
-abbrev pub invariant-loop-look : goal.invariant-loop-look
-invariant-loop-look l = record {
-  into : Meet l.looks l.shown → Meet (drop l.look-index l.looks) l.rest;
-  back : Meet (drop l.look-index l.looks) l.rest → Meet l.looks l.shown;
-}

@@ -1,6 +1,0 @@
-use Rattle.std.proofs.Common.{◌≡◌, take}
-use Rattle.sbicheck.specs.Shown.{looked}
-use Rattle.sbicheck.proofs.looks.bytes_shown.Given as goal
-
-abbrev pub invariant-loop-look : goal.invariant-loop-look
-invariant-loop-look l = l.shown.items ≡ looked (take l.look-index l.looks) l.memory

@@ -1,9 +1,0 @@
-use Rattle.std.proofs.Common.{◌≡◌, ◌++◌, List, map, take}
-use Rattle.sbicheck.specs.Looks.{IsLookWord}
-use Rattle.sbicheck.specs.Options.{AreForms}
-use Rattle.sbicheck.specs.declared.given.LookWord.{LookWord}
-use Rattle.sbicheck.proofs.parsed.add_looks.Given as goal
-
-abbrev pub invariant-loop-word : goal.invariant-loop-word
-invariant-loop-word l = (more : List LookWord) × (l.looks.items ≡ l.initial.looks.items ++ more)
-    × AreForms IsLookWord (map (λ w. w.now) (take l.word-index l.words)) more
